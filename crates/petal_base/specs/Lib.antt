@@ -1,0 +1,4 @@
+pub mod Block
+pub mod Name
+pub mod Place
+pub mod Tuple

@@ -1,0 +1,30 @@
+//! The words that every other crate of Petal uses: names, blocks, tuples of servers, cells and keys, and the two small
+//! types that make lists and shared blocks plain for contracts.
+//!
+//! To the layer above it promises that a `Name`, a `Tuple` and a `Block` are always well formed, and that a contract sees
+//! them as the list of their bytes or numbers. It knows nothing of servers, disks or letters.
+#![tactic(auto)]
+
+mod block;
+mod memory;
+mod name;
+mod number;
+mod place;
+mod sequence;
+mod shared;
+mod tuple;
+
+pub use block::{BLOCK_BYTES, Block};
+pub use memory::NoMemory;
+pub use name::{NAME_BYTES, Name};
+pub use number::{
+    BLOCKS, BlockNo, ClientId, DiskId, Epoch, Inc, MAX_SERVERS, MapId, OPERATOR, Op, REGIONS, Rev,
+    Seq, ServerId, Stamp, Version,
+};
+pub use place::{Cell, Key};
+pub use sequence::Sequence;
+pub use shared::SharedBlock;
+pub use tuple::Tuple;
+
+#[cfg(test)]
+mod tests;
