@@ -1,8 +1,8 @@
 -- Tuples of fewer servers are tuples of eight.
-use Rattle.std.proofs.Common.{◌≡◌, ℕ, ◌≤◌, true, Bool, ◌&&◌, nat_lt, nat_le, List, [], ◌∷◌, length, refl, arith}
+use Rattle.std.proofs.Common.{◌≡◌, ℕ, ◌≤◌, true, ◌&&◌, nat_lt, List, [], ◌∷◌, length, refl, arith}
 use Rattle.std.proofs.lemmas.Bool.Decides.{nat_tests}
 use Rattle.std.specs.List.{list_all}
-use Rattle.petal_base.specs.Tuple.{is_tuple, distinct}
+use Rattle.petal_base.specs.Tuple.{is_tuple}
 
 all_below_eight : (servers : ℕ) (ids : List ℕ) → list_all (λ n. nat_lt n servers && nat_lt n 8) ids ≡ true → list_all (λ n. nat_lt n 8 && nat_lt n 8) ids ≡ true
 all_below_eight servers [] all = refl
