@@ -1,0 +1,7 @@
+pub mod Disk
+pub mod Faults
+pub mod Mixes
+pub mod PlanRuns
+pub mod Plans
+pub mod Streams
+pub mod Tears
