@@ -1,0 +1,7 @@
+pub mod Quorum
+pub mod Members
+pub mod Facts
+pub mod Later
+pub mod Moves
+pub mod Runs
+pub mod Wants

@@ -1,0 +1,5 @@
+pub mod Member
+pub mod Quorum
+pub mod Acceptor
+pub mod Proposer
+pub mod Schedule
