@@ -1,0 +1,9 @@
+pub mod Pieces
+pub mod WordList
+pub mod Kept
+pub mod Runs
+pub mod Tallying
+pub mod Tuples
+pub mod Following
+pub mod Firsts
+pub mod Doing

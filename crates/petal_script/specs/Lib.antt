@@ -1,0 +1,13 @@
+pub mod Client
+pub mod Contents
+pub mod Fields
+pub mod Laws
+pub mod Number
+pub mod Operator
+pub mod Pattern
+pub mod Printed
+pub mod Script
+pub mod Tally
+pub mod Text
+pub mod Told
+pub mod Words

@@ -1,0 +1,31 @@
+//! What holds of every text. The functions do nothing: their clauses are the laws.
+
+ghost use Rattle.std.specs.Prelude.{slice_get, ◌≡◌, Option, ◌↔◌, ◌⊎◌, ◌<◌, ◌+◌, ℕ, List, None, Some, Ok, Err, length};
+ghost use Rattle.std.specs.List.{concat};
+ghost use Rattle.petal_script.specs.Text.{pieces};
+ghost use Rattle.petal_script.specs.declared.script.Script.{Script};
+ghost use Rattle.petal_script.specs.Script.{TextLine, Refusal, script_of, text_lines, line_verdict};
+ghost use Rattle.petal_script.specs.Laws.{Taken, IsFirstRefused, IsWithoutLines, AreLines, Does, IsAccepted};
+
+/// The lines with their ends are the text, and each ends at its first LF.
+pub fn lines_are_the_text()
+    ensures whole { (text : List ℕ) → concat (pieces text) ≡ text }
+    ensures each { (text : List ℕ) → AreLines (pieces text) }
+    ensures numbers { (text : List ℕ) (k : ℕ) (line : TextLine) → slice_get (text_lines text) k ≡ Some line → line.number ≡ k + 1 }
+{}
+
+/// A text is a script where each of its lines is taken, and else its first refused line is told.
+pub fn first_refused_line()
+    ensures script { (text : List ℕ) (s : Script) → (script_of text ≡ Ok s) ↔ Taken (text_lines text) None (Some s) }
+    ensures refused { (text : List ℕ) (r : Refusal) → (script_of text ≡ Err r) ↔ (IsFirstRefused (text_lines text) r ⊎ IsWithoutLines (text_lines text) r) }
+{}
+
+/// A script is skipped lines, a servers line, and lines of which each does what it says.
+pub fn what_a_script_is()
+    ensures { (text : List ℕ) (s : Script) → script_of text ≡ Ok s → IsAccepted (text_lines text) s }
+{}
+
+/// What a line does that is taken behind the servers line.
+pub fn what_a_line_does()
+    ensures { (s : Script) (told : TextLine) (after : Option Script) → line_verdict (Some s) told ≡ Ok after → (t : Script) × (after ≡ Some t) × Does s told t }
+{}

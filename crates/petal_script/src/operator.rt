@@ -1,0 +1,71 @@
+//! What the operator's line asks for, by the words behind `op`.
+
+ghost use Rattle.std.specs.Prelude.{◌≡◌, ◌<◌};
+ghost use Rattle.petal_script.specs.Operator.{stop_of, fault_of, operator_request};
+
+use crate::cause::Cause;
+use crate::fields::{call, call_kind, device, server};
+use crate::request::Request;
+use crate::words::Words;
+
+#[tactic(auto, unfolding(crate::specs::Operator::stop_of, crate::specs::Operator::stop_at))]
+fn stop_request(servers: u8, words: &mut Words<'_>) -> Result<Request, Cause>
+    requires { 0 < servers }
+    ensures { result ≡ stop_of servers words.old }
+{
+    let stopped = words.front()?;
+    if words.is_empty() {
+        let server = server(servers, stopped)?;
+        return Ok(Request::Stop { server });
+    }
+    let (at, count) = words.two()?;
+    if at != b"at".as_slice() {
+        return Err(Cause::BadLine);
+    }
+    let server = server(servers, stopped)?;
+    let at = call(count)?;
+    Ok(Request::StopAt { server, at })
+}
+
+#[tactic(auto, unfolding(crate::specs::Operator::fault_of))]
+fn fault_request(servers: u8, words: &mut Words<'_>) -> Result<Request, Cause>
+    requires { 0 < servers }
+    ensures { result ≡ fault_of servers words.old }
+{
+    let (faulty, which, kind, count) = words.four()?;
+    let which = device(which)?;
+    let kind = call_kind(kind)?;
+    let server = server(servers, faulty)?;
+    let at = call(count)?;
+    Ok(Request::Fault {
+        server,
+        which,
+        kind,
+        at,
+    })
+}
+
+/// A request of the operator, by the words behind `op`.
+#[tactic(auto, unfolding(crate::specs::Operator::operator_request, crate::specs::Operator::boot_of))]
+pub(crate) fn operator_request(servers: u8, words: &mut Words<'_>) -> Result<Request, Cause>
+    requires { 0 < servers }
+    ensures { result ≡ operator_request servers words.old }
+{
+    let verb = words.front()?;
+    if verb == b"stop".as_slice() {
+        stop_request(servers, words)
+    } else if verb == b"start".as_slice() {
+        let server = server(servers, words.one()?)?;
+        Ok(Request::Start { server })
+    } else if verb == b"blank".as_slice() {
+        let server = server(servers, words.one()?)?;
+        Ok(Request::Blank { server })
+    } else if verb == b"fault".as_slice() {
+        fault_request(servers, words)
+    } else if verb == b"settle".as_slice() {
+        words.none()?;
+        Ok(Request::Settle)
+    } else {
+        Err(Cause::BadLine)
+    }
+}
