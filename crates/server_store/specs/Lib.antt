@@ -1,0 +1,5 @@
+pub mod Accounts
+pub mod Errors
+pub mod Holdings
+pub mod Keys
+pub mod Slots

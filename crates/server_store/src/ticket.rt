@@ -1,0 +1,34 @@
+//! The right to one put.
+
+use std::marker::Model;
+
+/// A free slot that a store has set aside for one put. Contracts see the slot's number. A ticket that is dropped keeps its
+/// slot.
+#[derive(Drop)]
+pub struct Ticket {
+    slot: u32,
+}
+
+impl Model for Ticket {
+    ghost use Rattle.std.specs.Prelude.{ℕ};
+
+    ghost Value = { ℕ };
+
+    ghost view = { λ t. t.slot };
+}
+
+impl Ticket {
+    ghost use Rattle.std.specs.Prelude.{◌≡◌};
+
+    pub(crate) fn new(slot: u32) -> Ticket
+        ensures { result ≡ slot }
+    {
+        Ticket { slot }
+    }
+
+    pub(crate) fn into_slot(self) -> u32
+        ensures { result ≡ self }
+    {
+        self.slot
+    }
+}
