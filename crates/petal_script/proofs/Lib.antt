@@ -7,3 +7,4 @@ pub mod Tuples
 pub mod Following
 pub mod Firsts
 pub mod Doing
+pub mod Faulting

@@ -1,5 +1,5 @@
 -- The contents of a block as they are printed.
-use Rattle.std.specs.Prelude.{ℕ, ◌+◌, ◌==◌, nat_le, List, [], ◌∷◌, ◌++◌, length, codes, decimal, if◌then◌else◌}
+use Rattle.std.specs.Prelude.{◌≢◌, ℕ, ◌+◌, ◌<◌, ◌==◌, nat_le, List, [], ◌∷◌, ◌++◌, length, codes, decimal, replicate, if◌then◌else◌}
 use Rattle.std.specs.List.{flat_map}
 use Rattle.sha2.specs.Sha256.{sha256}
 use Rattle.hex.specs.Hex.{encode_lower}
@@ -28,3 +28,13 @@ digest_text bytes = codes " sha256 " ++ encode_lower (sha256 bytes)
 -- up to 8 runs, or else the digest
 unfoldable pub contents_text : List ℕ → List ℕ
 contents_text bytes = if nat_le (length (runs bytes)) 8 then flat_map run_text (runs bytes) else digest_text bytes
+
+-- what a run stands for
+abbrev pub run_bytes : Run → List ℕ
+run_bytes r = replicate r.count r.byte
+
+-- no run is empty, and neighbours have different bytes
+abbrev pub AreLongest : List Run → Type 0
+AreLongest [] = Unit {0}
+AreLongest (r ∷ []) = 0 < r.count
+AreLongest (r ∷ next ∷ more) = (0 < r.count) × (r.byte ≢ next.byte) × AreLongest (next ∷ more)

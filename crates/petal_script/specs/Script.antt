@@ -84,8 +84,12 @@ adds s number client request =
     else Ok (record s { lines = lines })
 
 -- `a` to `h`
+abbrev pub is_client : Word → Bool
+is_client word = length word == 1 && nat_le 97 (slice_index word 0) && nat_le (slice_index word 0) 104
+
+-- the number of a client
 abbrev pub client_of : Word → Result ℕ Cause
-client_of word = if length word == 1 && nat_le 97 (slice_index word 0) && nat_le (slice_index word 0) 104 then Ok (slice_index word 0 - 97) else Err BadLine
+client_of word = if is_client word then Ok (slice_index word 0 - 97) else Err BadLine
 
 abbrev pub line_by : Script → ℕ → Word → List Word → Result Script Cause
 line_by s number first words =

@@ -9,7 +9,7 @@ pub enum Answer {
     Ok,
     /// The contents that a read found.
     Data(SharedBlock),
-    /// A write found no free slot.
+    /// A write found no free slot, or a settle met a server without one.
     NoSpace,
     /// No running server may serve the block.
     Unavailable,
@@ -21,6 +21,6 @@ pub enum Answer {
     Exists,
     /// A move of the disk is under way.
     Moving,
-    /// A server could not be started again.
+    /// Behind a start or blank the server doesn't run.
     Failed,
 }

@@ -1,10 +1,12 @@
 //! What holds of every text. The functions do nothing: their clauses are the laws.
 
 ghost use Rattle.std.specs.Prelude.{slice_get, ◌≡◌, Option, ◌↔◌, ◌⊎◌, ◌<◌, ◌+◌, ℕ, List, None, Some, Ok, Err, length};
-ghost use Rattle.std.specs.List.{concat};
+ghost use Rattle.std.specs.List.{concat, find, flat_map};
+ghost use Rattle.petal_script.specs.Contents.{runs, run_bytes, AreLongest};
 ghost use Rattle.petal_script.specs.Text.{pieces};
 ghost use Rattle.petal_script.specs.declared.script.Script.{Script};
 ghost use Rattle.petal_script.specs.Script.{TextLine, Refusal, script_of, text_lines, line_verdict};
+ghost use Rattle.petal_script.specs.Faults.{told, has_fault, in_order};
 ghost use Rattle.petal_script.specs.Laws.{Taken, IsFirstRefused, IsWithoutLines, AreLines, Does, IsAccepted};
 
 /// The lines with their ends are the text, and each ends at its first LF.
@@ -28,4 +30,15 @@ pub fn what_a_script_is()
 /// What a line does that is taken behind the servers line.
 pub fn what_a_line_does()
     ensures { (s : Script) (told : TextLine) (after : Option Script) → line_verdict (Some s) told ≡ Ok after → (t : Script) × (after ≡ Some t) × Does s told t }
+{}
+
+/// A refused line is told the first of the nine faults that it has, in their order, and a line without any is taken.
+pub fn first_fault()
+    ensures { (before : Option Script) (line : TextLine) → told (line_verdict before line) ≡ find (λ cause. has_fault cause before line) in_order }
+{}
+
+/// The runs of a block laid out one behind the other are the block, and none can be longer.
+pub fn runs_are_the_block()
+    ensures whole { (bytes : List ℕ) → flat_map run_bytes (runs bytes) ≡ bytes }
+    ensures longest { (bytes : List ℕ) → AreLongest (runs bytes) }
 {}

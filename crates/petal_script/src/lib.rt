@@ -25,7 +25,10 @@ mod words;
 
 pub use answer::Answer;
 pub use cause::{Cause, ScriptError};
-pub use laws::{first_refused_line, lines_are_the_text, what_a_line_does, what_a_script_is};
+pub use laws::{
+    first_fault, first_refused_line, lines_are_the_text, runs_are_the_block, what_a_line_does,
+    what_a_script_is,
+};
 pub use print::{write_answer, write_refusal};
 pub use reading::read_script;
 pub use request::{Line, Pattern, Request};

@@ -61,11 +61,11 @@ pub enum Request {
         name: Name,
         tuple: Tuple,
     },
-    /// A server stops now.
+    /// A server stops, if it runs.
     Stop {
         server: ServerId,
     },
-    /// A server stops in its `at`-th disk write from now on.
+    /// A server stops in the `at`-th call of its data device from now on.
     StopAt {
         server: ServerId,
         at: u32,
@@ -77,11 +77,11 @@ pub enum Request {
         kind: CallKind,
         at: u32,
     },
-    /// A stopped server starts again.
+    /// A server starts again, if it is stopped.
     Start {
         server: ServerId,
     },
-    /// A server starts again with blank devices.
+    /// A server starts again with a blank data device.
     Blank {
         server: ServerId,
     },
