@@ -1,0 +1,15 @@
+//! One server's part in agreement: its proposer.
+//!
+//! To the layer above it promises that a command is told to be chosen only where a majority answered that they accepted it
+//! in one ballot, and, over every schedule, one chosen command for each place. It knows nothing of what a command does, of
+//! when a ballot is started and of how letters travel.
+#![tactic(auto)]
+
+pub mod laws;
+mod proposer;
+
+pub use petal_paxos::{Heard, Phase};
+pub use proposer::Proposer;
+
+#[cfg(test)]
+mod tests;
