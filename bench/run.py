@@ -1,0 +1,49 @@
+#!/usr/bin/env python3
+"""Times petal and the plain C program on one script, in one run: wall time, requests a second, peak memory, ratio.
+
+usage: bench/run.py [REQUESTS [BLOCKS [SEED]]]   (petal must be built: ./petal run < examples/sevens.petal)
+"""
+import os, resource, subprocess, sys, tempfile, time
+
+TOP = os.path.dirname(os.path.dirname(os.path.abspath(__file__)))
+TURNS = 5
+
+def measure(command, text):
+    """The least wall time of some turns in seconds, peak memory in MiB, and what was written."""
+    best, peak, out = None, 0, b""
+    for _ in range(TURNS):
+        with tempfile.TemporaryFile() as source, tempfile.TemporaryFile() as sink:
+            source.write(text)
+            source.seek(0)
+            start = time.perf_counter()
+            child = subprocess.Popen(command, stdin=source, stdout=sink)
+            _, status, usage = os.wait4(child.pid, 0)
+            taken = time.perf_counter() - start
+            if status != 0:
+                sys.exit(f"{command[0]} ended with {status}")
+            best = taken if best is None else min(best, taken)
+            peak = max(peak, usage.ru_maxrss / 1024)
+            sink.seek(0)
+            out = sink.read()
+    return best, peak, out
+
+def main():
+    script = subprocess.run([sys.executable, f"{TOP}/bench/script.py", *sys.argv[1:]], capture_output=True, check=True).stdout
+    empty = b"servers 5 slots 1024\n"
+    requests = script.count(b"\na ")
+    with tempfile.TemporaryDirectory() as folder:
+        plain = f"{folder}/plain"
+        subprocess.run(["cc", "-O2", "-o", plain, f"{TOP}/bench/plain.c"], check=True)
+        rows = {"petal": [f"{TOP}/petal", "run"], "plain C": [plain]}
+        results = {}
+        for name, command in rows.items():
+            start_up, _, _ = measure(command, empty)
+            total, peak, out = measure(command, script)
+            results[name] = (total - start_up, out)
+            print(f"{name}: {total * 1000:.1f} ms, of it {start_up * 1000:.1f} ms start-up; "
+                  f"{requests / max(total - start_up, 1e-9):,.0f} requests a second beyond start-up; peak {peak:.0f} MiB")
+    if results["petal"][1] != results["plain C"][1]:
+        sys.exit("the two programs answered differently")
+    print(f"ratio beyond start-up: {results['petal'][0] / results['plain C'][0]:.1f}")
+
+main()

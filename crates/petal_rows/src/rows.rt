@@ -1,0 +1,217 @@
+//! Scripts and what the program writes, worked by hand.
+
+use petal_disk::{MemShelf, MemSink, MemSource};
+use petal_run::petal;
+use std::alloc::{AllocError, Global};
+use std::test::Fail;
+
+/// A script, the status that it ends with, and what is written.
+struct Row {
+    shows: &'static str,
+    script: &'static str,
+    status: u8,
+    written: &'static str,
+}
+
+/// Where the outside fails: the number of the call, from 1.
+#[derive(Clone, Copy)]
+struct Failing {
+    source: Option<u32>,
+    sink: Option<u32>,
+    shelf: Option<u32>,
+}
+
+const SOUND: Failing = Failing {
+    source: None,
+    sink: None,
+    shelf: None,
+};
+
+fn calls(alloc: Global, call: Option<u32>) -> Result<Vec<u32>, AllocError> {
+    let mut calls = Vec::new(alloc);
+    if let Some(call) = call {
+        calls.push(call)?;
+    }
+    Ok(calls)
+}
+
+fn word_list(alloc: Global, words: &[&str]) -> Result<Vec<String>, AllocError> {
+    let mut list = Vec::new(alloc);
+    for word in words {
+        list.push(String::from_str(alloc, word)?)?;
+    }
+    Ok(list)
+}
+
+/// The status, and the bytes written.
+fn run(
+    alloc: Global,
+    words: &[&str],
+    script: &str,
+    failing: Failing,
+) -> Result<(u8, Vec<u8>), AllocError> {
+    let words = word_list(alloc, words)?;
+    let bytes = Vec::from_slice(alloc, script.as_bytes())?;
+    let mut source = MemSource::new(bytes, calls(alloc, failing.source)?);
+    let mut sink = MemSink::new(alloc, calls(alloc, failing.sink)?);
+    let mut shelf = match failing.shelf {
+        Some(call) => MemShelf::refusing(call),
+        None => MemShelf::new(),
+    };
+    let outcome = petal(alloc, &words, &mut source, &mut sink, &mut shelf);
+    Ok((outcome.status, sink.into_bytes()))
+}
+
+const DISK: &str = "servers 5 slots 16\na disk vol on 0 1 2 3 4\nwait\n";
+
+#[test]
+fn scripts(rt: HostRuntime) -> Result<(), Fail> {
+    let rows = [
+        Row {
+            shows: "an empty session writes nothing",
+            script: "servers 2 slots 4",
+            status: 0,
+            written: "",
+        },
+        Row {
+            shows: "two writes fill two slots, the third is refused and the first stays",
+            script: "servers 2 slots 2\na disk vol on 0 1\na write vol 0 fill 1\na write vol 1 fill 2\na write vol 0 fill 3\na read vol 0\n",
+            status: 0,
+            written: "2: ok\n3: ok\n4: ok\n5: nospace\n6: data 65536x1\n",
+        },
+        Row {
+            shows: "a word that is no command",
+            script: "servers 2 slots 4\nwirte vol 1\n",
+            status: 2,
+            written: "refused line 2: bad line\n",
+        },
+        Row {
+            shows: "the empty script",
+            script: "",
+            status: 2,
+            written: "refused line 1: no servers line\n",
+        },
+        Row {
+            shows: "a stop of one of two servers leaves no majority",
+            script: "servers 2 slots 4\nop stop 1\n",
+            status: 2,
+            written: "refused line 2: no majority\n",
+        },
+        Row {
+            shows: "a stop of one of three servers is not built yet",
+            script: "servers 3 slots 4\na disk vol on 0 1\nop stop 1\n",
+            status: 2,
+            written: "refused line 3: not built\n",
+        },
+        Row {
+            shows: "a second disk is not built yet",
+            script: "servers 2 slots 4\na disk vol on 0 1\n# the other\na disk two on 1 0\n",
+            status: 2,
+            written: "refused line 4: not built\n",
+        },
+    ];
+    for row in rows.iter() {
+        let (status, written) = run(rt.alloc(), &["run"], row.script, SOUND)?;
+        assert_eq!(rt; written.as_slice(), row.written.as_bytes(), "{}", row.shows);
+        assert_eq!(rt; status, row.status, "{}", row.shows);
+    }
+    Ok(())
+}
+
+#[test]
+fn scripts_of_one_disk(rt: HostRuntime) -> Result<(), Fail> {
+    let rows: [(&str, &str, &str); 5] = [
+        (
+            "a block that was never written is zeros",
+            "a read vol 5",
+            "2: ok\n4: data 65536x0\n",
+        ),
+        (
+            "a block of sevens",
+            "a write vol 5 fill 7\na read vol 5",
+            "2: ok\n4: ok\n5: data 65536x7\n",
+        ),
+        (
+            "the greatest block number",
+            "a write vol 281474976710655 fill 9\na read vol 281474976710655\n",
+            "2: ok\n4: ok\n5: data 65536x9\n",
+        ),
+        (
+            "one block number more",
+            "a read vol 281474976710656",
+            "refused line 4: bad number\n",
+        ),
+        (
+            "halves, and two equal blocks whose runs are too many to print",
+            "a write vol 2 halves 1 2\na read vol 2\na write vol 3 ramp 0\na read vol 3\na write vol 4 ramp 0\na read vol 4\n",
+            "2: ok\n4: ok\n5: data 32768x1 32768x2\n6: ok\n7: data sha256 7daca2095d0438260fa849183dfc67faa459fdf4936e1bc91eec6b281b27e4c2\n8: ok\n9: data sha256 7daca2095d0438260fa849183dfc67faa459fdf4936e1bc91eec6b281b27e4c2\n",
+        ),
+    ];
+    for (shows, lines, written) in rows {
+        let script = format!(in rt.alloc(); "{DISK}{lines}")?;
+        let (_, got) = run(rt.alloc(), &["run"], script.as_str(), SOUND)?;
+        assert_eq!(rt; got.as_slice(), written.as_bytes(), "{shows}");
+    }
+    Ok(())
+}
+
+#[test]
+fn faults(rt: HostRuntime) -> Result<(), Fail> {
+    let sevens = format!(in rt.alloc(); "{DISK}a write vol 5 fill 7\na read vol 5\n")?;
+    let rows: [(&str, Failing, u8, &str); 4] = [
+        (
+            "a source that fails at its first read",
+            Failing {
+                source: Some(1),
+                ..SOUND
+            },
+            4,
+            "",
+        ),
+        (
+            "a sink that fails at its first write",
+            Failing {
+                sink: Some(1),
+                ..SOUND
+            },
+            5,
+            "",
+        ),
+        (
+            "a sink that fails at its second write",
+            Failing {
+                sink: Some(2),
+                ..SOUND
+            },
+            5,
+            "2: ok\n",
+        ),
+        (
+            "a shelf that refuses its first device",
+            Failing {
+                shelf: Some(1),
+                ..SOUND
+            },
+            6,
+            "",
+        ),
+    ];
+    for (shows, failing, status, written) in rows {
+        let (got, bytes) = run(rt.alloc(), &["run"], sevens.as_str(), failing)?;
+        assert_eq!(rt; bytes.as_slice(), written.as_bytes(), "{shows}");
+        assert_eq!(rt; got, status, "{shows}");
+    }
+    Ok(())
+}
+
+#[test]
+fn words(rt: HostRuntime) -> Result<(), Fail> {
+    let usage = "usage: petal run [FOLDER] | petal drill SEED COUNT\n";
+    let rows: [&[&str]; 5] = [&[], &["fly"], &["run", "folder"], &["drill", "0", "0"], &[""]];
+    for words in rows {
+        let (status, written) = run(rt.alloc(), words, "servers 2 slots 4", SOUND)?;
+        assert_eq!(rt; written.as_slice(), usage.as_bytes());
+        assert_eq!(rt; status, 1);
+    }
+    Ok(())
+}

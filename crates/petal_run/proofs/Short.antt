@@ -1,0 +1,47 @@
+-- A text that is a script is short.
+use Rattle.std.proofs.Common.{◌≡◌, ◌≤◌, ℕ, ◌+◌, List, [], ◌∷◌, ◌++◌, length, Option, None, Some, Result, Ok, Err, refl, ap, arith, length-append}
+use Rattle.std.proofs.lemmas.Bool.Decides.{nat_tests}
+use Rattle.std.specs.List.{concat}
+use Rattle.petal_script.proofs.Firsts.{concat-pieces}
+use Rattle.petal_script.specs.Text.{pieces, without_end}
+use Rattle.petal_script.specs.declared.cause.Cause.{Cause}
+use Rattle.petal_script.specs.declared.script.Script.{Script}
+use Rattle.petal_script.specs.Script.{TextLine, Refusal, script_of, script_from, lines_behind, line_verdict, goes_on, ended}
+
+verdict-short : (before : Option Script) (line : TextLine) (after : Option Script) → line_verdict before line ≡ Ok after → line.reach ≤ 1048576
+unfolding line_verdict
+verdict-short before line after is = grind (arith, nat_tests)
+
+taken : (rest : Option Script → Result Script Refusal) (number : ℕ) (before : Option Script) (line : TextLine) (s : Script)
+    (v : Result (Option Script) Cause) → line_verdict before line ≡ v → goes_on rest number v ≡ Ok s
+    → (line.reach ≤ 1048576) × ((after : Option Script) × (rest after ≡ Ok s))
+taken rest number before line s (Ok after) is goes = (verdict-short before line after is, (after, goes))
+taken rest number before line s (Err cause) is goes = cc
+
+-- a line that is taken does not reach past the limit
+short-line : (rest : Option Script → Result Script Refusal) (number : ℕ) (before : Option Script) (line : TextLine) (s : Script)
+    → goes_on rest number (line_verdict before line) ≡ Ok s → (line.reach ≤ 1048576) × ((after : Option Script) × (rest after ≡ Ok s))
+short-line rest number before line s is =
+    let verdict = line_verdict before line in
+    let cases : (v : Result (Option Script) Cause) → line_verdict before line ≡ v → goes_on rest number v ≡ Ok s
+    → (line.reach ≤ 1048576) × ((after : Option Script) × (rest after ≡ Ok s)) = taken rest number before line s in
+    cases verdict refl is
+
+short-from : (ps : List (List ℕ)) (number reach : ℕ) (before : Option Script) (s : Script) → reach ≤ 1048576
+    → script_from (lines_behind number reach ps) before ≡ Ok s → reach + length (concat ps) ≤ 1048576
+unfolding script_from lines_behind
+short-from [] number reach before s short is = omega arith
+short-from (p ∷ ps) number reach before s short is =
+    let line : TextLine = record { number = number + 1; text = without_end p; reach = reach + length p } in
+    let on = short-line (script_from (lines_behind (number + 1) (reach + length p) ps)) (number + 1) before line s is in
+    let more = short-from ps (number + 1) (reach + length p) on.1.0 s on.0 on.1.1 in
+    omega (arith, length-append p (concat ps), more)
+
+-- a script has at most 1,048,576 bytes
+pub script-short : (text : List ℕ) (s : Script) → script_of text ≡ Ok s → length text ≤ 1048576
+unfolding script_of
+script-short text s is =
+    let short = short-from (pieces text) 0 0 None s (omega arith) is in
+    let whole : concat (pieces text) ≡ text = concat-pieces text in
+    let same : length (concat (pieces text)) ≡ length text = ap length whole in
+    omega arith
