@@ -1,0 +1,19 @@
+//! Happy paths at concrete keys.
+
+use super::*;
+use std::test::Fail;
+
+#[test]
+fn rows_come_and_go(rt: HostRuntime) -> Result<(), Fail> {
+    let mut table: Table<u64, u8> = Table::new(rt.alloc());
+    table.put(5, 50)?;
+    table.put(3, 30)?;
+    table.put(5, 51)?;
+    assert_eq!(rt; table.len(), 2);
+    assert_eq!(rt; table.get(&5).copied(), Some(51));
+    assert_eq!(rt; table.get(&4).copied(), None);
+    assert_eq!(rt; table.remove(&5), Some(51));
+    assert_eq!(rt; table.remove(&5), None);
+    assert_eq!(rt; table.get(&3).copied(), Some(30));
+    Ok(())
+}
