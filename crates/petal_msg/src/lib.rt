@@ -1,0 +1,19 @@
+//! Letters between servers and clients, and the plain data of the operations that they drive.
+//!
+//! To the layer above it promises that letters are plain values: `==` says whether two are equal, contracts see a shared
+//! letter as the letter and a block in it as its bytes, and no block is copied on the way. It knows nothing of when a
+//! letter is sent or what it does.
+#![tactic(auto)]
+
+mod body;
+mod letter;
+mod operation;
+mod owner;
+
+pub use body::Body;
+pub use letter::{Actor, Letter};
+pub use operation::{Action, Ending, Far, Finished, LastOp, OpKind, Pending, Reply, Stage};
+pub use owner::{Shared, SharedLetter};
+
+#[cfg(test)]
+mod tests;
