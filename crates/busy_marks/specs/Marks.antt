@@ -1,0 +1,53 @@
+-- Sets of marks as lists, and the next block or map in them.
+use Rattle.std.specs.Prelude.{ℕ, Bool, true, false, ◌&&◌, ◌==◌, nat_lt, not, List, [], ◌∷◌, ◌++◌, Option, None, Some, if◌then◌else◌, filter}
+use Rattle.std.specs.List.{list_any}
+use Rattle.busy_marks.specs.declared.marks.Mark.{Mark}
+use Rattle.busy_marks.specs.declared.marks.MarkKind.{MarkKind}
+use Rattle.busy_marks.specs.declared.marks.MarkKind.TheVariants.{Busy, Stale}
+
+abbrev pub same_kind : MarkKind → MarkKind → Bool
+same_kind Busy Busy = true
+same_kind Stale Stale = true
+same_kind Busy Stale = false
+same_kind Stale Busy = false
+
+-- the same kind of mark on the same cell
+abbrev pub same_mark : Mark → Mark → Bool
+same_mark a b = same_kind a.kind b.kind && a.cell.map == b.cell.map && a.cell.block == b.cell.block
+
+-- whether a mark is in the list
+abbrev pub has_mark : Mark → List Mark → Bool
+has_mark mark marks = list_any (λ m. same_mark m mark) marks
+
+-- the list with the mark, at its end where it is new
+abbrev pub with_mark : List Mark → Mark → List Mark
+with_mark marks mark = if has_mark mark marks then marks else marks ++ mark ∷ []
+
+-- the list without the mark
+abbrev pub without_mark : List Mark → Mark → List Mark
+without_mark marks mark = filter (λ m. not (same_mark m mark)) marks
+
+-- above a number, if there is one
+abbrev pub above : Option ℕ → ℕ → Bool
+above None n = true
+above (Some after) n = nat_lt after n
+
+-- the lesser of two numbers, where there are two
+abbrev pub lesser : Option ℕ → Option ℕ → Option ℕ
+lesser None b = b
+lesser (Some a) None = Some a
+lesser (Some a) (Some b) = if nat_lt b a then Some b else Some a
+
+-- of the marks on a map's cells, the least block above a number
+abbrev pub next_marked : ℕ → Option ℕ → List Mark → Option ℕ
+next_marked map after [] = None
+next_marked map after (m ∷ ms) =
+    if m.cell.map == map && above after m.cell.block
+    then lesser (Some m.cell.block) (next_marked map after ms)
+    else next_marked map after ms
+
+-- of all marks, the least map above a number
+abbrev pub next_marked_map : Option ℕ → List Mark → Option ℕ
+next_marked_map after [] = None
+next_marked_map after (m ∷ ms) =
+    if above after m.cell.map then lesser (Some m.cell.map) (next_marked_map after ms) else next_marked_map after ms
