@@ -4,9 +4,8 @@
 
 use petal_disk::{MemShelf, StdSink, StdSource};
 use petal_run::petal;
-use std::env;
-use std::io;
 use std::process::ExitCode;
+use std::{env, io};
 
 // The words that the program is called with, its own name left out.
 fn words(rt: &HostRuntime) -> io::Result<Vec<String>> {

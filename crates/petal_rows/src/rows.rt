@@ -6,6 +6,7 @@ use std::alloc::{AllocError, Global};
 use std::test::Fail;
 
 /// A script, the status that it ends with, and what is written.
+#[derive(Clone, Copy)]
 struct Row {
     shows: &'static str,
     script: &'static str,
@@ -207,7 +208,13 @@ fn faults(rt: HostRuntime) -> Result<(), Fail> {
 #[test]
 fn words(rt: HostRuntime) -> Result<(), Fail> {
     let usage = "usage: petal run [FOLDER] | petal drill SEED COUNT\n";
-    let rows: [&[&str]; 5] = [&[], &["fly"], &["run", "folder"], &["drill", "0", "0"], &[""]];
+    let rows: [&[&str]; 5] = [
+        &[],
+        &["fly"],
+        &["run", "folder"],
+        &["drill", "0", "0"],
+        &[""],
+    ];
     for words in rows {
         let (status, written) = run(rt.alloc(), words, "servers 2 slots 4", SOUND)?;
         assert_eq!(rt; written.as_slice(), usage.as_bytes());
