@@ -1,0 +1,5 @@
+pub mod Place
+pub mod Map
+pub mod Link
+pub mod View
+pub mod Disk
