@@ -1,0 +1,4 @@
+mod Append
+pub mod Counting
+pub mod Frame
+mod Slots
