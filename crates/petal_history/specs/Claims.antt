@@ -1,0 +1,84 @@
+-- What is to be shown of every history at this stage. Here these are statements; a law carries one once it is proved.
+use Rattle.std.specs.Prelude.{◌≡◌, ◌≢◌, ◌⊎◌, ◌+◌, ◌≤◌, ℕ, List, Option, Some, None, true, false}
+use Rattle.std.specs.Ordering.{nat_cmp}
+use Rattle.petal_base.specs.declared.place.Cell.{Cell}
+use Rattle.petal_table.specs.Table.{at, put}
+use Rattle.petal_machine.specs.Machine.{Plain, blank, content, disk_of}
+use Rattle.petal_machine.specs.Run.{replay}
+use Rattle.petal_machine.specs.declared.event.Event.{Event}
+use Rattle.petal_machine.specs.declared.state.Disk.{Disk}
+use Rattle.petal_msg.specs.declared.body.Body.TheVariants as body
+use Rattle.petal_msg.specs.declared.letter.Letter.{Letter}
+use Rattle.petal_msg.specs.declared.operation.Finished.{Finished}
+use Rattle.petal_msg.specs.declared.operation.Pending.{Pending}
+use Rattle.petal_script.specs.declared.script.Script.{Script}
+use Rattle.petal_rules.specs.Clients.{Asked}
+use Rattle.petal_rules.specs.Lists.{In}
+use Rattle.petal_rules.specs.State.{State, link_of, is_lead, held, Not_held}
+use Rattle.petal_rules.specs.Store.{Chain, cell_cmp, chain_in, version_of}
+use Rattle.petal_rules.specs.World.{World, start, setting_of}
+use Rattle.petal_history.specs.Contents.{chosen_state, content_at}
+use Rattle.petal_history.specs.Events.{IsRunOf, events_of}
+use Rattle.petal_history.specs.Legal.{IsLegal, world_after}
+use Rattle.petal_history.specs.declared.record.Record.{Record}
+
+-- a chain after one more put with the next version
+abbrev pub one_put_ahead : Chain → Pending → Chain
+one_put_ahead chain op = put nat_cmp chain op.key.epoch (record { version = version_of chain + 1; bytes = op.bytes })
+
+-- two chains of a cell are equal, or the first is the second after one more put, by the operation that is pending
+abbrev pub Copies : Chain → Chain → Option Pending → Type 0
+Copies first second pending = (first ≡ second) ⊎ ((op : Pending) × (pending ≡ Some op) × (first ≡ one_put_ahead second op))
+
+-- the two-copy rule for a cell in Both
+abbrev pub TwoCopies : State → World → Cell → Type 0
+TwoCopies state w cell =
+    let primary = w.servers (link_of state cell).primary in
+    let secondary = w.servers (link_of state cell).secondary in
+    Copies (chain_in primary.store.chains cell) (chain_in secondary.store.chains cell) (at cell_cmp primary.pairs.pending cell)
+
+-- the client called a request under this number, and has answered it
+pub record IsOver (w : World) (client seq : ℕ) : Type 0 where
+  pub called : seq ≤ (w.clients client).seq
+  pub answered : (asked : Asked) → (w.clients client).asked ≡ Some asked → asked.seq ≢ seq
+
+-- the lead has finished this request or a later one of its client
+pub record HasFinished (finished : Option Finished) (seq : ℕ) : Type 0 where
+  pub last : Finished
+  pub is : finished ≡ Some last
+  pub past : seq ≤ last.seq
+
+-- a running server at the revision of a Write letter has its request as finished, or is not the cell's lead, or holds it
+abbrev pub IsLateAt : State → World → Letter → (client seq : ℕ) → Cell → ℕ → Type 0
+IsLateAt state w letter client seq cell n =
+    (w.servers n).life.running ≡ true → (w.servers n).life.rev ≡ letter.rev
+    → HasFinished (at nat_cmp (w.servers n).pairs.finished client) seq ⊎ (is_lead state n cell ≡ false) ⊎ (held state cell ≢ Not_held)
+
+-- a request that its client has answered is pending at no running server, and its Write letters come too late everywhere
+pub record Requests (state : State) (w : World) : Type 0 where
+  pub pending : (n : ℕ) (cell : Cell) (op : Pending) → (w.servers n).life.running ≡ true → at cell_cmp (w.servers n).pairs.pending cell ≡ Some op → IsOver w op.client op.seq → ⊥
+  pub late : (letter : Letter) (client seq epoch : ℕ) (cell : Cell) (bytes : List ℕ) → In letter w.sent → letter.body ≡ body.Write client seq cell epoch bytes → IsOver w client seq
+      → (n : ℕ) → IsLateAt state w letter client seq cell n
+
+-- the machine after the events, where there are events
+abbrev pub machine_after : Option (List Event) → Plain
+machine_after None = blank
+machine_after (Some events) = replay blank events
+
+-- the machine's disk of this name has these contents
+pub record Holds (disks : List Disk) (name : List ℕ) (contents : ℕ → List ℕ) : Type 0 where
+  pub disk : Disk
+  pub is : disk_of disks name ≡ Some disk
+  pub same : (block : ℕ) → content disk.now block ≡ contents block
+
+-- what every legal history of a script is to keep: the two-copy rule and the rule of requests at its end, that its events
+-- are a run of the plain machine, and that the contents are the machine's
+pub record Keeps (script : Script) (records : List Record) : Type 0 where
+  pub copies : (cell : Cell) → TwoCopies (chosen_state (setting_of script)) (world_after (setting_of script) (start (setting_of script)) records) cell
+  pub requests : Requests (chosen_state (setting_of script)) (world_after (setting_of script) (start (setting_of script)) records)
+  pub run : IsRunOf (events_of script records)
+  pub holds : Holds (machine_after (events_of script records)).disks (chosen_state (setting_of script)).name (content_at (setting_of script) (world_after (setting_of script) (start (setting_of script)) records) 0)
+
+-- the law to come
+abbrev pub Law : Type 0
+Law = (script : Script) (records : List Record) → IsLegal script records → Keeps script records

@@ -1,0 +1,245 @@
+-- What of a history the plain machine is told.
+use Rattle.std.specs.Prelude.{ℕ, ◌==◌, ◌&&◌, not, Bool, false, List, [], ◌∷◌, ◌++◌, map, filter, find, if◌then◌else◌, Option, Some, None}
+use Rattle.std.specs.List.{flat_map, range_with_len, fold, filter_map}
+use Rattle.std.specs.Ordering.{nat_cmp}
+use Rattle.petal_table.specs.Table.{Table, put}
+use Rattle.petal_machine.specs.Machine.{same_bytes}
+use Rattle.petal_machine.specs.Run.{IsRun}
+use Rattle.petal_machine.specs.declared.event.Event.{Event}
+use Rattle.petal_machine.specs.declared.event.Event.TheVariants.{Make, Begin, Take, End, Look}
+use Rattle.petal_machine.specs.declared.event.Write.{Write}
+use Rattle.petal_machine.specs.declared.event.WriteEnd.{WriteEnd}
+use Rattle.petal_machine.specs.declared.event.WriteEnd.TheVariants as write_end
+use Rattle.petal_msg.specs.declared.body.Body.{Body}
+use Rattle.petal_msg.specs.declared.body.Body.TheVariants as body
+use Rattle.petal_msg.specs.declared.letter.Actor.{Actor}
+use Rattle.petal_msg.specs.declared.letter.Actor.TheVariants as actor
+use Rattle.petal_msg.specs.declared.letter.Letter.{Letter}
+use Rattle.petal_script.specs.Pattern.{pattern_block}
+use Rattle.petal_script.specs.declared.answer.Answer.{Answer}
+use Rattle.petal_script.specs.declared.answer.Answer.TheVariants as answer
+use Rattle.petal_script.specs.declared.request.Line.{Line}
+use Rattle.petal_script.specs.declared.request.Request.{Request}
+use Rattle.petal_script.specs.declared.request.Request.TheVariants as request
+use Rattle.petal_script.specs.declared.script.Script.{Script}
+use Rattle.petal_rules.specs.Clients.{Asked}
+use Rattle.petal_rules.specs.Server.{Server}
+use Rattle.petal_rules.specs.World.{Setting, World, start, setting_of}
+use Rattle.petal_rules.specs.declared.step.Step.{Step}
+use Rattle.petal_rules.specs.declared.step.Step.TheVariants.{Call, Deliver, Tick, Work}
+use Rattle.petal_history.specs.Contents.{chosen_state, content_at}
+use Rattle.petal_history.specs.Legal.{stepped}
+use Rattle.petal_history.specs.declared.record.Record.{Record}
+
+-- ### Calls and answers of writes
+
+abbrev pub write_by : (client seq : ℕ) → Request → Option Write
+write_by client seq (request.Write name block pattern) = Some (record { client = client; seq = seq; disk = name; block = block; bytes = pattern_block pattern })
+write_by client seq (request.Disk name tuple) = None
+write_by client seq (request.Read name snap block) = None
+write_by client seq (request.Snap name snap) = None
+write_by client seq (request.Move name tuple) = None
+write_by client seq (request.Stop server) = None
+write_by client seq (request.StopAt server at) = None
+write_by client seq (request.Fault server which kind at) = None
+write_by client seq (request.Start server) = None
+write_by client seq (request.Blank server) = None
+write_by client seq request.Settle = None
+
+abbrev pub write_asked : ℕ → Option Asked → Option Write
+write_asked client None = None
+write_asked client (Some asked) = write_by client asked.seq asked.request
+
+-- the client's write that is called and not yet answered
+abbrev pub open_write : World → ℕ → Option Write
+open_write w client = write_asked client (w.clients client).asked
+
+abbrev pub begun : Option Write → List Event
+begun None = []
+begun (Some write) = Begin write ∷ []
+
+-- the step in which a client calls a write tells that it begins
+abbrev pub begins : Step → Actor → World → List Event
+begins (Call line) (actor.Client c) later = begun (open_write later c)
+begins (Call line) (actor.Server n) later = []
+begins (Deliver letter) who later = []
+begins Tick who later = []
+begins (Work end) who later = []
+
+abbrev pub end_of : Answer → WriteEnd
+end_of answer.Ok = write_end.Ok
+end_of (answer.Data bytes) = write_end.Ok
+end_of answer.NoSpace = write_end.NoSpace
+end_of answer.Unavailable = write_end.Unavailable
+end_of answer.NoDisk = write_end.NoDisk
+end_of answer.NoSnap = write_end.NoDisk
+end_of answer.Exists = write_end.NoDisk
+end_of answer.Moving = write_end.NoDisk
+end_of answer.Failed = write_end.Unavailable
+
+abbrev pub ended : Option Write → Option (ℕ × Answer) → List Event
+ended None given = []
+ended (Some write) None = []
+ended (Some write) (Some given) = End write (end_of given.1) ∷ []
+
+-- the step in which a write is answered tells that it ends
+abbrev pub ends : Actor → World → Option (ℕ × Answer) → List Event
+ends (actor.Client c) w given = ended (open_write w c) given
+ends (actor.Server n) w given = []
+
+-- ### Contents that change
+
+-- the blocks of the cells of a server's chains
+abbrev pub blocks_of : Server → List ℕ
+blocks_of server = map (λ row. row.0.block) server.store.chains
+
+-- the blocks that some server has an entry of, by number
+abbrev pub blocks_in : Setting → World → List ℕ
+blocks_in setting w =
+    map (λ row. row.0) (fold (λ (t : Table ℕ ℕ) b. put nat_cmp t b b) [] (flat_map (λ n. blocks_of (w.servers n)) (range_with_len 0 setting.servers)))
+
+-- the blocks whose content is another after the step, by number
+abbrev pub changed_blocks : Setting → World → World → List ℕ
+changed_blocks setting w later = filter (λ b. not (same_bytes (content_at setting w 0 b) (content_at setting later 0 b))) (blocks_in setting later)
+
+abbrev pub writes_so : List ℕ → ℕ → List ℕ → Write → Bool
+writes_so name block bytes write = same_bytes write.disk name && (write.block == block) && same_bytes write.bytes bytes
+
+-- the write under way that gives the block this content: of several, the one of the least client
+abbrev pub taker : Setting → World → ℕ → List ℕ → Option Write
+taker setting w block bytes = find (writes_so (chosen_state setting).name block bytes) (filter_map (open_write w) (range_with_len 0 9))
+
+abbrev pub with_first : Option Event → Option (List Event) → Option (List Event)
+with_first None events = None
+with_first (Some event) None = None
+with_first (Some event) (Some events) = Some (event ∷ events)
+
+-- the events, where each is there
+abbrev pub all_there : List (Option Event) → Option (List Event)
+all_there [] = Some []
+all_there (event ∷ later) = with_first event (all_there later)
+
+abbrev pub taken : Option Write → Option Event
+taken None = None
+taken (Some write) = Some (Take write)
+
+-- a content that changed was written by a write under way; where there is none, the events are no run
+abbrev pub takes : Setting → World → World → Option (List Event)
+takes setting w later = all_there (map (λ b. taken (taker setting w b (content_at setting later 0 b))) (changed_blocks setting w later))
+
+-- ### Reads
+
+abbrev pub same_actor : Actor → Actor → Bool
+same_actor (actor.Server n) (actor.Server m) = n == m
+same_actor (actor.Client c) (actor.Client d) = c == d
+same_actor (actor.Server n) (actor.Client c) = false
+same_actor (actor.Client c) (actor.Server n) = false
+
+-- two letters have one name
+abbrev pub same_name : Letter → Letter → Bool
+same_name a b = same_actor a.from b.from && (a.stamp == b.stamp) && (a.nth == b.nth)
+
+abbrev pub line_of_data : ℕ → Answer → Option ℕ
+line_of_data line (answer.Data bytes) = Some line
+line_of_data line answer.Ok = None
+line_of_data line answer.NoSpace = None
+line_of_data line answer.Unavailable = None
+line_of_data line answer.NoDisk = None
+line_of_data line answer.NoSnap = None
+line_of_data line answer.Exists = None
+line_of_data line answer.Moving = None
+line_of_data line answer.Failed = None
+
+-- the line that is answered with data
+abbrev pub data_line : Option (ℕ × Answer) → Option ℕ
+data_line None = None
+data_line (Some given) = line_of_data given.0 given.1
+
+-- the line that this record answers with data, where it is the delivery of this letter
+abbrev pub accepts : Letter → Step → Option (ℕ × Answer) → Option ℕ
+accepts letter (Deliver other) given = if same_name letter other then data_line given else None
+accepts letter (Call line) given = None
+accepts letter Tick given = None
+accepts letter (Work end) given = None
+
+abbrev pub first_of : Option ℕ → Option ℕ → Option ℕ
+first_of None other = other
+first_of (Some line) other = Some line
+
+-- the line that the letter answers in one of these records
+abbrev pub accepted : List Record → Letter → Option ℕ
+accepted [] letter = None
+accepted (own ∷ later) letter = first_of (accepts letter own.step own.answer) (accepted later letter)
+
+abbrev pub look_by : Request → List ℕ → List Event
+look_by (request.Read name snap block) bytes = Look name snap block bytes ∷ []
+look_by (request.Write name block pattern) bytes = []
+look_by (request.Disk name tuple) bytes = []
+look_by (request.Snap name snap) bytes = []
+look_by (request.Move name tuple) bytes = []
+look_by (request.Stop server) bytes = []
+look_by (request.StopAt server at) bytes = []
+look_by (request.Fault server which kind at) bytes = []
+look_by (request.Start server) bytes = []
+look_by (request.Blank server) bytes = []
+look_by request.Settle bytes = []
+
+abbrev pub look_for : List Line → Option ℕ → List ℕ → List Event
+look_for lines None bytes = []
+look_for lines (Some number) bytes = flat_map (λ line. if line.number == number then look_by line.request bytes else []) lines
+
+abbrev pub look_of : List Line → List Record → Letter → Body → List Event
+look_of lines later letter (body.Data seq bytes) = look_for lines (accepted later letter) bytes
+look_of lines later letter (body.Read to seq cell epoch) = []
+look_of lines later letter (body.Write to seq cell epoch bytes) = []
+look_of lines later letter (body.NotHere seq) = []
+look_of lines later letter (body.BlockBusy seq) = []
+look_of lines later letter (body.Held seq) = []
+look_of lines later letter (body.WrongRev seq) = []
+look_of lines later letter (body.Written seq) = []
+look_of lines later letter (body.Full seq) = []
+look_of lines later letter (body.Reserve number cell) = []
+look_of lines later letter (body.Reserved number cell) = []
+look_of lines later letter (body.PairFull number cell) = []
+look_of lines later letter (body.Replicate number key version bytes) = []
+look_of lines later letter (body.Replicated number cell) = []
+
+-- the step that sent a letter whose data answers a read tells that the read looks
+abbrev pub looks : List Line → List Record → List Letter → List Event
+looks lines later sent = flat_map (λ letter. look_of lines later letter letter.body) sent
+
+-- ### All steps
+
+abbrev pub told_with : List Event → Option (List Event) → List Event → Option (List Event)
+told_with before None behind = None
+told_with before (Some taken_now) behind = Some (before ++ taken_now ++ behind)
+
+-- the events of one step, in the order begin, take, look, end
+abbrev pub told : Setting → World → Record → List Record → Option (List Event)
+told setting w own later =
+    let next = (stepped setting w own).world in
+    told_with (begins own.step own.actor next) (takes setting w next) (looks setting.lines later own.sent ++ ends own.actor w own.answer)
+
+abbrev pub joined : Option (List Event) → Option (List Event) → Option (List Event)
+joined None events = None
+joined (Some now) None = None
+joined (Some now) (Some later) = Some (now ++ later)
+
+abbrev pub told_from : Setting → World → List Record → Option (List Event)
+told_from setting w [] = Some []
+told_from setting w (own ∷ later) = joined (told setting w own later) (told_from setting (stepped setting w own).world later)
+
+abbrev pub made : Option (List Event) → List ℕ → Option (List Event)
+made None name = None
+made (Some events) name = Some (Make name ∷ events)
+
+-- the events of a history. The one disk is made before the first step, since the fixed state has it from the start
+abbrev pub events_of : Script → List Record → Option (List Event)
+events_of script records =
+    let setting = setting_of script in
+    made (told_from setting (start setting) records) (chosen_state setting).name
+
+-- the events are a run of the plain machine
+abbrev pub IsRunOf : Option (List Event) → Type 0
+IsRunOf None = ⊥
+IsRunOf (Some events) = IsRun events

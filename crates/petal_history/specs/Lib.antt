@@ -1,0 +1,7 @@
+pub mod Legal
+pub mod Contents
+pub mod Events
+pub mod Text
+pub mod Claims
+pub mod Play
+pub mod Examples

@@ -1,0 +1,47 @@
+-- Runs that are computed from what is done in turn.
+use Rattle.std.specs.Prelude.{ℕ, List, [], ◌∷◌, reverse, slice_get, Option, Some, None}
+use Rattle.petal_msg.specs.declared.letter.Actor.{Actor}
+use Rattle.petal_msg.specs.declared.letter.Actor.TheVariants as actor
+use Rattle.petal_msg.specs.declared.letter.Letter.{Letter}
+use Rattle.petal_rules.specs.World.{Setting, World, Stepped, step, next_stamp}
+use Rattle.petal_rules.specs.declared.step.Step.{Step}
+use Rattle.petal_rules.specs.declared.step.Step.TheVariants.{Call, Deliver, Work}
+use Rattle.petal_rules.specs.declared.step.WorkEnd.TheVariants as work_end
+use Rattle.petal_history.specs.declared.record.Record.{Record}
+
+-- one thing that is done: a client calls the line of this number, a letter is handed over (they are counted from 0 in the
+-- order in which they were sent), a server does the first job of its queue
+pub data Move : Type 0 where
+  Calls : (client line : ℕ) → Move
+  Hands : (letter : ℕ) → Move
+  Works : (server : ℕ) → Move
+
+-- a record of one step, in phase 0
+abbrev pub recorded : Actor → Step → ℕ → Stepped → Record
+recorded who what stamp stepped = record { actor = who; stamp = stamp; phase = 0; step = what; sent = stepped.letters; answer = stepped.answer }
+
+-- the record of the actor's step, with its next stamp
+abbrev pub record_by : Setting → World → Actor → Step → Record
+record_by setting w who what =
+    let stamp = next_stamp w who what in
+    recorded who what stamp (step who what setting w stamp)
+
+abbrev pub handed : Setting → World → Option Letter → List Record
+handed setting w None = []
+handed setting w (Some letter) = record_by setting w letter.to (Deliver letter) ∷ []
+
+-- the record of a move, where there is such a letter
+abbrev pub moved : Setting → World → Move → List Record
+moved setting w (Calls client line) = record_by setting w (actor.Client client) (Call line) ∷ []
+moved setting w (Hands letter) = handed setting w (slice_get (reverse w.sent) letter)
+moved setting w (Works server) = record_by setting w (actor.Server server) (Work work_end.Done) ∷ []
+
+-- the world behind a record
+abbrev pub behind : Setting → World → List Record → World
+behind setting w [] = w
+behind setting w (own ∷ later) = behind setting (step own.actor own.step setting w own.stamp).world later
+
+-- the world behind a list of moves
+abbrev pub plays : Setting → World → List Move → World
+plays setting w [] = w
+plays setting w (move ∷ moves) = plays setting (behind setting w (moved setting w move)) moves

@@ -1,0 +1,13 @@
+-- It was put there.
+use Rattle.std.proofs.Common.{[], ap}
+use Rattle.std.specs.Prelude.{unwrap_or}
+use Rattle.petal_base.specs.Place.{cell_of}
+use Rattle.petal_rules.specs.Store.{Chain}
+use Rattle.petal_rules.proofs.CellTables.{cell_same}
+use Rattle.petal_rules.proofs.laws.a_second_copy_is_put.Goals as goal
+
+pub returns : goal.returns
+returns c = record {
+  chain = λ here half number key bytes. ap (λ o. unwrap_or {T = Chain} o []) (cell_same half.store.chains (cell_of key) _);
+  last = λ here half number key bytes. cell_same half.pairs.last (cell_of key) _;
+}

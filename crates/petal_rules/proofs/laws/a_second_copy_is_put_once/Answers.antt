@@ -1,0 +1,41 @@
+-- By the number, and by how far the second server is with it.
+use Rattle.std.proofs.Common.{◌≡◌, ◌≢◌, ℕ, List, Bool, true, false, ◌==◌, Option, refl, ap, ◌∙◌, arith}
+use Rattle.std.proofs.lemmas.Bool.Decides.{nat_tests}
+use Rattle.std.specs.Prelude.{if◌then◌else◌}
+use Rattle.petal_base.specs.Place.{cell_of}
+use Rattle.petal_base.specs.declared.place.Key.{Key}
+use Rattle.petal_msg.specs.declared.operation.Far.TheVariants as far
+use Rattle.petal_msg.specs.declared.operation.LastOp.{LastOp}
+use Rattle.petal_rules.specs.State.{is_second}
+use Rattle.petal_rules.specs.Server.{Half, Here, Done, silent}
+use Rattle.petal_rules.specs.Writes.{follows_once, hears_replicate, on_replicate}
+use Rattle.petal_rules.proofs.laws.a_second_copy_is_put_once.Goals as goal
+
+apart : (a b : ℕ) → a ≢ b → (a == b) ≡ false
+apart a b ne = grind (arith, nat_tests)
+
+module _ (here : Here) (half : Half) (number : ℕ) (key : Key) (bytes : List ℕ) where
+  abbrev by_last : Option LastOp → Done
+  by_last o = if is_second here.state here.me (cell_of key) then hears_replicate here half number key bytes o else silent half
+
+  kept : (second same : Bool) → (if second then (if same then follows_once here half number key bytes far.Replicated else silent half) else silent half).half ≡ half
+  kept false same = refl
+  kept true false = refl
+  kept true true = refl
+
+  dropped : (second same : Bool) (done : Done) → same ≡ false → (if second then (if same then done else silent half) else silent half) ≡ silent half
+  dropped false same done e = refl
+  dropped true true done e = cc
+  dropped true false done e = refl
+
+  silent_so : (second : Bool) → (if second then silent half else silent half) ≡ silent half
+  silent_so true = refl
+  silent_so false = refl
+
+pub returns : goal.returns
+unfolding on_replicate
+returns c = record {
+  again = λ here half number key bytes is. ap (λ o. (by_last here half number key bytes o).half) is ∙ kept here half number key bytes (is_second here.state here.me (cell_of key)) (number == number);
+  other = λ here half number key bytes last is ne. ap (by_last here half number key bytes) is ∙ dropped here half number key bytes (is_second here.state here.me (cell_of key)) (number == last.op) _ (apart number last.op ne);
+  unknown = λ here half number key bytes is. ap (by_last here half number key bytes) is ∙ silent_so here half number key bytes (is_second here.state here.me (cell_of key));
+}

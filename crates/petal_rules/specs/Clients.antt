@@ -1,0 +1,199 @@
+-- What a client does: at a call, with a letter that comes, and at a tick.
+use Rattle.std.specs.Prelude.{ℕ, ◌+◌, ◌%◌, ◌==◌, ◌&&◌, Bool, true, false, List, [], ◌∷◌, length, filter, slice_get, if◌then◌else◌, Option, Some, None}
+use Rattle.std.specs.List.{range_with_len}
+use Rattle.petal_base.specs.declared.place.Cell.{Cell}
+use Rattle.petal_msg.specs.declared.body.Body.{Body}
+use Rattle.petal_msg.specs.declared.body.Body.TheVariants as body
+use Rattle.petal_msg.specs.declared.letter.Actor.TheVariants as actor
+use Rattle.petal_msg.specs.declared.letter.Letter.{Letter}
+use Rattle.petal_script.specs.Pattern.{pattern_block}
+use Rattle.petal_script.specs.declared.answer.Answer.{Answer}
+use Rattle.petal_script.specs.declared.answer.Answer.TheVariants as answer
+use Rattle.petal_script.specs.declared.request.Request.{Request}
+use Rattle.petal_script.specs.declared.request.Request.TheVariants as request
+use Rattle.petal_rules.specs.State.{State, DiskView, find, snapshot, lead, readable}
+use Rattle.petal_rules.specs.Server.{Post, Sender}
+
+-- a request that is open: its line, its number, how often it was sent, and the revision of the latest send
+pub record Asked : Type 0 where
+  pub line : ℕ
+  pub seq : ℕ
+  pub request : Request
+  pub turn : ℕ
+  pub rev : ℕ
+
+-- a client: its revision, the number of its last request, and the request that is open
+pub record Client : Type 0 where
+  pub rev : ℕ
+  pub seq : ℕ
+  pub asked : Option Asked
+
+-- a client of a run that begins
+abbrev pub first_client : Client
+first_client = record { rev = 1; seq = 0; asked = None }
+
+-- what a step of a client leaves, sends and answers, with the line that is answered
+pub record Reacted : Type 0 where
+  pub client : Client
+  pub posts : List Post
+  pub answer : Option (ℕ × Answer)
+
+-- nothing happens
+abbrev pub rests : Client → Reacted
+rests client = record { client = client; posts = []; answer = None }
+
+-- ### Sending
+
+-- the servers that may read a cell, by number
+abbrev pub readers : State → Cell → List ℕ
+readers state cell = filter (λ n. readable state n cell) (range_with_len 0 state.servers)
+
+-- one of the servers, in turn
+abbrev pub in_turn : List ℕ → ℕ → Option ℕ
+in_turn servers turn = slice_get servers (turn % length servers)
+
+abbrev pub post_to : Option ℕ → Body → List Post
+post_to None said = []
+post_to (Some server) said = record { to = actor.Server server; body = said } ∷ []
+
+-- the cell of a block under a disk's map
+abbrev pub cell_on : DiskView → ℕ → Cell
+cell_on disk block = record { map = disk.map; block = block }
+
+-- the epoch that a read asks for: the snapshot's, or the disk's own
+abbrev pub epoch_for : State → List ℕ → DiskView → Option (List ℕ) → Option ℕ
+epoch_for state name disk None = Some disk.epoch
+epoch_for state name disk (Some snap) = snapshot state name snap
+
+abbrev pub write_posts : State → Option DiskView → (client seq block : ℕ) → List ℕ → List Post
+write_posts state None client seq block bytes = []
+write_posts state (Some disk) client seq block bytes =
+    post_to (lead state (cell_on disk block)) (body.Write client seq (cell_on disk block) disk.epoch bytes)
+
+abbrev pub read_posts_at : State → Cell → Option ℕ → (client seq turn : ℕ) → List Post
+read_posts_at state cell None client seq turn = []
+read_posts_at state cell (Some epoch) client seq turn = post_to (in_turn (readers state cell) turn) (body.Read client seq cell epoch)
+
+abbrev pub read_posts : State → Option DiskView → List ℕ → Option (List ℕ) → (client seq : ℕ) → ℕ × ℕ → List Post
+read_posts state None name snap client seq at = []
+read_posts state (Some disk) name snap client seq at = read_posts_at state (cell_on disk at.0) (epoch_for state name disk snap) client seq at.1
+
+-- what is sent for a request: a write goes to the lead, a read to the servers that may read, in turn at each send. Other
+-- requests send nothing at this stage
+abbrev pub posts_for : State → (client seq turn : ℕ) → Request → List Post
+posts_for state client seq turn (request.Disk name tuple) = []
+posts_for state client seq turn (request.Write name block pattern) = write_posts state (find state name) client seq block (pattern_block pattern)
+posts_for state client seq turn (request.Read name snap block) = read_posts state (find state name) name snap client seq (block, turn)
+posts_for state client seq turn (request.Snap name snap) = []
+posts_for state client seq turn (request.Move name tuple) = []
+posts_for state client seq turn (request.Stop server) = []
+posts_for state client seq turn (request.StopAt server at) = []
+posts_for state client seq turn (request.Fault server which kind at) = []
+posts_for state client seq turn (request.Start server) = []
+posts_for state client seq turn (request.Blank server) = []
+posts_for state client seq turn request.Settle = []
+
+-- the open request is sent, at the client's revision
+abbrev pub sends : State → ℕ → Client → Asked → Reacted
+sends state me client asked = record {
+  client = record client { asked = Some (record asked { turn = asked.turn + 1; rev = state.rev }) };
+  posts = posts_for state me asked.seq asked.turn asked.request;
+  answer = None;
+}
+
+-- ### A call
+
+-- the client with its next number open for this request
+abbrev pub opens : State → ℕ → Client → ℕ → Request → Reacted
+opens state me client line asked =
+    let seq = client.seq + 1 in
+    sends state me (record client { seq = seq }) (record { line = line; seq = seq; request = asked; turn = 0; rev = state.rev })
+
+-- a request is called. That the one disk be made is answered at once at this stage, since the fixed state has it
+abbrev pub called : State → ℕ → Client → ℕ → Request → Reacted
+called state me client line (request.Disk name tuple) = record { client = record client { seq = client.seq + 1 }; posts = []; answer = Some (line, answer.Ok) }
+called state me client line (request.Write name block pattern) = opens state me client line (request.Write name block pattern)
+called state me client line (request.Read name snap block) = opens state me client line (request.Read name snap block)
+called state me client line (request.Snap name snap) = opens state me client line (request.Snap name snap)
+called state me client line (request.Move name tuple) = opens state me client line (request.Move name tuple)
+called state me client line (request.Stop server) = opens state me client line (request.Stop server)
+called state me client line (request.StopAt server at) = opens state me client line (request.StopAt server at)
+called state me client line (request.Fault server which kind at) = opens state me client line (request.Fault server which kind at)
+called state me client line (request.Start server) = opens state me client line (request.Start server)
+called state me client line (request.Blank server) = opens state me client line (request.Blank server)
+called state me client line request.Settle = opens state me client line request.Settle
+
+-- ### A letter
+
+abbrev pub is_write : Request → Bool
+is_write (request.Write name block pattern) = true
+is_write (request.Disk name tuple) = false
+is_write (request.Read name snap block) = false
+is_write (request.Snap name snap) = false
+is_write (request.Move name tuple) = false
+is_write (request.Stop server) = false
+is_write (request.StopAt server at) = false
+is_write (request.Fault server which kind at) = false
+is_write (request.Start server) = false
+is_write (request.Blank server) = false
+is_write request.Settle = false
+
+abbrev pub is_read : Request → Bool
+is_read (request.Read name snap block) = true
+is_read (request.Disk name tuple) = false
+is_read (request.Write name block pattern) = false
+is_read (request.Snap name snap) = false
+is_read (request.Move name tuple) = false
+is_read (request.Stop server) = false
+is_read (request.StopAt server at) = false
+is_read (request.Fault server which kind at) = false
+is_read (request.Start server) = false
+is_read (request.Blank server) = false
+is_read request.Settle = false
+
+-- a reply counts where its number is the open request's and its revision that of the latest send
+abbrev pub counts : Asked → ℕ → ℕ → Bool
+counts asked rev seq = (seq == asked.seq) && (rev == asked.rev)
+
+-- the open request is answered
+abbrev pub answers : Client → Asked → Answer → Reacted
+answers client asked given = record { client = record client { asked = None }; posts = []; answer = Some (asked.line, given) }
+
+-- Data answers only a read, Written and Full only a write. What was refused for a while, or at another revision, is sent
+-- anew
+abbrev pub hears : State → ℕ → Client → Asked → ℕ → Body → Reacted
+hears state me client asked rev (body.Data seq bytes) = if counts asked rev seq && is_read asked.request then answers client asked (answer.Data bytes) else rests client
+hears state me client asked rev (body.Written seq) = if counts asked rev seq && is_write asked.request then answers client asked answer.Ok else rests client
+hears state me client asked rev (body.Full seq) = if counts asked rev seq && is_write asked.request then answers client asked answer.NoSpace else rests client
+hears state me client asked rev (body.BlockBusy seq) = if counts asked rev seq then sends state me client asked else rests client
+hears state me client asked rev (body.Held seq) = if counts asked rev seq then sends state me client asked else rests client
+hears state me client asked rev (body.WrongRev seq) = if seq == asked.seq then sends state me client asked else rests client
+hears state me client asked rev (body.NotHere seq) = rests client
+hears state me client asked rev (body.Read to seq cell epoch) = rests client
+hears state me client asked rev (body.Write to seq cell epoch bytes) = rests client
+hears state me client asked rev (body.Reserve number cell) = rests client
+hears state me client asked rev (body.Reserved number cell) = rests client
+hears state me client asked rev (body.PairFull number cell) = rests client
+hears state me client asked rev (body.Replicate number key version bytes) = rests client
+hears state me client asked rev (body.Replicated number cell) = rests client
+
+abbrev pub hears_of : State → ℕ → Client → Option Asked → Letter → Reacted
+hears_of state me client None letter = rests client
+hears_of state me client (Some asked) letter = hears state me client asked letter.rev letter.body
+
+-- a letter comes
+unfoldable pub heard : State → ℕ → Client → Letter → Reacted
+heard state me client letter = hears_of state me client client.asked letter
+
+-- ### A tick
+
+abbrev pub asks_anew : State → ℕ → Client → Option Asked → Reacted
+asks_anew state me client None = rests client
+asks_anew state me client (Some asked) = sends state me client asked
+
+-- the letter of the open request goes out anew
+unfoldable pub ticked : State → ℕ → Client → Reacted
+ticked state me client = asks_anew state me client client.asked
+
+abbrev pub client_sender : State → ℕ → Sender
+client_sender state me = record { from = actor.Client me; inc = 0; rev = state.rev }

@@ -1,0 +1,9 @@
+pub mod Lists
+pub mod State
+pub mod Store
+pub mod Server
+pub mod Writes
+pub mod Reads
+pub mod Jobs
+pub mod Clients
+pub mod World

@@ -1,0 +1,36 @@
+-- Reads: what a server that may read a cell says.
+use Rattle.std.specs.Prelude.{ℕ, ◌&&◌, Bool, true, false, if◌then◌else◌, is_some}
+use Rattle.petal_base.specs.declared.place.Cell.{Cell}
+use Rattle.petal_msg.specs.declared.body.Body.{Body}
+use Rattle.petal_msg.specs.declared.body.Body.TheVariants as body
+use Rattle.petal_msg.specs.declared.letter.Actor.TheVariants as actor
+use Rattle.petal_msg.specs.declared.operation.Reply.{Reply}
+use Rattle.petal_msg.specs.declared.operation.Reply.TheVariants.{Data, NotHere, BlockBusy, Held}
+use Rattle.petal_rules.specs.State.{Hold, Not_held, Writes_held, All_held, held, is_lead, readable}
+use Rattle.petal_rules.specs.Store.{chain_in, entry_at, bytes_of}
+use Rattle.petal_rules.specs.Server.{Half, Here, Done, silent, says}
+use Rattle.petal_rules.specs.Writes.{pending_on}
+
+abbrev pub is_all_held : Hold → Bool
+is_all_held Not_held = false
+is_all_held Writes_held = false
+is_all_held All_held = true
+
+-- a fence, or an operation at the lead, keeps a read back; else it gives the entry of the greatest epoch not above its own
+abbrev pub reply_to : Here → Half → Cell → ℕ → Reply
+reply_to here half cell epoch =
+    if is_all_held (held here.state cell) then Held
+    else if is_lead here.state here.me cell && is_some (pending_on half cell) then BlockBusy
+    else Data (bytes_of (entry_at (chain_in half.store.chains cell) epoch))
+
+abbrev pub said : ℕ → Reply → Body
+said seq (Data bytes) = body.Data seq bytes
+said seq NotHere = body.NotHere seq
+said seq BlockBusy = body.BlockBusy seq
+said seq Held = body.Held seq
+
+-- a read is answered at a server that may read the cell
+unfoldable pub on_read : Here → Half → (client seq : ℕ) → Cell → ℕ → Done
+on_read here half client seq cell epoch =
+    if readable here.state here.me cell then says half (actor.Client client) (said seq (reply_to here half cell epoch))
+    else silent half

@@ -1,0 +1,84 @@
+-- What a server keeps of blocks on its data device.
+use Rattle.std.specs.Prelude.{ℕ, ◌+◌, ◌-◌, List, [], ◌∷◌, length, max, sum_by, nat_le, if◌then◌else◌, Option, Some, None, unwrap_or}
+use Rattle.std.specs.declared.cmp.Ordering.{Ordering}
+use Rattle.std.specs.Ordering.{nat_cmp, ordering_then}
+use Rattle.petal_base.specs.declared.place.Cell.{Cell}
+use Rattle.petal_base.specs.declared.place.Key.{Key}
+use Rattle.petal_base.specs.Block.{zero_block}
+use Rattle.petal_base.specs.Place.{cell_of}
+use Rattle.petal_table.specs.Table.{Table, at, put}
+
+-- an entry: a block's bytes, and how often its cell had been put
+pub record Stored : Type 0 where
+  pub version : ℕ
+  pub bytes : List ℕ
+
+-- a cell's entries by rising epoch
+abbrev pub Chain : Type 0
+Chain = Table ℕ Stored
+
+-- the slots of the device, the chains of its cells, and how many slots are set apart for puts to come
+pub record Store : Type 0 where
+  pub slots : ℕ
+  pub chains : Table Cell Chain
+  pub tickets : ℕ
+
+-- cells stand by map and then by block
+abbrev pub cell_cmp : Cell → Cell → Ordering
+cell_cmp a b = ordering_then (nat_cmp a.map b.map) (nat_cmp a.block b.block)
+
+-- a device on which nothing was put
+abbrev pub empty_store : ℕ → Store
+empty_store slots = record { slots = slots; chains = []; tickets = 0 }
+
+-- a cell's entries
+abbrev pub chain_in : Table Cell Chain → Cell → Chain
+chain_in chains cell = unwrap_or (at cell_cmp chains cell) []
+
+abbrev pub or_else : Option Stored → Stored → Stored
+or_else None other = other
+or_else (Some entry) other = entry
+
+-- the entry of the greatest epoch not above this one
+abbrev pub entry_at : Chain → ℕ → Option Stored
+entry_at [] epoch = None
+entry_at (row ∷ later) epoch = if nat_le row.0 epoch then Some (or_else (entry_at later epoch) row.1) else None
+
+-- an entry's bytes, or zeros where there is none
+abbrev pub bytes_of : Option Stored → List ℕ
+bytes_of None = zero_block
+bytes_of (Some entry) = entry.bytes
+
+-- the greatest version of a chain, 0 without one
+abbrev pub version_of : Chain → ℕ
+version_of [] = 0
+version_of (row ∷ later) = max row.1.version (version_of later)
+
+-- the greatest version of all chains
+abbrev pub top_of : Table Cell Chain → ℕ
+top_of [] = 0
+top_of (row ∷ later) = max (version_of row.1) (top_of later)
+
+-- how many entries there are
+abbrev pub entries_of : Table Cell Chain → ℕ
+entries_of chains = sum_by (λ row. length row.1) chains
+
+-- how many slots are free: neither in use nor set apart
+abbrev pub free_of : Store → ℕ
+free_of store = store.slots - entries_of store.chains - store.tickets
+
+-- the chains with this entry at this key
+abbrev pub chains_with : Table Cell Chain → Key → Stored → Table Cell Chain
+chains_with chains key entry = put cell_cmp chains (cell_of key) (put nat_cmp (chain_in chains (cell_of key)) key.epoch entry)
+
+-- a slot is set apart
+abbrev pub with_ticket : Store → Store
+with_ticket store = record store { tickets = store.tickets + 1 }
+
+-- a slot that was set apart is free again
+abbrev pub without_ticket : Store → Store
+without_ticket store = record store { tickets = store.tickets - 1 }
+
+-- an entry is put into a slot that was set apart
+abbrev pub with_entry : Store → Key → Stored → Store
+with_entry store key entry = record store { chains = chains_with store.chains key entry; tickets = store.tickets - 1 }

@@ -1,0 +1,225 @@
+-- The world of all servers and clients, and its steps.
+use Rattle.std.specs.Prelude.{◌≡◌, ◌≢◌, ℕ, ◌+◌, ◌==◌, ◌||◌, ◌<◌, max, Bool, true, false, nat_lt, List, [], ◌∷◌, ◌++◌, map, filter, slice_get, Option, Some, None}
+use Rattle.petal_msg.specs.declared.letter.Actor.{Actor}
+use Rattle.petal_msg.specs.declared.letter.Actor.TheVariants as actor
+use Rattle.petal_msg.specs.declared.letter.Letter.{Letter}
+use Rattle.petal_script.specs.declared.answer.Answer.{Answer}
+use Rattle.petal_script.specs.declared.request.Line.{Line}
+use Rattle.petal_script.specs.declared.request.Request.{Request}
+use Rattle.petal_script.specs.declared.request.Request.TheVariants as request
+use Rattle.petal_script.specs.declared.script.Script.{Script}
+use Rattle.petal_rules.specs.Lists.{In, put_at}
+use Rattle.petal_rules.specs.State.{State, fixed}
+use Rattle.petal_rules.specs.Store.{top_of}
+use Rattle.petal_rules.specs.Server.{Server, first_server, letters_of}
+use Rattle.petal_rules.specs.Jobs.{Acted, here_of, works, delivered, ticks}
+use Rattle.petal_rules.specs.Clients.{Client, Asked, Reacted, first_client, client_sender, rests, called, heard, ticked}
+use Rattle.petal_rules.specs.declared.step.Step.{Step}
+use Rattle.petal_rules.specs.declared.step.Step.TheVariants.{Call, Deliver, Tick, Work}
+use Rattle.petal_rules.specs.declared.step.WorkEnd.TheVariants as work_end
+
+-- what a run is given: how many servers and slots, the lines of its script, and the global state at each revision
+pub record Setting : Type 0 where
+  pub servers : ℕ
+  pub slots : ℕ
+  pub lines : List Line
+  pub states : ℕ → State
+
+-- all servers and clients, by number, with the stamp of the last step of each; all letters ever sent, the newest first; and
+-- the answers given so far, each with its line
+pub record World : Type 0 where
+  pub servers : ℕ → Server
+  pub clients : ℕ → Client
+  pub server_clocks : ℕ → ℕ
+  pub client_clocks : ℕ → ℕ
+  pub sent : List Letter
+  pub answers : List (ℕ × Answer)
+
+-- the servers run, nothing was stored, called or sent
+abbrev pub start : Setting → World
+start setting = record {
+  servers = λ n. first_server (nat_lt n setting.servers) setting.slots;
+  clients = λ c. first_client;
+  server_clocks = λ n. 0;
+  client_clocks = λ c. 0;
+  sent = [];
+  answers = [];
+}
+
+-- ### What a script sets
+
+-- the state of a run whose one disk a line makes
+abbrev pub state_by : ℕ → Request → State → State
+state_by servers (request.Disk name tuple) other = fixed servers name tuple
+state_by servers (request.Write name block pattern) other = other
+state_by servers (request.Read name snap block) other = other
+state_by servers (request.Snap name snap) other = other
+state_by servers (request.Move name tuple) other = other
+state_by servers (request.Stop server) other = other
+state_by servers (request.StopAt server at) other = other
+state_by servers (request.Fault server which kind at) other = other
+state_by servers (request.Start server) other = other
+state_by servers (request.Blank server) other = other
+state_by servers request.Settle other = other
+
+-- the fixed state has the disk of the first disk line
+abbrev pub state_of : ℕ → List Line → State
+state_of servers [] = fixed servers [] []
+state_of servers (line ∷ lines) = state_by servers line.request (state_of servers lines)
+
+abbrev pub setting_of : Script → Setting
+setting_of script = record {
+  servers = script.servers;
+  slots = script.slots;
+  lines = script.lines;
+  states = λ rev. state_of script.servers script.lines;
+}
+
+-- the lines of a client, in order
+abbrev pub lines_of : List Line → ℕ → List Line
+lines_of lines client = filter (λ line. line.client == client) lines
+
+-- the line that a client calls next
+abbrev pub next_line : List Line → ℕ → Client → Option Line
+next_line lines me client = slice_get (lines_of lines me) client.seq
+
+-- ### What a step does
+
+-- a server's step, at its state
+abbrev pub server_step : Step → State → ℕ → Server → Acted
+server_step (Call line) state me server = record { server = server; letters = [] }
+server_step (Deliver letter) state me server = record { server = delivered server letter; letters = [] }
+server_step Tick state me server = ticks (here_of state me server) server
+server_step (Work work_end.Done) state me server = works (here_of state me server) server server.queue
+
+abbrev pub calls : State → ℕ → Client → Option Line → Reacted
+calls state me client None = rests client
+calls state me client (Some line) = called state me client line.number line.request
+
+-- a client's step, at its state, where this is its next line
+abbrev pub client_step : Step → State → ℕ → Client → Option Line → Reacted
+client_step (Call number) state me client line = calls state me client line
+client_step (Deliver letter) state me client line = heard state me client letter
+client_step Tick state me client line = ticked state me client
+client_step (Work end) state me client line = rests client
+
+-- the letters carry the stamp of the step that sent them
+abbrev pub stamped : ℕ → List Letter → List Letter
+stamped stamp letters = map (λ (letter : Letter). record letter { stamp = stamp }) letters
+
+-- the world after a step, the letters that the step sent, and the answer that it gave
+pub record Stepped : Type 0 where
+  pub world : World
+  pub letters : List Letter
+  pub answer : Option (ℕ × Answer)
+
+abbrev pub acts : World → ℕ → ℕ → Acted → Stepped
+acts w n stamp acted = record {
+  world = record w {
+    servers = put_at w.servers n acted.server;
+    server_clocks = put_at w.server_clocks n stamp;
+    sent = stamped stamp acted.letters ++ w.sent;
+  };
+  letters = stamped stamp acted.letters;
+  answer = None;
+}
+
+abbrev pub with_answer : Option (ℕ × Answer) → List (ℕ × Answer) → List (ℕ × Answer)
+with_answer None given = given
+with_answer (Some answer) given = answer ∷ given
+
+abbrev pub reacts : State → World → ℕ → ℕ → Reacted → Stepped
+reacts state w c stamp reacted =
+    let letters = stamped stamp (letters_of (client_sender state c) 0 reacted.posts) in
+    record {
+      world = record w {
+        clients = put_at w.clients c reacted.client;
+        client_clocks = put_at w.client_clocks c stamp;
+        sent = letters ++ w.sent;
+        answers = with_answer reacted.answer w.answers;
+      };
+      letters = letters;
+      answer = reacted.answer;
+    }
+
+-- a step of an actor with this stamp
+unfoldable pub step : Actor → Step → Setting → World → ℕ → Stepped
+step (actor.Server n) what setting w stamp = acts w n stamp (server_step what (setting.states (w.servers n).life.rev) n (w.servers n))
+step (actor.Client c) what setting w stamp =
+    let state = setting.states (w.clients c).rev in
+    reacts state w c stamp (client_step what state c (w.clients c) (next_line setting.lines c (w.clients c)))
+
+-- ### When a step is allowed
+
+-- the line was answered
+pub record IsAnswered (given : List (ℕ × Answer)) (number : ℕ) : Type 0 where
+  pub answer : Answer
+  pub is : In (number, answer) given
+
+-- a client with nothing open calls its next line, behind every answer of the phases before
+pub record MayCall (setting : Setting) (w : World) (c number : ℕ) : Type 0 where
+  pub free : (w.clients c).asked ≡ None
+  pub line : Line
+  pub next : next_line setting.lines c (w.clients c) ≡ Some line
+  pub is : line.number ≡ number
+  pub before : (other : Line) → In other setting.lines → other.phase < line.phase → IsAnswered w.answers other.number
+
+-- a letter that was ever sent comes to the one it is addressed to
+pub record MayDeliver (w : World) (to : Actor) (letter : Letter) : Type 0 where
+  pub sent : In letter w.sent
+  pub own : letter.to ≡ to
+
+abbrev pub MayServer : Step → World → ℕ → Type 0
+MayServer (Call line) w n = ⊥
+MayServer (Deliver letter) w n = MayDeliver w (actor.Server n) letter
+MayServer Tick w n = (w.servers n).life.running ≡ true
+MayServer (Work work_end.Done) w n = ((w.servers n).life.running ≡ true) × ((w.servers n).queue ≢ [])
+
+abbrev pub MayClient : Step → Setting → World → ℕ → Type 0
+MayClient (Call line) setting w c = MayCall setting w c line
+MayClient (Deliver letter) setting w c = MayDeliver w (actor.Client c) letter
+MayClient Tick setting w c = Unit {0}
+MayClient (Work end) setting w c = ⊥
+
+-- the stamp of what a step receives
+abbrev pub received : Step → ℕ
+received (Call line) = 0
+received (Deliver letter) = letter.stamp
+received Tick = 0
+received (Work end) = 0
+
+abbrev pub clock_of : World → Actor → ℕ
+clock_of w (actor.Server n) = w.server_clocks n
+clock_of w (actor.Client c) = w.client_clocks c
+
+-- one more than the greatest of the actor's last stamp and the stamp of what it receives ("Time, Clocks, and the Ordering
+-- of Events", 1978)
+abbrev pub next_stamp : World → Actor → Step → ℕ
+next_stamp w who what = max (clock_of w who) (received what) + 1
+
+-- the greatest numbers of 32 and of 64 bits
+abbrev pub greatest_u32 : ℕ
+greatest_u32 = 4294967295
+
+abbrev pub greatest_u64 : ℕ
+greatest_u64 = 18446744073709551615
+
+abbrev pub turn_of : Option Asked → ℕ
+turn_of None = 0
+turn_of (Some asked) = asked.turn
+
+-- a number of the actor is the greatest of its type, so that a step could not count on
+abbrev pub is_spent : World → Actor → Bool
+is_spent w (actor.Server n) = ((w.servers n).pairs.next == greatest_u64) || (top_of (w.servers n).store.chains == greatest_u64)
+is_spent w (actor.Client c) = ((w.clients c).seq == greatest_u32) || (turn_of (w.clients c).asked == greatest_u32)
+
+abbrev pub MayActor : Actor → Step → Setting → World → Type 0
+MayActor (actor.Server n) what setting w = (n < setting.servers) × MayServer what w n
+MayActor (actor.Client c) what setting w = (c < 9) × MayClient what setting w c
+
+-- the step is allowed in this world
+pub record MayStep (setting : Setting) (w : World) (who : Actor) (what : Step) : Type 0 where
+  pub may : MayActor who what setting w
+  pub clock : clock_of w who < greatest_u64
+  pub receives : received what < greatest_u64
+  pub goes_on : is_spent w who ≡ false

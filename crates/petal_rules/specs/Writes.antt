@@ -1,0 +1,282 @@
+-- Writes: what the lead of a cell does, and what its second server does ("Petal: Distributed Virtual Disks", 1996, 3.2,
+-- over chained declustering; the second server's slot is reserved first, and the lead commits before the second server).
+use Rattle.std.specs.Prelude.{ℕ, ◌+◌, ◌==◌, ◌&&◌, not, Bool, true, false, nat_lt, List, [], ◌∷◌, if◌then◌else◌, Option, Some, None}
+use Rattle.std.specs.Ordering.{nat_cmp}
+use Rattle.petal_base.specs.declared.place.Cell.{Cell}
+use Rattle.petal_base.specs.declared.place.Key.{Key}
+use Rattle.petal_base.specs.Place.{cell_of, key_at}
+use Rattle.petal_table.specs.Table.{at, put, without}
+use Rattle.petal_msg.specs.declared.body.Body.{Body}
+use Rattle.petal_msg.specs.declared.body.Body.TheVariants as body
+use Rattle.petal_msg.specs.declared.letter.Actor.TheVariants as actor
+use Rattle.petal_msg.specs.declared.operation.Action.{Action}
+use Rattle.petal_msg.specs.declared.operation.Action.TheVariants as action
+use Rattle.petal_msg.specs.declared.operation.Ending.{Ending}
+use Rattle.petal_msg.specs.declared.operation.Ending.TheVariants.{Written, Full}
+use Rattle.petal_msg.specs.declared.operation.Far.{Far}
+use Rattle.petal_msg.specs.declared.operation.Far.TheVariants as far
+use Rattle.petal_msg.specs.declared.operation.Finished.{Finished}
+use Rattle.petal_msg.specs.declared.operation.LastOp.{LastOp}
+use Rattle.petal_msg.specs.declared.operation.OpKind.TheVariants as kind
+use Rattle.petal_msg.specs.declared.operation.Pending.{Pending}
+use Rattle.petal_msg.specs.declared.operation.Stage.{Stage}
+use Rattle.petal_rules.specs.State.{State, Hold, Not_held, Writes_held, All_held, held, is_lead, is_second, link_of}
+use Rattle.petal_rules.specs.Store.{cell_cmp, chain_in, version_of, free_of, with_ticket, without_ticket, with_entry}
+use Rattle.petal_rules.specs.Server.{Half, Here, Done, silent, says}
+use Rattle.petal_rules.specs.declared.job.Job.TheVariants as job
+
+-- ### The table of stages
+
+-- what the operation does next in Both: reserve a slot at the second server, put, replicate, answer
+abbrev pub both_action : Stage → Action
+both_action stage =
+    if not stage.reserved then action.Reserve
+    else if not stage.put then action.Put
+    else if not stage.paired then action.Replicate
+    else action.Answer
+
+-- what the operation does next; it is dropped exactly where this server is not the cell's lead
+abbrev pub next_stage : State → ℕ → Pending → Action
+next_stage state me op = if is_lead state me op.cell then both_action op.stage else action.Drop
+
+-- ### What the lead remembers
+
+-- the operation that is pending on the cell
+abbrev pub pending_on : Half → Cell → Option Pending
+pending_on half cell = at cell_cmp half.pairs.pending cell
+
+-- the half with this operation pending on its cell
+abbrev pub with_pending : Half → Pending → Half
+with_pending half op = record half { pairs = record half.pairs { pending = put cell_cmp half.pairs.pending op.cell op } }
+
+-- the half with nothing pending on the cell
+abbrev pub without_pending : Half → Cell → Half
+without_pending half cell = record half { pairs = record half.pairs { pending = without cell_cmp half.pairs.pending cell } }
+
+-- the half with a slot less that is set apart
+abbrev pub gives_back : Half → Half
+gives_back half = record half { store = without_ticket half.store }
+
+-- the reply that ended a request
+abbrev pub ended : ℕ → Ending → Body
+ended seq Written = body.Written seq
+ended seq Full = body.Full seq
+
+-- the client's request is done with, which is remembered, and its client is told
+abbrev pub finishes : Half → (client seq : ℕ) → Ending → Done
+finishes half client seq ending =
+    says
+    (record half { pairs = record half.pairs { finished = put nat_cmp half.pairs.finished client (record { seq = seq; ending = ending }) } })
+    (actor.Client client) (ended seq ending)
+
+-- ### The next stage of a pending operation
+
+-- the lead puts its own copy, with the version after that of its chain
+abbrev pub puts : Half → Pending → Done
+puts half op =
+    let version = version_of (chain_in half.store.chains op.cell) + 1 in
+    let put_op : Pending = record op { version = version; stage = record op.stage { put = true } } in
+    record {
+      half = with_pending (record half { store = with_entry half.store op.key (record { version = version; bytes = op.bytes }) }) put_op;
+      posts = [];
+      jobs = job.Stage op.cell ∷ [];
+    }
+
+-- the operation ends without an answer; a slot that it has not used is free again
+abbrev pub gives_up : Half → Pending → Half
+gives_up half op = if op.stage.put then without_pending half op.cell else gives_back (without_pending half op.cell)
+
+abbrev pub acts : Here → Half → Pending → Action → Done
+acts here half op action.Reserve = says half (actor.Server (link_of here.state op.cell).secondary) (body.Reserve op.op op.cell)
+acts here half op action.Put = puts half op
+acts here half op action.Replicate = says half (actor.Server (link_of here.state op.cell).secondary) (body.Replicate op.op op.key op.version op.bytes)
+acts here half op action.Answer = finishes (without_pending half op.cell) op.client op.seq Written
+acts here half op action.Drop = silent (gives_up half op)
+
+abbrev pub goes_on_with : Here → Half → Option Pending → Done
+goes_on_with here half None = silent half
+goes_on_with here half (Some op) = acts here half op (next_stage here.state here.me op)
+
+-- the operation that is pending on the cell does its next stage
+unfoldable pub goes_on : Here → Half → Cell → Done
+goes_on here half cell = goes_on_with here half (pending_on half cell)
+
+-- ### Write
+
+-- a client's write, as its letter has it
+pub record Wanted : Type 0 where
+  pub client : ℕ
+  pub seq : ℕ
+  pub cell : Cell
+  pub epoch : ℕ
+  pub bytes : List ℕ
+
+-- how a request stands to the last one that is finished for its client
+pub data Standing : Type 0 where
+  Older : Standing
+  Again : Ending → Standing
+  Newer : Standing
+
+abbrev pub standing : Option Finished → ℕ → Standing
+standing None seq = Newer
+standing (Some last) seq = if nat_lt seq last.seq then Older else if seq == last.seq then Again last.ending else Newer
+
+abbrev pub is_writes_held : Hold → Bool
+is_writes_held Not_held = false
+is_writes_held Writes_held = true
+is_writes_held All_held = true
+
+-- the operation was opened for this request
+abbrev pub is_for : Pending → Wanted → Bool
+is_for op want = (op.client == want.client) && (op.seq == want.seq)
+
+-- nothing is done yet
+abbrev pub first_stage : Stage
+first_stage = record { reserved = false; busy = false; stale = false; put = false; paired = false; trimmed = false; index = 0 }
+
+-- the operation that a write opens, under the next number of this life
+abbrev pub operation : Here → ℕ → Wanted → Pending
+operation here number want = record {
+  op = number;
+  kind = kind.Write;
+  cell = want.cell;
+  key = key_at want.cell want.epoch;
+  version = 0;
+  stage = first_stage;
+  client = want.client;
+  seq = want.seq;
+  rev = here.state.rev;
+  bytes = want.bytes;
+}
+
+-- the half with the write's operation opened, and a slot of its own set apart
+abbrev pub opened : Here → Half → Wanted → Half
+opened here half want =
+    let with_op = with_pending half (operation here half.pairs.next want) in
+    record { pairs = record with_op.pairs { next = half.pairs.next + 1 }; store = with_ticket half.store }
+
+-- a write that is neither finished nor pending
+abbrev pub opens : Here → Half → Wanted → (room : Bool) → Done
+opens here half want false = finishes half want.client want.seq Full
+opens here half want true = goes_on here (opened here half want) want.cell
+
+-- what a fence or an operation on its block keeps back is refused, and ends nothing
+abbrev pub takes_newer : Here → Half → Wanted → (fenced : Bool) → Option Pending → Done
+takes_newer here half want true op = says half (actor.Client want.client) (body.Held want.seq)
+takes_newer here half want false (Some op) = says half (actor.Client want.client) (body.BlockBusy want.seq)
+takes_newer here half want false None = opens here half want (nat_lt 0 (free_of half.store))
+
+abbrev pub is_pending_for : Option Pending → Wanted → Bool
+is_pending_for None want = false
+is_pending_for (Some op) want = is_for op want
+
+abbrev pub takes : Here → Half → Wanted → Standing → Done
+takes here half want Older = silent half
+takes here half want (Again ending) = says half (actor.Client want.client) (ended want.seq ending)
+takes here half want Newer =
+    if is_pending_for (pending_on half want.cell) want then silent half
+    else takes_newer here half want (is_writes_held (held here.state want.cell)) (pending_on half want.cell)
+
+-- a write is taken by the cell's lead, once
+unfoldable pub on_write : Here → Half → Wanted → Done
+on_write here half want =
+    if is_lead here.state here.me want.cell then takes here half want (standing (at nat_cmp half.pairs.finished want.client) want.seq)
+    else silent half
+
+-- ### Reserved, PairFull and Replicated
+
+-- it waits for its slot at the second server
+abbrev pub is_reserving : Pending → ℕ → Bool
+is_reserving op number = (op.op == number) && not op.stage.reserved
+
+-- it waits for the second server's copy
+abbrev pub is_replicating : Pending → ℕ → Bool
+is_replicating op number = (op.op == number) && op.stage.put && not op.stage.paired
+
+abbrev pub with_reserved : Pending → Pending
+with_reserved op = record op { stage = record op.stage { reserved = true } }
+
+abbrev pub with_paired : Pending → Pending
+with_paired op = record op { stage = record op.stage { paired = true } }
+
+abbrev pub hears_reserved : Here → Half → ℕ → Option Pending → Done
+hears_reserved here half number None = silent half
+hears_reserved here half number (Some op) =
+    if is_reserving op number then goes_on here (with_pending half (with_reserved op)) op.cell else silent half
+
+unfoldable pub on_reserved : Here → Half → ℕ → Cell → Done
+on_reserved here half number cell = hears_reserved here half number (pending_on half cell)
+
+-- the lead gives its slot back, and answers that there is none
+abbrev pub hears_pair_full : Half → ℕ → Option Pending → Done
+hears_pair_full half number None = silent half
+hears_pair_full half number (Some op) =
+    if is_reserving op number then finishes (gives_back (without_pending half op.cell)) op.client op.seq Full else silent half
+
+-- only an operation that still waits for its reservation is refused
+unfoldable pub on_pair_full : Half → ℕ → Cell → Done
+on_pair_full half number cell = hears_pair_full half number (pending_on half cell)
+
+abbrev pub hears_replicated : Here → Half → ℕ → Option Pending → Done
+hears_replicated here half number None = silent half
+hears_replicated here half number (Some op) =
+    if is_replicating op number then goes_on here (with_pending half (with_paired op)) op.cell else silent half
+
+unfoldable pub on_replicated : Here → Half → ℕ → Cell → Done
+on_replicated here half number cell = hears_replicated here half number (pending_on half cell)
+
+-- ### The second server: Reserve and Replicate
+
+-- the last operation on the cell that this server took part in as second server
+abbrev pub last_on : Half → Cell → Option LastOp
+last_on half cell = at cell_cmp half.pairs.last cell
+
+abbrev pub with_last : Half → Cell → ℕ → Far → Half
+with_last half cell number far = record half { pairs = record half.pairs { last = put cell_cmp half.pairs.last cell (record { op = number; far = far }) } }
+
+-- the second server tells the lead how far it is
+abbrev pub tells : Here → Half → Cell → ℕ → Far → Done
+tells here half cell number far.Reserved = says half (actor.Server (link_of here.state cell).primary) (body.Reserved number cell)
+tells here half cell number far.Replicated = says half (actor.Server (link_of here.state cell).primary) (body.Replicated number cell)
+
+-- a slot is set apart and not yet used
+abbrev pub has_slot : Far → Bool
+has_slot far.Reserved = true
+has_slot far.Replicated = false
+
+-- an operation that is new here gets the slot that is set apart for the cell, or a free one
+abbrev pub reserves : Here → Half → Cell → ℕ → (has room : Bool) → Done
+reserves here half cell number true room = tells here (with_last half cell number far.Reserved) cell number far.Reserved
+reserves here half cell number false true = tells here (with_last (record half { store = with_ticket half.store }) cell number far.Reserved) cell number far.Reserved
+reserves here half cell number false false = says half (actor.Server (link_of here.state cell).primary) (body.PairFull number cell)
+
+-- an older number is dropped, an equal one is answered again
+abbrev pub hears_reserve : Here → Half → Cell → ℕ → Option LastOp → Done
+hears_reserve here half cell number None = reserves here half cell number false (nat_lt 0 (free_of half.store))
+hears_reserve here half cell number (Some last) =
+    if nat_lt number last.op then silent half
+    else if number == last.op then tells here half cell number last.far
+    else reserves here half cell number (has_slot last.far) (nat_lt 0 (free_of half.store))
+
+unfoldable pub on_reserve : Here → Half → ℕ → Cell → Done
+on_reserve here half number cell = if is_second here.state here.me cell then hears_reserve here half cell number (last_on half cell) else silent half
+
+-- the second server puts its copy, with the version after that of its own chain
+abbrev pub follows : Here → Half → ℕ → Key → List ℕ → Done
+follows here half number key bytes =
+    let version = version_of (chain_in half.store.chains (cell_of key)) + 1 in
+    let put_half : Half = record half { store = with_entry half.store key (record { version = version; bytes = bytes }) } in
+    tells here (with_last put_half (cell_of key) number far.Replicated) (cell_of key) number far.Replicated
+
+-- once, in the slot that was set apart
+abbrev pub follows_once : Here → Half → ℕ → Key → List ℕ → Far → Done
+follows_once here half number key bytes far.Reserved = follows here half number key bytes
+follows_once here half number key bytes far.Replicated = tells here half (cell_of key) number far.Replicated
+
+-- only for the number whose slot was set apart; an equal number is answered again
+abbrev pub hears_replicate : Here → Half → ℕ → Key → List ℕ → Option LastOp → Done
+hears_replicate here half number key bytes None = silent half
+hears_replicate here half number key bytes (Some last) = if number == last.op then follows_once here half number key bytes last.far else silent half
+
+unfoldable pub on_replicate : Here → Half → ℕ → Key → List ℕ → Done
+on_replicate here half number key bytes = if is_second here.state here.me (cell_of key) then hears_replicate here half number key bytes (last_on half (cell_of key)) else silent half

@@ -1,0 +1,13 @@
+//! What waits in a server's queue.
+
+use petal_base::Cell;
+use petal_msg::SharedLetter;
+
+/// One thing that a server does, with at most one commit to its devices.
+#[derive(PartialEq, Eq, Drop)]
+pub enum Job {
+    /// A letter that was delivered.
+    Letter(SharedLetter),
+    /// The next stage of the operation that is pending on a cell.
+    Stage(Cell),
+}
