@@ -1,0 +1,164 @@
+//! What is found in a list of entries in the order of their keys.
+
+ghost use Rattle.std.specs.Prelude.{◌≡◌, Some, not, max, IfOk};
+ghost use Rattle.std.specs.List.{prefix_len};
+ghost use Rattle.physical_map.specs.Entries.{key_of, in_cell, chain_of, top_of, version_of, above, lesser, next_block_of, next_map_of};
+ghost use Rattle.physical_map.specs.Keys.{key_below, same_key, sees, later, newest, IsInOrder};
+
+use crate::Entry;
+use petal_base::{Cell, Key};
+use std::alloc::{AllocError, Global};
+
+/// Whether `a` stands before `b`: by map, then block, then epoch.
+pub fn is_below(a: &Key, b: &Key) -> bool
+    ensures { result ≡ key_below a.now b.now }
+{
+    a.map < b.map
+        || (a.map == b.map && (a.block < b.block || (a.block == b.block && a.epoch < b.epoch)))
+}
+
+/// Whether both are the same key.
+pub fn is_same(a: &Key, b: &Key) -> bool
+    ensures { result ≡ same_key a.now b.now }
+{
+    a.map == b.map && a.block == b.block && a.epoch == b.epoch
+}
+
+/// How many entries stand before a key, by binary search.
+pub fn rank_of(entries: &[Entry], key: &Key) -> usize
+    requires { IsInOrder key_of entries.now }
+    ensures { result ≡ prefix_len (λ e. key_below e.key key.now) entries.now }
+{
+    entries.partition_point(|e| is_below(&e.key, key))
+}
+
+fn is_seen(at: &Key, key: &Key) -> bool
+    ensures { result ≡ sees at.now key.now }
+{
+    key.map == at.map && key.block == at.block && key.epoch <= at.epoch
+}
+
+fn later_of(best: Option<Entry>, entry: Entry) -> Entry
+    ensures { Some result ≡ later key_of best (Some entry) }
+{
+    match best {
+        Some(best) if best.key.epoch >= entry.key.epoch => best,
+        _ => entry,
+    }
+}
+
+/// What a read at a key finds.
+pub fn newest_of(entries: &[Entry], at: &Key) -> Option<Entry>
+    ensures { result ≡ newest key_of at.now entries.now }
+{
+    let mut best = None;
+    for entry in entries {
+        if is_seen(at, &entry.key) {
+            best = Some(later_of(best, *entry));
+        }
+    }
+    best
+}
+
+fn is_in_cell(cell: &Cell, key: &Key) -> bool
+    ensures { result ≡ in_cell cell.now key.now }
+{
+    key.map == cell.map && key.block == cell.block
+}
+
+/// The entries of a cell, in the order of their epochs.
+pub fn chain(alloc: Global, entries: &[Entry], cell: &Cell) -> Result<Vec<Entry>, AllocError>
+    ensures { IfOk result (λ chain. chain.items ≡ chain_of cell.now entries.now) }
+{
+    entries
+        .iter()
+        .filter(|e| is_in_cell(cell, &e.key))
+        .copied()
+        .collect(alloc)
+}
+
+/// The greatest version of a cell's entries.
+pub fn version(entries: &[Entry], cell: &Cell) -> u64
+    ensures { result ≡ version_of cell.now entries.now }
+{
+    let mut most = 0;
+    for entry in entries {
+        if is_in_cell(cell, &entry.key) {
+            most = most.max(entry.version);
+        }
+    }
+    most
+}
+
+/// The greatest version of all entries.
+pub fn top(entries: &[Entry]) -> u64
+    ensures { result ≡ top_of entries.now }
+{
+    let mut most = 0;
+    for entry in entries {
+        most = most.max(entry.version);
+    }
+    most
+}
+
+fn is_block_above(after: Option<u64>, block: u64) -> bool
+    ensures { result ≡ above after block }
+{
+    match after {
+        None => true,
+        Some(after) => after < block,
+    }
+}
+
+fn is_map_above(after: Option<u32>, map: u32) -> bool
+    ensures { result ≡ above after map }
+{
+    match after {
+        None => true,
+        Some(after) => after < map,
+    }
+}
+
+fn lesser_block(least: Option<u64>, block: u64) -> u64
+    ensures { Some result ≡ lesser least (Some block) }
+{
+    match least {
+        Some(least) if least <= block => least,
+        _ => block,
+    }
+}
+
+fn lesser_map(least: Option<u32>, map: u32) -> u32
+    ensures { Some result ≡ lesser least (Some map) }
+{
+    match least {
+        Some(least) if least <= map => least,
+        _ => map,
+    }
+}
+
+/// The least block of a map above `after` with an entry.
+pub fn next_block(entries: &[Entry], map: u32, after: Option<u64>) -> Option<u64>
+    ensures { result ≡ next_block_of map after entries.now }
+{
+    let mut least = None;
+    for entry in entries {
+        if entry.key.map == map && is_block_above(after, entry.key.block) {
+            least = Some(lesser_block(least, entry.key.block));
+        }
+    }
+    least
+}
+
+/// The least map above `after` with an entry.
+pub fn next_map(entries: &[Entry], after: Option<u32>) -> Option<u32>
+    ensures { result ≡ next_map_of after entries.now }
+{
+    let mut least = None;
+    for entry in entries {
+        if is_map_above(after, entry.key.map) {
+            least = Some(lesser_map(least, entry.key.map));
+        }
+    }
+    least
+}
