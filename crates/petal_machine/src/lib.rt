@@ -12,3 +12,6 @@ mod state;
 pub use event::{Event, Write, WriteEnd};
 pub use machine::{EventError, Machine};
 pub use state::{Disk, Open, Snapshot};
+
+#[cfg(test)]
+mod tests;
