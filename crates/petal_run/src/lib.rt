@@ -5,7 +5,9 @@
 //! terminals or processes.
 #![tactic(auto)]
 
+mod buffer;
 mod built;
+mod error;
 mod outcome;
 mod reading;
 mod running;

@@ -7,7 +7,8 @@ ghost use Rattle.petal_run.specs.Said.{Says, StopsBetweenPhases, DeviceFailed};
 ghost use Rattle.petal_run.specs.Verdict.{verdict};
 ghost use Rattle.petal_run.specs.Words.{is_run};
 
-use crate::reading::{ReadError, read_text};
+use crate::error::RunError;
+use crate::reading::read_text;
 use crate::script::{run_text, say};
 use crate::words::is_run;
 use petal_disk::{Shelf, Sink, Source};
@@ -78,12 +79,12 @@ pub fn petal<R: Source, W: Sink, S: Shelf>(
     }
     let text = match read_text(alloc, source) {
         Ok(text) => text,
-        Err(ReadError::Failed) => {
+        Err(RunError::Failed) => {
             return Outcome {
                 status: SOURCE_FAILED,
             };
         }
-        Err(ReadError::NoMemory) => return Outcome { status: NO_MEMORY },
+        Err(RunError::NoMemory) => return Outcome { status: NO_MEMORY },
     };
     Outcome {
         status: run_text(alloc, &text, sink, shelf),

@@ -9,9 +9,10 @@ ghost use Rattle.petal_run.specs.Answers.{Reply, answer_to, reply_to, replies, t
 ghost use Rattle.petal_run.specs.Running.{RunSays, Going, LastIsOf};
 ghost use Rattle.petal_run.specs.Session.{Keeps};
 ghost use Rattle.petal_run.specs.declared.running.RunEnd.TheVariants as ends;
-ghost use Rattle.petal_run.specs.declared.session.SessionError.TheVariants as error;
+ghost use Rattle.petal_run.specs.declared.error.RunError.TheVariants as error;
 
-use crate::session::{SessionError, answer};
+use crate::error::RunError;
+use crate::session::answer;
 use petal_disk::{Disk, Failed, Sink, write_all};
 use petal_script::{Line, write_answer};
 use server_store::Store;
@@ -33,7 +34,7 @@ fn reply<D: Disk>(
     store: &mut Store<D>,
     line: &Line,
     out: &mut Vec<u8>,
-) -> Result<(), SessionError>
+) -> Result<(), RunError>
     ensures text { D.told → (slots : ℕ) (past : List Reply) → Keeps slots past store.old
         → OnOk result (out.new.items ≡ out.old.items ++ answer_line line.now.number (answer_to slots past line.now.request)) }
     ensures keeps { D.told → (slots : ℕ) (past : List Reply) → Keeps slots past store.old
@@ -116,8 +117,8 @@ pub(crate) fn answer_lines<D: Disk, W: Sink>(
         phase = line.phase;
         match reply(alloc, store, line, &mut out) {
             Ok(()) => {}
-            Err(SessionError::NoMemory) => return RunEnd::NoMemory,
-            Err(SessionError::Failed) => return RunEnd::DeviceFailed,
+            Err(RunError::NoMemory) => return RunEnd::NoMemory,
+            Err(RunError::Failed) => return RunEnd::DeviceFailed,
         }
     }
     finish(sink, &mut out)

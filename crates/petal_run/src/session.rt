@@ -5,13 +5,15 @@ ghost use Rattle.petal_script.specs.declared.request.Line.{Line};
 ghost use Rattle.petal_script.specs.declared.request.Request.TheVariants as requests;
 ghost use Rattle.petal_run.specs.Answers.{Reply, answer_to};
 ghost use Rattle.petal_run.specs.Session.{Keeps};
-ghost use Rattle.petal_run.specs.declared.session.SessionError.TheVariants as error;
+ghost use Rattle.petal_run.specs.declared.error.RunError.TheVariants as error;
 
-use petal_base::{BLOCK_BYTES, Block, BlockNo, Epoch, Key, MapId, NoMemory, SharedBlock, Version};
-use petal_disk::{Disk, Failed};
+use crate::buffer::make_buffer;
+use crate::error::RunError;
+use petal_base::{BLOCK_BYTES, Block, BlockNo, Epoch, Key, MapId, SharedBlock, Version};
+use petal_disk::Disk;
 use petal_script::{Answer, Pattern, Request};
 use server_store::{Store, StoreError};
-use std::alloc::{AllocError, Global};
+use std::alloc::Global;
 
 /// The map of the one disk.
 const MAP: MapId = 0;
@@ -22,53 +24,13 @@ const EPOCH: Epoch = 0;
 /// No read asks for the version of an entry.
 const VERSION: Version = 1;
 
-/// Why a request was not answered.
-#[derive(Clone, Copy, Debug, PartialEq, Eq)]
-pub(crate) enum SessionError {
-    Failed,
-    NoMemory,
-}
-
-impl From<NoMemory> for SessionError {
-    ghost use Rattle.std.specs.Prelude.{◌≡◌};
-    ghost use Rattle.petal_run.specs.declared.session.SessionError.TheVariants as error;
-
-    ghost from_gives = { λ _ e. e ≡ error.NoMemory };
-
-    fn from(_error: NoMemory) -> SessionError {
-        SessionError::NoMemory
-    }
-}
-
-impl From<AllocError> for SessionError {
-    ghost use Rattle.std.specs.Prelude.{◌≡◌};
-    ghost use Rattle.petal_run.specs.declared.session.SessionError.TheVariants as error;
-
-    ghost from_gives = { λ _ e. e ≡ error.NoMemory };
-
-    fn from(_error: AllocError) -> SessionError {
-        SessionError::NoMemory
-    }
-}
-
-impl From<Failed> for SessionError {
-    ghost use Rattle.std.specs.Prelude.{◌≡◌};
-    ghost use Rattle.petal_run.specs.declared.session.SessionError.TheVariants as error;
-
-    ghost from_gives = { λ _ e. e ≡ error.Failed };
-
-    fn from(_error: Failed) -> SessionError {
-        SessionError::Failed
-    }
-}
-
 /// Puts a block, or finds that no slot is free.
 fn write<D: Disk>(
     alloc: Global,
     store: &mut Store<D>,
     block: BlockNo,
     pattern: Pattern,
-) -> Result<Answer, SessionError>
+) -> Result<Answer, RunError>
     ensures answer { D.told → (slots : ℕ) (past : List Reply) (line : Line) (name : List ℕ) → line.request ≡ requests.Write name block pattern
         → Keeps slots past store.old
         → IfOk result (λ a. (a ≡ answer_to slots past line.request) × Keeps slots (record { line = line; answer = a } ∷ past) store.new) }
@@ -86,20 +48,16 @@ fn write<D: Disk>(
             };
             match store.put(ticket, key, VERSION, &contents) {
                 Ok(()) => Ok(Answer::Ok),
-                Err(_) => Err(SessionError::Failed),
+                Err(_) => Err(RunError::Failed),
             }
         }
         Err(StoreError::NoSpace) => Ok(Answer::NoSpace),
-        Err(_) => Err(SessionError::NoMemory),
+        Err(_) => Err(RunError::NoMemory),
     }
 }
 
 /// The content of a block.
-fn read<D: Disk>(
-    alloc: Global,
-    store: &mut Store<D>,
-    block: BlockNo,
-) -> Result<Answer, SessionError>
+fn read<D: Disk>(alloc: Global, store: &mut Store<D>, block: BlockNo) -> Result<Answer, RunError>
     ensures answer { D.told → (slots : ℕ) (past : List Reply) (line : Line) (name : List ℕ) (snap : Option (List ℕ)) → line.request ≡ requests.Read name snap block
         → Keeps slots past store.old
         → IfOk result (λ a. (a ≡ answer_to slots past line.request) × Keeps slots (record { line = line; answer = a } ∷ past) store.new) }
@@ -107,16 +65,10 @@ fn read<D: Disk>(
     ensures failed { IsErrOf result error.Failed → D.faults store.old.disk < D.faults store.new.disk }
     ensures run { D.came_to store.old.disk store.new.disk }
 {
-    let mut contents = zeros(alloc, BLOCK_BYTES)?;
+    let mut contents = make_buffer(alloc, BLOCK_BYTES)?;
     store.read(MAP, block, EPOCH, &mut contents)?;
     let shared = SharedBlock::new(alloc, Block::of(contents))?;
     Ok(Answer::Data(shared))
-}
-
-fn zeros(alloc: Global, n: usize) -> Result<Vec<u8>, AllocError>
-    ensures { IfOk result (λ v. length v.items ≡ n) }
-{
-    Ok(vec![in alloc; 0; n]?)
 }
 
 /// The answer of a request that is built.
@@ -124,7 +76,7 @@ pub(crate) fn answer<D: Disk>(
     alloc: Global,
     store: &mut Store<D>,
     request: &Request,
-) -> Result<Answer, SessionError>
+) -> Result<Answer, RunError>
     ensures answer { D.told → (slots : ℕ) (past : List Reply) (line : Line) → line.request ≡ request.now → Keeps slots past store.old
         → IfOk result (λ a. (a ≡ answer_to slots past request.now) × Keeps slots (record { line = line; answer = a } ∷ past) store.new) }
     ensures later { D.faults store.old.disk ≤ D.faults store.new.disk }
