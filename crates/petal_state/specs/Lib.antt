@@ -1,0 +1,6 @@
+pub mod State
+pub mod Place
+pub mod Fence
+pub mod Command
+pub mod Settled
+pub mod Bound
