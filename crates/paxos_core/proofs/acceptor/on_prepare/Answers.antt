@@ -1,0 +1,15 @@
+use Rattle.std.proofs.Common.{◌≡◌, true, false, sym, ◌∙◌}
+use Rattle.petal_paxos.specs.Acceptor.{is_open}
+use Rattle.state_store.specs.Kept.{acceptor_of}
+use Rattle.paxos_core.proofs.Kept.{closed, opened, same_rows, promised_rows}
+use Rattle.paxos_core.proofs.acceptor.on_prepare.Goals as goal
+
+pub returns-in-Some-clause-kept : goal.returns-in-Some-clause-kept
+returns-in-Some-clause-kept g c p =
+    let shut : is_open (acceptor_of c.args.store.now.records c.args.place) c.args.ballot ≡ false = closed _ _ c.in-Some.promised (sym c.higher.ensures ∙ c.in-Some.is) in
+    rw shut (same_rows c.args.store.now.records c.args.place p)
+
+pub returns-clause-kept : goal.returns-clause-kept
+returns-clause-kept g c p =
+    let free : is_open (acceptor_of c.args.store.now.records c.args.place) c.args.ballot ≡ true = opened (acceptor_of c.args.store.now.records c.args.place) c.args.ballot (sym c.higher.ensures ∙ c.in_default.is) in
+    rw free (promised_rows c.args.store.now.records c.promise.new.self.records c.args.place c.args.ballot c.in_ok-promise.ensures.ok free p)

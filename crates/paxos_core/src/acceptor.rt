@@ -1,0 +1,98 @@
+//! The acceptor, over its server's state store.
+
+ghost use Rattle.std.specs.Prelude.{◌≡◌, ◌⊎◌, ◌≤◌, ◌<◌, if◌then◌else◌, ℕ, None, OnOk, OnErr, IfOk, IsErrOf};
+ghost use Rattle.petal_disk.specs.Disk.{LeavesOnly};
+ghost use Rattle.petal_paxos.specs.Member.{put};
+ghost use Rattle.petal_paxos.specs.Acceptor.{is_open, on_prepare, prepare_reply, on_accept, accept_reply};
+ghost use Rattle.state_store.specs.Device.{Holds, WithOrWithout};
+ghost use Rattle.state_store.specs.Kept.{acceptor_of};
+ghost use Rattle.state_store.specs.declared.record.StateRecord.TheVariants as kind;
+ghost use Rattle.state_store.specs.declared.error.StateError.TheVariants as error;
+
+use petal_command::{Ballot, Command, Pax};
+use petal_disk::Disk;
+use state_store::{StateError, StateStore};
+
+/// Promises the ballot at the place, unless a higher one has a promise there. A promise that is answered stands on the
+/// device, whatever crash comes.
+///
+/// # Errors
+/// As `StateStore::promise`.
+pub fn on_prepare<D: Disk>(
+    store: &mut StateStore<D>,
+    place: u32,
+    ballot: Ballot,
+) -> Result<Pax, StateError>
+    ensures reply { IfOk result (λ letter. letter ≡ prepare_reply place (acceptor_of store.old.records place) ballot) }
+    ensures kept { OnOk result ((p : ℕ) → acceptor_of store.new.records p ≡ put (acceptor_of store.old.records) place (on_prepare (acceptor_of store.old.records place) ballot) p) }
+    ensures err { OnErr result (store.new.records ≡ store.old.records) }
+    ensures holds { D.told → Holds store.old.region (D.seen store.old.disk) (D.may_leave store.old.disk) store.old.records
+        → OnOk result (Holds store.new.region (D.seen store.new.disk) (D.may_leave store.new.disk) store.new.records) }
+    ensures any_moment { D.told → Holds store.old.region (D.seen store.old.disk) (D.may_leave store.old.disk) store.old.records
+        → LeavesOnly D.moment D.left_since store.old.disk store.new.disk (λ c. WithOrWithout c store.old.records (kind.Promise place ballot)) }
+    ensures full { IsErrOf result error.JournalFull → (store.old.region.count ≡ 65536) × (store.new ≡ store.old) }
+    ensures memory { IsErrOf result error.NoMemory → store.new ≡ store.old }
+    ensures failed { IsErrOf result error.Failed → D.faults store.old.disk < D.faults store.new.disk }
+    ensures later { D.faults store.old.disk ≤ D.faults store.new.disk }
+    ensures run { D.came_to store.old.disk store.new.disk }
+{
+    if let Some(promised) = higher(store, place, ballot) {
+        return Ok(Pax::Refuse {
+            place,
+            ballot,
+            promised,
+        });
+    }
+    let accepted = store.accepted(place);
+    store.promise(place, ballot)?;
+    Ok(Pax::Promise {
+        place,
+        ballot,
+        accepted,
+    })
+}
+
+/// Accepts the command in the ballot at the place, unless a higher one has a promise there. An acceptance that is answered
+/// stands on the device, whatever crash comes.
+///
+/// # Errors
+/// As `StateStore::accept`.
+pub fn on_accept<D: Disk>(
+    store: &mut StateStore<D>,
+    place: u32,
+    ballot: Ballot,
+    command: &Command,
+) -> Result<Pax, StateError>
+    ensures reply { IfOk result (λ letter. letter ≡ accept_reply place (acceptor_of store.old.records place) ballot) }
+    ensures kept { OnOk result ((p : ℕ) → acceptor_of store.new.records p ≡ put (acceptor_of store.old.records) place (on_accept (acceptor_of store.old.records place) ballot command.now) p) }
+    ensures err { OnErr result (store.new.records ≡ store.old.records) }
+    ensures holds { D.told → Holds store.old.region (D.seen store.old.disk) (D.may_leave store.old.disk) store.old.records
+        → OnOk result (Holds store.new.region (D.seen store.new.disk) (D.may_leave store.new.disk) store.new.records) }
+    ensures any_moment { D.told → Holds store.old.region (D.seen store.old.disk) (D.may_leave store.old.disk) store.old.records
+        → LeavesOnly D.moment D.left_since store.old.disk store.new.disk (λ c. WithOrWithout c store.old.records (kind.Accepted place ballot command.now)) }
+    ensures full { IsErrOf result error.JournalFull → (store.old.region.count ≡ 65536) × (store.new ≡ store.old) }
+    ensures memory { IsErrOf result error.NoMemory → store.new ≡ store.old }
+    ensures failed { IsErrOf result error.Failed → D.faults store.old.disk < D.faults store.new.disk }
+    ensures later { D.faults store.old.disk ≤ D.faults store.new.disk }
+    ensures run { D.came_to store.old.disk store.new.disk }
+{
+    if let Some(promised) = higher(store, place, ballot) {
+        return Ok(Pax::Refuse {
+            place,
+            ballot,
+            promised,
+        });
+    }
+    store.accept(place, ballot, command)?;
+    Ok(Pax::Accepted { place, ballot })
+}
+
+/// The promised ballot, where it is higher than this one.
+fn higher<D: Disk>(store: &StateStore<D>, place: u32, ballot: Ballot) -> Option<Ballot>
+    ensures { result ≡ (if is_open (acceptor_of store.now.records place) ballot then None else (acceptor_of store.now.records place).promised) }
+{
+    match store.promised(place) {
+        Some(promised) if !promised.is_at_most(ballot) => Some(promised),
+        _ => None,
+    }
+}

@@ -1,0 +1,40 @@
+-- What a state device stands for: a header of 64 bytes, and behind 4,096 bytes a journal of 65,536 records of 128 bytes.
+use Rattle.std.specs.Prelude.{ℕ, ◌≡◌, ◌⊎◌, List, [], ◌∷◌, ◌++◌, map, length, take, replicate, ⊤}
+use Rattle.block_journal.specs.Records.{Stands}
+use Rattle.block_journal.specs.Region.{Region}
+use Rattle.state_store.specs.declared.record.StateRecord.{StateRecord}
+use Rattle.state_store.specs.Body.{body_of, HasBody}
+
+-- the gate, PETALSTA, version 1, zeros
+abbrev pub header : List ℕ
+header = 165 ∷ 80 ∷ 69 ∷ 84 ∷ 65 ∷ 76 ∷ 83 ∷ 84 ∷ 65 ∷ 0 ∷ 0 ∷ 0 ∷ 1 ∷ replicate 51 0
+
+abbrev pub bodies_of : List StateRecord → List (List ℕ)
+bodies_of records = map body_of records
+
+-- each of the records has a spelling
+abbrev pub AreSpelled : List StateRecord → Type 0
+AreSpelled [] = ⊤
+AreSpelled (r ∷ rs) = HasBody r × AreSpelled rs
+
+-- the device stands for these records
+pub record StandsFor (file : List ℕ) (records : List StateRecord) : Type 0 where
+  pub headed : take 64 file ≡ header
+  pub spelled : AreSpelled records
+  pub stands : Stands 128 4096 65536 file (bodies_of records)
+
+-- the records, with one more or without it
+abbrev pub WithOrWithout : List ℕ → List StateRecord → StateRecord → Type 0
+WithOrWithout file records entry = StandsFor file records ⊎ StandsFor file (records ++ entry ∷ [])
+
+-- the device of a store stands for its records, now and after any crash, and its journal counts them
+pub record Holds (region : Region) (seen : List ℕ) (may_leave : List ℕ → Type 0) (records : List StateRecord) : Type 0 where
+  pub count : region.count ≡ length records
+  pub now : StandsFor seen records
+  pub left : (c : List ℕ) → may_leave c → StandsFor c records
+
+-- a state store: what was committed, its journal's region, and its device
+pub record Keeping (D : Type 0) : Type 0 where
+  pub records : List StateRecord
+  pub region : Region
+  pub disk : D

@@ -1,0 +1,203 @@
+//! The device of a state store, with its journal of records.
+
+ghost use Rattle.std.specs.Prelude.{◌≡◌, ◌⊎◌, ◌≤◌, ◌<◌, ◌↔◌, ◌++◌, [], ◌∷◌, ℕ, List, OnOk, IfOk, IfErr, IsErrOf, take, ◌≢◌};
+ghost use Rattle.petal_disk.specs.Disk.{LeavesOnly};
+ghost use Rattle.block_journal.specs.Records.{Counts, IsOpen, body_at};
+ghost use Rattle.state_store.specs.Body.{body_of, HasBody};
+ghost use Rattle.state_store.specs.Device.{header, bodies_of, AreSpelled, Holds, WithOrWithout, StandsFor};
+ghost use Rattle.state_store.specs.Errors.{IsAppendError};
+ghost use Rattle.state_store.specs.Kept.{row_of, inc_of};
+ghost use Rattle.state_store.specs.Rows.{row_at};
+ghost use Rattle.state_store.specs.declared.record.StateRecord.{StateRecord};
+ghost use Rattle.state_store.specs.declared.error.StateError.TheVariants as error;
+
+use crate::error::StateError;
+use crate::history::History;
+use crate::places::Places;
+use crate::record::{StateRecord, body_of};
+use crate::register::{Register, read_records};
+use block_journal::{Journal, JournalError};
+use petal_base::Inc;
+use petal_disk::{Disk, write_kept};
+use std::alloc::Global;
+use std::marker::Model;
+
+/// Where the journal begins.
+pub const JOURNAL_BASE: u64 = 4096;
+
+/// How many records the journal has.
+pub const JOURNAL_RECORDS: u32 = 65_536;
+
+/// How many bytes a state device has at least.
+pub const DEVICE_BYTES: u64 = 8_392_704;
+
+/// A device and its journal. Contracts see the records that were committed, the journal's region, and the device.
+#[derive(Drop)]
+pub struct Device<D: Disk> {
+    disk: D,
+    journal: Journal<128>,
+    history: History,
+}
+
+impl<D: Disk> Model for Device<D> {
+    ghost use Rattle.std.specs.Prelude.{◌≡◌, ◌≤◌};
+    ghost use Rattle.state_store.specs.Device.{Keeping};
+
+    ghost Value = { Keeping D };
+
+    ghost view = { λ s. record { records = s.history.records; region = s.journal; disk = s.disk } };
+
+    ghost invariant = { λ s. (s.journal.base ≡ 4096) × (s.journal.limit ≡ 65536) × (8392704 ≤ D.size s.disk) };
+}
+
+/// What the records of a device give.
+#[derive(Drop)]
+pub struct Kept {
+    pub places: Places,
+    pub inc: Inc,
+}
+
+impl<D: Disk> Device<D> {
+    /// A device that stands for no record.
+    pub fn format(alloc: Global, disk: D) -> Result<Device<D>, (D, StateError)>
+        requires { 8392704 ≤ D.size disk }
+        ensures ok { IfOk result (λ d. (d.records ≡ []) × (d.region.count ≡ 0)) }
+        ensures holds { IfOk result (λ d. D.told → Holds d.region (D.seen d.disk) (D.may_leave d.disk) d.records) }
+        ensures errors { IfErr result (λ e. (e.1 ≡ error.Failed) ⊎ (e.1 ≡ error.NoMemory)) }
+        ensures failed { IfErr result (λ e. e.1 ≡ error.Failed → D.faults disk < D.faults e.0) }
+        ensures later { IfOk result (λ d. D.faults disk ≤ D.faults d.disk) }
+        ensures run { IfOk result (λ d. D.came_to disk d.disk) }
+        ensures err_run { IfErr result (λ e. D.came_to disk e.0) }
+    {
+        let mut disk = disk;
+        match write_format(alloc, &mut disk) {
+            Ok(journal) => Ok(Device {
+                disk,
+                journal,
+                history: History::new(),
+            }),
+            Err(error) => Err((disk, error)),
+        }
+    }
+
+    /// The device with the records that it stands for, and what these give.
+    pub fn open(alloc: Global, disk: D) -> Result<(Device<D>, Kept), (D, StateError)>
+        ensures found { IfOk result (λ o. D.told → (take 64 (D.seen disk) ≡ header) × Counts 128 4096 65536 (D.seen disk) (bodies_of o.0.records)) }
+        ensures spelled { IfOk result (λ o. AreSpelled o.0.records) }
+        ensures same { (records : List StateRecord) → IfOk result (λ o. D.told → StandsFor (D.seen disk) records → o.0.records ≡ records) }
+        ensures holds { (records : List StateRecord) → IfOk result (λ o. D.told → StandsFor (D.seen disk) records → Holds o.0.region (D.seen o.0.disk) (D.may_leave o.0.disk) o.0.records) }
+        ensures rows { IfOk result (λ o. (place : ℕ) → row_at o.1.places place ≡ row_of o.0.records place) }
+        ensures inc { IfOk result (λ o. o.1.inc ≡ inc_of o.0.records) }
+        ensures blank { IfErr result (λ e. e.1 ≡ error.Blank → D.told → 8392704 ≤ D.size disk → take 64 (D.seen disk) ≢ header) }
+        ensures bad { (index : ℕ) → IfErr result (λ e. e.1 ≡ error.BadRecord index → D.told → IsOpen 128 4096 (D.seen disk) index × ((r : StateRecord) → HasBody r → body_at 128 4096 (D.seen disk) index ≡ body_of r → ⊥)) }
+        ensures failed { IfErr result (λ e. e.1 ≡ error.Failed → D.faults disk < D.faults e.0) }
+        ensures not_full { IfErr result (λ e. e.1 ≢ error.JournalFull) }
+    {
+        let mut disk = disk;
+        match read_device(alloc, &mut disk) {
+            Ok((journal, register)) => {
+                let device = Device {
+                    disk,
+                    journal,
+                    history: register.history,
+                };
+                let kept = Kept {
+                    places: register.places,
+                    inc: register.inc,
+                };
+                Ok((device, kept))
+            },
+            Err(error) => Err((disk, error)),
+        }
+    }
+
+    /// Commits one record more: whole, or at any crash not at all. It takes no memory.
+    pub fn append(&mut self, entry: &StateRecord) -> Result<(), StateError>
+        ensures ok { OnOk result (self.new.records ≡ self.old.records ++ entry.now ∷ []) }
+        ensures err { IfErr result (λ e. self.new.records ≡ self.old.records) }
+        ensures full { IsErrOf result error.JournalFull ↔ (self.old.region.count ≡ 65536) }
+        ensures unchanged { IsErrOf result error.JournalFull → self.new ≡ self.old }
+        ensures failed { IsErrOf result error.Failed → D.faults self.old.disk < D.faults self.new.disk }
+        ensures errors { ¬ IsErrOf result error.NoMemory }
+        ensures only { IfErr result IsAppendError }
+        ensures holds { D.told → Holds self.old.region (D.seen self.old.disk) (D.may_leave self.old.disk) self.old.records
+            → OnOk result (Holds self.new.region (D.seen self.new.disk) (D.may_leave self.new.disk) self.new.records) }
+        ensures either { D.told → Holds self.old.region (D.seen self.old.disk) (D.may_leave self.old.disk) self.old.records
+            → WithOrWithout (D.seen self.new.disk) self.old.records entry.now }
+        ensures any_moment { D.told → Holds self.old.region (D.seen self.old.disk) (D.may_leave self.old.disk) self.old.records
+            → LeavesOnly D.moment D.left_since self.old.disk self.new.disk (λ c. WithOrWithout c self.old.records entry.now) }
+        ensures later { D.faults self.old.disk ≤ D.faults self.new.disk }
+        ensures run { D.came_to self.old.disk self.new.disk }
+    {
+        match self.journal.append(&mut self.disk, &body_of(entry)) {
+            Ok(()) => {
+                self.history = History::with(&self.history, entry);
+                Ok(())
+            },
+            Err(JournalError::Full) => Err(StateError::JournalFull),
+            Err(JournalError::Failed) => Err(StateError::Failed),
+            Err(JournalError::NoMemory) => Err(StateError::Failed),
+        }
+    }
+
+    /// The device.
+    pub fn into_disk(self) -> D
+        ensures { result ≡ self.disk }
+    {
+        self.disk
+    }
+}
+
+/// The first bytes of a state device: the gate, the device's kind, version 1, zeros.
+const HEADER: [u8; 64] = [
+    0xa5, b'P', b'E', b'T', b'A', b'L', b'S', b'T', b'A', 0, 0, 0, 1, 0, 0, 0, 0, 0, 0, 0, 0, 0, 0,
+    0, 0, 0, 0, 0, 0, 0, 0, 0, 0, 0, 0, 0, 0, 0, 0, 0, 0, 0, 0, 0, 0, 0, 0, 0, 0, 0, 0, 0, 0, 0, 0,
+    0, 0, 0, 0, 0, 0, 0, 0, 0,
+];
+
+/// Writes an empty journal, then the header without its gate, then the gate.
+fn write_format<D: Disk>(alloc: Global, disk: &mut D) -> Result<Journal<128>, StateError>
+    requires { 8392704 ≤ D.size disk.old }
+    ensures region { IfOk result (λ j. (j.base ≡ 4096) × (j.limit ≡ 65536) × (j.count ≡ 0)) }
+    ensures holds { IfOk result (λ j. D.told → Holds j (D.seen disk.new) (D.may_leave disk.new) []) }
+    ensures errors { IfErr result (λ e. (e ≡ error.Failed) ⊎ (e ≡ error.NoMemory)) }
+    ensures failed { IsErrOf result error.Failed → D.faults disk.old < D.faults disk.new }
+    ensures later { D.faults disk.old ≤ D.faults disk.new }
+    ensures size { D.size disk.new ≡ D.size disk.old }
+    ensures run { D.came_to disk.old disk.new }
+{
+    let journal = Journal::format(alloc, disk, JOURNAL_BASE, JOURNAL_RECORDS)?;
+    write_kept(disk, 1, &HEADER[1..])?;
+    write_kept(disk, 0, &HEADER[..1])?;
+    Ok(journal)
+}
+
+/// Reads the header and the journal.
+fn read_device<D: Disk>(alloc: Global, disk: &mut D) -> Result<(Journal<128>, Register), StateError>
+    ensures region { IfOk result (λ o. (o.0.base ≡ 4096) × (o.0.limit ≡ 65536)) }
+    ensures size { IfOk result (λ o. 8392704 ≤ D.size disk.new) }
+    ensures found { IfOk result (λ o. D.told → (take 64 (D.seen disk.old) ≡ header) × Counts 128 4096 65536 (D.seen disk.old) (bodies_of o.1.history.records)) }
+    ensures spelled { IfOk result (λ o. AreSpelled o.1.history.records) }
+    ensures same { (records : List StateRecord) → IfOk result (λ o. D.told → StandsFor (D.seen disk.old) records → o.1.history.records ≡ records) }
+    ensures holds { (records : List StateRecord) → IfOk result (λ o. D.told → StandsFor (D.seen disk.old) records → Holds o.0 (D.seen disk.new) (D.may_leave disk.new) o.1.history.records) }
+    ensures rows { IfOk result (λ o. (place : ℕ) → row_at o.1.places place ≡ row_of o.1.history.records place) }
+    ensures inc { IfOk result (λ o. o.1.inc ≡ inc_of o.1.history.records) }
+    ensures blank { IsErrOf result error.Blank → D.told → 8392704 ≤ D.size disk.old → take 64 (D.seen disk.old) ≢ header }
+    ensures bad { (index : ℕ) → IfErr result (λ e. e ≡ error.BadRecord index → D.told → IsOpen 128 4096 (D.seen disk.old) index × ((r : StateRecord) → HasBody r → body_at 128 4096 (D.seen disk.old) index ≡ body_of r → ⊥)) }
+    ensures failed { IsErrOf result error.Failed → D.faults disk.old < D.faults disk.new }
+    ensures not_full { ¬ IsErrOf result error.JournalFull }
+{
+    if disk.len() < DEVICE_BYTES {
+        return Err(StateError::Blank);
+    }
+    disk.sync()?;
+    let mut head = [0; 64];
+    disk.read(0, &mut head)?;
+    if head != HEADER {
+        return Err(StateError::Blank);
+    }
+    let (journal, bodies) = Journal::open(alloc, disk, JOURNAL_BASE, JOURNAL_RECORDS)?;
+    let _count = journal.count();
+    let register = read_records(alloc, &bodies)?;
+    Ok((journal, register))
+}
