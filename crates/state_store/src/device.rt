@@ -1,6 +1,7 @@
 //! The device of a state store, with its journal of records.
 
-ghost use Rattle.std.specs.Prelude.{◌≡◌, ◌⊎◌, ◌≤◌, ◌<◌, ◌↔◌, ◌++◌, [], ◌∷◌, ℕ, List, OnOk, IfOk, IfErr, IsErrOf, take, ◌≢◌};
+ghost use Rattle.std.specs.Prelude.{◌≡◌, ◌⊎◌, ◌≤◌, ◌<◌, ◌↔◌, ◌++◌, [], ◌∷◌, ℕ, List, OnOk, IfOk, IfErr, IsErrOf, take, ◌≢◌, Some, None, false};
+ghost use Rattle.petal_disk.specs.Plans.{beneath, plan_state};
 ghost use Rattle.petal_disk.specs.Disk.{LeavesOnly};
 ghost use Rattle.block_journal.specs.Records.{Counts, IsOpen, body_at};
 ghost use Rattle.state_store.specs.Body.{body_of, HasBody};
@@ -18,7 +19,7 @@ use crate::record::{StateRecord, body_of};
 use crate::register::{Register, read_records};
 use block_journal::{Journal, JournalError};
 use petal_base::Inc;
-use petal_disk::{Disk, write_kept};
+use petal_disk::{Disk, Plan, Planned, write_kept};
 use std::alloc::Global;
 use std::marker::Model;
 
@@ -200,4 +201,31 @@ fn read_device<D: Disk>(alloc: Global, disk: &mut D) -> Result<(Journal<128>, Re
     let _count = journal.count();
     let register = read_records(alloc, &bodies)?;
     Ok((journal, register))
+}
+
+impl<E: Disk> Device<Planned<E>> {
+    /// Arms the device's one plan, and changes nothing else.
+    pub fn arm(&mut self, plan: Plan)
+        ensures disk { beneath self.new.disk ≡ beneath self.old.disk }
+        ensures state { plan_state self.new.disk ≡ record (plan_state self.old.disk) { plan = Some plan; stopped = false } }
+        ensures rest { self.new ≡ record self.old { disk = self.new.disk } }
+    {
+        self.disk.arm(plan);
+    }
+
+    /// No plan counts from now on, and nothing else changes.
+    pub fn disarm(&mut self)
+        ensures disk { beneath self.new.disk ≡ beneath self.old.disk }
+        ensures state { plan_state self.new.disk ≡ record (plan_state self.old.disk) { plan = None } }
+        ensures rest { self.new ≡ record self.old { disk = self.new.disk } }
+    {
+        self.disk.disarm();
+    }
+
+    /// Whether a plan with `stop` was met since the last arming.
+    pub fn stopped(&self) -> bool
+        ensures { result ≡ (plan_state self.now.disk).stopped }
+    {
+        self.disk.stopped()
+    }
 }

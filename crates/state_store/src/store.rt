@@ -1,6 +1,7 @@
 //! The state store of a server.
 
-ghost use Rattle.std.specs.Prelude.{◌≡◌, ◌≢◌, ◌⊎◌, ◌≤◌, ◌<◌, ◌+◌, ◌==◌, ◌++◌, ◌∷◌, [], ℕ, List, Option, min, if◌then◌else◌, OnOk, OnErr, IfOk, IfErr, IsErrOf, IsOk, take, length};
+ghost use Rattle.std.specs.Prelude.{◌≡◌, ◌≢◌, ◌⊎◌, ◌≤◌, ◌<◌, ◌+◌, ◌==◌, ◌++◌, ◌∷◌, [], ℕ, List, Option, min, if◌then◌else◌, OnOk, OnErr, IfOk, IfErr, IsErrOf, IsOk, take, length, Some, None, false};
+ghost use Rattle.petal_disk.specs.Plans.{beneath, plan_state};
 ghost use Rattle.petal_disk.specs.Disk.{LeavesOnly};
 ghost use Rattle.block_journal.specs.Records.{Counts, IsOpen, body_at};
 ghost use Rattle.state_store.specs.Body.{body_of, HasBody};
@@ -17,7 +18,7 @@ use crate::places::Places;
 use crate::record::StateRecord;
 use petal_base::Inc;
 use petal_command::{Ballot, Command};
-use petal_disk::Disk;
+use petal_disk::{Disk, Plan, Planned};
 use std::alloc::Global;
 use std::marker::Model;
 
@@ -289,5 +290,32 @@ impl<D: Disk> StateStore<D> {
         ensures { result ≡ self.disk }
     {
         self.device.into_disk()
+    }
+}
+
+impl<E: Disk> StateStore<Planned<E>> {
+    /// Arms the device's one plan, and changes nothing else.
+    pub fn arm(&mut self, plan: Plan)
+        ensures disk { beneath self.new.disk ≡ beneath self.old.disk }
+        ensures state { plan_state self.new.disk ≡ record (plan_state self.old.disk) { plan = Some plan; stopped = false } }
+        ensures rest { self.new ≡ record self.old { disk = self.new.disk } }
+    {
+        self.device.arm(plan);
+    }
+
+    /// No plan counts from now on, and nothing else changes.
+    pub fn disarm(&mut self)
+        ensures disk { beneath self.new.disk ≡ beneath self.old.disk }
+        ensures state { plan_state self.new.disk ≡ record (plan_state self.old.disk) { plan = None } }
+        ensures rest { self.new ≡ record self.old { disk = self.new.disk } }
+    {
+        self.device.disarm();
+    }
+
+    /// Whether a plan with `stop` was met since the last arming.
+    pub fn stopped(&self) -> bool
+        ensures { result ≡ (plan_state self.now.disk).stopped }
+    {
+        self.device.stopped()
     }
 }
