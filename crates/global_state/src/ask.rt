@@ -1,0 +1,149 @@
+//! What is known of a disk, of a link and of a client's commands.
+
+ghost use Rattle.std.specs.Prelude.{◌≡◌, option_copied, option_map};
+ghost use Rattle.petal_tables.specs.Disk.{disk_at, named, snapshot_named};
+ghost use Rattle.petal_tables.specs.Link.{link_at};
+ghost use Rattle.petal_state.specs.State.{latest};
+ghost use Rattle.petal_state.specs.Place.{view_of, owner, region_at, link_of_row, snapshot, least, next_epoch, next_snapshot};
+
+use crate::place::move_region;
+use crate::tables::Tables;
+use petal_base::{ClientId, DiskId, Epoch, MapId, Name, Seq};
+use petal_state::{DiskView, Link};
+use petal_tables::{DiskRow, LinkRow, RegionState, Snapshot, Verdict};
+
+fn view_of(row: &DiskRow) -> DiskView
+    ensures { result ≡ view_of row.now }
+{
+    DiskView {
+        disk: row.id,
+        map: row.map,
+        epoch: row.epoch,
+        old_map: row.moving.as_ref().map(|moving| moving.old_map),
+    }
+}
+
+fn link_of_row(row: &LinkRow) -> Link
+    ensures { result ≡ link_of_row row.now }
+{
+    Link {
+        primary: row.primary,
+        secondary: row.secondary,
+        state: row.state,
+    }
+}
+
+fn least(a: Option<Epoch>, b: Option<Epoch>) -> Option<Epoch>
+    ensures { result ≡ least a b }
+{
+    match (a, b) {
+        (None, b) => b,
+        (Some(n), None) => Some(n),
+        (Some(n), Some(m)) => Some(if n <= m { n } else { m }),
+    }
+}
+
+fn next_epoch(from: Epoch, snaps: &[Snapshot]) -> Option<Epoch>
+    ensures { result ≡ next_epoch from snaps.now }
+{
+    match snaps.split_first() {
+        None => None,
+        Some((snap, snaps)) => {
+            let here = if from <= snap.epoch {
+                Some(snap.epoch)
+            } else {
+                None
+            };
+            least(here, next_epoch(from, snaps))
+        }
+    }
+}
+
+impl Tables {
+    pub fn find(&self, name: &Name) -> Option<DiskView>
+        ensures { result ≡ option_map view_of (named self.now.disks.rows name.now) }
+    {
+        match self.disks.find(name) {
+            Some(row) => Some(view_of(row)),
+            None => None,
+        }
+    }
+
+    pub fn disk(&self, disk: DiskId) -> Option<DiskView>
+        ensures { result ≡ option_map view_of (disk_at self.now.disks.rows disk) }
+    {
+        match self.disks.row(disk) {
+            Some(row) => Some(view_of(row)),
+            None => None,
+        }
+    }
+
+    pub fn disk_of(&self, map: MapId) -> Option<DiskView>
+        ensures { result ≡ option_map view_of (owner self.now map) }
+    {
+        match self.owner(map) {
+            Some(row) => Some(view_of(row)),
+            None => None,
+        }
+    }
+
+    pub fn next_snapshot(&self, disk: DiskId, from: Epoch) -> Option<Epoch>
+        ensures { result ≡ next_snapshot self.now disk from }
+    {
+        match self.disks.row(disk) {
+            Some(row) => next_epoch(from, row.snaps.as_slice()),
+            None => None,
+        }
+    }
+
+    pub fn snapshot(&self, disk: DiskId, name: &Name) -> Option<Epoch>
+        ensures { result ≡ snapshot self.now disk name.now }
+    {
+        match self.disks.row(disk) {
+            Some(row) => epoch_named(row.snaps.as_slice(), name),
+            None => None,
+        }
+    }
+
+    pub fn region_state(&self, disk: DiskId, region: u8) -> RegionState
+        ensures { result ≡ region_at (disk_at self.now.disks.rows disk) region }
+    {
+        match self.disks.row(disk) {
+            Some(row) => move_region(region, &row.moving),
+            None => RegionState::New,
+        }
+    }
+
+    pub fn link(&self, map: MapId, link: u8) -> Option<Link>
+        ensures { result ≡ option_map link_of_row (link_at self.now.links map link) }
+    {
+        match self.links.get(map, link) {
+            Some(row) => Some(link_of_row(row)),
+            None => None,
+        }
+    }
+
+    pub fn verdict(&self, client: ClientId) -> Option<(Seq, Verdict)>
+        ensures { result ≡ option_map (λ last. (last.seq, last.verdict)) (latest self.now client) }
+    {
+        match self.latest(client) {
+            Some(last) => Some((last.seq, last.verdict)),
+            None => None,
+        }
+    }
+}
+
+fn epoch_named(snaps: &[Snapshot], name: &Name) -> Option<Epoch>
+    ensures { result ≡ option_map (λ snap. snap.epoch) (snapshot_named snaps.now name.now) }
+{
+    match snapshot_named(snaps, name) {
+        Some(snap) => Some(snap.epoch),
+        None => None,
+    }
+}
+
+pub fn snapshot_named<'a>(snaps: &'a [Snapshot], name: &Name) -> Option<&'a Snapshot>
+    ensures { option_copied result ≡ snapshot_named snaps.now name.now }
+{
+    snaps.iter().find(|snap| snap.name == *name)
+}

@@ -1,0 +1,162 @@
+//! Runs of the log, worked by hand from the rules.
+
+use super::*;
+use petal_base::{Cell, Inc, Name, NoMemory, Rev, Seq, Tuple};
+use petal_command::{ClientNumber, Command, LinkNumber, ServerNumber};
+use std::alloc::Global;
+use std::test::Fail;
+
+fn server(n: u8) -> ServerNumber {
+    ServerNumber::new(n % 8)
+}
+
+fn join(s: u8, inc: Inc, blank: bool) -> Command {
+    Command::Join {
+        server: server(s),
+        inc,
+        blank,
+    }
+}
+
+fn leave(s: u8, inc: Inc) -> Command {
+    Command::Leave {
+        server: server(s),
+        inc,
+    }
+}
+
+fn drained(s: u8, fence: u32) -> Command {
+    Command::Drained {
+        server: server(s),
+        inc: 1,
+        fence,
+    }
+}
+
+fn caught(link: u8, holder: u8, other: u8, other_inc: Inc) -> Command {
+    Command::Caught {
+        map: 0,
+        link: LinkNumber::new(link % 8),
+        holder: server(holder),
+        holder_inc: 1,
+        other: server(other),
+        other_inc,
+    }
+}
+
+fn make(seq: Seq, name: &Name, tuple: &Tuple) -> Command {
+    Command::MakeDisk {
+        client: ClientNumber::new(0),
+        seq,
+        name: name.again(),
+        tuple: tuple.again(),
+    }
+}
+
+fn snap(seq: Seq, disk: &Name, name: &Name) -> Command {
+    Command::Snap {
+        client: ClientNumber::new(0),
+        seq,
+        disk: disk.again(),
+        name: name.again(),
+    }
+}
+
+fn run(alloc: Global, state: &mut GlobalState, log: &[Command]) -> Result<(), NoMemory> {
+    for command in log {
+        if state.rev() < Rev::MAX {
+            state.apply(alloc, command)?;
+        }
+    }
+    Ok(())
+}
+
+fn all_drained(
+    alloc: Global,
+    state: &mut GlobalState,
+    from: u8,
+    to: u8,
+    fence: u32,
+) -> Result<(), NoMemory> {
+    for s in from..to {
+        run(alloc, state, &[drained(s, fence)])?;
+    }
+    Ok(())
+}
+
+fn states(state: &GlobalState) -> [Option<LinkState>; 3] {
+    [
+        link_state(state, 0),
+        link_state(state, 1),
+        link_state(state, 2),
+    ]
+}
+
+fn link_state(state: &GlobalState, link: u8) -> Option<LinkState> {
+    state.link(0, link).map(|link| link.state)
+}
+
+fn only(holder: u8, whole: bool) -> Option<LinkState> {
+    Some(LinkState::Only { holder, whole })
+}
+
+fn disk_over_five(alloc: Global, vol: &Name) -> Result<GlobalState, NoMemory> {
+    let mut state = GlobalState::new(alloc, 5)?;
+    if let Some(tuple) = Tuple::new(&[0, 1, 2, 3, 4], 5) {
+        run(alloc, &mut state, &[make(1, vol, &tuple)])?;
+    }
+    Ok(state)
+}
+
+#[test]
+fn servers_leave_and_join(rt: HostRuntime) -> Result<(), Fail> {
+    let alloc = rt.alloc();
+    let Some(vol) = Name::read(b"vol") else {
+        return Ok(());
+    };
+    let mut state = disk_over_five(alloc, &vol)?;
+    run(alloc, &mut state, &[leave(1, 1), leave(2, 1)])?;
+    assert_eq!(rt;
+        states(&state),
+        [only(0, false), only(2, false), only(3, false)]
+    );
+    assert_eq!(rt; state.lead(Cell { map: 0, block: 1 }), None);
+    // A blank server loses what it alone held, and has to be given all of what its neighbour holds.
+    run(
+        alloc,
+        &mut state,
+        &[
+            join(1, 2, false),
+            leave(1, 1),
+            join(2, 2, true),
+            caught(2, 3, 2, 1),
+        ],
+    )?;
+    assert_eq!(rt;
+        states(&state),
+        [only(0, false), Some(LinkState::Lost), only(3, true)]
+    );
+    run(alloc, &mut state, &[caught(2, 3, 2, 2)])?;
+    assert!(rt; state.readable(2, Cell { map: 0, block: 2 }));
+    Ok(())
+}
+
+#[test]
+fn a_snapshot_waits_for_reports(rt: HostRuntime) -> Result<(), Fail> {
+    let alloc = rt.alloc();
+    let (Some(vol), Some(s1)) = (Name::read(b"vol"), Name::read(b"s1")) else {
+        return Ok(());
+    };
+    let mut state = disk_over_five(alloc, &vol)?;
+    run(
+        alloc,
+        &mut state,
+        &[snap(2, &vol, &s1), drained(0, 1), leave(4, 1)],
+    )?;
+    all_drained(alloc, &mut state, 1, 4, 1)?;
+    assert_eq!(rt; state.verdict(0), Some((2, Verdict::Waiting)));
+    all_drained(alloc, &mut state, 0, 1, 1)?;
+    assert_eq!(rt; state.verdict(0), Some((2, Verdict::Ok)));
+    assert_eq!(rt; state.snapshot(0, &s1), Some(0));
+    Ok(())
+}
