@@ -5,15 +5,6 @@ use petal_run::petal;
 use std::alloc::{AllocError, Global};
 use std::test::Fail;
 
-/// A script, the status that it ends with, and what is written.
-#[derive(Clone, Copy)]
-struct Row {
-    shows: &'static str,
-    script: &'static str,
-    status: u8,
-    written: &'static str,
-}
-
 /// Where the outside fails: the number of the call, from 1.
 #[derive(Clone, Copy)]
 struct Failing {
@@ -67,54 +58,55 @@ const DISK: &str = "servers 5 slots 16\na disk vol on 0 1 2 3 4\nwait\n";
 
 #[test]
 fn scripts(rt: HostRuntime) -> Result<(), Fail> {
-    let rows = [
-        Row {
-            shows: "an empty session writes nothing",
-            script: "servers 2 slots 4",
-            status: 0,
-            written: "",
-        },
-        Row {
-            shows: "two writes fill two slots, the third is refused and the first stays",
-            script: "servers 2 slots 2\na disk vol on 0 1\na write vol 0 fill 1\na write vol 1 fill 2\na write vol 0 fill 3\na read vol 0\n",
-            status: 0,
-            written: "2: ok\n3: ok\n4: ok\n5: nospace\n6: data 65536x1\n",
-        },
-        Row {
-            shows: "a word that is no command",
-            script: "servers 2 slots 4\nwirte vol 1\n",
-            status: 2,
-            written: "refused line 2: bad line\n",
-        },
-        Row {
-            shows: "the empty script",
-            script: "",
-            status: 2,
-            written: "refused line 1: no servers line\n",
-        },
-        Row {
-            shows: "a stop of one of two servers leaves no majority",
-            script: "servers 2 slots 4\nop stop 1\n",
-            status: 2,
-            written: "refused line 2: no majority\n",
-        },
-        Row {
-            shows: "a stop of one of three servers is not built yet",
-            script: "servers 3 slots 4\na disk vol on 0 1\nop stop 1\n",
-            status: 2,
-            written: "refused line 3: not built\n",
-        },
-        Row {
-            shows: "a second disk is not built yet",
-            script: "servers 2 slots 4\na disk vol on 0 1\n# the other\na disk two on 1 0\n",
-            status: 2,
-            written: "refused line 4: not built\n",
-        },
+    // what it shows, the script, the status that it ends with, and what is written
+    let rows: [(&str, &str, u8, &str); 7] = [
+        (
+            "an empty session writes nothing",
+            "servers 2 slots 4",
+            0,
+            "",
+        ),
+        (
+            "two writes fill two slots, the third is refused and the first stays",
+            "servers 2 slots 2\na disk vol on 0 1\na write vol 0 fill 1\na write vol 1 fill 2\na write vol 0 fill 3\na read vol 0\n",
+            0,
+            "2: ok\n3: ok\n4: ok\n5: nospace\n6: data 65536x1\n",
+        ),
+        (
+            "a word that is no command",
+            "servers 2 slots 4\nwirte vol 1\n",
+            2,
+            "refused line 2: bad line\n",
+        ),
+        (
+            "the empty script",
+            "",
+            2,
+            "refused line 1: no servers line\n",
+        ),
+        (
+            "a stop of one of two servers leaves no majority",
+            "servers 2 slots 4\nop stop 1\n",
+            2,
+            "refused line 2: no majority\n",
+        ),
+        (
+            "a stop of one of three servers is not built yet",
+            "servers 3 slots 4\na disk vol on 0 1\nop stop 1\n",
+            2,
+            "refused line 3: not built\n",
+        ),
+        (
+            "a second disk is not built yet",
+            "servers 2 slots 4\na disk vol on 0 1\n# the other\na disk two on 1 0\n",
+            2,
+            "refused line 4: not built\n",
+        ),
     ];
-    for row in rows.iter() {
-        let (status, written) = run(rt.alloc(), &["run"], row.script, SOUND)?;
-        assert_eq!(rt; written.as_slice(), row.written.as_bytes(), "{}", row.shows);
-        assert_eq!(rt; status, row.status, "{}", row.shows);
+    for (shows, script, status, written) in rows {
+        let (got, bytes) = run(rt.alloc(), &["run"], script, SOUND)?;
+        assert_eq!(rt; bytes.as_slice(), written.as_bytes(), "{shows}");
+        assert_eq!(rt; got, status, "{shows}");
     }
     Ok(())
 }
