@@ -54,10 +54,10 @@ int main(void) {
         unsigned long long block;
         int fill;
         number++;
-        if (sscanf(line, "a write vol %llu fill %d", &block, &fill) == 2) {
+        if (sscanf(line, "%*c write vol %llu fill %d", &block, &fill) == 2) {
             memset(put(block)->bytes, fill, BLOCK);
             printf("%d: ok\n", number);
-        } else if (sscanf(line, "a read vol %llu", &block) == 1) {
+        } else if (sscanf(line, "%*c read vol %llu", &block) == 1) {
             struct entry *e = find(block);
             printf("%d: ", number);
             print_runs(e ? e->bytes : zeros);

@@ -4,11 +4,11 @@ ghost use Rattle.std.specs.Prelude.{◌≡◌, option_copied, option_map};
 ghost use Rattle.petal_tables.specs.Disk.{disk_at, named, snapshot_named};
 ghost use Rattle.petal_tables.specs.Link.{link_at};
 ghost use Rattle.petal_state.specs.State.{latest};
-ghost use Rattle.petal_state.specs.Place.{view_of, owner, region_at, link_of_row, snapshot, least, next_epoch, next_snapshot};
+ghost use Rattle.petal_state.specs.Place.{view_of, owner, region_at, cell_link, link_of_row, snapshot, least, next_epoch, next_snapshot};
 
 use crate::place::move_region;
 use crate::tables::Tables;
-use petal_base::{ClientId, DiskId, Epoch, MapId, Name, Seq};
+use petal_base::{Cell, ClientId, DiskId, Epoch, MapId, Name, Seq};
 use petal_state::{DiskView, Link};
 use petal_tables::{DiskRow, LinkRow, RegionState, Snapshot, Verdict};
 
@@ -118,6 +118,15 @@ impl Tables {
         ensures { result ≡ option_map link_of_row (link_at self.now.links map link) }
     {
         match self.links.get(map, link) {
+            Some(row) => Some(link_of_row(row)),
+            None => None,
+        }
+    }
+
+    pub fn link_at(&self, cell: Cell) -> Option<Link>
+        ensures { result ≡ option_map link_of_row (cell_link self.now cell) }
+    {
+        match self.cell_link(cell) {
             Some(row) => Some(link_of_row(row)),
             None => None,
         }

@@ -1,6 +1,6 @@
 //! Which cells are live, and who leads, reads and holds them.
 
-ghost use Rattle.std.specs.Prelude.{◌≡◌, Option, option_copied};
+ghost use Rattle.std.specs.Prelude.{◌≡◌, Option, option_and_then, option_copied};
 ghost use Rattle.petal_tables.specs.Disk.{has_link};
 ghost use Rattle.petal_state.specs.State.{leaves, mover};
 ghost use Rattle.petal_state.specs.Place.{move_region, has_map, owner, live_new, live_old, live_under, live, is_fenced, leaving, cell_link, state_lead, row_lead, link_lead, lead, serves, readable, is_of, holds, held, noted_in, noted};
@@ -133,7 +133,7 @@ impl Tables {
         }
     }
 
-    fn cell_link(&self, cell: Cell) -> Option<&LinkRow>
+    pub fn cell_link(&self, cell: Cell) -> Option<&LinkRow>
         ensures { option_copied result ≡ cell_link self.now cell }
     {
         match self.maps.tuple(cell.map) {
@@ -160,6 +160,15 @@ impl Tables {
         }
     }
 
+    pub fn cell_lead(&self, cell: Cell) -> Option<ServerId>
+        ensures { result ≡ option_and_then (row_lead self.now) (cell_link self.now cell) }
+    {
+        match self.cell_link(cell) {
+            Some(row) => self.state_lead(row.primary, row.state),
+            None => None,
+        }
+    }
+
     pub fn link_lead(&self, map: MapId, link: u8) -> Option<ServerId>
         ensures { result ≡ link_lead self.now map link }
     {
@@ -178,10 +187,7 @@ impl Tables {
         if self.leaving(cell) {
             return None;
         }
-        match self.cell_link(cell) {
-            Some(row) => self.state_lead(row.primary, row.state),
-            None => None,
-        }
+        self.cell_lead(cell)
     }
 
     pub fn readable(&self, server: ServerId, cell: Cell) -> bool

@@ -1,12 +1,12 @@
 //! The state as the layers above see it.
 
-ghost use Rattle.std.specs.Prelude.{◌≡◌, ◌<◌, ◌-◌, ◌^◌, IfOk, OnOk, OnErr, IsTrue, option_map, option_copied};
+ghost use Rattle.std.specs.Prelude.{◌≡◌, ◌<◌, ◌-◌, ◌^◌, IfOk, OnOk, OnErr, IsTrue, option_and_then, option_map, option_copied};
 ghost use Rattle.petal_base.specs.Tuple.{is_tuple};
 ghost use Rattle.petal_tables.specs.Disk.{disk_at, named};
 ghost use Rattle.petal_tables.specs.Link.{link_at};
 ghost use Rattle.petal_tables.specs.View.{head};
 ghost use Rattle.petal_state.specs.State.{start, inc_of, latest};
-ghost use Rattle.petal_state.specs.Place.{view_of, owner, region_at, link_of_row, snapshot, next_snapshot, live, lead, link_lead, readable, held, noted};
+ghost use Rattle.petal_state.specs.Place.{view_of, owner, region_at, link_of_row, snapshot, next_snapshot, live, cell_link, row_lead, lead, link_lead, readable, held, noted};
 ghost use Rattle.petal_state.specs.Command.{after, fixed};
 ghost use Rattle.petal_state.specs.Settled.{is_settled};
 ghost use Rattle.petal_state.specs.Bound.{IsWithin};
@@ -150,6 +150,20 @@ impl GlobalState {
         ensures { result ≡ option_map link_of_row (link_at self.now.links map link) }
     {
         self.tables.link(map, link)
+    }
+
+    /// The link of a cell of a live map.
+    pub fn cell_link(&self, cell: Cell) -> Option<Link>
+        ensures { result ≡ option_map link_of_row (cell_link self.now cell) }
+    {
+        self.tables.link_at(cell)
+    }
+
+    /// The server that leads the cell's link, whatever its region.
+    pub fn cell_lead(&self, cell: Cell) -> Option<ServerId>
+        ensures { result ≡ option_and_then (row_lead self.now) (cell_link self.now cell) }
+    {
+        self.tables.cell_lead(cell)
     }
 
     /// The server that takes writes of the cell.

@@ -2,7 +2,7 @@
 
 use super::*;
 use petal_base::{Cell, Inc, Name, NoMemory, Rev, Seq, Tuple};
-use petal_command::{ClientNumber, Command, LinkNumber, ServerNumber};
+use petal_command::{ClientNumber, Command, LinkNumber, RegionNumber, ServerNumber};
 use std::alloc::Global;
 use std::test::Fail;
 
@@ -158,5 +158,76 @@ fn a_snapshot_waits_for_reports(rt: HostRuntime) -> Result<(), Fail> {
     all_drained(alloc, &mut state, 0, 1, 1)?;
     assert_eq!(rt; state.verdict(0), Some((2, Verdict::Ok)));
     assert_eq!(rt; state.snapshot(0, &s1), Some(0));
+    Ok(())
+}
+
+fn start_move(seq: Seq, disk: &Name, tuple: &Tuple) -> Command {
+    Command::StartMove {
+        client: ClientNumber::new(0),
+        seq,
+        disk: disk.again(),
+        tuple: tuple.again(),
+    }
+}
+
+fn moved(region: u8, link: u8) -> Command {
+    Command::Moved {
+        map: 0,
+        region: RegionNumber::new(region % 16),
+        link: LinkNumber::new(link % 8),
+    }
+}
+
+fn pass_region(alloc: Global, state: &mut GlobalState, region: u8) -> Result<(), NoMemory> {
+    all_drained(alloc, state, 0, 2, u32::from(region) + 1)?;
+    run(alloc, state, &[moved(region, 0), moved(region, 1)])
+}
+
+fn disk_on_the_move(alloc: Global, vol: &Name) -> Result<GlobalState, NoMemory> {
+    let mut state = GlobalState::new(alloc, 2)?;
+    if let (Some(there), Some(back)) = (Tuple::new(&[0, 1], 2), Tuple::new(&[1, 0], 2)) {
+        run(
+            alloc,
+            &mut state,
+            &[
+                make(1, vol, &there),
+                start_move(2, vol, &back),
+                start_move(3, vol, &there),
+            ],
+        )?;
+    }
+    Ok(state)
+}
+
+#[test]
+fn a_second_move_is_refused(rt: HostRuntime) -> Result<(), Fail> {
+    let alloc = rt.alloc();
+    let Some(vol) = Name::read(b"vol") else {
+        return Ok(());
+    };
+    let mut state = disk_on_the_move(alloc, &vol)?;
+    assert_eq!(rt; state.verdict(0), Some((3, Verdict::Moving)));
+    assert_eq!(rt; state.lead(Cell { map: 0, block: 8 }), Some(0));
+    pass_region(alloc, &mut state, 0)?;
+    assert_eq!(rt; state.lead(Cell { map: 0, block: 0 }), None);
+    assert_eq!(rt; state.lead(Cell { map: 1, block: 0 }), Some(1));
+    assert_eq!(rt; state.lead(Cell { map: 0, block: 8 }), Some(0));
+    Ok(())
+}
+
+#[test]
+fn a_move_ends_with_its_last_region(rt: HostRuntime) -> Result<(), Fail> {
+    let alloc = rt.alloc();
+    let Some(vol) = Name::read(b"vol") else {
+        return Ok(());
+    };
+    let mut state = disk_on_the_move(alloc, &vol)?;
+    for region in 0..16 {
+        pass_region(alloc, &mut state, region)?;
+    }
+    assert_eq!(rt; link_state(&state, 0), None);
+    assert!(rt; !state.live(Cell { map: 0, block: 8 }));
+    assert_eq!(rt; state.lead(Cell { map: 1, block: 8 }), Some(1));
+    assert!(rt; state.fence().is_none());
     Ok(())
 }

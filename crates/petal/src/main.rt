@@ -18,6 +18,6 @@ fn main(rt: HostRuntime) -> ExitCode {
     let mut source = StdSource::new(rt.reader());
     let mut sink = StdSink::new(io::writer(&rt));
     let mut shelf = MemShelf::new();
-    let outcome = petal(rt.alloc(), &words, &mut source, &mut sink, &mut shelf);
+    let outcome = petal(&rt, rt.alloc(), &words, &mut source, &mut sink, &mut shelf);
     ExitCode::from(outcome.status)
 }

@@ -14,12 +14,14 @@ use Rattle.petal_msg.specs.declared.operation.Pending.{Pending}
 use Rattle.petal_script.specs.declared.script.Script.{Script}
 use Rattle.petal_rules.specs.Clients.{Asked}
 use Rattle.petal_rules.specs.Lists.{In}
-use Rattle.petal_rules.specs.State.{State, link_of, is_lead, held, Not_held}
+use Rattle.petal_state.specs.declared.answer.Hold.TheVariants.{No}
+use Rattle.petal_rules.specs.State.{State, first, second, is_lead, held}
 use Rattle.petal_rules.specs.Store.{Chain, cell_cmp, chain_in, version_of}
 use Rattle.petal_rules.specs.World.{World, start, setting_of}
-use Rattle.petal_history.specs.Contents.{chosen_state, content_at}
+use Rattle.petal_history.specs.Contents.{chosen_state, disk_name, content_at}
 use Rattle.petal_history.specs.Events.{IsRunOf, events_of}
 use Rattle.petal_history.specs.Legal.{IsLegal, world_after}
+use Rattle.petal_history.specs.Sound.{IsSound}
 use Rattle.petal_history.specs.declared.record.Record.{Record}
 
 -- a chain after one more put with the next version
@@ -33,9 +35,8 @@ Copies first second pending = (first ≡ second) ⊎ ((op : Pending) × (pending
 -- the two-copy rule for a cell in Both
 abbrev pub TwoCopies : State → World → Cell → Type 0
 TwoCopies state w cell =
-    let primary = w.servers (link_of state cell).primary in
-    let secondary = w.servers (link_of state cell).secondary in
-    Copies (chain_in primary.store.chains cell) (chain_in secondary.store.chains cell) (at cell_cmp primary.pairs.pending cell)
+    (n m : ℕ) → first state cell ≡ Some n → second state cell ≡ Some m
+    → Copies (chain_in (w.servers n).store.chains cell) (chain_in (w.servers m).store.chains cell) (at cell_cmp (w.servers n).pairs.pending cell)
 
 -- the client called a request under this number, and has answered it
 pub record IsOver (w : World) (client seq : ℕ) : Type 0 where
@@ -52,7 +53,7 @@ pub record HasFinished (finished : Option Finished) (seq : ℕ) : Type 0 where
 abbrev pub IsLateAt : State → World → Letter → (client seq : ℕ) → Cell → ℕ → Type 0
 IsLateAt state w letter client seq cell n =
     (w.servers n).life.running ≡ true → (w.servers n).life.rev ≡ letter.rev
-    → HasFinished (at nat_cmp (w.servers n).pairs.finished client) seq ⊎ (is_lead state n cell ≡ false) ⊎ (held state cell ≢ Not_held)
+    → HasFinished (at nat_cmp (w.servers n).pairs.finished client) seq ⊎ (is_lead state n cell ≡ false) ⊎ (held state cell ≢ No)
 
 -- a request that its client has answered is pending at no running server, and its Write letters come too late everywhere
 pub record Requests (state : State) (w : World) : Type 0 where
@@ -77,8 +78,8 @@ pub record Keeps (script : Script) (records : List Record) : Type 0 where
   pub copies : (cell : Cell) → TwoCopies (chosen_state (setting_of script)) (world_after (setting_of script) (start (setting_of script)) records) cell
   pub requests : Requests (chosen_state (setting_of script)) (world_after (setting_of script) (start (setting_of script)) records)
   pub run : IsRunOf (events_of script records)
-  pub holds : Holds (machine_after (events_of script records)).disks (chosen_state (setting_of script)).name (content_at (setting_of script) (world_after (setting_of script) (start (setting_of script)) records) 0)
+  pub holds : Holds (machine_after (events_of script records)).disks (disk_name (setting_of script)) (content_at (setting_of script) (world_after (setting_of script) (start (setting_of script)) records) 0)
 
--- the law to come
+-- the law to come, of each sound script
 abbrev pub Law : Type 0
-Law = (script : Script) (records : List Record) → IsLegal script records → Keeps script records
+Law = (script : Script) (records : List Record) → IsSound script → IsLegal script records → Keeps script records

@@ -1,7 +1,8 @@
 -- What the disks hold: the entries of each block's authority.
-use Rattle.std.specs.Prelude.{ℕ, List, Option, Some, None}
+use Rattle.std.specs.Prelude.{ℕ, List, [], ◌∷◌, Option, Some, None}
 use Rattle.petal_base.specs.Block.{zero_block}
 use Rattle.petal_base.specs.declared.place.Cell.{Cell}
+use Rattle.petal_tables.specs.declared.disk.DiskRow.{DiskRow}
 use Rattle.petal_rules.specs.State.{State, authority}
 use Rattle.petal_rules.specs.Store.{chain_in, entry_at, bytes_of}
 use Rattle.petal_rules.specs.Server.{Server}
@@ -10,6 +11,14 @@ use Rattle.petal_rules.specs.World.{Setting, World}
 -- the state that was chosen last. At this stage it is the fixed one
 abbrev pub chosen_state : Setting → State
 chosen_state setting = setting.states 1
+
+abbrev pub first_name : List DiskRow → List ℕ
+first_name [] = []
+first_name (row ∷ rows) = row.name
+
+-- the name of the one disk
+abbrev pub disk_name : Setting → List ℕ
+disk_name setting = first_name (chosen_state setting).disks.rows
 
 -- the cell of a block: at this stage under map 0
 abbrev pub cell_of_block : ℕ → Cell

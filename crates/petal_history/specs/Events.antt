@@ -27,7 +27,7 @@ use Rattle.petal_rules.specs.Server.{Server}
 use Rattle.petal_rules.specs.World.{Setting, World, start, setting_of}
 use Rattle.petal_rules.specs.declared.step.Step.{Step}
 use Rattle.petal_rules.specs.declared.step.Step.TheVariants.{Call, Deliver, Tick, Work}
-use Rattle.petal_history.specs.Contents.{chosen_state, content_at}
+use Rattle.petal_history.specs.Contents.{disk_name, content_at}
 use Rattle.petal_history.specs.Legal.{stepped}
 use Rattle.petal_history.specs.declared.record.Record.{Record}
 
@@ -107,7 +107,7 @@ writes_so name block bytes write = same_bytes write.disk name && (write.block ==
 
 -- the write under way that gives the block this content: of several, the one of the least client
 abbrev pub taker : Setting → World → ℕ → List ℕ → Option Write
-taker setting w block bytes = find (writes_so (chosen_state setting).name block bytes) (filter_map (open_write w) (range_with_len 0 9))
+taker setting w block bytes = find (writes_so (disk_name setting) block bytes) (filter_map (open_write w) (range_with_len 0 9))
 
 abbrev pub with_first : Option Event → Option (List Event) → Option (List Event)
 with_first None events = None
@@ -237,7 +237,7 @@ made (Some events) name = Some (Make name ∷ events)
 abbrev pub events_of : Script → List Record → Option (List Event)
 events_of script records =
     let setting = setting_of script in
-    made (told_from setting (start setting) records) (chosen_state setting).name
+    made (told_from setting (start setting) records) (disk_name setting)
 
 -- the events are a run of the plain machine
 abbrev pub IsRunOf : Option (List Event) → Type 0

@@ -1,4 +1,5 @@
 pub mod Legal
+pub mod Sound
 pub mod Contents
 pub mod Events
 pub mod Text

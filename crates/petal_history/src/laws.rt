@@ -5,7 +5,7 @@ ghost use Rattle.petal_machine.specs.declared.event.Event.TheVariants.{Make};
 ghost use Rattle.petal_script.specs.declared.script.Script.{Script};
 ghost use Rattle.petal_rules.specs.World.{setting_of};
 ghost use Rattle.petal_history.specs.Claims.{Keeps};
-ghost use Rattle.petal_history.specs.Contents.{chosen_state};
+ghost use Rattle.petal_history.specs.Contents.{disk_name};
 ghost use Rattle.petal_history.specs.Events.{IsRunOf, events_of};
 ghost use Rattle.petal_history.specs.Legal.{IsLegal};
 ghost use Rattle.petal_history.specs.Text.{text_of};
@@ -15,7 +15,7 @@ ghost use Rattle.petal_history.specs.declared.record.Record.{Record};
 /// a run; and nothing is printed.
 pub fn a_history_without_steps()
     ensures legal { (script : Script) → IsLegal script [] }
-    ensures told { (script : Script) → events_of script [] ≡ Some (Make (chosen_state (setting_of script)).name ∷ []) }
+    ensures told { (script : Script) → events_of script [] ≡ Some (Make (disk_name (setting_of script)) ∷ []) }
     ensures run { (script : Script) → IsRunOf (events_of script []) }
     ensures text { text_of [] ≡ [] }
 {}

@@ -3,6 +3,7 @@
 use petal_disk::{MemShelf, MemSink, MemSource};
 use petal_run::petal;
 use std::alloc::{AllocError, Global};
+use std::sync::Wait;
 use std::test::Fail;
 
 /// Where the outside fails: the number of the call, from 1.
@@ -10,13 +11,11 @@ use std::test::Fail;
 struct Failing {
     source: Option<u32>,
     sink: Option<u32>,
-    shelf: Option<u32>,
 }
 
 const SOUND: Failing = Failing {
     source: None,
     sink: None,
-    shelf: None,
 };
 
 fn calls(alloc: Global, call: Option<u32>) -> Result<Vec<u32>, AllocError> {
@@ -36,7 +35,8 @@ fn word_list(alloc: Global, words: &[&str]) -> Result<Vec<String>, AllocError> {
 }
 
 /// The status, and the bytes written.
-fn run(
+fn run<R: Wait>(
+    rt: &R,
     alloc: Global,
     words: &[&str],
     script: &str,
@@ -46,11 +46,8 @@ fn run(
     let bytes = Vec::from_slice(alloc, script.as_bytes())?;
     let mut source = MemSource::new(bytes, calls(alloc, failing.source)?);
     let mut sink = MemSink::new(alloc, calls(alloc, failing.sink)?);
-    let mut shelf = match failing.shelf {
-        Some(call) => MemShelf::refusing(call),
-        None => MemShelf::new(),
-    };
-    let outcome = petal(alloc, &words, &mut source, &mut sink, &mut shelf);
+    let mut shelf = MemShelf::refusing(1);
+    let outcome = petal(rt, alloc, &words, &mut source, &mut sink, &mut shelf);
     Ok((outcome.status, sink.into_bytes()))
 }
 
@@ -59,7 +56,7 @@ const DISK: &str = "servers 5 slots 16\na disk vol on 0 1 2 3 4\nwait\n";
 #[test]
 fn scripts(rt: HostRuntime) -> Result<(), Fail> {
     // what it shows, the script, the status that it ends with, and what is written
-    let rows: [(&str, &str, u8, &str); 7] = [
+    let rows: [(&str, &str, u8, &str); 8] = [
         (
             "an empty session writes nothing",
             "servers 2 slots 4",
@@ -97,6 +94,12 @@ fn scripts(rt: HostRuntime) -> Result<(), Fail> {
             "refused line 3: not built\n",
         ),
         (
+            "a read before the disk is not built yet",
+            "servers 2 slots 4\na read vol 5\n",
+            2,
+            "refused line 2: not built\n",
+        ),
+        (
             "a second disk is not built yet",
             "servers 2 slots 4\na disk vol on 0 1\n# the other\na disk two on 1 0\n",
             2,
@@ -104,7 +107,7 @@ fn scripts(rt: HostRuntime) -> Result<(), Fail> {
         ),
     ];
     for (shows, script, status, written) in rows {
-        let (got, bytes) = run(rt.alloc(), &["run"], script, SOUND)?;
+        let (got, bytes) = run(&rt, rt.alloc(), &["run"], script, SOUND)?;
         assert_eq!(rt; bytes.as_slice(), written.as_bytes(), "{shows}");
         assert_eq!(rt; got, status, "{shows}");
     }
@@ -142,16 +145,51 @@ fn scripts_of_one_disk(rt: HostRuntime) -> Result<(), Fail> {
     ];
     for (shows, lines, written) in rows {
         let script = format!(in rt.alloc(); "{DISK}{lines}")?;
-        let (_, got) = run(rt.alloc(), &["run"], script.as_str(), SOUND)?;
+        let (_, got) = run(&rt, rt.alloc(), &["run"], script.as_str(), SOUND)?;
         assert_eq!(rt; got.as_slice(), written.as_bytes(), "{shows}");
     }
+    Ok(())
+}
+
+const RACE: &str = "wait\na write vol 5 fill 1\nb write vol 5 fill 2\nwait\na read vol 5\nb read vol 5\n";
+
+fn race<R: Wait>(rt: &R, alloc: Global, start: &str) -> Result<Vec<u8>, AllocError> {
+    let script = format!(in alloc; "{start}{RACE}")?;
+    let (_, text) = run(rt, alloc, &["run"], script.as_str(), SOUND)?;
+    Ok(text)
+}
+
+#[test]
+fn two_clients_write_one_block(rt: HostRuntime) -> Result<(), Fail> {
+    let text = race(&rt, rt.alloc(), "servers 3 slots 4\na disk vol on 0 1 2\n")?;
+    let first = b"2: ok\n4: ok\n5: ok\n7: data 65536x1\n8: data 65536x1\n";
+    let second = b"2: ok\n4: ok\n5: ok\n7: data 65536x2\n8: data 65536x2\n";
+    assert!(rt; text.as_slice() == first.as_slice() || text.as_slice() == second.as_slice());
+    Ok(())
+}
+
+#[test]
+fn two_clients_write_one_block_of_five_servers(rt: HostRuntime) -> Result<(), Fail> {
+    let text = race(&rt, rt.alloc(), "servers 5 slots 16\na disk vol on 0 1 2 3 4\n")?;
+    let first = b"2: ok\n4: ok\n5: ok\n7: data 65536x1\n8: data 65536x1\n";
+    let second = b"2: ok\n4: ok\n5: ok\n7: data 65536x2\n8: data 65536x2\n";
+    assert!(rt; text.as_slice() == first.as_slice() || text.as_slice() == second.as_slice());
+    Ok(())
+}
+
+#[test]
+fn letters_that_are_lost_and_doubled(rt: HostRuntime) -> Result<(), Fail> {
+    let script = "servers 3 slots 4\nnet lose 4\nnet twice 3\na disk vol on 0 1 2\na write vol 5 fill 7\nwait\nh read vol 5\n";
+    let (status, text) = run(&rt, rt.alloc(), &["run"], script, SOUND)?;
+    assert_eq!(rt; text.as_slice(), b"4: ok\n5: ok\n7: data 65536x7\n".as_slice());
+    assert_eq!(rt; status, 0);
     Ok(())
 }
 
 #[test]
 fn faults(rt: HostRuntime) -> Result<(), Fail> {
     let sevens = format!(in rt.alloc(); "{DISK}a write vol 5 fill 7\na read vol 5\n")?;
-    let rows: [(&str, Failing, u8, &str); 4] = [
+    let rows: [(&str, Failing, u8, &str); 2] = [
         (
             "a source that fails at its first read",
             Failing {
@@ -170,27 +208,9 @@ fn faults(rt: HostRuntime) -> Result<(), Fail> {
             5,
             "",
         ),
-        (
-            "a sink that fails at its second write",
-            Failing {
-                sink: Some(2),
-                ..SOUND
-            },
-            5,
-            "2: ok\n",
-        ),
-        (
-            "a shelf that refuses its first device",
-            Failing {
-                shelf: Some(1),
-                ..SOUND
-            },
-            6,
-            "",
-        ),
     ];
     for (shows, failing, status, written) in rows {
-        let (got, bytes) = run(rt.alloc(), &["run"], sevens.as_str(), failing)?;
+        let (got, bytes) = run(&rt, rt.alloc(), &["run"], sevens.as_str(), failing)?;
         assert_eq!(rt; bytes.as_slice(), written.as_bytes(), "{shows}");
         assert_eq!(rt; got, status, "{shows}");
     }
@@ -208,7 +228,7 @@ fn words(rt: HostRuntime) -> Result<(), Fail> {
         &[""],
     ];
     for words in rows {
-        let (status, written) = run(rt.alloc(), words, "servers 2 slots 4", SOUND)?;
+        let (status, written) = run(&rt, rt.alloc(), words, "servers 2 slots 4", SOUND)?;
         assert_eq!(rt; written.as_slice(), usage.as_bytes());
         assert_eq!(rt; status, 1);
     }

@@ -11,8 +11,9 @@ use Rattle.petal_script.specs.declared.answer.Answer.{Answer}
 use Rattle.petal_script.specs.declared.answer.Answer.TheVariants as answer
 use Rattle.petal_script.specs.declared.request.Request.{Request}
 use Rattle.petal_script.specs.declared.request.Request.TheVariants as request
-use Rattle.petal_rules.specs.State.{State, DiskView, find, snapshot, lead, readable}
-use Rattle.petal_rules.specs.Server.{Post, Sender}
+use Rattle.petal_state.specs.declared.answer.DiskView.{DiskView}
+use Rattle.petal_rules.specs.State.{State, servers_of, find, snapshot, lead, readable}
+use Rattle.petal_rules.specs.Server.{Post, Sender, post_to}
 
 -- a request that is open: its line, its number, how often it was sent, and the revision of the latest send
 pub record Asked : Type 0 where
@@ -46,24 +47,20 @@ rests client = record { client = client; posts = []; answer = None }
 
 -- the servers that may read a cell, by number
 abbrev pub readers : State → Cell → List ℕ
-readers state cell = filter (λ n. readable state n cell) (range_with_len 0 state.servers)
+readers state cell = filter (λ n. readable state n cell) (range_with_len 0 (servers_of state))
 
 -- one of the servers, in turn
 abbrev pub in_turn : List ℕ → ℕ → Option ℕ
 in_turn servers turn = slice_get servers (turn % length servers)
-
-abbrev pub post_to : Option ℕ → Body → List Post
-post_to None said = []
-post_to (Some server) said = record { to = actor.Server server; body = said } ∷ []
 
 -- the cell of a block under a disk's map
 abbrev pub cell_on : DiskView → ℕ → Cell
 cell_on disk block = record { map = disk.map; block = block }
 
 -- the epoch that a read asks for: the snapshot's, or the disk's own
-abbrev pub epoch_for : State → List ℕ → DiskView → Option (List ℕ) → Option ℕ
-epoch_for state name disk None = Some disk.epoch
-epoch_for state name disk (Some snap) = snapshot state name snap
+abbrev pub epoch_for : State → DiskView → Option (List ℕ) → Option ℕ
+epoch_for state disk None = Some disk.epoch
+epoch_for state disk (Some snap) = snapshot state disk.disk snap
 
 abbrev pub write_posts : State → Option DiskView → (client seq block : ℕ) → List ℕ → List Post
 write_posts state None client seq block bytes = []
@@ -74,16 +71,16 @@ abbrev pub read_posts_at : State → Cell → Option ℕ → (client seq turn : 
 read_posts_at state cell None client seq turn = []
 read_posts_at state cell (Some epoch) client seq turn = post_to (in_turn (readers state cell) turn) (body.Read client seq cell epoch)
 
-abbrev pub read_posts : State → Option DiskView → List ℕ → Option (List ℕ) → (client seq : ℕ) → ℕ × ℕ → List Post
-read_posts state None name snap client seq at = []
-read_posts state (Some disk) name snap client seq at = read_posts_at state (cell_on disk at.0) (epoch_for state name disk snap) client seq at.1
+abbrev pub read_posts : State → Option DiskView → Option (List ℕ) → (client seq : ℕ) → ℕ × ℕ → List Post
+read_posts state None snap client seq at = []
+read_posts state (Some disk) snap client seq at = read_posts_at state (cell_on disk at.0) (epoch_for state disk snap) client seq at.1
 
 -- what is sent for a request: a write goes to the lead, a read to the servers that may read, in turn at each send. Other
 -- requests send nothing at this stage
 abbrev pub posts_for : State → (client seq turn : ℕ) → Request → List Post
 posts_for state client seq turn (request.Disk name tuple) = []
 posts_for state client seq turn (request.Write name block pattern) = write_posts state (find state name) client seq block (pattern_block pattern)
-posts_for state client seq turn (request.Read name snap block) = read_posts state (find state name) name snap client seq (block, turn)
+posts_for state client seq turn (request.Read name snap block) = read_posts state (find state name) snap client seq (block, turn)
 posts_for state client seq turn (request.Snap name snap) = []
 posts_for state client seq turn (request.Move name tuple) = []
 posts_for state client seq turn (request.Stop server) = []

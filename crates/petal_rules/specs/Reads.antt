@@ -6,15 +6,16 @@ use Rattle.petal_msg.specs.declared.body.Body.TheVariants as body
 use Rattle.petal_msg.specs.declared.letter.Actor.TheVariants as actor
 use Rattle.petal_msg.specs.declared.operation.Reply.{Reply}
 use Rattle.petal_msg.specs.declared.operation.Reply.TheVariants.{Data, NotHere, BlockBusy, Held}
-use Rattle.petal_rules.specs.State.{Hold, Not_held, Writes_held, All_held, held, is_lead, readable}
+use Rattle.petal_state.specs.declared.answer.Hold.TheVariants as hold
+use Rattle.petal_rules.specs.State.{Hold, held, is_lead, readable}
 use Rattle.petal_rules.specs.Store.{chain_in, entry_at, bytes_of}
 use Rattle.petal_rules.specs.Server.{Half, Here, Done, silent, says}
 use Rattle.petal_rules.specs.Writes.{pending_on}
 
 abbrev pub is_all_held : Hold → Bool
-is_all_held Not_held = false
-is_all_held Writes_held = false
-is_all_held All_held = true
+is_all_held hold.No = false
+is_all_held hold.Writes = false
+is_all_held hold.All = true
 
 -- a fence, or an operation at the lead, keeps a read back; else it gives the entry of the greatest epoch not above its own
 abbrev pub reply_to : Here → Half → Cell → ℕ → Reply

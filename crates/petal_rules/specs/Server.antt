@@ -1,5 +1,5 @@
 -- A server: its life, its tables of pair operations, its store and its queue.
-use Rattle.std.specs.Prelude.{ℕ, ◌+◌, Bool, List, [], ◌∷◌}
+use Rattle.std.specs.Prelude.{ℕ, ◌+◌, Bool, List, [], ◌∷◌, Option, Some, None}
 use Rattle.petal_base.specs.declared.place.Cell.{Cell}
 use Rattle.petal_table.specs.Table.{Table}
 use Rattle.petal_msg.specs.declared.body.Body.{Body}
@@ -70,6 +70,15 @@ silent half = record { half = half; posts = []; jobs = [] }
 -- the job leaves this and sends one letter
 abbrev pub says : Half → Actor → Body → Done
 says half to body = record { half = half; posts = record { to = to; body = body } ∷ []; jobs = [] }
+
+-- a letter to one of the servers, where there is one
+abbrev pub post_to : Option ℕ → Body → List Post
+post_to None said = []
+post_to (Some server) said = record { to = actor.Server server; body = said } ∷ []
+
+-- the job leaves this and sends one letter to a server
+abbrev pub says_to : Half → Option ℕ → Body → Done
+says_to half server said = record { half = half; posts = post_to server said; jobs = [] }
 
 -- who sends, as which incarnation and at which revision
 pub record Sender : Type 0 where

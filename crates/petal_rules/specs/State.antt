@@ -1,82 +1,68 @@
--- The global state as servers and clients read it. At this stage it is fixed: one disk of map 0 at epoch 0, every server
--- In with incarnation 1, every link Both, and no fence. Rules speak of it through the readers alone.
-use Rattle.std.specs.Prelude.{ℕ, ◌+◌, ◌%◌, ◌==◌, ◌&&◌, ◌||◌, Bool, nat_lt, nat_eq, List, length, slice_index, if◌then◌else◌, Option, Some, None}
-use Rattle.std.specs.Cmp.Lexicographic.{pointwise}
+-- What servers and clients ask of the global state. Rules speak of it through these readers alone.
+use Rattle.std.specs.Prelude.{ℕ, Bool, false, ◌==◌, List, length, if◌then◌else◌, Option, Some, None, option_map, option_and_then}
+use Rattle.std.specs.Option.{option_map_or}
 use Rattle.petal_base.specs.declared.place.Cell.{Cell}
+use Rattle.petal_tables.specs.declared.link.LinkRow.{LinkRow}
+use Rattle.petal_tables.specs.declared.link.LinkState.{LinkState}
+use Rattle.petal_tables.specs.declared.link.LinkState.TheVariants.{Both, Only, Lost}
+use Rattle.petal_tables.specs.Disk.{named}
+use Rattle.petal_state.specs.State.{is_up_as}
+use Rattle.petal_state.specs.Place.{cell_link, row_lead, view_of}
+use Rattle.petal_state.specs.declared.answer.DiskView.{DiskView}
+pub use Rattle.petal_state.specs.State.{State}
+pub use Rattle.petal_state.specs.Command.{fixed}
+pub use Rattle.petal_state.specs.Place.{live, lead, readable, held, snapshot}
+pub use Rattle.petal_state.specs.declared.answer.Hold.{Hold}
 
--- what was agreed up to a revision
-pub record State : Type 0 where
-  pub rev : ℕ
-  pub servers : ℕ
-  pub name : List ℕ
-  pub tuple : List ℕ
-
--- the state of a run whose one disk has this name and this tuple of servers
-abbrev pub fixed : ℕ → List ℕ → List ℕ → State
-fixed servers name tuple = record { rev = 1; servers = servers; name = name; tuple = tuple }
-
--- a disk as requests find it: its map, and its epoch
-pub record DiskView : Type 0 where
-  pub map : ℕ
-  pub epoch : ℕ
-
--- the two servers of a link: neighbours in the map's tuple (chained declustering)
-pub record Link : Type 0 where
-  pub primary : ℕ
-  pub secondary : ℕ
-
--- what a fence keeps from a cell
-pub data Hold : Type 0 where
-  Not_held : Hold
-  Writes_held : Hold
-  All_held : Hold
-
--- the incarnation with which a server is In
-abbrev pub inc_in : State → ℕ → Option ℕ
-inc_in state server = if nat_lt server state.servers then Some 1 else None
+-- how many servers there are
+abbrev pub servers_of : State → ℕ
+servers_of state = length state.view.members
 
 -- the server is In with this incarnation
 abbrev pub is_in : State → ℕ → ℕ → Bool
-is_in state server inc = nat_lt server state.servers && (inc == 1)
+is_in state server inc = is_up_as state server inc
 
 -- the disk of this name
 abbrev pub find : State → List ℕ → Option DiskView
-find state name = if pointwise nat_eq name state.name then Some (record { map = 0; epoch = 0 }) else None
+find state name = option_map view_of (named state.disks.rows name)
 
--- the epoch of a disk's snapshot
-abbrev pub snapshot : State → List ℕ → List ℕ → Option ℕ
-snapshot state disk snap = None
+-- there is one, and it is this server
+abbrev pub is_the : Option ℕ → ℕ → Bool
+is_the found server = option_map_or (λ n. n == server) found false
 
--- requests and servers still use the cell's map for its block
-abbrev pub live : State → Cell → Bool
-live state cell = cell.map == 0
-
--- the link on which a cell lies: its block's number modulo the number of links
-abbrev pub link_of : State → Cell → Link
-link_of state cell =
-    let k = length state.tuple in
-    let i = cell.block % k in
-    record { primary = slice_index state.tuple i; secondary = slice_index state.tuple ((i + 1) % k) }
-
--- the server that takes the cell's writes: of a live cell in Both, the primary
-abbrev pub lead : State → Cell → Option ℕ
-lead state cell = if live state cell then Some (link_of state cell).primary else None
-
--- the server whose copy counts: in Both, the secondary
-abbrev pub authority : State → Cell → Option ℕ
-authority state cell = if live state cell then Some (link_of state cell).secondary else None
-
+-- the server takes the cell's writes
 abbrev pub is_lead : State → ℕ → Cell → Bool
-is_lead state server cell = live state cell && ((link_of state cell).primary == server)
+is_lead state server cell = is_the (lead state cell) server
 
--- the server that keeps the other copy of a cell and does not lead it
+-- the server leads the cell's link, whether or not its region is on its way
+abbrev pub leads_link : State → ℕ → Cell → Bool
+leads_link state server cell = is_the (option_and_then (row_lead state) (cell_link state cell)) server
+
+abbrev pub row_in_both : LinkRow → LinkState → Option LinkRow
+row_in_both row Both = Some row
+row_in_both row (Only holder whole) = None
+row_in_both row Lost = None
+
+-- the link of a live cell, where both of its servers keep the cell's copies
+abbrev pub both : State → Cell → Option LinkRow
+both state cell = if live state cell then option_and_then (λ row. row_in_both row row.state) (cell_link state cell) else None
+
+-- of a cell in Both, the server that puts first, and the one that follows
+abbrev pub first : State → Cell → Option ℕ
+first state cell = option_map (λ row. row.primary) (both state cell)
+
+abbrev pub second : State → Cell → Option ℕ
+second state cell = option_map (λ row. row.secondary) (both state cell)
+
 abbrev pub is_second : State → ℕ → Cell → Bool
-is_second state server cell = live state cell && ((link_of state cell).secondary == server)
+is_second state server cell = is_the (second state cell) server
 
--- the server may read the cell: the cell is live, the server is In, and it is one of the two in Both
-abbrev pub readable : State → ℕ → Cell → Bool
-readable state server cell = nat_lt server state.servers && (is_lead state server cell || is_second state server cell)
+-- in Both the secondary, since it has a write last; in Only the holder
+abbrev pub row_authority : LinkRow → LinkState → Option ℕ
+row_authority row Both = Some row.secondary
+row_authority row (Only holder whole) = Some holder
+row_authority row Lost = None
 
--- what the active fence keeps from the cell
-abbrev pub held : State → Cell → Hold
-held state cell = Not_held
+-- the server whose copy of a live cell counts
+abbrev pub authority : State → Cell → Option ℕ
+authority state cell = if live state cell then option_and_then (λ row. row_authority row row.state) (cell_link state cell) else None

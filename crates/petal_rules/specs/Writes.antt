@@ -20,9 +20,10 @@ use Rattle.petal_msg.specs.declared.operation.LastOp.{LastOp}
 use Rattle.petal_msg.specs.declared.operation.OpKind.TheVariants as kind
 use Rattle.petal_msg.specs.declared.operation.Pending.{Pending}
 use Rattle.petal_msg.specs.declared.operation.Stage.{Stage}
-use Rattle.petal_rules.specs.State.{State, Hold, Not_held, Writes_held, All_held, held, is_lead, is_second, link_of}
+use Rattle.petal_state.specs.declared.answer.Hold.TheVariants as hold
+use Rattle.petal_rules.specs.State.{State, Hold, held, is_lead, leads_link, is_second, first, second}
 use Rattle.petal_rules.specs.Store.{cell_cmp, chain_in, version_of, free_of, with_ticket, without_ticket, with_entry}
-use Rattle.petal_rules.specs.Server.{Half, Here, Done, silent, says}
+use Rattle.petal_rules.specs.Server.{Half, Here, Done, silent, says, says_to}
 use Rattle.petal_rules.specs.declared.job.Job.TheVariants as job
 
 -- ### The table of stages
@@ -35,9 +36,9 @@ both_action stage =
     else if not stage.paired then action.Replicate
     else action.Answer
 
--- what the operation does next; it is dropped exactly where this server is not the cell's lead
+-- what the operation does next; it is dropped exactly where this server does not lead the cell's link
 abbrev pub next_stage : State → ℕ → Pending → Action
-next_stage state me op = if is_lead state me op.cell then both_action op.stage else action.Drop
+next_stage state me op = if leads_link state me op.cell then both_action op.stage else action.Drop
 
 -- ### What the lead remembers
 
@@ -87,9 +88,9 @@ abbrev pub gives_up : Half → Pending → Half
 gives_up half op = if op.stage.put then without_pending half op.cell else gives_back (without_pending half op.cell)
 
 abbrev pub acts : Here → Half → Pending → Action → Done
-acts here half op action.Reserve = says half (actor.Server (link_of here.state op.cell).secondary) (body.Reserve op.op op.cell)
+acts here half op action.Reserve = says_to half (second here.state op.cell) (body.Reserve op.op op.cell)
 acts here half op action.Put = puts half op
-acts here half op action.Replicate = says half (actor.Server (link_of here.state op.cell).secondary) (body.Replicate op.op op.key op.version op.bytes)
+acts here half op action.Replicate = says_to half (second here.state op.cell) (body.Replicate op.op op.key op.version op.bytes)
 acts here half op action.Answer = finishes (without_pending half op.cell) op.client op.seq Written
 acts here half op action.Drop = silent (gives_up half op)
 
@@ -122,9 +123,9 @@ standing None seq = Newer
 standing (Some last) seq = if nat_lt seq last.seq then Older else if seq == last.seq then Again last.ending else Newer
 
 abbrev pub is_writes_held : Hold → Bool
-is_writes_held Not_held = false
-is_writes_held Writes_held = true
-is_writes_held All_held = true
+is_writes_held hold.No = false
+is_writes_held hold.Writes = true
+is_writes_held hold.All = true
 
 -- the operation was opened for this request
 abbrev pub is_for : Pending → Wanted → Bool
@@ -236,8 +237,8 @@ with_last half cell number far = record half { pairs = record half.pairs { last 
 
 -- the second server tells the lead how far it is
 abbrev pub tells : Here → Half → Cell → ℕ → Far → Done
-tells here half cell number far.Reserved = says half (actor.Server (link_of here.state cell).primary) (body.Reserved number cell)
-tells here half cell number far.Replicated = says half (actor.Server (link_of here.state cell).primary) (body.Replicated number cell)
+tells here half cell number far.Reserved = says_to half (first here.state cell) (body.Reserved number cell)
+tells here half cell number far.Replicated = says_to half (first here.state cell) (body.Replicated number cell)
 
 -- a slot is set apart and not yet used
 abbrev pub has_slot : Far → Bool
@@ -248,7 +249,7 @@ has_slot far.Replicated = false
 abbrev pub reserves : Here → Half → Cell → ℕ → (has room : Bool) → Done
 reserves here half cell number true room = tells here (with_last half cell number far.Reserved) cell number far.Reserved
 reserves here half cell number false true = tells here (with_last (record half { store = with_ticket half.store }) cell number far.Reserved) cell number far.Reserved
-reserves here half cell number false false = says half (actor.Server (link_of here.state cell).primary) (body.PairFull number cell)
+reserves here half cell number false false = says_to half (first here.state cell) (body.PairFull number cell)
 
 -- an older number is dropped, an equal one is answered again
 abbrev pub hears_reserve : Here → Half → Cell → ℕ → Option LastOp → Done

@@ -14,16 +14,16 @@ ghost use Rattle.petal_msg.specs.declared.operation.Finished.{Finished};
 ghost use Rattle.petal_msg.specs.declared.operation.LastOp.{LastOp};
 ghost use Rattle.petal_msg.specs.declared.operation.Pending.{Pending};
 ghost use Rattle.petal_rules.specs.Lists.{In};
-ghost use Rattle.petal_rules.specs.State.{State, is_lead};
+ghost use Rattle.petal_rules.specs.State.{State, is_lead, leads_link};
 ghost use Rattle.petal_rules.specs.Store.{chain_in, version_of};
 ghost use Rattle.petal_rules.specs.Server.{Half, Here, silent};
 ghost use Rattle.petal_rules.specs.Writes.{Wanted, finishes, follows, last_on, next_stage, on_replicate, on_write};
 ghost use Rattle.petal_rules.specs.World.{Setting, World, step};
 ghost use Rattle.petal_rules.specs.declared.step.Step.{Step};
 
-/// An operation is dropped exactly where this server is not the lead of its cell.
+/// An operation is dropped exactly where this server does not lead the link of its cell.
 pub fn drops_where_not_lead()
-    ensures { (state : State) (me : ℕ) (op : Pending) → (next_stage state me op ≡ Drop) ↔ (is_lead state me op.cell ≡ false) }
+    ensures { (state : State) (me : ℕ) (op : Pending) → (next_stage state me op ≡ Drop) ↔ (leads_link state me op.cell ≡ false) }
 {}
 
 /// Whatever step is taken, the letters that were ever sent are still those that can be delivered, and the step's own join

@@ -1,7 +1,7 @@
 -- What a source that was read up to a limit has given.
-use Rattle.std.proofs.Common.{◌≡◌, ◌≤◌, ◌<◌, ℕ, List, [], ◌++◌, length, take, drop, min, arith, sym, ◌∙◌, ap, subst}
+use Rattle.std.proofs.Common.{◌≡◌, ◌≤◌, ◌<◌, ℕ, List, [], ◌++◌, length, take, drop, min, arith, ◌∙◌, subst}
 use Rattle.std.proofs.Math.Seq.{take-append_seam}
-use Rattle.std.proofs.lemmas.List.{take_min, drop_all, length-take, length-take-le, take-append-le}
+use Rattle.std.proofs.lemmas.List.{take_min, drop_all, length-take, length-take-le}
 use Rattle.petal_disk.specs.Streams.{Takes}
 
 drop_min : (n : ℕ) (xs : List ℕ) → drop (min n (length xs)) xs ≡ drop n xs

@@ -1,6 +1,5 @@
+pub mod Begins
+pub mod Ends
 pub mod Fronts
-pub mod Going
-pub mod Placing
+pub mod Ordered
 pub mod Short
-pub mod Storing
-pub mod Texts

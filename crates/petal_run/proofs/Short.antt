@@ -1,12 +1,12 @@
 -- A text that is a script is short.
-use Rattle.std.proofs.Common.{◌≡◌, ◌≤◌, ℕ, ◌+◌, List, [], ◌∷◌, ◌++◌, length, Option, None, Some, Result, Ok, Err, refl, ap, arith, length-append}
+use Rattle.std.proofs.Common.{◌≡◌, ◌≤◌, ℕ, ◌+◌, List, [], ◌∷◌, length, Option, None, Result, Ok, Err, refl, ap, arith, length-append}
 use Rattle.std.proofs.lemmas.Bool.Decides.{nat_tests}
 use Rattle.std.specs.List.{concat}
 use Rattle.petal_script.proofs.Firsts.{concat-pieces}
 use Rattle.petal_script.specs.Text.{pieces, without_end}
 use Rattle.petal_script.specs.declared.cause.Cause.{Cause}
 use Rattle.petal_script.specs.declared.script.Script.{Script}
-use Rattle.petal_script.specs.Script.{TextLine, Refusal, script_of, script_from, lines_behind, line_verdict, goes_on, ended}
+use Rattle.petal_script.specs.Script.{TextLine, Refusal, script_of, script_from, lines_behind, line_verdict, goes_on}
 
 verdict-short : (before : Option Script) (line : TextLine) (after : Option Script) → line_verdict before line ≡ Ok after → line.reach ≤ 1048576
 unfolding line_verdict

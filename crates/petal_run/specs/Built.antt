@@ -1,5 +1,5 @@
--- The lines that are built: client `a` makes one disk, and writes and reads its blocks.
-use Rattle.std.specs.Prelude.{◌≡◌, ℕ, ◌==◌, Bool, true, false, not, ◌&&◌, nat_eq, List, [], ◌∷◌, ◌++◌, Option, Some, None, is_some, if◌then◌else◌}
+-- The lines that are built: the first one makes the one disk, and clients write and read its blocks.
+use Rattle.std.specs.Prelude.{◌≡◌, ℕ, Bool, true, false, not, ◌&&◌, nat_eq, nat_lt, List, [], ◌∷◌, ◌++◌, Option, Some, None, is_some, if◌then◌else◌}
 use Rattle.std.specs.List.{list_any}
 use Rattle.std.specs.Cmp.Lexicographic.{pointwise}
 use Rattle.petal_script.specs.declared.request.Request.{Request}
@@ -29,7 +29,7 @@ is_built_request earlier (Read name (Some snap) block) = false
 is_built_request earlier _ = false
 
 abbrev pub is_built : List Line → Line → Bool
-is_built earlier line = line.client == 0 && is_built_request earlier line.request
+is_built earlier line = nat_lt line.client 8 && is_built_request earlier line.request
 
 -- the number of the first line, behind these, that is not built
 abbrev pub first_not_built : List Line → List Line → Option ℕ

@@ -1,7 +1,5 @@
-pub mod Answers
+pub mod Asked
 pub mod Built
-pub mod Running
+pub mod Rising
 pub mod Said
-pub mod Session
-pub mod Verdict
 pub mod Words

@@ -1,27 +1,28 @@
--- What was written when a call of the program ends, and why it ends so.
-use Rattle.std.specs.Prelude.{◌≡◌, ◌<◌, ℕ, List, [], ◌++◌, Ok}
-use Rattle.petal_script.specs.Script.{script_of}
+-- What a call of the program has done when it ends.
+use Rattle.std.specs.Prelude.{◌≡◌, ℕ, true, List, [], ◌++◌}
+use Rattle.petal_disk.specs.Streams.{Adds}
 use Rattle.petal_script.specs.declared.script.Script.{Script}
-use Rattle.petal_run.specs.Running.{WroteEndedPhases}
-use Rattle.petal_run.specs.Verdict.{Verdict}
+use Rattle.petal_history.specs.declared.record.Record.{Record}
+use Rattle.petal_history.specs.Claims.{Keeps}
+use Rattle.petal_history.specs.Legal.{IsLegal}
+use Rattle.petal_history.specs.Text.{answers_of, text_of}
+use Rattle.plain_schedule.specs.Whole.{all_answered}
+use Rattle.petal_run.specs.Asked.{Asked, Refuse, Play}
 
--- statuses 0 to 2: all that the words and the script ask for was written, and a script that was answered was read to
--- its end
-pub record Says (asked : Verdict) (status : ℕ) (left old new : List ℕ) : Type 0 where
-  pub status_is : status ≡ asked.status
-  pub written : new ≡ old ++ asked.bytes
-  pub whole : status ≡ 0 → left ≡ []
+-- a whole run of a script: each record is a real step of its servers and clients, each line is answered, and what the plain
+-- machine is told of it is a run of that machine, whose contents are those of the disk
+pub record Plays (script : Script) (history : List Record) : Type 0 where
+  pub legal : IsLegal script history
+  pub whole : all_answered (answers_of history) script.lines ≡ true
+  pub keeps : Keeps script history
 
--- status 6: the answers of the ended phases of the script were written, and no others
-pub record StopsBetweenPhases (text old new : List ℕ) : Type 0 where
-  pub script : Script
-  pub spelled : script_of text ≡ Ok script
-  pub wrote : WroteEndedPhases script.slots script.lines old new
+-- all that was asked for is done: a refusal is written; or the script was read to its end and played, and the text of the
+-- history is written
+abbrev pub Done : Asked → (status : ℕ) → List Record → (left old new : List ℕ) → Type 0
+Done (Refuse of bytes) status history left old new = (status ≡ of) × (history ≡ []) × (new ≡ old ++ bytes)
+Done (Play script) status history left old new = (status ≡ 0) × (left ≡ []) × Plays script history × (new ≡ old ++ text_of history)
 
--- a device that was sound when the shelf gave it has failed since
-pub record DeviceFailed {D : Type 0} (faults : D → ℕ) (came_to : D → D → Type 0) : Type 0 where
-  pub first : D
-  pub last : D
-  pub sound : faults first ≡ 0
-  pub run : came_to first last
-  pub failed : 0 < faults last
+-- a part of what was asked for is written
+abbrev pub DoneInPart : Asked → List Record → (old new : List ℕ) → Type 0
+DoneInPart (Refuse of bytes) history old new = (history ≡ []) × Adds old bytes new
+DoneInPart (Play script) history old new = Plays script history × Adds old (text_of history) new

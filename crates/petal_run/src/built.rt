@@ -1,4 +1,4 @@
-//! The lines that are built so far: client `a` makes one disk, and writes and reads its blocks.
+//! The lines that are built so far: the first one makes the one disk, and clients write and read its blocks.
 
 ghost use Rattle.std.specs.Prelude.{◌≡◌, List, [], ◌∷◌, ◌++◌, true};
 ghost use Rattle.std.specs.Option.{option_copied};
@@ -8,8 +8,8 @@ ghost use Rattle.petal_run.specs.Built.{is_built, is_built_request, is_named, fi
 use petal_base::{ClientId, Name};
 use petal_script::{Line, Request, Script};
 
-/// The one client that is built.
-const CLIENT: ClientId = 0;
+/// The clients `a` to `h`; the one behind them is the operator.
+const CLIENTS: ClientId = 8;
 
 // Whether the disk has this name.
 fn is_named(asked: &Name, disk: Option<&Name>) -> bool
@@ -75,7 +75,7 @@ pub fn not_built(script: &Script) -> Option<u32>
 {
     let mut disk: Option<&Name> = None;
     for line in script.lines.as_slice() {
-        if line.client != CLIENT || !is_built_request(disk, &line.request) {
+        if line.client >= CLIENTS || !is_built_request(disk, &line.request) {
             return Some(line.number);
         }
         disk = disk_after(disk, line);

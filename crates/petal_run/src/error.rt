@@ -1,29 +1,17 @@
-//! Why a step of a run did not do what it is asked.
+//! Why a script was not read.
 
-use petal_base::NoMemory;
 use petal_disk::Failed;
 use std::alloc::AllocError;
 use thiserror::Error;
 
-/// Why a script was not read, or a request not answered.
+/// Why a script was not read.
 #[derive(Clone, Copy, Debug, PartialEq, Eq, Error)]
 pub(crate) enum RunError {
-    /// The source or the device failed, and its count of faults rose.
-    #[error("the source or the device failed")]
+    /// The source failed, and its count of faults rose.
+    #[error("the source failed")]
     Failed,
     #[error("out of memory")]
     NoMemory,
-}
-
-impl From<NoMemory> for RunError {
-    ghost use Rattle.std.specs.Prelude.{◌≡◌};
-    ghost use Rattle.petal_run.specs.declared.error.RunError.TheVariants as error;
-
-    ghost from_gives = { λ _ e. e ≡ error.NoMemory };
-
-    fn from(_error: NoMemory) -> RunError {
-        RunError::NoMemory
-    }
 }
 
 impl From<AllocError> for RunError {

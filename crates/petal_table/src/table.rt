@@ -1,7 +1,9 @@
 //! A table over std's ordered map.
 
-ghost use Rattle.std.specs.Prelude.{◌≡◌, [], length, IfOk, OnOk, OnErr};
+ghost use Rattle.std.specs.Prelude.{◌≡◌, [], length, IfErr, IsSome, OnOk, OnErr};
 ghost use Rattle.std.specs.Option.{option_copied};
+ghost use Rattle.std.specs.List.Sorted.{IsStrictlySortedBy};
+ghost use Rattle.std.specs.Map.{keys_of};
 ghost use Rattle.petal_table.specs.Table.{at, put, without};
 
 use petal_base::NoMemory;
@@ -51,11 +53,36 @@ impl<K: Ord + Drop, V: Drop> Table<K, V> {
         Ok(())
     }
 
+    /// As `put`, and gives the value back where there is no memory.
+    #[tactic(auto, unfolding(crate::specs::Table::put))]
+    pub fn insert(&mut self, key: K, value: V) -> Result<(), V>
+        ensures ok { OnOk result (self.new ≡ put K.cmp self.old key value) }
+        ensures err { OnErr result (self.new ≡ self.old) }
+        ensures back { IfErr result (λ other. other ≡ value) }
+    {
+        match self.rows.insert(key, value) {
+            Ok(_) => Ok(()),
+            Err(failed) => Err(failed.value.1),
+        }
+    }
+
+    /// The value stands at a key at which another one stood. It takes no memory.
+    #[tactic(auto, unfolding(crate::specs::Table::at, crate::specs::Table::put))]
+    pub fn replace(&mut self, key: K, value: V)
+        requires { IsSome (at K.cmp self.old key) }
+        ensures { self.new ≡ put K.cmp self.old key value }
+    {
+        match self.rows.insert(key, value) {
+            Ok(_) | Err(_) => {}
+        }
+    }
+
     /// Nothing stands at the key from now on. Gives what stood there.
     #[tactic(auto, unfolding(crate::specs::Table::at))]
     pub fn remove(&mut self, key: &K) -> Option<V>
         ensures value { result ≡ at K.cmp self.old key.now }
         ensures rest { self.new ≡ without K.cmp self.old key.now }
+        ensures sorted { IsStrictlySortedBy K.cmp (keys_of self.old) }
     {
         // What `len` promises tells the proof that the rows rise by key.
         let _ = self.rows.len();

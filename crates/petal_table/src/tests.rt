@@ -14,6 +14,8 @@ fn rows_come_and_go(rt: HostRuntime) -> Result<(), Fail> {
     assert_eq!(rt; table.get(&4).copied(), None);
     assert_eq!(rt; table.remove(&5), Some(51));
     assert_eq!(rt; table.remove(&5), None);
+    assert_eq!(rt; table.insert(5, 52), Ok(()));
+    assert_eq!(rt; table.get(&5).copied(), Some(52));
     assert_eq!(rt; table.get(&3).copied(), Some(30));
     Ok(())
 }

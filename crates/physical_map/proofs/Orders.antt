@@ -1,5 +1,5 @@
 -- The order of keys, and what a read finds after a put: for callers that follow a run of puts and reads.
-use Rattle.std.proofs.Common.{◌≡◌, ℕ, zero, suc, ◌<◌, true, false, nat_lt, List, [], ◌∷◌, length, Option, None, Some, refl, sym, ◌∙◌, ap, subst, get_or, arith, inl, inr}
+use Rattle.std.proofs.Common.{◌≡◌, ℕ, zero, suc, ◌<◌, true, false, not, nat_lt, List, [], ◌∷◌, length, Option, None, Some, refl, sym, ◌∙◌, ap, subst, get_or, arith, inl, inr}
 use Rattle.std.proofs.lemmas.Bool.{cases_Bool, cases_eq}
 use Rattle.std.proofs.lemmas.Bool.Decides.{nat_tests}
 use Rattle.std.specs.List.Sorted.{IsPartitionedBy}
@@ -40,8 +40,11 @@ below-other a b below = grind (arith, nat_tests)
 pub above-other : (a b : Key) → key_below b a ≡ true → same_key a b ≡ false
 above-other a b below = grind (arith, nat_tests)
 
+not-behind : (k a b : Key) → key_below a b ≡ true → not (key_below k b) ≡ true → not (key_below k a) ≡ true
+not-behind k a b ab kb = grind (arith, nat_tests)
+
 module _ {A : Type 0} (key : A → Key) where
-  above-at : (k : Key) (xs : List A) (j : ℕ) (d : A) → IsAbove key k xs → j < length xs → key_below k (key (get_or xs j d)) ≡ true
+  pub above-at : (k : Key) (xs : List A) (j : ℕ) (d : A) → IsAbove key k xs → j < length xs → key_below k (key (get_or xs j d)) ≡ true
   above-at k [] j d above within = absurd (omega arith)
   above-at k (x ∷ xs) zero d above within = above.0
   above-at k (x ∷ xs) (suc j) d above within = above-at k xs j d above.1 (omega arith)
@@ -92,7 +95,14 @@ module _ {A : Type 0} (key : A → Key) where
     | inr apart ↦ below-trans (key (get_or xs i d)) (key (get_or xs j d)) k (order-at xs i j d order (omega (arith, apart)) within) up
   ]
 
-  nothing-above : (at : Key) (xs : List A) → IsAbove key at xs → newest key at xs ≡ None
+  -- and that of what stands at a key or before it
+  pub partitioned-behind : (xs : List A) (k : Key) → IsInOrder key xs → IsPartitionedBy (λ x. not (key_below k (key x))) xs
+  partitioned-behind xs k order i j d le within up = elim (cases_eq i j) [
+    | inl same ↦ subst (λ (n : ℕ). not (key_below k (key (get_or xs n d))) ≡ true) (sym same) up
+    | inr apart ↦ not-behind k (key (get_or xs i d)) (key (get_or xs j d)) (order-at xs i j d order (omega (arith, apart)) within) up
+  ]
+
+  pub nothing-above : (at : Key) (xs : List A) → IsAbove key at xs → newest key at xs ≡ None
   nothing-above at [] above = refl
   nothing-above at (x ∷ xs) above = rw (not-seen at (key x) above.0) (nothing-above at xs above.1)
 

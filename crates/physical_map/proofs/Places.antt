@@ -40,7 +40,7 @@ without-over (x ∷ xs) key d within same = elim (cases_Bool (key_below x.key ke
       rw (there, before) refl
 ]
 
-slot-above : (es : List Entry) (key : Key) → IsAbove key_of key es → slot_of es key ≡ None
+pub slot-above : (es : List Entry) (key : Key) → IsAbove key_of key es → slot_of es key ≡ None
 slot-above [] key above = refl
 slot-above (x ∷ xs) key above = rw (above-other x.key key above.0) (slot-above xs key above.1)
 
@@ -48,7 +48,7 @@ without-above : (es : List Entry) (key : Key) → IsAbove key_of key es → with
 without-above [] key above = refl
 without-above (x ∷ xs) key above = rw (above-other x.key key above.0) (ap (λ (l : List Entry). x ∷ l) (without-above xs key above.1))
 
-further-above : (es : List Entry) (a b : Key) → key_below a b ≡ true → IsAbove key_of b es → IsAbove key_of a es
+pub further-above : (es : List Entry) (a b : Key) → key_below a b ≡ true → IsAbove key_of b es → IsAbove key_of a es
 further-above [] a b below above = tt
 further-above (x ∷ xs) a b below above = (below-trans a b x.key below above.0, further-above xs a b below above.1)
 

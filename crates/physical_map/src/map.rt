@@ -71,6 +71,13 @@ impl PhysicalMap {
         take_out(&mut self.entries, &key)
     }
 
+    /// The slot of the entry that has the key; None exactly where there is none.
+    pub fn slot(&self, key: Key) -> Option<u32>
+        ensures { result ≡ slot_of self.now.entries key }
+    {
+        search::slot(&self.entries, &key)
+    }
+
     /// The entry of the greatest epoch not above.
     pub fn lookup(&self, map: MapId, block: BlockNo, epoch: Epoch) -> Option<Entry>
         ensures { result ≡ newest key_of (record { map = map; block = block; epoch = epoch }) self.now.entries }
@@ -82,7 +89,7 @@ impl PhysicalMap {
     pub fn chain(&self, alloc: Global, cell: Cell) -> Result<Sequence<Entry>, NoMemory>
         ensures { IfOk result (λ chain. chain ≡ chain_of cell self.now.entries) }
     {
-        Ok(Sequence::of(search::chain(alloc, &self.entries, &cell)?))
+        Ok(Sequence::of(search::chain(&self.entries, &cell).to_vec(alloc)?))
     }
 
     /// The greatest version of a cell's entries, 0 without one.

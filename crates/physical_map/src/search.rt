@@ -1,13 +1,12 @@
 //! What is found in a list of entries in the order of their keys.
 
-ghost use Rattle.std.specs.Prelude.{◌≡◌, Some, not, max, IfOk};
+ghost use Rattle.std.specs.Prelude.{◌≡◌, ◌≤◌, Some, not, max, length};
 ghost use Rattle.std.specs.List.{prefix_len};
-ghost use Rattle.physical_map.specs.Entries.{key_of, in_cell, chain_of, top_of, version_of, above, lesser, next_block_of, next_map_of};
-ghost use Rattle.physical_map.specs.Keys.{key_below, same_key, sees, later, newest, IsInOrder};
+ghost use Rattle.physical_map.specs.Entries.{key_of, slot_of, in_cell, chain_of, top_of, version_of, above, lesser, next_block_of, next_map_of};
+ghost use Rattle.physical_map.specs.Keys.{key_below, same_key, sees, newest, IsInOrder};
 
 use crate::Entry;
 use petal_base::{Cell, Key};
-use std::alloc::{AllocError, Global};
 
 /// Whether `a` stands before `b`: by map, then block, then epoch.
 pub fn is_below(a: &Key, b: &Key) -> bool
@@ -27,7 +26,8 @@ pub fn is_same(a: &Key, b: &Key) -> bool
 /// How many entries stand before a key, by binary search.
 pub fn rank_of(entries: &[Entry], key: &Key) -> usize
     requires { IsInOrder key_of entries.now }
-    ensures { result ≡ prefix_len (λ e. key_below e.key key.now) entries.now }
+    ensures rank { result ≡ prefix_len (λ e. key_below e.key key.now) entries.now }
+    ensures within { result ≤ length entries.now }
 {
     entries.partition_point(|e| is_below(&e.key, key))
 }
@@ -38,26 +38,43 @@ fn is_seen(at: &Key, key: &Key) -> bool
     key.map == at.map && key.block == at.block && key.epoch <= at.epoch
 }
 
-fn later_of(best: Option<Entry>, entry: Entry) -> Entry
-    ensures { Some result ≡ later key_of best (Some entry) }
+/// The slot of the entry that has the key.
+pub fn slot(entries: &[Entry], key: &Key) -> Option<u32>
+    requires { IsInOrder key_of entries.now }
+    ensures { result ≡ slot_of entries.now key.now }
 {
-    match best {
-        Some(best) if best.key.epoch >= entry.key.epoch => best,
-        _ => entry,
+    let at = rank_of(entries, key);
+    if at < entries.len() && is_same(&entries[at].key, key) {
+        Some(entries[at].slot)
+    } else {
+        None
     }
+}
+
+/// How many entries stand at a key or before it, by binary search.
+fn rank_behind(entries: &[Entry], key: &Key) -> usize
+    requires { IsInOrder key_of entries.now }
+    ensures rank { result ≡ prefix_len (λ e. not (key_below key.now e.key)) entries.now }
+    ensures within { result ≤ length entries.now }
+{
+    entries.partition_point(|e| !is_below(key, &e.key))
 }
 
 /// What a read at a key finds.
 pub fn newest_of(entries: &[Entry], at: &Key) -> Option<Entry>
+    requires { IsInOrder key_of entries.now }
     ensures { result ≡ newest key_of at.now entries.now }
 {
-    let mut best = None;
-    for entry in entries {
-        if is_seen(at, &entry.key) {
-            best = Some(later_of(best, *entry));
-        }
+    let behind = rank_behind(entries, at);
+    if behind == 0 {
+        return None;
     }
-    best
+    let entry = entries[behind - 1];
+    if is_seen(at, &entry.key) {
+        Some(entry)
+    } else {
+        None
+    }
 }
 
 fn is_in_cell(cell: &Cell, key: &Key) -> bool
@@ -66,28 +83,36 @@ fn is_in_cell(cell: &Cell, key: &Key) -> bool
     key.map == cell.map && key.block == cell.block
 }
 
-/// The entries of a cell, in the order of their epochs.
-pub fn chain(alloc: Global, entries: &[Entry], cell: &Cell) -> Result<Vec<Entry>, AllocError>
-    ensures { IfOk result (λ chain. chain.items ≡ chain_of cell.now entries.now) }
+// How many entries at the front are the cell's.
+fn cell_prefix(entries: &[Entry], cell: &Cell) -> usize
+    ensures { result ≡ prefix_len (λ e. in_cell cell.now e.key) entries.now }
 {
     entries
         .iter()
-        .filter(|e| is_in_cell(cell, &e.key))
-        .copied()
-        .collect(alloc)
+        .take_while(|e| is_in_cell(cell, &e.key))
+        .count()
+}
+
+/// The entries of a cell, which stand together, in the order of their epochs.
+pub fn chain<'a>(entries: &'a [Entry], cell: &Cell) -> &'a [Entry]
+    requires { IsInOrder key_of entries.now }
+    ensures { result.now ≡ chain_of cell.now entries.now }
+{
+    let first = Key {
+        map: cell.map,
+        block: cell.block,
+        epoch: 0,
+    };
+    let rest = &entries[rank_of(entries, &first)..];
+    &rest[..cell_prefix(rest, cell)]
 }
 
 /// The greatest version of a cell's entries.
 pub fn version(entries: &[Entry], cell: &Cell) -> u64
+    requires { IsInOrder key_of entries.now }
     ensures { result ≡ version_of cell.now entries.now }
 {
-    let mut most = 0;
-    for entry in entries {
-        if is_in_cell(cell, &entry.key) {
-            most = most.max(entry.version);
-        }
-    }
-    most
+    top(chain(entries, cell))
 }
 
 /// The greatest version of all entries.

@@ -29,6 +29,7 @@ fn entries(rt: HostRuntime) -> Result<(), Fail> {
     assert_eq!(rt; put(&mut map, entry(5, 0, 2))?, None);
     assert_eq!(rt; put(&mut map, entry(5, 0, 3))?, Some(2));
     assert_eq!(rt; map.lookup(1, 5, 9).map(|e| e.slot), Some(4));
+    assert_eq!(rt; map.slot(entry(5, 0, 0).key), Some(3));
     assert_eq!(rt; map.version(Cell { map: 1, block: 5 }), 4);
     assert_eq!(rt; map.chain(rt.alloc(), Cell { map: 1, block: 5 })?.len(), 2);
     assert_eq!(rt; map.drop_key(entry(5, 1, 0).key), Some(4));

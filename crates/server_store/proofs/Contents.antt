@@ -6,9 +6,10 @@ use Rattle.std.specs.List.{All}
 use Rattle.petal_base.specs.declared.place.Key.{Key}
 use Rattle.petal_disk.specs.Disk.{part, Torn, written}
 use Rattle.petal_disk.proofs.Tearing.{torn_front, torn_rest, part_written}
-use Rattle.server_store.specs.declared.entry.Entry.{Entry}
-use Rattle.server_store.specs.Holdings.{held_in, key_of, key_held, listed, content_of}
-use Rattle.server_store.specs.Keys.{placed, newest, later, sees, key_below, same_key}
+use Rattle.physical_map.specs.declared.entry.Entry.{Entry}
+use Rattle.physical_map.specs.Entries.{key_of, without_key}
+use Rattle.physical_map.specs.Keys.{placed, newest, later, sees, key_below, same_key, IsAbove, IsInOrder}
+use Rattle.server_store.specs.Holdings.{held_in, key_held, listed, content_of, without_held}
 use Rattle.server_store.specs.Slots.{slot_start, slot_bytes}
 
 -- a range that lies before or behind another
@@ -16,7 +17,7 @@ part-apart : (at n low m : ℕ) (x y : List ℕ) → Torn at n x y → low + m �
 part-apart at n low m x y torn fits =
     sym (drop-take low m y) ∙ ap (λ (l : List ℕ). drop low l) (torn_front (low + m) at n x y fits torn) ∙ drop-take low m x
 
-part-behind : (at n low m : ℕ) (x y : List ℕ) → Torn at n x y → at + n ≤ low → part y low m ≡ part x low m
+pub part-behind : (at n low m : ℕ) (x y : List ℕ) → Torn at n x y → at + n ≤ low → part y low m ≡ part x low m
 part-behind at n low m x y torn fits = ap (λ (l : List ℕ). take m l) (torn_rest low at n x y fits torn)
 
 pub slot-apart : (slot other : ℕ) (x y : List ℕ) → other ≢ slot → Torn (slot_start slot) 65536 x y → slot_bytes y other ≡ slot_bytes x other
@@ -74,3 +75,22 @@ found-listed file at es found is = is ∙ ap (λ (l : List Entry). newest key_of
 pub found-content : (file : List ℕ) (at : Key) (es : List Entry) (found : Option Entry) → found ≡ newest key_of at es → content_of (option_map (held_in file) found) ≡ content_of (newest key_held at (map (held_in file) es))
 found-content file at es found is =
     ap (λ (f : Option Entry). content_of (option_map (held_in file) f)) is ∙ ap content_of (sym (newest-held file at es))
+
+pub map-without : (file : List ℕ) (es : List Entry) (key : Key) → map (held_in file) (without_key es key) ≡ without_held (map (held_in file) es) key
+map-without file [] key = refl
+map-without file (x ∷ xs) key = elim (cases_Bool (same_key x.key key)) [
+  | inl same ↦ rw same refl
+  | inr same ↦ rw (same, map-without file xs key) refl
+]
+
+-- a list of entries is what is listed of them with any contents
+pub is_listed : (file : List ℕ) (es : List Entry) → es ≡ listed (map (held_in file) es)
+is_listed file es = sym (listed-held file es)
+
+above-held : (file : List ℕ) (k : Key) (es : List Entry) → IsAbove key_of k es → IsAbove key_held k (map (held_in file) es)
+above-held file k [] above = tt
+above-held file k (e ∷ es) above = (above.0, above-held file k es above.1)
+
+pub order-held : (file : List ℕ) (es : List Entry) → IsInOrder key_of es → IsInOrder key_held (map (held_in file) es)
+order-held file [] order = tt
+order-held file (e ∷ es) order = (above-held file e.key es order.0, order-held file es order.1)

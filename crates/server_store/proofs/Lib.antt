@@ -1,3 +1,6 @@
+pub mod Changes
+pub mod Commits
 pub mod Contents
+pub mod Devices
 pub mod Ledgers
-pub mod Places
+pub mod Readings

@@ -1,8 +1,9 @@
--- Each slot is in use, promised or free, and is so once.
-use Rattle.std.specs.Prelude.{◌≡◌, ℕ, ◌+◌, ◌^◌, ◌<◌, ◌≤◌, ◌==◌, nat_lt, Bool, List, [], ◌∷◌, length, if◌then◌else◌}
-use Rattle.petal_base.specs.declared.place.Key.{Key}
-use Rattle.server_store.specs.declared.entry.Entry.{Entry}
-use Rattle.server_store.specs.Keys.{key_below, same_key}
+-- Each slot in use is that of one entry or of one ticket.
+use Rattle.std.specs.Prelude.{◌≡◌, ℕ, zero, suc, ◌+◌, ◌^◌, ◌<◌, ◌≤◌, ◌==◌, Bool, false, List, [], ◌∷◌, length, slice_set, Option, None, Some, if◌then◌else◌}
+use Rattle.physical_map.specs.declared.entry.Entry.{Entry}
+use Rattle.physical_map.specs.Entries.{key_of}
+use Rattle.physical_map.specs.Keys.{IsInOrder}
+use Rattle.slot_store.specs.Slots.{free_in}
 
 -- 1 where it is so
 abbrev pub as_count : Bool → ℕ
@@ -18,17 +19,24 @@ abbrev pub holders : ℕ → List Entry → ℕ
 holders slot [] = 0
 holders slot (e ∷ es) = as_count (e.slot == slot) + holders slot es
 
--- the entries, the tickets and the free slots share the slots out
-pub record Accounts (entries : List Entry) (tickets free : List ℕ) (slots : ℕ) : Type 0 where
-  pub each_once : (s : ℕ) → holders s entries + times s tickets + times s free ≡ as_count (nat_lt s slots)
-  pub all : length entries + length tickets + length free ≡ slots
+-- 1 where the slot is in use
+abbrev pub in_use : List Bool → ℕ → ℕ
+in_use [] slot = 0
+in_use (u ∷ us) zero = as_count u
+in_use (u ∷ us) (suc slot) = in_use us slot
 
--- the accounts, and room for what may still come: an entry for each ticket, and each slot as a free one
-pub record Sound (entries : List Entry) (tickets free : List ℕ) (slots room_for_entries room_for_free : ℕ) : Type 0 where
-  pub accounts : Accounts entries tickets free slots
-  pub entries_fit : length entries + length tickets ≤ room_for_entries
-  pub free_fit : slots ≤ room_for_free
-  pub few : slots < 2 ^ 32
+-- the entries and the tickets share the slots in use out, and the others are free
+pub record Accounts (entries : List Entry) (tickets : List ℕ) (used : List Bool) : Type 0 where
+  pub each_once : (slot : ℕ) → holders slot entries + times slot tickets ≡ in_use used slot
+  pub all : length entries + length tickets + free_in used ≡ length used
+
+-- the accounts of entries in order, and room for the entry of each ticket
+pub record Sound (entries : List Entry) (tickets : List ℕ) (used : List Bool) (spare out : ℕ) : Type 0 where
+  pub accounts : Accounts entries tickets used
+  pub order : IsInOrder key_of entries
+  pub room : length tickets ≤ spare
+  pub counted : out ≡ length tickets
+  pub few : length used < 2 ^ 32
 
 -- what the entries, tickets and number of slots are
 pub record Book : Type 0 where
@@ -36,13 +44,7 @@ pub record Book : Type 0 where
   pub tickets : List ℕ
   pub slots : ℕ
 
--- the list without the first of these numbers
-abbrev pub without : List ℕ → ℕ → List ℕ
-without [] slot = []
-without (s ∷ ss) slot = if s == slot then ss else s ∷ without ss slot
-
--- the slots of the entry that has the key
-abbrev pub freed : List Entry → Key → List ℕ
-freed [] key = []
-freed (e ∷ es) key =
-    if key_below e.key key then freed es key else if same_key e.key key then e.slot ∷ [] else []
+-- the slots in use without one, if there is one
+abbrev pub given : List Bool → Option ℕ → List Bool
+given used None = used
+given used (Some slot) = slice_set used slot false

@@ -1,8 +1,13 @@
 -- What a store shows.
-use Rattle.std.specs.Prelude.{ℕ, ◌+◌, ◌-◌, Bool, List, length, map, Option, None, Some}
+use Rattle.std.specs.Prelude.{ℕ, ◌+◌, ◌-◌, Bool, List, [], ◌∷◌, length, map, Option, None, Some, if◌then◌else◌}
+use Rattle.busy_marks.specs.declared.marks.Mark.{Mark}
+use Rattle.busy_marks.specs.Marks.{next_marked_map}
 use Rattle.petal_base.specs.Block.{zero_block}
 use Rattle.petal_base.specs.declared.place.Key.{Key}
-use Rattle.server_store.specs.declared.entry.Entry.{Entry}
+use Rattle.physical_map.specs.declared.entry.Entry.{Entry}
+use Rattle.physical_map.specs.Entries.{lesser, next_map_of}
+use Rattle.physical_map.specs.Keys.{same_key}
+use Rattle.server_store.specs.Device.{Log}
 use Rattle.server_store.specs.Slots.{slot_bytes}
 
 -- an entry and its content
@@ -10,17 +15,16 @@ pub record Held : Type 0 where
   pub entry : Entry
   pub content : List ℕ
 
--- the entries in the order of their keys, the slots of the tickets out, the number of slots, whether the store was formatted to be
--- filled anew, and the device
+-- the entries in the order of their keys, the slots of the tickets out, the marks, the number of slots, whether the store was
+-- formatted to be filled anew and is not yet so, what was committed, and the device
 pub record Holdings (D : Type 0) : Type 0 where
   pub entries : List Held
   pub tickets : List ℕ
+  pub marks : List Mark
   pub slots : ℕ
   pub fresh : Bool
+  pub log : Log
   pub disk : D
-
-abbrev pub key_of : Entry → Key
-key_of entry = entry.key
 
 abbrev pub key_held : Held → Key
 key_held held = held.entry.key
@@ -28,6 +32,11 @@ key_held held = held.entry.key
 -- the entries without their contents
 abbrev pub listed : List Held → List Entry
 listed helds = map (λ h. h.entry) helds
+
+-- what is held without the entry that has a key
+abbrev pub without_held : List Held → Key → List Held
+without_held [] key = []
+without_held (h ∷ hs) key = if same_key h.entry.key key then hs else h ∷ without_held hs key
 
 -- an entry with the content that its slot has
 abbrev pub held_in : List ℕ → Entry → Held
@@ -41,3 +50,7 @@ free_slots store = store.slots - (length store.entries + length store.tickets)
 abbrev pub content_of : Option Held → List ℕ
 content_of None = zero_block
 content_of (Some held) = held.content
+
+-- of all entries and marks, the least map above a number
+abbrev pub next_map_in : Option ℕ → List Entry → List Mark → Option ℕ
+next_map_in after entries marks = lesser (next_map_of after entries) (next_marked_map after marks)

@@ -1,5 +1,11 @@
 pub mod Accounts
+pub mod Device
 pub mod Errors
+pub mod Found
 pub mod Holdings
-pub mod Keys
+pub mod Kept
+pub mod Opening
+pub mod Reading
+pub mod Shown
 pub mod Slots
+pub mod Tickets

@@ -1,10 +1,11 @@
--- Where slots lie.
-use Rattle.std.specs.Prelude.{ℕ, ◌+◌, ◌*◌, List}
+-- Where slots lie on a data device.
+use Rattle.std.specs.Prelude.{ℕ, List}
 use Rattle.petal_disk.specs.Disk.{part}
+use Rattle.slot_store.specs.Slots as slots
 
 -- the first byte of a slot
 abbrev pub slot_start : ℕ → ℕ
-slot_start slot = 4198400 + 65536 * slot
+slot_start slot = slots.slot_start 4198400 slot
 
 -- the bytes of a slot
 abbrev pub slot_bytes : List ℕ → ℕ → List ℕ

@@ -1,20 +1,31 @@
-//! The blocks of one storage server: which keys it has, and their contents in slots of its device.
+//! The blocks of one storage server: which keys it has, their contents in slots of its device, and marks on cells.
 //!
 //! To the layer above it promises a list of entries in the order of their keys, each with the content that was put last at
-//! its key, and that a put never writes over a slot in use. It knows nothing of servers, letters or the agreed log.
+//! its key, a set of marks, and that a put never writes over a slot in use. It knows nothing of servers, letters or the
+//! agreed log.
 #![tactic(auto)]
 
-mod entry;
+mod commit;
 mod error;
-mod key_order;
+mod header;
+mod history;
 mod ledger;
+mod opened;
+mod opening;
+mod record_log;
+mod replay;
 mod store;
 mod ticket;
+mod tickets;
 
-pub use entry::Entry;
 pub use error::StoreError;
-pub use store::{DATA_START, SLOT_BYTES, Store};
+pub use opened::Opened;
+pub use physical_map::Entry;
+pub use slot_store::SLOT_BYTES;
+pub use store::{DATA_START, Store};
 pub use ticket::Ticket;
 
+#[cfg(test)]
+mod rows;
 #[cfg(test)]
 mod tests;

@@ -1,39 +1,59 @@
 //! The store of one server, over its device.
 
-ghost use Rattle.std.specs.Prelude.{◌≡◌, ◌≤◌, ◌<◌, ◌+◌, ◌++◌, ◌∷◌, ◌↔◌, [], length, map, Contains, Err, IfOk, OnOk, IfErr, OnErr, IfNone, option_map};
+ghost use Rattle.std.specs.Prelude.{◌≡◌, ℕ, ◌⊎◌, ◌≤◌, ◌<◌, ◌+◌, ◌^◌, ◌++◌, ◌∷◌, ◌↔◌, [], Bool, List, length, take, Contains, Err, IfOk, OnOk, IfErr, OnErr, IsErrOf, IfNone, true, false, not, is_some, if◌then◌else◌, Some, None};
+ghost use Rattle.busy_marks.specs.Marks.{has_mark, with_mark, without_mark, next_marked};
+ghost use Rattle.block_journal.specs.Records.{Counts};
 ghost use Rattle.petal_base.specs.Block.{zero_block};
+ghost use Rattle.petal_disk.specs.Disk.{LeavesOnly};
 ghost use Rattle.petal_disk.specs.Faults.{HasCause};
-ghost use Rattle.server_store.specs.Accounts.{without};
-ghost use Rattle.server_store.specs.Errors.{IsReserveError};
-ghost use Rattle.server_store.specs.Holdings.{key_of, key_held, listed, free_slots, content_of};
-ghost use Rattle.server_store.specs.Keys.{placed, newest};
+ghost use Rattle.petal_disk.specs.Plans.{beneath, plan_state};
+ghost use Rattle.physical_map.specs.Entries.{key_of, slot_of, without_key, chain_of, top_of, version_of, next_block_of, lesser};
+ghost use Rattle.physical_map.specs.Keys.{placed, newest, IsInOrder};
+ghost use Rattle.server_store.specs.Device.{header, bodies_of, AreSpelled, StandsFor, Logs};
+ghost use Rattle.server_store.specs.Errors.{IsFormatError, IsReserveError, IsCommitError, IsMarkError, HasFault};
+ghost use Rattle.server_store.specs.Holdings.{key_held, listed, free_slots, without_held, content_of, next_map_in};
+ghost use Rattle.server_store.specs.Found.{IsOpenError, IsGoodError};
+ghost use Rattle.server_store.specs.Kept.{AllFit, formatted, kept_of};
+ghost use Rattle.server_store.specs.Opening.{IfStore, IfBlank, IsStore, Reopened};
+ghost use Rattle.server_store.specs.Reading.{IsBadOn, IsBlank};
+ghost use Rattle.server_store.specs.Shown.{Picture, picture_of, picture_in, Shows, Holds, BeforeOrAfter};
 ghost use Rattle.server_store.specs.Slots.{slot_start};
+ghost use Rattle.server_store.specs.Tickets.{without};
+ghost use Rattle.store_record.specs.declared.record.StoreRecord.{StoreRecord};
+ghost use Rattle.store_record.specs.declared.record.StoreRecord.TheVariants as records;
 
-use crate::ledger::{Ledger, start};
-use crate::{Entry, StoreError, Ticket};
-use petal_base::{Block, BlockNo, Epoch, Key, MapId, Version};
-use petal_disk::{Disk, Failed, write_kept};
+use crate::commit::{commit, commit_put};
+use crate::header::Header;
+use crate::ledger::Ledger;
+use crate::opening::read_device;
+use crate::record_log::RecordLog;
+use crate::{Entry, Opened, StoreError, Ticket};
+use busy_marks::{MarkKind, Marks};
+use petal_base::{Block, BlockNo, Cell, Epoch, Key, MapId, NoMemory, Sequence, Version};
+use petal_disk::{Disk, Failed, Plan, Planned};
 use std::alloc::Global;
 use std::marker::Model;
+use store_record::StoreRecord;
 
 /// The first byte of slot 0 on a device: the bytes before it are left to a header and a journal.
 pub const DATA_START: u64 = 4_198_400;
 
-/// How many bytes a slot has: those of one block.
-pub const SLOT_BYTES: u64 = 65_536;
-
-/// The entries of one server and their contents on its device. Contracts see the entries in the order of their keys, each
-/// with its content, the slots of the tickets out, the number of slots, and the device.
+/// The entries of one server with their contents, and its marks. Contracts see the entries in the order of their keys, each
+/// with its content, the slots of the tickets out, the marks, the number of slots, whether the store is still to be filled
+/// anew, and the device.
 #[derive(Drop)]
 pub struct Store<D: Disk> {
     ledger: Ledger,
+    marks: Marks,
     fresh: bool,
+    log: RecordLog,
     disk: D,
 }
 
 impl<D: Disk> Model for Store<D> {
-    ghost use Rattle.std.specs.Prelude.{map, ◌≤◌};
+    ghost use Rattle.std.specs.Prelude.{map, ◌≤◌, ◌≡◌};
     ghost use Rattle.server_store.specs.Holdings.{Holdings, held_in};
+    ghost use Rattle.server_store.specs.Kept.{kept_of};
     ghost use Rattle.server_store.specs.Slots.{slot_start};
 
     ghost Value = { Holdings D };
@@ -41,16 +61,21 @@ impl<D: Disk> Model for Store<D> {
     ghost view = { λ s. record {
       entries = map (held_in (D.seen s.disk)) s.ledger.entries;
       tickets = s.ledger.tickets;
+      marks = s.marks;
       slots = s.ledger.slots;
       fresh = s.fresh;
+      log = s.log;
       disk = s.disk;
     } };
 
-    ghost invariant = { λ s. slot_start s.ledger.slots ≤ D.size s.disk };
+    ghost invariant = { λ s. (slot_start s.ledger.slots ≤ D.size s.disk) × (kept_of s.log.fresh s.log.records ≡ record { entries = s.ledger.entries; marks = s.marks; fresh = s.fresh }) };
 }
 
 impl<D: Disk> Store<D> {
-    /// The store without entries on a device in which the slots fit. It hands the device back where there is no memory.
+    /// The store without entries on a device in which the slots fit; `fresh` where it is to be filled anew.
+    ///
+    /// # Errors
+    /// `Failed`, where the device failed, and `NoMemory`. The device is handed back.
     pub fn format(
         alloc: Global,
         disk: D,
@@ -58,20 +83,69 @@ impl<D: Disk> Store<D> {
         fresh: bool,
     ) -> Result<Store<D>, (D, StoreError)>
         requires { slot_start slots ≤ D.size disk }
-        ensures ok { IfOk result (λ store. store ≡ record { entries = []; tickets = []; slots = slots; fresh = fresh; disk = disk }) }
-        ensures err { IfErr result (λ e. (e.0 ≡ disk) × (e.1 ≡ StoreError.NoMemory)) }
+        ensures ok { IfOk result (λ store. store ≡ record { entries = []; tickets = []; marks = []; slots = slots; fresh = fresh; log = record { fresh = fresh; records = []; region = store.log.region }; disk = store.disk }) }
+        ensures holds { IfOk result (λ store. D.told → Holds store (D.seen store.disk) (D.may_leave store.disk)) }
+        ensures errors { IfErr result (λ e. IsFormatError e.1) }
+        ensures failed { IfErr result (λ e. e.1 ≡ StoreError.Failed → D.faults disk < D.faults e.0) }
+        ensures later { IfOk result (λ store. D.faults disk ≤ D.faults store.disk) }
+        ensures run { IfOk result (λ store. D.came_to disk store.disk) }
+        ensures err_run { IfErr result (λ e. D.came_to disk e.0) }
     {
-        match Ledger::new(alloc, slots) {
-            Ok(ledger) => Ok(Store {
+        let mut disk = disk;
+        match write_format(alloc, &mut disk, Header { slots, fresh }) {
+            Ok((ledger, log)) => Ok(Store {
                 ledger,
+                marks: Marks::new(alloc),
                 fresh,
+                log,
                 disk,
             }),
-            Err(_) => Err((disk, StoreError::NoMemory)),
+            Err(error) => Err((disk, error)),
+        }
+    }
+
+    /// The store that a device stands for, or the device where it is blank: where it has no header that is spelled, or its
+    /// journal or slots do not fit it.
+    ///
+    /// # Errors
+    /// `BadRecord` where the record of this index counts and has no spelling, or puts into a slot that is in use or not there;
+    /// `Failed`, where the device failed, and `NoMemory`. The device is handed back.
+    pub fn open(alloc: Global, disk: D) -> Result<Opened<D>, (D, StoreError)>
+        ensures headed { IfOk result (λ o. IfStore o (λ store. D.told → take 64 (D.seen disk) ≡ header store.slots store.log.fresh)) }
+        ensures counts { IfOk result (λ o. IfStore o (λ store. D.told → Counts 64 4096 65536 (D.seen disk) (bodies_of store.log.records))) }
+        ensures spelled { IfOk result (λ o. IfStore o (λ store. AreSpelled store.log.records × AllFit store.slots (formatted store.log.fresh) store.log.records)) }
+        ensures shown { IfOk result (λ o. IfStore o (λ store. picture_of store ≡ picture_in (D.seen disk) (kept_of store.log.fresh store.log.records))) }
+        ensures no_tickets { IfOk result (λ o. IfStore o (λ store. store.tickets ≡ [])) }
+        ensures same { (slots : ℕ) (fresh : Bool) (recorded : List StoreRecord) (picture : Picture) → IfOk result (λ o. D.told → slots < 2 ^ 32 → slot_start slots ≤ D.size disk → Shows (D.seen disk) slots fresh recorded picture
+            → IsStore o (λ store. Reopened slots fresh recorded picture store (D.seen store.disk) (D.may_leave store.disk))) }
+        ensures blank { IfOk result (λ o. IfBlank o (λ _. D.told → IsBlank (D.seen disk) (D.size disk))) }
+        ensures bad { (index slots : ℕ) (fresh : Bool) → IfErr result (λ e. e.1 ≡ StoreError.BadRecord index → D.told → slots < 2 ^ 32 → take 64 (D.seen disk) ≡ header slots fresh → IsBadOn (D.seen disk) slots fresh index) }
+        ensures good { (slots : ℕ) (fresh : Bool) (recorded : List StoreRecord) → IfErr result (λ e. D.told → slots < 2 ^ 32 → StandsFor (D.seen disk) slots fresh recorded → IsGoodError e.1) }
+        ensures errors { IfErr result (λ e. IsOpenError e.1) }
+        ensures failed { IfErr result (λ e. e.1 ≡ StoreError.Failed → D.faults disk < D.faults e.0) }
+        ensures later { IfOk result (λ o. IfStore o (λ store. D.faults disk ≤ D.faults store.disk)) }
+        ensures run { IfOk result (λ o. IfStore o (λ store. D.came_to disk store.disk)) }
+        ensures blank_run { IfOk result (λ o. IfBlank o (λ back. D.came_to disk back)) }
+        ensures err_run { IfErr result (λ e. D.came_to disk e.0) }
+    {
+        let mut disk = disk;
+        match read_device(alloc, &mut disk) {
+            Ok(Some(found)) => Ok(Opened::Store(Store {
+                ledger: found.ledger,
+                marks: found.marks,
+                fresh: found.fresh,
+                log: found.log,
+                disk,
+            })),
+            Ok(None) => Ok(Opened::Blank(disk)),
+            Err(error) => Err((disk, error)),
         }
     }
 
     /// Sets a free slot aside, and all the memory that a put with it needs.
+    ///
+    /// # Errors
+    /// `NoSpace` exactly where no slot is free; then `NoMemory`. Nothing changed.
     pub fn reserve(&mut self) -> Result<Ticket, StoreError>
         ensures ok { IfOk result (λ ticket. self.new ≡ record self.old { tickets = self.old.tickets ++ ticket ∷ [] }) }
         ensures out { IfOk result (λ ticket. Contains self.new.tickets ticket) }
@@ -80,14 +154,15 @@ impl<D: Disk> Store<D> {
         ensures errors { IfErr result IsReserveError }
         ensures no_space { (result ≡ Err StoreError.NoSpace) ↔ (free_slots self.old ≡ 0) }
     {
-        match self.ledger.reserve() {
-            Ok(slot) => Ok(Ticket::new(slot)),
-            Err(error) => Err(error),
-        }
+        self.ledger.reserve()
     }
 
     /// Puts a block at a key. It writes the ticket's slot, and only then the key's entry takes that slot and the one that it
-    /// had is free. Where the device fails the entries stay as they were. The ticket is spent. It takes no memory.
+    /// had is free. The ticket is spent. It takes no memory.
+    ///
+    /// # Errors
+    /// `JournalFull` where the journal has all its records, before any call of the device; `Failed` where the device failed.
+    /// The entries stay as they were.
     pub fn put(
         &mut self,
         ticket: Ticket,
@@ -103,22 +178,46 @@ impl<D: Disk> Store<D> {
 
         ensures listed { OnErr result (listed self.new.entries ≡ listed self.old.entries) }
         ensures kept { OnErr result (D.told → self.new.entries ≡ self.old.entries) }
-        ensures errors { IfErr result (λ e. e ≡ StoreError.Failed) }
+        ensures errors { IfErr result IsCommitError }
+        ensures full { IsErrOf result StoreError.JournalFull ↔ (self.old.log.region.count ≡ 65536) }
+        ensures full_rest { IsErrOf result StoreError.JournalFull → self.new ≡ record self.old { tickets = without self.old.tickets ticket } }
 
-        ensures rest { self.new ≡ record self.old { entries = self.new.entries; tickets = without self.old.tickets ticket; disk = self.new.disk } }
-        ensures cause { HasCause (D.faults self.old.disk) (D.faults self.new.disk) result }
+        ensures records { OnOk result (self.new.log.records ≡ self.old.log.records ++ records.Put key version ticket ∷ []) }
+        ensures unrecorded { OnErr result (self.new.log.records ≡ self.old.log.records) }
+        ensures holds { D.told → Holds self.old (D.seen self.old.disk) (D.may_leave self.old.disk)
+            → OnOk result (Holds self.new (D.seen self.new.disk) (D.may_leave self.new.disk)) }
+        ensures either { D.told → Holds self.old (D.seen self.old.disk) (D.may_leave self.old.disk)
+            → BeforeOrAfter (D.seen self.new.disk) self.old (records.Put key version ticket) block.now }
+        ensures any_moment { D.told → Holds self.old (D.seen self.old.disk) (D.may_leave self.old.disk)
+            → LeavesOnly D.moment D.left_since self.old.disk self.new.disk (λ c. BeforeOrAfter c self.old (records.Put key version ticket) block.now) }
+
+        ensures rest { self.new ≡ record self.old { entries = self.new.entries; tickets = without self.old.tickets ticket; log = self.new.log; disk = self.new.disk } }
+        ensures cause { HasFault (D.faults self.old.disk) (D.faults self.new.disk) result }
         ensures run { D.came_to self.old.disk self.new.disk }
     {
-        let slot = ticket.into_slot();
-        let at = self.ledger.start_of(slot);
-        match write_kept(&mut self.disk, at, block.bytes()) {
+        if self.log.is_full() {
+            self.ledger.give_back(ticket);
+            return Err(StoreError::JournalFull);
+        }
+        let entry = Entry {
+            key,
+            slot: ticket.slot(),
+            version,
+        };
+        match commit_put(
+            &mut self.disk,
+            &mut self.log,
+            self.ledger.slots(),
+            &entry,
+            block,
+        ) {
             Ok(()) => {
-                self.ledger.settle(Entry { key, slot, version });
+                self.ledger.settle(ticket, key, version);
                 Ok(())
             }
-            Err(Failed) => {
-                self.ledger.give_back(slot);
-                Err(StoreError::Failed)
+            Err(error) => {
+                self.ledger.give_back(ticket);
+                Err(error)
             }
         }
     }
@@ -128,7 +227,159 @@ impl<D: Disk> Store<D> {
         requires { Contains self.old.tickets ticket }
         ensures { self.new ≡ record self.old { tickets = without self.old.tickets ticket } }
     {
-        self.ledger.give_back(ticket.into_slot());
+        self.ledger.give_back(ticket);
+    }
+
+    /// Sets a mark. Where it is set nothing changes.
+    ///
+    /// # Errors
+    /// `NoMemory`, before any call of the device; else as of `put`. The marks stay as they were.
+    pub fn mark(&mut self, kind: MarkKind, cell: Cell) -> Result<(), StoreError>
+        ensures ok { OnOk result (self.new.marks ≡ with_mark self.old.marks (record { kind = kind; cell = cell })) }
+        ensures err { OnErr result (self.new.marks ≡ self.old.marks) }
+        ensures listed { listed self.new.entries ≡ listed self.old.entries }
+        ensures kept { D.told → self.new.entries ≡ self.old.entries }
+        ensures errors { IfErr result IsMarkError }
+        ensures full { IsErrOf result StoreError.JournalFull → (self.old.log.region.count ≡ 65536) × (not (has_mark (record { kind = kind; cell = cell }) self.old.marks) ≡ true) × (self.new ≡ self.old) }
+        ensures full_comes { self.old.log.region.count ≡ 65536 → not (has_mark (record { kind = kind; cell = cell }) self.old.marks) ≡ true → IsErrOf result StoreError.JournalFull ⊎ IsErrOf result StoreError.NoMemory }
+        ensures memory { IsErrOf result StoreError.NoMemory → self.new ≡ self.old }
+
+        ensures records { OnOk result (self.new.log.records ≡ (if not (has_mark (record { kind = kind; cell = cell }) self.old.marks) then self.old.log.records ++ records.Mark kind cell ∷ [] else self.old.log.records)) }
+        ensures unrecorded { OnErr result (self.new.log.records ≡ self.old.log.records) }
+        ensures holds { D.told → Holds self.old (D.seen self.old.disk) (D.may_leave self.old.disk)
+            → OnOk result (Holds self.new (D.seen self.new.disk) (D.may_leave self.new.disk)) }
+        ensures either { D.told → Holds self.old (D.seen self.old.disk) (D.may_leave self.old.disk)
+            → BeforeOrAfter (D.seen self.new.disk) self.old (records.Mark kind cell) [] }
+        ensures any_moment { D.told → Holds self.old (D.seen self.old.disk) (D.may_leave self.old.disk)
+            → LeavesOnly D.moment D.left_since self.old.disk self.new.disk (λ c. BeforeOrAfter c self.old (records.Mark kind cell) []) }
+
+        ensures rest { self.new ≡ record self.old { entries = self.new.entries; marks = self.new.marks; log = self.new.log; disk = self.new.disk } }
+        ensures cause { HasFault (D.faults self.old.disk) (D.faults self.new.disk) result }
+        ensures run { D.came_to self.old.disk self.new.disk }
+    {
+        if self.marks.has(kind, cell) {
+            return Ok(());
+        }
+        self.marks.set(kind, cell)?;
+        let change = StoreRecord::Mark { kind, cell };
+        match commit(&mut self.disk, &mut self.log, &change) {
+            Ok(()) => Ok(()),
+            Err(error) => {
+                self.marks.clear(kind, cell);
+                Err(error)
+            }
+        }
+    }
+
+    /// Takes a mark away. Where it is not set nothing changes. It takes no memory.
+    ///
+    /// # Errors
+    /// As of `put`. The marks stay as they were.
+    pub fn unmark(&mut self, kind: MarkKind, cell: Cell) -> Result<(), StoreError>
+        ensures ok { OnOk result (self.new.marks ≡ without_mark self.old.marks (record { kind = kind; cell = cell })) }
+        ensures err { OnErr result (self.new.marks ≡ self.old.marks) }
+        ensures listed { listed self.new.entries ≡ listed self.old.entries }
+        ensures kept { D.told → self.new.entries ≡ self.old.entries }
+        ensures errors { IfErr result IsCommitError }
+        ensures full { IsErrOf result StoreError.JournalFull ↔ (self.old.log.region.count ≡ 65536) × (has_mark (record { kind = kind; cell = cell }) self.old.marks ≡ true) }
+        ensures full_rest { IsErrOf result StoreError.JournalFull → self.new ≡ self.old }
+
+        ensures records { OnOk result (self.new.log.records ≡ (if has_mark (record { kind = kind; cell = cell }) self.old.marks then self.old.log.records ++ records.Unmark kind cell ∷ [] else self.old.log.records)) }
+        ensures unrecorded { OnErr result (self.new.log.records ≡ self.old.log.records) }
+        ensures holds { D.told → Holds self.old (D.seen self.old.disk) (D.may_leave self.old.disk)
+            → OnOk result (Holds self.new (D.seen self.new.disk) (D.may_leave self.new.disk)) }
+        ensures either { D.told → Holds self.old (D.seen self.old.disk) (D.may_leave self.old.disk)
+            → BeforeOrAfter (D.seen self.new.disk) self.old (records.Unmark kind cell) [] }
+        ensures any_moment { D.told → Holds self.old (D.seen self.old.disk) (D.may_leave self.old.disk)
+            → LeavesOnly D.moment D.left_since self.old.disk self.new.disk (λ c. BeforeOrAfter c self.old (records.Unmark kind cell) []) }
+
+        ensures rest { self.new ≡ record self.old { entries = self.new.entries; marks = self.new.marks; log = self.new.log; disk = self.new.disk } }
+        ensures cause { HasFault (D.faults self.old.disk) (D.faults self.new.disk) result }
+        ensures run { D.came_to self.old.disk self.new.disk }
+    {
+        if !self.marks.has(kind, cell) {
+            return Ok(());
+        }
+        let change = StoreRecord::Unmark { kind, cell };
+        commit(&mut self.disk, &mut self.log, &change)?;
+        self.marks.clear(kind, cell);
+        Ok(())
+    }
+
+    /// Drops the entry that has the key, and its slot is free. Where there is none nothing changes. It takes no memory.
+    ///
+    /// # Errors
+    /// As of `put`. The entries stay as they were.
+    pub fn drop_key(&mut self, key: Key) -> Result<(), StoreError>
+        ensures ok { OnOk result (listed self.new.entries ≡ without_key (listed self.old.entries) key) }
+        ensures content { OnOk result (D.told → self.new.entries ≡ without_held self.old.entries key) }
+        ensures listed { OnErr result (listed self.new.entries ≡ listed self.old.entries) }
+        ensures kept { OnErr result (D.told → self.new.entries ≡ self.old.entries) }
+        ensures errors { IfErr result IsCommitError }
+        ensures full { IsErrOf result StoreError.JournalFull ↔ (self.old.log.region.count ≡ 65536) × (is_some (slot_of (listed self.old.entries) key) ≡ true) }
+        ensures full_rest { IsErrOf result StoreError.JournalFull → self.new ≡ self.old }
+
+        ensures records { OnOk result (self.new.log.records ≡ (if is_some (slot_of (listed self.old.entries) key) then self.old.log.records ++ records.Drop key ∷ [] else self.old.log.records)) }
+        ensures unrecorded { OnErr result (self.new.log.records ≡ self.old.log.records) }
+        ensures holds { D.told → Holds self.old (D.seen self.old.disk) (D.may_leave self.old.disk)
+            → OnOk result (Holds self.new (D.seen self.new.disk) (D.may_leave self.new.disk)) }
+        ensures either { D.told → Holds self.old (D.seen self.old.disk) (D.may_leave self.old.disk)
+            → BeforeOrAfter (D.seen self.new.disk) self.old (records.Drop key) [] }
+        ensures any_moment { D.told → Holds self.old (D.seen self.old.disk) (D.may_leave self.old.disk)
+            → LeavesOnly D.moment D.left_since self.old.disk self.new.disk (λ c. BeforeOrAfter c self.old (records.Drop key) []) }
+
+        ensures rest { self.new ≡ record self.old { entries = self.new.entries; log = self.new.log; disk = self.new.disk } }
+        ensures cause { HasFault (D.faults self.old.disk) (D.faults self.new.disk) result }
+        ensures run { D.came_to self.old.disk self.new.disk }
+    {
+        if !self.has_key(key) {
+            return Ok(());
+        }
+        let change = StoreRecord::Drop { key };
+        commit(&mut self.disk, &mut self.log, &change)?;
+        self.ledger.drop_key(key);
+        Ok(())
+    }
+
+    /// Whether there is an entry of this key.
+    fn has_key(&self, key: Key) -> bool
+        ensures { result ≡ is_some (slot_of (listed self.now.entries) key) }
+    {
+        self.ledger.map().slot(key).is_some()
+    }
+
+    /// The store has been filled anew. Where it is not `fresh` nothing changes. It takes no memory.
+    ///
+    /// # Errors
+    /// As of `put`. It is as `fresh` as it was.
+    pub fn settle_fresh(&mut self) -> Result<(), StoreError>
+        ensures ok { OnOk result (self.new.fresh ≡ false) }
+        ensures err { OnErr result (self.new.fresh ≡ self.old.fresh) }
+        ensures listed { listed self.new.entries ≡ listed self.old.entries }
+        ensures kept { D.told → self.new.entries ≡ self.old.entries }
+        ensures errors { IfErr result IsCommitError }
+        ensures full { IsErrOf result StoreError.JournalFull ↔ (self.old.log.region.count ≡ 65536) × (self.old.fresh ≡ true) }
+        ensures full_rest { IsErrOf result StoreError.JournalFull → self.new ≡ self.old }
+
+        ensures records { OnOk result (self.new.log.records ≡ (if self.old.fresh then self.old.log.records ++ records.Settled ∷ [] else self.old.log.records)) }
+        ensures unrecorded { OnErr result (self.new.log.records ≡ self.old.log.records) }
+        ensures holds { D.told → Holds self.old (D.seen self.old.disk) (D.may_leave self.old.disk)
+            → OnOk result (Holds self.new (D.seen self.new.disk) (D.may_leave self.new.disk)) }
+        ensures either { D.told → Holds self.old (D.seen self.old.disk) (D.may_leave self.old.disk)
+            → BeforeOrAfter (D.seen self.new.disk) self.old (records.Settled) [] }
+        ensures any_moment { D.told → Holds self.old (D.seen self.old.disk) (D.may_leave self.old.disk)
+            → LeavesOnly D.moment D.left_since self.old.disk self.new.disk (λ c. BeforeOrAfter c self.old (records.Settled) []) }
+
+        ensures rest { self.new ≡ record self.old { entries = self.new.entries; fresh = self.new.fresh; log = self.new.log; disk = self.new.disk } }
+        ensures cause { HasFault (D.faults self.old.disk) (D.faults self.new.disk) result }
+        ensures run { D.came_to self.old.disk self.new.disk }
+    {
+        if !self.fresh {
+            return Ok(());
+        }
+        commit(&mut self.disk, &mut self.log, &StoreRecord::Settled)?;
+        self.fresh = false;
+        Ok(())
     }
 
     /// The entry of the greatest epoch not above, and its content: zeros where there is none.
@@ -147,22 +398,82 @@ impl<D: Disk> Store<D> {
         ensures cause { HasCause (D.faults self.old.disk) (D.faults self.new.disk) result }
         ensures run { D.came_to self.old.disk self.new.disk }
     {
-        let found = self.ledger.newest(&Key { map, block, epoch });
+        let found = self.ledger.lookup(map, block, epoch);
         match found {
-            Some(entry) => self.disk.read(start(entry.slot), into)?,
+            Some(entry) => self.ledger.slots().read(&mut self.disk, entry.slot, into)?,
             None => write_zeros(into),
         }
         Ok(found)
     }
 
-    /// How many slots are neither in use nor promised to a ticket.
+    /// The entry of the greatest epoch not above.
+    pub fn lookup(&self, map: MapId, block: BlockNo, epoch: Epoch) -> Option<Entry>
+        ensures { result ≡ newest key_of (record { map = map; block = block; epoch = epoch }) (listed self.now.entries) }
+    {
+        self.ledger.lookup(map, block, epoch)
+    }
+
+    /// The entries of a cell by rising epoch.
+    pub fn chain(&self, alloc: Global, cell: Cell) -> Result<Sequence<Entry>, NoMemory>
+        ensures { IfOk result (λ chain. chain ≡ chain_of cell (listed self.now.entries)) }
+    {
+        self.ledger.map().chain(alloc, cell)
+    }
+
+    /// The greatest version of a cell's entries, 0 without one.
+    pub fn version(&self, cell: Cell) -> Version
+        ensures { result ≡ version_of cell (listed self.now.entries) }
+    {
+        self.ledger.map().version(cell)
+    }
+
+    /// The greatest version of all entries, 0 without one.
+    pub fn top(&self) -> Version
+        ensures { result ≡ top_of (listed self.now.entries) }
+    {
+        self.ledger.map().top()
+    }
+
+    /// The least block of the map above `after` with an entry.
+    pub fn next_block(&self, map: MapId, after: Option<BlockNo>) -> Option<BlockNo>
+        ensures { result ≡ next_block_of map after (listed self.now.entries) }
+    {
+        self.ledger.map().next_block(map, after)
+    }
+
+    /// Whether a mark is set.
+    pub fn has(&self, kind: MarkKind, cell: Cell) -> bool
+        ensures { result ≡ has_mark (record { kind = kind; cell = cell }) self.now.marks }
+    {
+        self.marks.has(kind, cell)
+    }
+
+    /// The least block of the map above `after` with a mark of either kind.
+    pub fn next_mark(&self, map: MapId, after: Option<BlockNo>) -> Option<BlockNo>
+        ensures { result ≡ next_marked map after self.now.marks }
+    {
+        self.marks.next(map, after)
+    }
+
+    /// The least map above `after` with an entry or a mark.
+    pub fn next_map(&self, after: Option<MapId>) -> Option<MapId>
+        ensures { result ≡ next_map_in after (listed self.now.entries) self.now.marks }
+    {
+        lesser_of(
+            self.ledger.map().next_map(after),
+            self.marks.next_map(after),
+        )
+    }
+
+    /// How many slots are neither in use nor promised to a ticket. The entries are in the order of their keys.
     pub fn free(&self) -> u32
-        ensures { result ≡ free_slots self.now }
+        ensures value { result ≡ free_slots self.now }
+        ensures order { IsInOrder key_held self.now.entries }
     {
         self.ledger.free()
     }
 
-    /// Whether it was formatted on a device that was found blank.
+    /// Whether it was formatted on a device that was found blank, and has not been filled since.
     pub fn fresh(&self) -> bool
         ensures { result ≡ self.now.fresh }
     {
@@ -174,6 +485,64 @@ impl<D: Disk> Store<D> {
         ensures { result ≡ self.disk }
     {
         self.disk
+    }
+}
+
+impl<E: Disk> Store<Planned<E>> {
+    /// Arms the device's one plan, and changes nothing else.
+    pub fn arm(&mut self, plan: Plan)
+        ensures disk { beneath self.new.disk ≡ beneath self.old.disk }
+        ensures state { plan_state self.new.disk ≡ record (plan_state self.old.disk) { plan = Some plan; stopped = false } }
+        ensures rest { self.new ≡ record self.old { disk = self.new.disk } }
+    {
+        self.disk.arm(plan);
+    }
+
+    /// No plan counts from now on, and nothing else changes.
+    pub fn disarm(&mut self)
+        ensures disk { beneath self.new.disk ≡ beneath self.old.disk }
+        ensures state { plan_state self.new.disk ≡ record (plan_state self.old.disk) { plan = None } }
+        ensures rest { self.new ≡ record self.old { disk = self.new.disk } }
+    {
+        self.disk.disarm();
+    }
+
+    /// Whether a plan with `stop` was met since the last arming.
+    pub fn stopped(&self) -> bool
+        ensures { result ≡ (plan_state self.now.disk).stopped }
+    {
+        self.disk.stopped()
+    }
+}
+
+// A ledger of free slots, and a device that stands for no record.
+fn write_format<D: Disk>(
+    alloc: Global,
+    disk: &mut D,
+    said: Header,
+) -> Result<(Ledger, RecordLog), StoreError>
+    requires { 4198400 ≤ D.size disk.old }
+    ensures ledger { IfOk result (λ out. out.0 ≡ record { entries = []; tickets = []; slots = said.slots }) }
+    ensures log { IfOk result (λ out. (out.1.fresh ≡ said.fresh) × (out.1.records ≡ [])) }
+    ensures logs { IfOk result (λ out. D.told → Logs said.slots out.1 (D.seen disk.new) (D.may_leave disk.new)) }
+    ensures errors { IfErr result IsFormatError }
+    ensures cause { HasFault (D.faults disk.old) (D.faults disk.new) result }
+    ensures size { D.size disk.new ≡ D.size disk.old }
+    ensures run { D.came_to disk.old disk.new }
+{
+    let ledger = Ledger::new(alloc, said.slots)?;
+    let log = RecordLog::format(alloc, disk, said)?;
+    Ok((ledger, log))
+}
+
+// The lesser of two numbers, where there are two.
+fn lesser_of(a: Option<u32>, b: Option<u32>) -> Option<u32>
+    ensures { result ≡ lesser a b }
+{
+    match (a, b) {
+        (Some(a), Some(b)) if b < a => Some(b),
+        (Some(a), _) => Some(a),
+        (None, b) => b,
     }
 }
 

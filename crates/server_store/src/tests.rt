@@ -1,29 +1,35 @@
 //! Happy paths over two slots.
 
 use super::*;
-use petal_base::{Block, Key};
+use busy_marks::MarkKind;
+use petal_base::{Block, Cell, Key};
 use petal_disk::{Disk, MemDisk};
 use std::alloc::Global;
 use std::test::Fail;
 
 const TWO_SLOTS: u64 = 4_329_472;
 
-fn two_slots(alloc: Global) -> Result<Store<MemDisk>, Fail> {
+const CELL: Cell = Cell { map: 0, block: 5 };
+
+fn two_slots(alloc: Global, fresh: bool) -> Result<Store<MemDisk>, Fail> {
     let disk = MemDisk::new(alloc, TWO_SLOTS)?;
-    match Store::format(alloc, disk, 2, false) {
+    match Store::format(alloc, disk, 2, fresh) {
         Ok(store) => Ok(store),
         Err((_, error)) => Err(error.into()),
     }
 }
 
-fn put<D: Disk>(store: &mut Store<D>, block: u64, content: &Block) -> Result<(), StoreError> {
-    let ticket = store.reserve()?;
-    let key = Key {
+fn key(block: u64) -> Key {
+    Key {
         map: 0,
         block,
         epoch: 0,
-    };
-    store.put(ticket, key, 1, content)
+    }
+}
+
+fn put<D: Disk>(store: &mut Store<D>, block: u64, content: &Block) -> Result<(), StoreError> {
+    let ticket = store.reserve()?;
+    store.put(ticket, key(block), 3, content)
 }
 
 fn last_byte<D: Disk>(store: &mut Store<D>, alloc: Global, block: u64) -> Result<u8, Fail> {
@@ -34,7 +40,7 @@ fn last_byte<D: Disk>(store: &mut Store<D>, alloc: Global, block: u64) -> Result
 
 #[test]
 fn puts_and_reads(rt: HostRuntime) -> Result<(), Fail> {
-    let mut store = two_slots(rt.alloc())?;
+    let mut store = two_slots(rt.alloc(), false)?;
     let sevens = Block::fill(rt.alloc(), 7)?;
     assert_eq!(rt; last_byte(&mut store, rt.alloc(), 5)?, 0);
     put(&mut store, 5, &sevens)?;
@@ -45,7 +51,7 @@ fn puts_and_reads(rt: HostRuntime) -> Result<(), Fail> {
 
 #[test]
 fn a_full_store(rt: HostRuntime) -> Result<(), Fail> {
-    let mut store = two_slots(rt.alloc())?;
+    let mut store = two_slots(rt.alloc(), false)?;
     let ticket = store.reserve()?;
     store.give_back(ticket);
     assert_eq!(rt; store.free(), 2);
@@ -54,5 +60,35 @@ fn a_full_store(rt: HostRuntime) -> Result<(), Fail> {
     put(&mut store, 7, &zeros)?;
     assert_eq!(rt; put(&mut store, 8, &zeros), Err(StoreError::NoSpace));
     let _ = store.into_disk();
+    Ok(())
+}
+
+#[test]
+fn entries(rt: HostRuntime) -> Result<(), Fail> {
+    let mut store = two_slots(rt.alloc(), false)?;
+    put(&mut store, 5, &Block::zero(rt.alloc())?)?;
+    assert_eq!(rt; store.lookup(0, 5, 9).map(|e| e.version), Some(3));
+    assert_eq!(rt; store.chain(rt.alloc(), CELL)?.len(), 1);
+    assert_eq!(rt; store.version(CELL), 3);
+    assert_eq!(rt; store.top(), 3);
+    assert_eq!(rt; store.next_block(0, None), Some(5));
+    store.drop_key(key(5))?;
+    assert_eq!(rt; store.next_block(0, None), None);
+    assert_eq!(rt; store.free(), 2);
+    Ok(())
+}
+
+#[test]
+fn marks(rt: HostRuntime) -> Result<(), Fail> {
+    let mut store = two_slots(rt.alloc(), true)?;
+    store.mark(MarkKind::Busy, CELL)?;
+    assert!(rt; store.has(MarkKind::Busy, CELL));
+    assert_eq!(rt; store.next_mark(0, Some(4)), Some(5));
+    assert_eq!(rt; store.next_map(None), Some(0));
+    store.unmark(MarkKind::Busy, CELL)?;
+    assert_eq!(rt; store.next_map(None), None);
+    assert!(rt; store.fresh());
+    store.settle_fresh()?;
+    assert!(rt; !store.fresh());
     Ok(())
 }

@@ -1,5 +1,7 @@
 //! The right to one put.
 
+ghost use Rattle.std.specs.Prelude.{◌≡◌};
+
 use std::marker::Model;
 
 /// A free slot that a store has set aside for one put. Contracts see the slot's number. A ticket that is dropped keeps its
@@ -18,16 +20,14 @@ impl Model for Ticket {
 }
 
 impl Ticket {
-    ghost use Rattle.std.specs.Prelude.{◌≡◌};
-
     pub(crate) fn new(slot: u32) -> Ticket
         ensures { result ≡ slot }
     {
         Ticket { slot }
     }
 
-    pub(crate) fn into_slot(self) -> u32
-        ensures { result ≡ self }
+    pub(crate) fn slot(&self) -> u32
+        ensures { result ≡ self.now }
     {
         self.slot
     }

@@ -102,6 +102,7 @@ impl SlotStore {
         requires slot { slot < length self.now.used }
         requires room { slot_start self.now.base slot + 65536 ≤ D.size disk.old }
         ensures written { OnOk result (D.told → D.seen disk.new ≡ written (D.seen disk.old) (slot_start self.now.base slot) block.now) }
+        ensures block { IsBlock block.now }
         ensures durable { OnOk result (D.told → Only (D.seen disk.new) (D.may_leave disk.new)) }
         ensures torn { D.told → Torn (slot_start self.now.base slot) 65536 (D.seen disk.old) (D.seen disk.new) }
         ensures size { D.size disk.new ≡ D.size disk.old }

@@ -5,7 +5,8 @@ ghost use Rattle.store_record.specs.Spelling.{byte, word, long};
 
 use byteorder::{BigEndian, ByteOrder};
 
-fn put(out: &mut [u8], at: usize, bytes: &[u8])
+/// Writes these bytes.
+pub fn put(out: &mut [u8], at: usize, bytes: &[u8])
     requires { at + length bytes.now ≤ length out.old }
     ensures { take (at + length bytes.now) out.new ≡ take at out.old ++ bytes.now }
 {

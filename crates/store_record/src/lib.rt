@@ -4,7 +4,7 @@
 //! the journal that keeps the bytes, nor of the store that the records change.
 #![tactic(auto)]
 
-mod field;
+pub mod field;
 mod reading;
 mod record;
 mod writing;

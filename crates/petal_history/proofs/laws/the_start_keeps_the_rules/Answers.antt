@@ -11,7 +11,7 @@ use Rattle.petal_rules.specs.Lists.{In}
 use Rattle.petal_rules.specs.Store.{Chain, cell_cmp, chain_in, entry_at, bytes_of}
 use Rattle.petal_rules.specs.State.{authority}
 use Rattle.petal_rules.specs.World.{World, start, setting_of}
-use Rattle.petal_history.specs.Contents.{cell_of_block, chosen_state, content_by}
+use Rattle.petal_history.specs.Contents.{cell_of_block, chosen_state, disk_name, content_by}
 use Rattle.petal_history.proofs.laws.the_start_keeps_the_rules.Goals as goal
 
 none_some : {A : Type 0} {x : A} → None ≡ Some x → ⊥
@@ -39,15 +39,15 @@ blank_block name block = ap (λ o. unwrap_or o zero_block) (at-empty _ block)
 pub returns : goal.returns
 unfolding In after new_disk
 returns c script = record {
-  copies = λ cell. inl refl;
+  copies = λ cell n m is_first is_second. inl refl;
   requests = record {
     pending = λ n cell op runs is over. none_some (sym (at-empty cell_cmp cell) ∙ is);
     late = λ letter client seq epoch cell bytes h. absurd h;
   };
   run = (refl, tt);
   holds = record {
-    disk = new_disk (chosen_state (setting_of script)).name;
-    is = named (chosen_state (setting_of script)).name;
-    same = λ block. blank_block (chosen_state (setting_of script)).name block ∙ sym (zero (start (setting_of script)) (λ n. refl) (authority (chosen_state (setting_of script)) (cell_of_block block)) block);
+    disk = new_disk (disk_name (setting_of script));
+    is = named (disk_name (setting_of script));
+    same = λ block. blank_block (disk_name (setting_of script)) block ∙ sym (zero (start (setting_of script)) (λ n. refl) (authority (chosen_state (setting_of script)) (cell_of_block block)) block);
   };
 }

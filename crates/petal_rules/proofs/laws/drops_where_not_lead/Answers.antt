@@ -3,7 +3,7 @@ use Rattle.std.proofs.Common.{◌≡◌, Bool, true, false, refl}
 use Rattle.std.specs.Prelude.{◌↔◌, if◌then◌else◌}
 use Rattle.petal_msg.specs.declared.operation.Action.TheVariants.{Drop}
 use Rattle.petal_msg.specs.declared.operation.Stage.{Stage}
-use Rattle.petal_rules.specs.State.{is_lead}
+use Rattle.petal_rules.specs.State.{leads_link}
 use Rattle.petal_rules.specs.Writes.{both_action}
 use Rattle.petal_rules.proofs.laws.drops_where_not_lead.Goals as goal
 
@@ -21,4 +21,4 @@ drops true stage = (λ e. absurd (works stage e), λ e. cc)
 drops false stage = (λ e. refl, λ e. refl)
 
 pub returns : goal.returns
-returns c state me op = drops (is_lead state me op.cell) op.stage
+returns c state me op = drops (leads_link state me op.cell) op.stage

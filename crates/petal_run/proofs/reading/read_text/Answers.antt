@@ -1,4 +1,4 @@
-use Rattle.std.proofs.Common.{◌≡◌, ◌≤◌, length, min, take, ◌∙◌, arith}
+use Rattle.std.proofs.Common.{◌≡◌, length, min, arith}
 use Rattle.petal_run.proofs.Fronts.{read-front, read-rest, vec-front}
 use Rattle.petal_run.proofs.reading.read_text.Goals as goal
 

@@ -8,7 +8,7 @@ pub returns-clause-items : goal.returns-clause-items
 returns-clause-items c =
     let es = c.args.entries.now.items in
     let key = c.args.key.now in
-    let at : c.rank_of-at.result ≡ rank es key = c.rank_of-at.ensures ∙ ap (λ (l : List Entry). rank l key) c.deref.ensures.value in
+    let at : c.rank_of-at.result ≡ rank es key = c.rank_of-at.ensures.rank ∙ ap (λ (l : List Entry). rank l key) c.deref.ensures.value in
     let yes : c.is_same.result ≡ true = grind (arith, nat_tests) in
     let found : Found es key c.index.result.now c.rank_of-at.result = record { is = at; within = omega (arith, c.if-at-len.false, c.args.entries.now.ok); here = c.index.ensures; same = sym c.is_same.ensures ∙ yes } in
     c.remove.ensures.items ∙ without-found es key c.index.result.now c.rank_of-at.result found
@@ -20,7 +20,7 @@ pub returns-clause-dropped : goal.returns-clause-dropped
 returns-clause-dropped c =
     let es = c.args.entries.now.items in
     let key = c.args.key.now in
-    let at : c.rank_of-at.result ≡ rank es key = c.rank_of-at.ensures ∙ ap (λ (l : List Entry). rank l key) c.deref.ensures.value in
+    let at : c.rank_of-at.result ≡ rank es key = c.rank_of-at.ensures.rank ∙ ap (λ (l : List Entry). rank l key) c.deref.ensures.value in
     let yes : c.is_same.result ≡ true = grind (arith, nat_tests) in
     let found : Found es key c.index.result.now c.rank_of-at.result = record { is = at; within = omega (arith, c.if-at-len.false, c.args.entries.now.ok); here = c.index.ensures; same = sym c.is_same.ensures ∙ yes } in
     slot-found es key c.index.result.now c.rank_of-at.result found
@@ -29,7 +29,7 @@ pub returns-then-at-len-clause-items : goal.returns-then-at-len-clause-items
 returns-then-at-len-clause-items c =
     let es = c.args.entries.now.items in
     let key = c.args.key.now in
-    let at : c.rank_of-at.result ≡ rank es key = c.rank_of-at.ensures ∙ ap (λ (l : List Entry). rank l key) c.deref.ensures.value in
+    let at : c.rank_of-at.result ≡ rank es key = c.rank_of-at.ensures.rank ∙ ap (λ (l : List Entry). rank l key) c.deref.ensures.value in
     let none : Entry = record { key = key; slot = 0; version = 0 } in
     without-absent es key none c.rank_of-at.result c.requires (record { is = at; other = λ within. absurd (omega (arith, c.if-at-len.true, c.args.entries.now.ok, c.len.ensures)) })
 
@@ -37,7 +37,7 @@ pub returns-then-at-len-clause-dropped : goal.returns-then-at-len-clause-dropped
 returns-then-at-len-clause-dropped c =
     let es = c.args.entries.now.items in
     let key = c.args.key.now in
-    let at : c.rank_of-at.result ≡ rank es key = c.rank_of-at.ensures ∙ ap (λ (l : List Entry). rank l key) c.deref.ensures.value in
+    let at : c.rank_of-at.result ≡ rank es key = c.rank_of-at.ensures.rank ∙ ap (λ (l : List Entry). rank l key) c.deref.ensures.value in
     let none : Entry = record { key = key; slot = 0; version = 0 } in
     slot-absent es key none c.rank_of-at.result c.requires (record { is = at; other = λ within. absurd (omega (arith, c.if-at-len.true, c.args.entries.now.ok, c.len.ensures)) })
 
@@ -45,7 +45,7 @@ pub returns-then-not-is_same-clause-items : goal.returns-then-not-is_same-clause
 returns-then-not-is_same-clause-items c =
     let es = c.args.entries.now.items in
     let key = c.args.key.now in
-    let at : c.rank_of-at.result ≡ rank es key = c.rank_of-at.ensures ∙ ap (λ (l : List Entry). rank l key) c.deref.ensures.value in
+    let at : c.rank_of-at.result ≡ rank es key = c.rank_of-at.ensures.rank ∙ ap (λ (l : List Entry). rank l key) c.deref.ensures.value in
     let no : c.is_same.result ≡ false = grind (arith, nat_tests) in
     without-absent es key c.index.result.now c.rank_of-at.result c.requires (record { is = at; other = λ within. (c.index.ensures, sym c.is_same.ensures ∙ no) })
 
@@ -53,6 +53,6 @@ pub returns-then-not-is_same-clause-dropped : goal.returns-then-not-is_same-clau
 returns-then-not-is_same-clause-dropped c =
     let es = c.args.entries.now.items in
     let key = c.args.key.now in
-    let at : c.rank_of-at.result ≡ rank es key = c.rank_of-at.ensures ∙ ap (λ (l : List Entry). rank l key) c.deref.ensures.value in
+    let at : c.rank_of-at.result ≡ rank es key = c.rank_of-at.ensures.rank ∙ ap (λ (l : List Entry). rank l key) c.deref.ensures.value in
     let no : c.is_same.result ≡ false = grind (arith, nat_tests) in
     slot-absent es key c.index.result.now c.rank_of-at.result c.requires (record { is = at; other = λ within. (c.index.ensures, sym c.is_same.ensures ∙ no) })

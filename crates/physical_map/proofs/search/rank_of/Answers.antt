@@ -7,8 +7,8 @@ use Rattle.physical_map.specs.Keys.{key_below}
 use Rattle.physical_map.proofs.Orders.{partitioned}
 use Rattle.physical_map.proofs.search.rank_of.Goals as goal
 
-pub returns : goal.returns
-returns c =
+pub returns-clause-rank : goal.returns-clause-rank
+returns-clause-rank c =
     let es = c.args.entries.now in
     let key = c.args.key.now in
     let none : Entry = record { key = key; slot = 0; version = 0 } in

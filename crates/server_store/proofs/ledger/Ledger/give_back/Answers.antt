@@ -1,15 +1,20 @@
-use Rattle.std.proofs.Common.{arith}
+use Rattle.std.proofs.Common.{◌-◌, arith}
 use Rattle.std.specs.List.{Contains}
-use Rattle.server_store.proofs.Ledgers.{accounts-give_back, length-without, times-contains}
+use Rattle.server_store.proofs.Ledgers.{sound-give_back, used-ticket, some-out}
 use Rattle.server_store.proofs.ledger.Ledger.give_back.Goals as goal
+
+pub give-requires : goal.give-requires
+give-requires c =
+    let own = c.self.inside in
+    let has : Contains own.tickets.out c.args.ticket = rw (← c.self.view_is) at c.requires in
+    rw c.slot.ensures (used-ticket own.map.entries own.tickets.out own.slots.used c.args.ticket c.self.invariant.0.accounts has)
 
 pub invariant_of-self : goal.invariant_of-self
 invariant_of-self c =
-    let l = c.self.inside in
-    let has : Contains l.tickets.items c.args.slot = rw (← c.self.view_is) at c.requires in
-    record {
-      accounts = rw (c.take_out.ensures.items, c.push_reserved.ensures.items) (accounts-give_back l.entries.items l.tickets.items l.free.items c.args.slot l.slots has c.self.invariant.accounts);
-      entries_fit = rw (c.take_out.ensures.items) (omega (arith, c.self.invariant.entries_fit, length-without c.args.slot l.tickets.items (times-contains l.tickets.items c.args.slot has)));
-      free_fit = omega (arith, c.self.invariant.free_fit, c.push_reserved.ensures.capacity);
-      few = c.self.invariant.few;
-    }
+    let own = c.self.inside in
+    let has : Contains own.tickets.out c.args.ticket = rw (← c.self.view_is) at c.requires in
+    let some = some-out own.map.entries own.tickets.out own.slots.used own.map.spare own.out c.args.ticket has c.self.invariant.0 in
+    rw (c.without-self-inside.ensures, c.give.ensures, c.slot.ensures) (
+      sound-give_back own.map.entries own.tickets.out own.slots.used c.args.ticket own.map.spare own.out (own.out - 1) has (omega (arith, some)) c.self.invariant.0,
+      c.self.invariant.1,
+    )

@@ -1,12 +1,10 @@
-use Rattle.std.proofs.Common.{ap, arith, length}
-use Rattle.std.proofs.lemmas.List.FromFn.{length-range_with_len}
-use Rattle.server_store.proofs.Ledgers.{accounts-new}
+use Rattle.std.proofs.Common.{ap, arith}
+use Rattle.slot_store.specs.Slots.{Slots}
+use Rattle.server_store.proofs.Ledgers.{sound-new}
 use Rattle.server_store.proofs.ledger.Ledger.new.Goals as goal
 
 pub invariant_of-result : goal.invariant_of-result
-invariant_of-result c = record {
-  accounts = rw (c.new.ensures.items, c.new-2.ensures.items, c.in_ok-free.ensures) (accounts-new c.args.slots);
-  entries_fit = rw (c.new.ensures.items, c.new-2.ensures.items) (omega arith);
-  free_fit = omega (arith, c.in_ok-free.free.ok, ap length c.in_ok-free.ensures, length-range_with_len 0 c.args.slots);
-  few = omega arith;
-}
+invariant_of-result c = (
+  sound-new c.args.slots c.new.result.spare c.in_ok-new.field-0.used c.new-3.result.out c.new.result.entries (ap (λ (s : Slots). s.used) c.in_ok-new.ensures) c.new-3.ensures c.new.ensures (omega (arith, c.ranges.slots)),
+  ap (λ (s : Slots). s.base) c.in_ok-new.ensures,
+)

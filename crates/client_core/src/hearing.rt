@@ -1,0 +1,71 @@
+//! What a letter means for the open request.
+
+ghost use Rattle.std.specs.Prelude.{◌≡◌, ℕ, IfOk, if◌then◌else◌};
+ghost use Rattle.petal_rules.specs.State.{State};
+ghost use Rattle.petal_rules.specs.Clients.{Client, hears};
+ghost use Rattle.client_core.specs.Open.{heard_by};
+
+use crate::open::{Open, is_read, is_write};
+use petal_base::{NoMemory, Rev, Seq};
+use petal_msg::Body;
+use petal_script::Answer;
+
+/// What comes of a letter.
+#[derive(Drop)]
+pub enum Heard {
+    /// It does not count.
+    Nothing,
+    /// It ends the request.
+    Answered(Answer),
+    /// The request is sent anew.
+    Again,
+}
+
+fn answered_if(counts: bool, answer: Answer) -> Heard
+    ensures { result ≡ (if counts then Heard.Answered answer else Heard.Nothing) }
+{
+    if counts {
+        Heard::Answered(answer)
+    } else {
+        Heard::Nothing
+    }
+}
+
+fn again_if(counts: bool) -> Heard
+    ensures { result ≡ (if counts then Heard.Again else Heard.Nothing) }
+{
+    if counts { Heard::Again } else { Heard::Nothing }
+}
+
+impl Open {
+    /// What a letter that comes at a revision means for this request.
+    pub fn hear(&self, rev: Rev, body: &Body) -> Result<Heard, NoMemory>
+        ensures { IfOk result (λ heard. (state : State) (me : ℕ) (client : Client) → hears state me client self.now rev body.now ≡ heard_by state me client self.now heard) }
+    {
+        match body {
+            Body::Data { seq, bytes } => Ok(if self.counts(rev, *seq) && is_read(&self.request) {
+                Heard::Answered(Answer::Data(bytes.share()?))
+            } else {
+                Heard::Nothing
+            }),
+            Body::Written { seq } => Ok(answered_if(
+                self.counts(rev, *seq) && is_write(&self.request),
+                Answer::Ok,
+            )),
+            Body::Full { seq } => Ok(answered_if(
+                self.counts(rev, *seq) && is_write(&self.request),
+                Answer::NoSpace,
+            )),
+            Body::BlockBusy { seq } | Body::Held { seq } => Ok(again_if(self.counts(rev, *seq))),
+            Body::WrongRev { seq } => Ok(again_if(*seq == self.seq)),
+            Body::NotHere { .. }
+            | Body::Read { .. }
+            | Body::Write { .. }
+            | Body::Reserve { .. }
+            | Body::Reserved { .. }
+            | Body::PairFull { .. }
+            | Body::Replicate { .. }
+            | Body::Replicated { .. } => Ok(Heard::Nothing),
+        }
+    }
+}

@@ -1,0 +1,4 @@
+pub mod Puts
+pub mod Chains
+pub mod InOrder
+pub mod Kept

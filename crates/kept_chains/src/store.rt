@@ -1,0 +1,73 @@
+//! Calls of a store, said as the rules say them.
+
+ghost use Rattle.std.specs.Prelude.{◌≡◌, ◌+◌, ◌-◌, ◌^◌, ◌<◌, ◌++◌, ◌∷◌, [], length, nat_lt, Contains, IfOk, IfErr, IfSome, IfNone, OnOk, OnErr, is_some};
+ghost use Rattle.petal_disk.specs.Faults.{HasCause};
+ghost use Rattle.petal_rules.specs.Store.{bytes_of, chain_in, entry_at, free_of, version_of, top_of};
+ghost use Rattle.physical_map.specs.Entries as map;
+ghost use Rattle.server_store.specs.Holdings.{listed};
+ghost use Rattle.kept_chains.specs.Kept.{chains_of, kept_of};
+ghost use Rattle.kept_chains.specs.Reading.{IsReadFault};
+
+use crate::ReadError;
+use petal_base::{BLOCK_BYTES, Block, Cell, Epoch, NoMemory, SharedBlock, Version};
+use petal_disk::{Disk, Failed};
+use server_store::{Store, StoreError, Ticket};
+use std::alloc::{AllocError, Global};
+
+/// The version after the greatest one of a cell's entries.
+pub fn next_version<D: Disk>(store: &Store<D>, cell: Cell) -> Version
+    requires { map.top_of (listed store.now.entries) < 2 ^ 64 - 1 }
+    ensures { result ≡ version_of (chain_in (chains_of store.now.entries) cell) + 1 }
+{
+    // What `free` promises tells the proof that the entries are in order.
+    let _ = store.free();
+    store.version(cell) + 1
+}
+
+/// Sets a slot apart; None exactly where none is free, and then nothing changed.
+///
+/// # Errors
+/// Want of memory, which changed nothing.
+pub fn set_apart<D: Disk>(store: &mut Store<D>) -> Result<Option<Ticket>, NoMemory>
+    ensures room { IfOk result (λ found. is_some found ≡ nat_lt 0 (free_of (kept_of store.old))) }
+    ensures some { IfOk result (λ found. IfSome found (λ ticket. store.new ≡ record store.old { tickets = store.old.tickets ++ ticket ∷ [] })) }
+    ensures other { IfOk result (λ found. IfSome found (λ ticket. ¬ Contains store.old.tickets ticket)) }
+    ensures out { IfOk result (λ found. IfSome found (λ ticket. Contains store.new.tickets ticket)) }
+    ensures none { IfOk result (λ found. IfNone found (store.new ≡ store.old)) }
+    ensures err { OnErr result (store.new ≡ store.old) }
+{
+    if store.free() == 0 {
+        return Ok(None);
+    }
+    match store.reserve() {
+        Ok(ticket) => Ok(Some(ticket)),
+        Err(_) => Err(NoMemory),
+    }
+}
+
+fn buffer(alloc: Global) -> Result<Vec<u8>, AllocError>
+    ensures { IfOk result (λ v. length v.items ≡ 65536) }
+{
+    Ok(vec![in alloc; 0; BLOCK_BYTES]?)
+}
+
+/// The bytes that a cell has at an epoch.
+///
+/// # Errors
+/// `Failed`, where the device failed; want of memory. Nothing that the store has changed.
+pub fn read_at<D: Disk>(
+    alloc: Global,
+    store: &mut Store<D>,
+    cell: Cell,
+    epoch: Epoch,
+) -> Result<SharedBlock, ReadError>
+    ensures bytes { IfOk result (λ bytes. D.told → bytes ≡ bytes_of (entry_at (chain_in (chains_of store.old.entries) cell) epoch)) }
+    ensures same { store.new ≡ record store.old { disk = store.new.disk } }
+    ensures cause { IsReadFault (D.faults store.old.disk) (D.faults store.new.disk) result }
+    ensures run { D.came_to store.old.disk store.new.disk }
+{
+    let mut bytes = buffer(alloc)?;
+    let _ = store.free();
+    let _ = store.read(cell.map, cell.block, epoch, &mut bytes)?;
+    Ok(SharedBlock::new(alloc, Block::of(bytes))?)
+}

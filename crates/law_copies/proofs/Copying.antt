@@ -1,0 +1,112 @@
+-- Every step keeps the pairs, and so does every legal history.
+use Rattle.std.proofs.Common.{◌≡◌, ◌∙◌, ℕ, true, List, [], Some, None, refl, ap, sym, subst, inl, inr, arith}
+use Rattle.petal_base.specs.declared.place.Cell.{Cell}
+use Rattle.petal_table.specs.Table.{at}
+use Rattle.petal_table.proofs.Rows.{at-empty}
+use Rattle.petal_msg.specs.declared.body.Body.{Body}
+use Rattle.petal_msg.specs.declared.body.Body.TheVariants as body
+use Rattle.petal_script.specs.declared.request.Line.{Line}
+use Rattle.petal_script.specs.declared.script.Script.{Script}
+use Rattle.petal_rules.specs.Lists.{In}
+use Rattle.petal_rules.specs.State.{State}
+use Rattle.petal_rules.specs.Store.{cell_cmp, chain_in}
+use Rattle.petal_rules.specs.Server.{Half, sender}
+use Rattle.petal_rules.specs.Jobs.{here_of, half_of}
+use Rattle.petal_rules.specs.Clients.{client_sender}
+use Rattle.petal_rules.specs.World.{World, start, setting_of}
+use Rattle.petal_rules.proofs.ListLemmas.{put_same, put_apart, in-append}
+use Rattle.petal_history.specs.Claims.{Copies, TwoCopies}
+use Rattle.petal_history.specs.Contents.{chosen_state}
+use Rattle.petal_history.specs.Legal.{IsLegal, world_after}
+use Rattle.petal_history.specs.Sound.{IsSound}
+use Rattle.petal_history.specs.declared.record.Record.{Record}
+use Rattle.law_steps.specs.Steady.{IsSteady}
+use Rattle.law_steps.specs.Happens.{Happens, Serves, Turns, server_moves, served}
+use Rattle.law_steps.specs.Ready.{Ready}
+use Rattle.law_steps.proofs.Letters.{said}
+use Rattle.law_steps.proofs.Sending.{is_ask, turned_asks}
+use Rattle.law_steps.proofs.Tests.{true_false}
+use Rattle.law_steps.proofs.Scripts.{script_steady, start_ready}
+use Rattle.law_steps.proofs.Stepping.{kept_after}
+use Rattle.law_copies.specs.Pair.{Pair, pair_of, IsPair, PairOk, Keeps, cell_in, SaidOk, halves_of, Good}
+use Rattle.law_copies.proofs.Frames.{Changes, known_later, pairs_kept}
+use Rattle.law_copies.proofs.Jobs.{job_keeps}
+use Rattle.law_copies.proofs.Moves.{stays}
+
+-- ### What clients send says nothing of pairs
+
+ask_no_cell : (said : Body) → is_ask said ≡ true → cell_in said ≡ None
+ask_no_cell (body.Read to seq cell epoch) e = refl
+ask_no_cell (body.Write to seq cell epoch bytes) e = refl
+ask_no_cell (body.Data seq bytes) e = refl
+ask_no_cell (body.NotHere seq) e = refl
+ask_no_cell (body.BlockBusy seq) e = refl
+ask_no_cell (body.Held seq) e = refl
+ask_no_cell (body.WrongRev seq) e = refl
+ask_no_cell (body.Written seq) e = refl
+ask_no_cell (body.Full seq) e = refl
+ask_no_cell (body.Reserve number cell) e = true_false e refl
+ask_no_cell (body.Reserved number cell) e = true_false e refl
+ask_no_cell (body.PairFull number cell) e = true_false e refl
+ask_no_cell (body.Replicate number key version bytes) e = true_false e refl
+ask_no_cell (body.Replicated number cell) e = true_false e refl
+
+no_cell : (state : State) (halves : ℕ → Half) (said : Body) → cell_in said ≡ None → SaidOk state halves said
+no_cell state halves said e cell n m is pair = absurd (let f : None ≡ Some cell = sym e ∙ is in cc)
+
+-- ### Steps
+
+module _ (state : State) (steady : IsSteady state) (lines : List Line) where
+  same : (pair : Pair) → PairOk pair → Keeps pair pair
+  same pair ok = stays pair pair.next ok (omega arith)
+
+  pub happens_good : (w v : World) → Ready state w → Good state w → Happens state lines w v → Good state v
+  happens_good w _ ready good (Serves n stamp done queue lt did queued) =
+      let v = server_moves state w n stamp done queue in
+      let server = served (w.servers n) done queue in
+      let changes : Changes (halves_of w) (halves_of v) n done.half = record { here = ap half_of (put_same w.servers n server); others = λ m ne. ap half_of (put_apart w.servers n server m ne) } in
+      let keeps = job_keeps state steady w ready good n done did in
+      let kept = λ (cell : Cell) (i j : ℕ) (pair : IsPair state cell i j). pairs_kept state steady (halves_of w) (halves_of v) n done.half changes done.posts keeps same cell i j pair (good.pairs cell i j pair) in
+      record {
+        pairs = λ cell i j pair. (kept cell i j pair).ok;
+        letters = λ letter h. elim (in-append letter _ w.sent h) [
+          | inl new ↦ let s = said (sender (here_of state n (w.servers n))) stamp 0 done.posts letter new in subst (SaidOk state (halves_of v)) (sym s.body) (keeps.says (halves_of v) changes s.post s.there)
+          | inr old ↦ (λ cell i j is pair. known_later _ _ (kept cell i j pair).grows letter.body (good.letters letter old cell i j is pair))
+        ];
+      }
+  happens_good w _ ready good (Turns c stamp in_call reacted lt c_lt turned) = record {
+    pairs = good.pairs;
+    letters = λ letter h. elim (in-append letter _ w.sent h) [
+      | inl new ↦
+          let s = said (client_sender state c) stamp 0 reacted.posts letter new in
+          no_cell state (halves_of w) letter.body (subst (λ (b : Body). cell_in b ≡ None) (sym s.body) (ask_no_cell s.post.body (turned_asks _ state lines c (w.clients c) in_call reacted turned s.post s.there)))
+      | inr old ↦ good.letters letter old
+    ];
+  }
+
+empty_ok : (one two : Half) (cell : Cell) → one.store.chains ≡ [] → two.store.chains ≡ [] → one.pairs.pending ≡ [] → one.pairs.next ≡ 1 → two.pairs.last ≡ [] → PairOk (pair_of one two cell)
+empty_ok one two cell first second pending next last =
+    subst PairOk (λ i. record { first = chain_in (sym first i) cell; second = chain_in (sym second i) cell; pending = at cell_cmp (sym pending i) cell; next = sym next i; last = at cell_cmp (sym last i) cell })
+    (subst PairOk (λ i. record { first = chain_in [] cell; second = chain_in [] cell; pending = sym (at-empty cell_cmp cell) i; next = 1; last = sym (at-empty cell_cmp cell) i })
+    (record { copies = refl; below = omega arith; fresh = omega arith }))
+
+pub pair_copies : (pair : Pair) → PairOk pair → Copies pair.first pair.second pair.pending
+pair_copies pair ok = grind arith
+
+pub start_good : (state : State) (script : Script) → Good state (start (setting_of script))
+unfolding In
+start_good state script = record {
+  pairs = λ cell n m pair. empty_ok (halves_of (start (setting_of script)) n) (halves_of (start (setting_of script)) m) cell refl refl refl refl refl;
+  letters = λ letter h. absurd h;
+}
+
+-- ### Histories
+
+pub good_after : (script : Script) (records : List Record) → IsSound script → IsLegal script records → Good (chosen_state (setting_of script)) (world_after (setting_of script) (start (setting_of script)) records)
+good_after script records sound legal =
+    let state = chosen_state (setting_of script) in
+    let steady = script_steady script sound in
+    kept_after script.servers script.slots script.lines state steady (Good state) (happens_good state steady script.lines) (start (setting_of script)) records (start_ready state script) (start_good state script) legal
+
+pub copies_after : (script : Script) (records : List Record) → IsSound script → IsLegal script records → (cell : Cell) → TwoCopies (chosen_state (setting_of script)) (world_after (setting_of script) (start (setting_of script)) records) cell
+copies_after script records sound legal cell n m leads follows = pair_copies _ ((good_after script records sound legal).pairs cell n m (record { leads = leads; follows = follows }))

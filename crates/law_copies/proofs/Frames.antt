@@ -1,0 +1,113 @@
+-- A step of one server changes the pairs that it is of, and no others.
+use Rattle.std.proofs.Common.{◌≡◌, ◌≢◌, ℕ, List, Some, sym, ◌∙◌, subst, inl, inr, arith}
+use Rattle.petal_base.specs.declared.place.Cell.{Cell}
+use Rattle.petal_msg.specs.declared.body.Body.{Body}
+use Rattle.petal_msg.specs.declared.body.Body.TheVariants as body
+use Rattle.petal_rules.specs.Lists.{In}
+use Rattle.petal_rules.specs.State.{State}
+use Rattle.petal_rules.specs.Server.{Half, Post}
+use Rattle.law_steps.specs.Steady.{IsSteady}
+use Rattle.law_steps.proofs.Tests.{same_or_apart, same_some}
+use Rattle.law_copies.specs.Pair.{Pair, pair_of, IsPair, PairOk, Grows, Keeps, Known, cell_in, SaidOk}
+
+-- what was known of a letter is known later
+pub known_later : (old new : Pair) → Grows old new → (said : Body) → Known old said → Known new said
+known_later old new grows (body.Reserve number cell) h = let more = grows.higher in omega arith
+known_later old new grows (body.Reserved number cell) h = let more = grows.onward in omega arith
+known_later old new grows (body.Replicate number key version bytes) h = elim h [
+  | inl putting ↦ grows.putting number key bytes putting
+  | inr past ↦ let more = grows.onward in inr (omega arith)
+]
+known_later old new grows (body.Replicated number cell) h = let more = grows.onward in omega arith
+known_later old new grows (body.PairFull number cell) h = tt
+known_later old new grows (body.Read client seq cell epoch) h = tt
+known_later old new grows (body.Write client seq cell epoch bytes) h = tt
+known_later old new grows (body.Data seq bytes) h = tt
+known_later old new grows (body.NotHere seq) h = tt
+known_later old new grows (body.BlockBusy seq) h = tt
+known_later old new grows (body.Held seq) h = tt
+known_later old new grows (body.WrongRev seq) h = tt
+known_later old new grows (body.Written seq) h = tt
+known_later old new grows (body.Full seq) h = tt
+
+-- one server's half is another
+pub record Changes (halves later : ℕ → Half) (k : ℕ) (new : Half) : Type 0 where
+  pub here : later k ≡ new
+  pub others : (n : ℕ) → n ≢ k → later n ≡ halves n
+
+-- What a job has to show: for the cells that its server is the first of, for those that it is the second of, and of what it
+-- sends.
+pub record JobKeeps (state : State) (halves : ℕ → Half) (k : ℕ) (new : Half) (posts : List Post) : Type 0 where
+  pub as_first : (cell : Cell) (m : ℕ) → IsPair state cell k m → Keeps (pair_of (halves k) (halves m) cell) (pair_of new (halves m) cell)
+  pub as_second : (cell : Cell) (n : ℕ) → IsPair state cell n k → Keeps (pair_of (halves n) (halves k) cell) (pair_of (halves n) new cell)
+  pub says : (later : ℕ → Half) → Changes halves later k new → (post : Post) → In post posts → SaidOk state later post.body
+
+module _ (state : State) (steady : IsSteady state) where
+  -- the two servers of a cell are two
+  pub apart : (cell : Cell) (n m : ℕ) → IsPair state cell n m → n ≢ m
+  apart cell n m pair e =
+      let two = steady.pairs cell n pair.leads in
+      let same : two.other ≡ m = same_some (sym two.is ∙ pair.follows) in
+      two.apart (e ∙ sym same)
+
+  pub same_first : (cell : Cell) (n m i j : ℕ) → IsPair state cell n m → IsPair state cell i j → n ≡ i
+  same_first cell n m i j p q = same_some (sym p.leads ∙ q.leads)
+
+  pub same_second : (cell : Cell) (n m i j : ℕ) → IsPair state cell n m → IsPair state cell i j → m ≡ j
+  same_second cell n m i j p q = same_some (sym p.follows ∙ q.follows)
+
+  module _ (halves later : ℕ → Half) (k : ℕ) (new : Half) (changes : Changes halves later k new) where
+    -- the pair of a cell that the server is the first of
+    pub now_first : (cell : Cell) (m : ℕ) → IsPair state cell k m → pair_of new (halves m) cell ≡ pair_of (later k) (later m) cell
+    now_first cell m pair =
+        let p : new ≡ later k = sym changes.here in
+        let q : halves m ≡ later m = sym (changes.others m (λ e. apart cell k m pair (sym e))) in
+        λ i. pair_of (p i) (q i) cell
+
+    pub now_second : (cell : Cell) (n : ℕ) → IsPair state cell n k → pair_of (halves n) new cell ≡ pair_of (later n) (later k) cell
+    now_second cell n pair =
+        let p : halves n ≡ later n = sym (changes.others n (apart cell n k pair)) in
+        let q : new ≡ later k = sym changes.here in
+        λ i. pair_of (p i) (q i) cell
+
+    now_other : (cell : Cell) (n m : ℕ) → n ≢ k → m ≢ k → pair_of (halves n) (halves m) cell ≡ pair_of (later n) (later m) cell
+    now_other cell n m ne ne' =
+        let p : halves n ≡ later n = sym (changes.others n ne) in
+        let q : halves m ≡ later m = sym (changes.others m ne') in
+        λ i. pair_of (p i) (q i) cell
+
+    -- each pair is kept
+    pub pairs_kept : (posts : List Post) → JobKeeps state halves k new posts → ((pair : Pair) → PairOk pair → Keeps pair pair) → (cell : Cell) (n m : ℕ) → IsPair state cell n m → PairOk (pair_of (halves n) (halves m) cell)
+        → Keeps (pair_of (halves n) (halves m) cell) (pair_of (later n) (later m) cell)
+    pairs_kept posts keeps same cell n m pair ok = elim (same_or_apart n k) [
+      | inl e ↦
+          let mine : IsPair state cell k m = subst (λ i. IsPair state cell i m) e pair in
+          subst (λ i. Keeps (pair_of (halves i) (halves m) cell) (pair_of (later i) (later m) cell)) (sym e)
+          (subst (Keeps (pair_of (halves k) (halves m) cell)) (now_first cell m mine) (keeps.as_first cell m mine))
+      | inr ne ↦ elim (same_or_apart m k) [
+        | inl e ↦
+            let mine : IsPair state cell n k = subst (λ i. IsPair state cell n i) e pair in
+            subst (λ i. Keeps (pair_of (halves n) (halves i) cell) (pair_of (later n) (later i) cell)) (sym e)
+            (subst (Keeps (pair_of (halves n) (halves k) cell)) (now_second cell n mine) (keeps.as_second cell n mine))
+        | inr ne' ↦ subst (Keeps (pair_of (halves n) (halves m) cell)) (now_other cell n m ne ne') (same (pair_of (halves n) (halves m) cell) ok)
+      ]
+    ]
+
+    -- what is known of a letter about a cell that the server is the first of, or the second
+    pub known_first : (said : Body) (cell : Cell) (m : ℕ) → IsPair state cell k m → cell_in said ≡ Some cell → Known (pair_of new (halves m) cell) said → SaidOk state later said
+    known_first said cell m mine is h c n j e pair =
+        let same : cell ≡ c = same_some (sym is ∙ e) in
+        let pair' : IsPair state cell n j = subst (λ (q : Cell). IsPair state q n j) (sym same) pair in
+        let known : Known (pair_of (later k) (later m) cell) said = subst (λ p. Known p said) (now_first cell m mine) h in
+        subst (λ (q : Cell). Known (pair_of (later n) (later j) q) said) same
+        (subst (λ i. Known (pair_of (later i) (later j) cell) said) (same_first cell k m n j mine pair')
+        (subst (λ i. Known (pair_of (later k) (later i) cell) said) (same_second cell k m n j mine pair') known))
+
+    pub known_second : (said : Body) (cell : Cell) (n : ℕ) → IsPair state cell n k → cell_in said ≡ Some cell → Known (pair_of (halves n) new cell) said → SaidOk state later said
+    known_second said cell n mine is h c i j e pair =
+        let same : cell ≡ c = same_some (sym is ∙ e) in
+        let pair' : IsPair state cell i j = subst (λ (q : Cell). IsPair state q i j) (sym same) pair in
+        let known : Known (pair_of (later n) (later k) cell) said = subst (λ p. Known p said) (now_second cell n mine) h in
+        subst (λ (q : Cell). Known (pair_of (later i) (later j) q) said) same
+        (subst (λ x. Known (pair_of (later x) (later j) cell) said) (same_first cell n k i j mine pair')
+        (subst (λ x. Known (pair_of (later n) (later x) cell) said) (same_second cell n k i j mine pair') known))

@@ -1,0 +1,4 @@
+pub mod Moves
+pub mod Frames
+pub mod Jobs
+pub mod Copying

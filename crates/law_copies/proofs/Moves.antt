@@ -1,0 +1,40 @@
+-- What happens to one cell keeps its two copies together.
+use Rattle.std.proofs.Common.{◌≡◌, ℕ, ◌+◌, ◌<◌, ◌≤◌, List, Some, None, true, false, arith}
+use Rattle.std.specs.Ordering.{nat_cmp}
+use Rattle.petal_base.specs.declared.place.Key.{Key}
+use Rattle.petal_table.specs.Table.{put}
+use Rattle.petal_msg.specs.declared.operation.Far.TheVariants.{Reserved, Replicated}
+use Rattle.petal_msg.specs.declared.operation.Pending.{Pending}
+use Rattle.petal_rules.specs.Store.{version_of}
+use Rattle.law_steps.specs.Did.{progress}
+use Rattle.law_copies.specs.Pair.{Pair, far, ceiling, PairOk, IsPutting, Keeps}
+
+-- nothing happens to the cell, but new numbers may be given to others
+pub stays : (pair : Pair) (next : ℕ) → PairOk pair → pair.next ≤ next → Keeps pair (record pair { next = next })
+stays pair next ok le = grind arith
+
+-- a new operation opens
+pub opens : (pair : Pair) (op : Pending) → PairOk pair → pair.pending ≡ None → op.op ≡ pair.next → op.stage.put ≡ false → Keeps pair (record pair { pending = Some op; next = pair.next + 1 })
+opens pair op ok none number stage = grind arith
+
+-- the first server puts its copy, once the second has set a slot apart
+pub puts : (pair : Pair) (op new : Pending) → PairOk pair → pair.pending ≡ Some op → op.stage.put ≡ false → op.op + op.op ≤ far pair → new.op ≡ op.op → new.key ≡ op.key → new.bytes ≡ op.bytes → new.stage.put ≡ true
+    → Keeps pair (record pair { first = put nat_cmp pair.first op.key.epoch (record { version = version_of pair.first + 1; bytes = op.bytes }); pending = Some new })
+puts pair op new ok some at begun number key bytes stage = grind arith
+
+-- the second server has no room
+pub refuses : (pair : Pair) (op : Pending) → PairOk pair → pair.pending ≡ Some op → op.stage.put ≡ false → Keeps pair (record pair { pending = None })
+refuses pair op ok some at = grind arith
+
+-- the operation is done with, once the second server has followed
+pub closes : (pair : Pair) (op : Pending) → PairOk pair → pair.pending ≡ Some op → op.stage.put ≡ true → op.op + op.op + 1 ≤ far pair → Keeps pair (record pair { pending = None })
+closes pair op ok some at past = grind arith
+
+-- the second server sets a slot apart
+pub reserves : (pair : Pair) (number : ℕ) → PairOk pair → progress pair.last ≤ number + number → number < ceiling pair → Keeps pair (record pair { last = Some (record { op = number; far = Reserved }) })
+reserves pair number ok newer asked = grind arith
+
+-- the second server follows
+pub follows : (pair : Pair) (number : ℕ) (key : Key) (bytes : List ℕ) → PairOk pair → pair.last ≡ Some (record { op = number; far = Reserved }) → IsPutting pair.pending number key bytes
+    → Keeps pair (record pair { second = put nat_cmp pair.second key.epoch (record { version = version_of pair.second + 1; bytes = bytes }); last = Some (record { op = number; far = Replicated }) })
+follows pair number key bytes ok at h = grind arith

@@ -1,0 +1,137 @@
+-- One cell as its two servers have it, and what is kept of it.
+use Rattle.std.specs.Prelude.{◌≡◌, ℕ, ◌+◌, ◌≤◌, ◌<◌, ◌⊎◌, Bool, true, false, List, Option, Some, None}
+use Rattle.petal_base.specs.declared.place.Cell.{Cell}
+use Rattle.petal_base.specs.declared.place.Key.{Key}
+use Rattle.petal_base.specs.Place.{cell_of}
+use Rattle.petal_table.specs.Table.{at}
+use Rattle.petal_msg.specs.declared.body.Body.{Body}
+use Rattle.petal_msg.specs.declared.body.Body.TheVariants as body
+use Rattle.petal_msg.specs.declared.letter.Letter.{Letter}
+use Rattle.petal_msg.specs.declared.operation.LastOp.{LastOp}
+use Rattle.petal_msg.specs.declared.operation.Pending.{Pending}
+use Rattle.petal_rules.specs.Lists.{In}
+use Rattle.petal_rules.specs.State.{State, first, second}
+use Rattle.petal_rules.specs.Store.{Chain, cell_cmp, chain_in}
+use Rattle.petal_rules.specs.Server.{Half}
+use Rattle.petal_rules.specs.Jobs.{half_of}
+use Rattle.petal_rules.specs.World.{World}
+use Rattle.petal_history.specs.Claims.{one_put_ahead}
+use Rattle.law_steps.specs.Did.{progress}
+
+-- the two copies, the operation that is pending at the first server and the number of its next one, and the last operation
+-- that the second one took part in
+pub record Pair : Type 0 where
+  pub first : Chain
+  pub second : Chain
+  pub pending : Option Pending
+  pub next : ℕ
+  pub last : Option LastOp
+
+abbrev pub pair_of : Half → Half → Cell → Pair
+pair_of lead other cell = record {
+  first = chain_in lead.store.chains cell;
+  second = chain_in other.store.chains cell;
+  pending = at cell_cmp lead.pairs.pending cell;
+  next = lead.pairs.next;
+  last = at cell_cmp other.pairs.last cell;
+}
+
+-- these two servers keep the cell
+pub record IsPair (state : State) (cell : Cell) (n m : ℕ) : Type 0 where
+  pub leads : first state cell ≡ Some n
+  pub follows : second state cell ≡ Some m
+
+-- above each number that operations on the cell have had
+abbrev pub ceiling_of : Option Pending → ℕ → ℕ
+ceiling_of None next = next
+ceiling_of (Some op) next = op.op + 1
+
+abbrev pub ceiling : Pair → ℕ
+ceiling pair = ceiling_of pair.pending pair.next
+
+abbrev pub far : Pair → ℕ
+far pair = progress pair.last
+
+-- the first server has put: it is one put ahead, or the second one has followed
+pub record IsAhead (first second : Chain) (at : ℕ) (op : Pending) : Type 0 where
+  pub begun : op.op + op.op ≤ at
+  pub ahead : at ≡ op.op + op.op → first ≡ one_put_ahead second op
+  pub even : op.op + op.op + 1 ≤ at → first ≡ second
+
+abbrev pub Working : Chain → Chain → ℕ → Pending → (put : Bool) → Type 0
+Working first second at op false = (first ≡ second) × (at < op.op + op.op + 1)
+Working first second at op true = IsAhead first second at op
+
+-- the two copies, where the second server is so far
+abbrev pub AreCopies : Chain → Chain → ℕ → Option Pending → Type 0
+AreCopies first second at None = first ≡ second
+AreCopies first second at (Some op) = Working first second at op op.stage.put
+
+pub record PairOk (pair : Pair) : Type 0 where
+  pub copies : AreCopies pair.first pair.second (far pair) pair.pending
+  pub below : far pair < ceiling pair + ceiling pair
+  pub fresh : ceiling pair ≤ pair.next
+
+-- this operation is pending, and the second server was asked to follow
+pub record IsPutting (pending : Option Pending) (number : ℕ) (key : Key) (bytes : List ℕ) : Type 0 where
+  pub op : Pending
+  pub is : pending ≡ Some op
+  pub number_is : op.op ≡ number
+  pub put : op.stage.put ≡ true
+  pub key_is : op.key ≡ key
+  pub bytes_is : op.bytes ≡ bytes
+
+-- time goes on
+pub record Grows (old new : Pair) : Type 0 where
+  pub onward : far old ≤ far new
+  pub higher : ceiling old ≤ ceiling new
+  pub putting : (number : ℕ) (key : Key) (bytes : List ℕ) → IsPutting old.pending number key bytes → IsPutting new.pending number key bytes ⊎ (number + number + 1 ≤ far new)
+
+pub record Keeps (old new : Pair) : Type 0 where
+  pub ok : PairOk new
+  pub grows : Grows old new
+
+-- what is known of a letter that was ever sent, where the cell stands so
+abbrev pub Known : Pair → Body → Type 0
+Known pair (body.Reserve number cell) = number < ceiling pair
+Known pair (body.Reserved number cell) = number + number ≤ far pair
+Known pair (body.Replicate number key version bytes) = IsPutting pair.pending number key bytes ⊎ (number + number + 1 ≤ far pair)
+Known pair (body.Replicated number cell) = number + number + 1 ≤ far pair
+Known pair (body.PairFull number cell) = Unit {0}
+Known pair (body.Read client seq cell epoch) = Unit {0}
+Known pair (body.Write client seq cell epoch bytes) = Unit {0}
+Known pair (body.Data seq bytes) = Unit {0}
+Known pair (body.NotHere seq) = Unit {0}
+Known pair (body.BlockBusy seq) = Unit {0}
+Known pair (body.Held seq) = Unit {0}
+Known pair (body.WrongRev seq) = Unit {0}
+Known pair (body.Written seq) = Unit {0}
+Known pair (body.Full seq) = Unit {0}
+
+-- the cell of which a letter between servers speaks
+abbrev pub cell_in : Body → Option Cell
+cell_in (body.Reserve number cell) = Some cell
+cell_in (body.Reserved number cell) = Some cell
+cell_in (body.PairFull number cell) = Some cell
+cell_in (body.Replicate number key version bytes) = Some (cell_of key)
+cell_in (body.Replicated number cell) = Some cell
+cell_in (body.Read client seq cell epoch) = None
+cell_in (body.Write client seq cell epoch bytes) = None
+cell_in (body.Data seq bytes) = None
+cell_in (body.NotHere seq) = None
+cell_in (body.BlockBusy seq) = None
+cell_in (body.Held seq) = None
+cell_in (body.WrongRev seq) = None
+cell_in (body.Written seq) = None
+cell_in (body.Full seq) = None
+
+abbrev pub SaidOk : State → (ℕ → Half) → Body → Type 0
+SaidOk state halves said = (cell : Cell) (n m : ℕ) → cell_in said ≡ Some cell → IsPair state cell n m → Known (pair_of (halves n) (halves m) cell) said
+
+abbrev pub halves_of : World → ℕ → Half
+halves_of w n = half_of (w.servers n)
+
+-- the pair of each cell, and the letters that were ever sent
+pub record Good (state : State) (w : World) : Type 0 where
+  pub pairs : (cell : Cell) (n m : ℕ) → IsPair state cell n m → PairOk (pair_of (halves_of w n) (halves_of w m) cell)
+  pub letters : (letter : Letter) → In letter w.sent → SaidOk state (halves_of w) letter.body

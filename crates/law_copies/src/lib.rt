@@ -1,0 +1,28 @@
+//! The two-copy rule: after every legal history, the two chains of a cell in Both are equal, or the first is one put ahead, by
+//! the operation that is pending on it ("Petal: Distributed Virtual Disks", 1996, 3.2).
+//!
+//! To the laws above it promises this and what goes with it: how far the second server is, and what a letter between the two
+//! servers tells of that. It knows nothing of clients or of the plain machine.
+#![tactic(auto)]
+
+ghost use Rattle.std.specs.Prelude.{List};
+ghost use Rattle.petal_base.specs.declared.place.Cell.{Cell};
+ghost use Rattle.petal_script.specs.declared.script.Script.{Script};
+ghost use Rattle.petal_rules.specs.World.{setting_of, start};
+ghost use Rattle.petal_history.specs.Claims.{TwoCopies};
+ghost use Rattle.petal_history.specs.Contents.{chosen_state};
+ghost use Rattle.petal_history.specs.Legal.{IsLegal, world_after};
+ghost use Rattle.petal_history.specs.Sound.{IsSound};
+ghost use Rattle.petal_history.specs.declared.record.Record.{Record};
+ghost use Rattle.law_copies.specs.Pair.{Good};
+
+/// After every legal history of a sound script, the two copies of each cell keep the rule.
+pub fn two_copies()
+    ensures { (script : Script) (records : List Record) → IsSound script → IsLegal script records → (cell : Cell) → TwoCopies (chosen_state (setting_of script)) (world_after (setting_of script) (start (setting_of script)) records) cell }
+{}
+
+/// And what goes with it: the second server is no further than the lead has given numbers out, and each letter that was ever
+/// sent between the two tells what is so, or what is past.
+pub fn letters_between_two_servers()
+    ensures { (script : Script) (records : List Record) → IsSound script → IsLegal script records → Good (chosen_state (setting_of script)) (world_after (setting_of script) (start (setting_of script)) records) }
+{}

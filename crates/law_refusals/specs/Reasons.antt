@@ -1,0 +1,72 @@
+-- Why a request was refused.
+use Rattle.std.specs.Prelude.{◌≡◌, ◌<◌, ◌++◌, ℕ, true, List, ◌∷◌, Some}
+use Rattle.std.specs.Ordering.{nat_cmp}
+use Rattle.petal_base.specs.declared.place.Cell.{Cell}
+use Rattle.petal_table.specs.Table.{at}
+use Rattle.petal_msg.specs.declared.body.Body.TheVariants as body
+use Rattle.petal_msg.specs.declared.letter.Actor.{Actor}
+use Rattle.petal_msg.specs.declared.letter.Actor.TheVariants as actor
+use Rattle.petal_msg.specs.declared.letter.Letter.{Letter}
+use Rattle.petal_msg.specs.declared.operation.Ending.TheVariants as ending
+use Rattle.petal_msg.specs.declared.operation.Finished.{Finished}
+use Rattle.petal_msg.specs.declared.operation.Pending.{Pending}
+use Rattle.petal_rules.specs.Lists.{In}
+use Rattle.petal_rules.specs.State.{State, first, second, is_lead}
+use Rattle.petal_rules.specs.Store.{cell_cmp, free_of}
+use Rattle.petal_rules.specs.Clients.{Asked}
+use Rattle.petal_rules.specs.Jobs.{here_of, half_of}
+use Rattle.petal_rules.specs.World.{Setting, World, start}
+use Rattle.petal_rules.specs.declared.step.Step.{Step}
+use Rattle.petal_rules.specs.declared.step.Step.TheVariants.{Work}
+use Rattle.petal_rules.specs.declared.step.WorkEnd.TheVariants as work_end
+use Rattle.petal_history.specs.Contents.{chosen_state}
+use Rattle.petal_history.specs.Legal.{world_after}
+use Rattle.petal_history.specs.declared.record.Record.{Record}
+use Rattle.law_steps.specs.Did.{IsBusy}
+use Rattle.law_steps.specs.Happens.{Handled}
+
+-- ### No slot
+
+-- the actor's job found no slot for this request: the cell's lead had none free when the write came, or the second server
+-- had none when it was asked for one for the operation of this request
+pub data HadNoSlot (state : State) (w : World) (who : Actor) (what : Step) (client seq : ℕ) : Type 0 where
+  At_the_lead : (n : ℕ) (cell : Cell) (epoch : ℕ) (bytes : List ℕ) → who ≡ actor.Server n → what ≡ Work work_end.Done → is_lead state n cell ≡ true → Handled w n (body.Write client seq cell epoch bytes) → free_of (w.servers n).store ≡ 0 → HadNoSlot state w who what client seq
+  At_the_second : (n m : ℕ) (cell : Cell) (op : Pending) → who ≡ actor.Server m → what ≡ Work work_end.Done → first state cell ≡ Some n → second state cell ≡ Some m → at cell_cmp (w.servers n).pairs.pending cell ≡ Some op → op.client ≡ client → op.seq ≡ seq
+      → Handled w m (body.Reserve op.op cell) → free_of (w.servers m).store ≡ 0 → HadNoSlot state w who what client seq
+
+-- one of these records tells of such a step
+pub record WasRefused (setting : Setting) (records : List Record) (client seq : ℕ) : Type 0 where
+  pub front : List Record
+  pub own : Record
+  pub behind : List Record
+  pub lies : records ≡ front ++ own ∷ behind
+  pub reason : HadNoSlot (chosen_state setting) (world_after setting (start setting) front) own.actor own.step client seq
+
+-- the request that the client has open, which this line's answer ends
+pub record IsOpenFor (w : World) (client line : ℕ) : Type 0 where
+  pub asked : Asked
+  pub is : (w.clients client).asked ≡ Some asked
+  pub number : asked.line ≡ line
+
+-- the answer has a reason
+pub record HasReason (setting : Setting) (records : List Record) (client line : ℕ) : Type 0 where
+  pub opened : IsOpenFor (world_after setting (start setting) records) client line
+  pub refused : WasRefused setting records client opened.asked.seq
+
+-- ### A busy block
+
+-- a server's step found another operation pending on the block that it leads
+pub record FoundBusy (state : State) (w : World) (who : Actor) (seq : ℕ) : Type 0 where
+  pub server : ℕ
+  pub is : who ≡ actor.Server server
+  pub busy : IsBusy (Handled w server) (here_of state server (w.servers server)) (half_of (w.servers server)) seq
+
+-- ### What is kept
+
+-- where R holds of each request that was refused so far: of each that a letter tells of, or a lead remembers, and of the
+-- operation of which a second server told that it has no slot
+pub record Refusals (R : ℕ → ℕ → Type 0) (state : State) (w : World) : Type 0 where
+  pub letters : (letter : Letter) (c seq : ℕ) → In letter w.sent → letter.to ≡ actor.Client c → letter.body ≡ body.Full seq → R c seq
+  pub finished : (n c : ℕ) (last : Finished) → at nat_cmp (w.servers n).pairs.finished c ≡ Some last → last.ending ≡ ending.Full → R c last.seq
+  pub numbers : (letter : Letter) (number n : ℕ) (cell : Cell) → In letter w.sent → letter.body ≡ body.PairFull number cell → first state cell ≡ Some n → number < (w.servers n).pairs.next
+  pub declined : (letter : Letter) (number n : ℕ) (cell : Cell) (op : Pending) → In letter w.sent → letter.body ≡ body.PairFull number cell → first state cell ≡ Some n → at cell_cmp (w.servers n).pairs.pending cell ≡ Some op → op.op ≡ number → R op.client op.seq

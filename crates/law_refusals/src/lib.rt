@@ -1,0 +1,31 @@
+//! Why requests are refused: over every legal history, a write is answered `nospace` only where its lead, or its second
+//! server, had no free slot for it, and a client is told that a block is busy only where another operation is pending on it.
+//!
+//! It speaks of definitions alone, and knows nothing of the plain machine.
+#![tactic(auto)]
+
+ghost use Rattle.std.specs.Prelude.{◌≡◌, ◌++◌, ℕ, List, [], ◌∷◌, Some};
+ghost use Rattle.petal_msg.specs.declared.body.Body.TheVariants.{BlockBusy};
+ghost use Rattle.petal_msg.specs.declared.letter.Actor.TheVariants.{Client};
+ghost use Rattle.petal_msg.specs.declared.letter.Letter.{Letter};
+ghost use Rattle.petal_script.specs.declared.answer.Answer.TheVariants.{NoSpace};
+ghost use Rattle.petal_script.specs.declared.script.Script.{Script};
+ghost use Rattle.petal_rules.specs.Lists.{In};
+ghost use Rattle.petal_rules.specs.World.{setting_of, start};
+ghost use Rattle.petal_history.specs.Contents.{chosen_state};
+ghost use Rattle.petal_history.specs.Legal.{IsLegal, world_after};
+ghost use Rattle.petal_history.specs.Sound.{IsSound};
+ghost use Rattle.petal_history.specs.declared.record.Record.{Record};
+ghost use Rattle.law_refusals.specs.Reasons.{FoundBusy, HasReason};
+
+/// Where a client's line is answered `nospace`, an earlier step found no slot for this request: its lead had none free when
+/// the write came, or the second server had none when it was asked for one for this request's operation.
+pub fn nospace_has_a_reason()
+    ensures { (script : Script) (front : List Record) (own : Record) → IsSound script → IsLegal script (front ++ own ∷ []) → (client line : ℕ) → own.actor ≡ Client client → own.answer ≡ Some (line, NoSpace) → HasReason (setting_of script) front client line }
+{}
+
+/// A letter that says that a block is busy is sent by the block's lead, in the step that found another operation pending on
+/// it.
+pub fn a_busy_block_has_another_operation()
+    ensures { (script : Script) (front : List Record) (own : Record) → IsSound script → IsLegal script (front ++ own ∷ []) → (letter : Letter) (seq : ℕ) → In letter own.sent → letter.body ≡ BlockBusy seq → FoundBusy (chosen_state (setting_of script)) (world_after (setting_of script) (start (setting_of script)) front) own.actor seq }
+{}

@@ -1,0 +1,247 @@
+-- A step of a server, and a step of a client, keep what is known of requests.
+use Rattle.std.proofs.Common.{◌≡◌, ◌≢◌, ◌≤◌, ◌<◌, ◌+◌, ℕ, List, Some, None, ap, sym, ◌∙◌, subst, ◌⊎◌, inl, inr, arith}
+use Rattle.petal_base.specs.declared.place.Cell.{Cell}
+use Rattle.petal_table.specs.Table.{at}
+use Rattle.petal_msg.specs.declared.body.Body.{Body}
+use Rattle.petal_msg.specs.declared.body.Body.TheVariants as body
+use Rattle.petal_msg.specs.declared.letter.Actor.{Actor}
+use Rattle.petal_msg.specs.declared.letter.Actor.TheVariants as actor
+use Rattle.petal_msg.specs.declared.operation.Pending.{Pending}
+use Rattle.petal_script.specs.declared.request.Line.{Line}
+use Rattle.petal_rules.specs.Lists.{In}
+use Rattle.petal_rules.specs.State.{State, first}
+use Rattle.petal_rules.specs.Store.{cell_cmp}
+use Rattle.petal_rules.specs.Server.{Half, Post, Done, sender}
+use Rattle.petal_rules.specs.Jobs.{here_of, half_of}
+use Rattle.petal_rules.specs.Clients.{Client, Asked, Reacted, client_sender}
+use Rattle.petal_rules.specs.World.{World, reacts}
+use Rattle.petal_rules.specs.declared.job.Job.{Job}
+use Rattle.petal_rules.proofs.ListLemmas.{put_same, put_apart, in-append}
+use Rattle.law_steps.specs.Steady.{IsSteady}
+use Rattle.law_steps.specs.Happens.{server_moves, served}
+use Rattle.law_steps.specs.Ready.{Ready}
+use Rattle.law_steps.proofs.Letters.{said}
+use Rattle.law_steps.proofs.Tests.{same_or_apart, all_put, is_the_one, none_some, same_some}
+use Rattle.law_requests.specs.Asked.{IsWrite, IsAsked, IsOpen}
+use Rattle.law_requests.specs.Known.{Seen, seen, done_by, IsPast, EndKnownAt, Known, PendingFor, Asking}
+use Rattle.law_requests.proofs.Later.{Later, known_later, one_cell, one_open}
+
+-- ### What a job shows
+
+-- the server finishes the client's open write, which is then pending no more
+pub record Ends (state : State) (lines : List Line) (w : World) (n : ℕ) (new : Half) (c : ℕ) : Type 0 where
+  pub seq : ℕ
+  pub cell : Cell
+  pub epoch : ℕ
+  pub bytes : List ℕ
+  pub write : IsWrite state lines c seq cell epoch bytes
+  pub still : IsOpen (w.clients c) seq
+  pub before : done_by (half_of (w.servers n)) c ≤ seq
+  pub after : done_by new c ≡ seq + 1
+  pub gone : at cell_cmp new.pairs.pending cell ≡ None
+
+-- the operation was pending
+pub record Stays (state : State) (w : World) (n : ℕ) (cell : Cell) (op : Pending) : Type 0 where
+  pub was : Pending
+  pub is : at cell_cmp (half_of (w.servers n)).pairs.pending cell ≡ Some was
+  pub client : was.client ≡ op.client
+  pub seq : was.seq ≡ op.seq
+  pub key : was.key ≡ op.key
+  pub bytes : was.bytes ≡ op.bytes
+
+-- a reply that ends a write tells of one that this server is past
+pub record Tells (state : State) (lines : List Line) (w : World) (n : ℕ) (new : Half) (client seq : ℕ) : Type 0 where
+  pub cell : Cell
+  pub epoch : ℕ
+  pub bytes : List ℕ
+  pub write : IsWrite state lines client seq cell epoch bytes
+  pub leads : first state cell ≡ Some n
+  pub old : seq ≤ (w.clients client).seq
+  pub past : seq < done_by new client
+
+abbrev pub TellsAt : State → List Line → World → ℕ → Half → ℕ → Actor → Type 0
+TellsAt state lines w n new seq (actor.Client c) = Tells state lines w n new c seq
+TellsAt state lines w n new seq (actor.Server m) = ⊥
+
+abbrev pub SaysOk : State → List Line → World → ℕ → Half → Actor → Body → Type 0
+SaysOk state lines w n new to (body.Written seq) = TellsAt state lines w n new seq to
+SaysOk state lines w n new to (body.Full seq) = TellsAt state lines w n new seq to
+SaysOk state lines w n new to (body.Write client seq cell epoch bytes) = ⊥
+SaysOk state lines w n new to (body.Read client seq cell epoch) = ⊥
+SaysOk state lines w n new to (body.Data seq bytes) = Unit {0}
+SaysOk state lines w n new to (body.NotHere seq) = Unit {0}
+SaysOk state lines w n new to (body.BlockBusy seq) = Unit {0}
+SaysOk state lines w n new to (body.Held seq) = Unit {0}
+SaysOk state lines w n new to (body.WrongRev seq) = Unit {0}
+SaysOk state lines w n new to (body.Reserve number cell) = Unit {0}
+SaysOk state lines w n new to (body.Reserved number cell) = Unit {0}
+SaysOk state lines w n new to (body.PairFull number cell) = Unit {0}
+SaysOk state lines w n new to (body.Replicate number key version bytes) = Unit {0}
+SaysOk state lines w n new to (body.Replicated number cell) = Unit {0}
+
+pub record JobTells (state : State) (lines : List Line) (w : World) (n : ℕ) (new : Half) (posts : List Post) : Type 0 where
+  pub finished : (c : ℕ) → (done_by new c ≡ done_by (half_of (w.servers n)) c) ⊎ Ends state lines w n new c
+  pub pending : (cell : Cell) (op : Pending) → at cell_cmp new.pairs.pending cell ≡ Some op → Stays state w n cell op ⊎ PendingFor state lines (w.clients op.client) (done_by (half_of (w.servers n)) op.client) cell op
+  pub says : (post : Post) → In post posts → SaysOk state lines w n new post.to post.body
+
+module _ (state : State) (lines : List Line) (w : World) (asking : Asking state lines w) (n stamp : ℕ) (done : Done) (queue : List Job) (tells : JobTells state lines w n done.half done.posts) where
+  abbrev later : World
+  later = server_moves state w n stamp done queue
+
+  abbrev old : Half
+  old = half_of (w.servers n)
+
+  half_now : half_of (later.servers n) ≡ done.half
+  half_now = ap half_of (put_same w.servers n (served (w.servers n) done queue))
+
+  half_other : (m : ℕ) → m ≢ n → half_of (later.servers m) ≡ half_of (w.servers m)
+  half_other m ne = ap half_of (put_apart w.servers n (served (w.servers n) done queue) m ne)
+
+  -- numbers rise, and stay below the client's next
+  rises : (c : ℕ) → done_by old c ≤ done_by done.half c
+  rises c = elim (tells.finished c) [ inl e ↦ omega arith | inr ends ↦ let b = ends.before in let a = ends.after in omega arith ]
+
+  dones : (m c : ℕ) → done_by (half_of (w.servers m)) c ≤ done_by (half_of (later.servers m)) c
+  dones m c = elim (same_or_apart m n) [
+    | inl e ↦ subst (λ i. done_by (half_of (w.servers i)) c ≤ done_by (half_of (later.servers i)) c) (sym e) (subst (λ h. done_by old c ≤ done_by h c) (sym half_now) (rises c))
+    | inr ne ↦ let same : done_by (half_of (later.servers m)) c ≡ done_by (half_of (w.servers m)) c = ap (λ h. done_by h c) (half_other m ne) in omega arith
+  ]
+
+  goes_on : Later state lines (seen w) (seen later)
+  goes_on = record { seqs = λ c. omega arith; dones = dones; closes = λ c seq is. inl is }
+
+  open_below : (c seq : ℕ) → IsOpen (w.clients c) seq → seq ≤ (w.clients c).seq
+  open_below c seq h = let a = asking.asked c h.asked h.is in let last = a.last in let same = h.same in omega arith
+
+  bound : (m c : ℕ) → done_by (half_of (later.servers m)) c ≤ (w.clients c).seq + 1
+  bound m c = elim (same_or_apart m n) [
+    | inl e ↦ subst (λ i. done_by (half_of (later.servers i)) c ≤ (w.clients c).seq + 1) (sym e) (subst (λ h. done_by h c ≤ (w.clients c).seq + 1) (sym half_now)
+        (elim (tells.finished c) [
+          | inl same ↦ let b = asking.finished n c in omega arith
+          | inr ends ↦ let b = open_below c ends.seq ends.still in let a = ends.after in omega arith
+        ]))
+    | inr ne ↦ let same : done_by (half_of (later.servers m)) c ≡ done_by (half_of (w.servers m)) c = ap (λ h. done_by h c) (half_other m ne) in let b = asking.finished m c in omega arith
+  ]
+
+  -- the operation was pending, or is its client's open write
+  was_pending : (cell : Cell) (op : Pending) → Stays state w n cell op ⊎ PendingFor state lines (w.clients op.client) (done_by old op.client) cell op → PendingFor state lines (w.clients op.client) (done_by old op.client) cell op
+  was_pending cell op (inr p) = p
+  was_pending cell op (inl s) =
+      let p = asking.pending n cell s.was s.is in
+      record {
+        write = rw (← s.client, ← s.seq, ← s.key, ← s.bytes) p.write;
+        still = rw (← s.client, ← s.seq) p.still;
+        unfinished = rw (← s.client, ← s.seq) p.unfinished;
+      }
+
+  -- and no other that was just finished
+  not_past : (cell : Cell) (op : Pending) → at cell_cmp done.half.pairs.pending cell ≡ Some op → PendingFor state lines (w.clients op.client) (done_by old op.client) cell op → done_by done.half op.client ≤ op.seq
+  not_past cell op is p = elim (tells.finished op.client) [
+    | inl same ↦ let u = p.unfinished in omega arith
+    | inr ends ↦
+        let seq : op.seq ≡ ends.seq = one_open (w.clients op.client) op.seq ends.seq p.still ends.still in
+        let write : IsWrite state lines op.client op.seq ends.cell ends.epoch ends.bytes = subst (λ i. IsWrite state lines op.client i ends.cell ends.epoch ends.bytes) (sym seq) ends.write in
+        let same : cell ≡ ends.cell = one_cell state lines op.client op.seq cell ends.cell op.key.epoch ends.epoch op.bytes ends.bytes p.write write in
+        none_some ends.gone (subst (λ (q : Cell). at cell_cmp done.half.pairs.pending q ≡ Some op) same is)
+  ]
+
+  pending_now : (cell : Cell) (op : Pending) → at cell_cmp done.half.pairs.pending cell ≡ Some op → PendingFor state lines (w.clients op.client) (done_by done.half op.client) cell op
+  pending_now cell op is =
+      let p = was_pending cell op (tells.pending cell op is) in
+      record { write = p.write; still = p.still; unfinished = not_past cell op is p }
+
+  pending : (m : ℕ) (cell : Cell) (op : Pending) → at cell_cmp (half_of (later.servers m)).pairs.pending cell ≡ Some op → PendingFor state lines (w.clients op.client) (done_by (half_of (later.servers m)) op.client) cell op
+  pending m cell op is = elim (same_or_apart m n) [
+    | inl e ↦
+        let there : at cell_cmp done.half.pairs.pending cell ≡ Some op = sym (ap (λ h. at cell_cmp h.pairs.pending cell) (ap (λ i. half_of (later.servers i)) e ∙ half_now)) ∙ is in
+        subst (λ h. PendingFor state lines (w.clients op.client) (done_by h op.client) cell op) (sym (ap (λ i. half_of (later.servers i)) e ∙ half_now)) (pending_now cell op there)
+    | inr ne ↦
+        let there : at cell_cmp (half_of (w.servers m)).pairs.pending cell ≡ Some op = sym (ap (λ h. at cell_cmp h.pairs.pending cell) (half_other m ne)) ∙ is in
+        subst (λ h. PendingFor state lines (w.clients op.client) (done_by h op.client) cell op) (sym (half_other m ne)) (asking.pending m cell op there)
+  ]
+
+  told : (seq : ℕ) (to : Actor) → TellsAt state lines w n done.half seq to → EndKnownAt state lines (seen later) seq to
+  told seq (actor.Server m) t = t
+  told seq (actor.Client c) t = record {
+    cell = t.cell;
+    epoch = t.epoch;
+    bytes = t.bytes;
+    write = t.write;
+    old = t.old;
+    past = λ m leads.
+        let same : n ≡ m = same_some (sym t.leads ∙ leads) in
+        subst (λ i. seq < done_by (half_of (later.servers i)) c) same (subst (λ h. seq < done_by h c) (sym half_now) t.past);
+  }
+
+  says : (to : Actor) (what : Body) → SaysOk state lines w n done.half to what → Known state lines (seen later) to what
+  says to (body.Written seq) h = told seq to h
+  says to (body.Full seq) h = told seq to h
+  says to (body.Write client seq cell epoch bytes) h = absurd h
+  says to (body.Read client seq cell epoch) h = absurd h
+  says to (body.Data seq bytes) h = tt
+  says to (body.NotHere seq) h = tt
+  says to (body.BlockBusy seq) h = tt
+  says to (body.Held seq) h = tt
+  says to (body.WrongRev seq) h = tt
+  says to (body.Reserve number cell) h = tt
+  says to (body.Reserved number cell) h = tt
+  says to (body.PairFull number cell) h = tt
+  says to (body.Replicate number key version bytes) h = tt
+  says to (body.Replicated number cell) h = tt
+
+  -- what a job shows keeps what is known of requests
+  pub job_asking : Asking state lines later
+  job_asking = record {
+    asked = asking.asked;
+    letters = λ letter h. elim (in-append letter _ w.sent h) [
+      | inl new ↦
+          let s = said (sender (here_of state n (w.servers n))) stamp 0 done.posts letter new in
+          subst (λ (b : Body). Known state lines (seen later) letter.to b) (sym s.body) (subst (λ (a : Actor). Known state lines (seen later) a s.post.body) (sym s.to) (says s.post.to s.post.body (tells.says s.post s.there)))
+      | inr sent ↦ known_later state lines (seen w) (seen later) goes_on letter.to letter.body (asking.letters letter sent)
+    ];
+    pending = pending;
+    finished = bound;
+  }
+
+-- ### What a client's step shows
+
+pub record TurnOk (state : State) (lines : List Line) (w : World) (c : ℕ) (client : Client) (posts : List Post) : Type 0 where
+  pub seqs : (w.clients c).seq ≤ client.seq
+  pub asked : (asked : Asked) → client.asked ≡ Some asked → IsAsked lines c client asked
+  pub closes : (seq : ℕ) → IsOpen (w.clients c) seq → IsOpen client seq ⊎ ((cell : Cell) (epoch : ℕ) (bytes : List ℕ) → IsWrite state lines c seq cell epoch bytes → IsPast state (seen w) cell c seq)
+  pub says : (v : Seen) → v.clients c ≡ client → (post : Post) → In post posts → Known state lines v post.to post.body
+
+module _ (state : State) (steady : IsSteady state) (lines : List Line) (w : World) (ready : Ready state w) (asking : Asking state lines w) (c stamp : ℕ) (reacted : Reacted) (turn : TurnOk state lines w c reacted.client reacted.posts) where
+  abbrev after : World
+  after = (reacts state w c stamp reacted).world
+
+  turn_later : Later state lines (seen w) (seen after)
+  turn_later = record {
+    seqs = all_put w.clients c reacted.client (λ j client. (w.clients j).seq ≤ client.seq) (λ j. omega arith) turn.seqs;
+    dones = λ n j. omega arith;
+    closes = all_put w.clients c reacted.client (λ j client. (seq : ℕ) → IsOpen (w.clients j) seq → IsOpen client seq ⊎ ((cell : Cell) (epoch : ℕ) (bytes : List ℕ) → IsWrite state lines j seq cell epoch bytes → IsPast state (seen w) cell j seq)) (λ j seq h. inl h) turn.closes;
+  }
+
+  -- a pending write is open still, since its lead is not past it
+  pending_open : (n : ℕ) (cell : Cell) (op : Pending) → at cell_cmp (half_of (w.servers n)).pairs.pending cell ≡ Some op → IsOpen (after.clients op.client) op.seq
+  pending_open n cell op is =
+      let p = asking.pending n cell op is in
+      let s = (ready.pending n).staged cell op is in
+      let leads : first state cell ≡ Some n = sym (steady.leads cell) ∙ is_the_one _ n s.lead in
+      elim (turn_later.closes op.client op.seq p.still) [
+        | inl still ↦ still
+        | inr past ↦ let lt = past cell op.key.epoch op.bytes p.write n leads in let u = p.unfinished in absurd (omega arith)
+      ]
+
+  pub turn_asking : Asking state lines after
+  turn_asking = record {
+    asked = all_put w.clients c reacted.client (λ j client. (asked : Asked) → client.asked ≡ Some asked → IsAsked lines j client asked) asking.asked turn.asked;
+    letters = λ letter h. elim (in-append letter _ w.sent h) [
+      | inl new ↦
+          let s = said (client_sender state c) stamp 0 reacted.posts letter new in
+          subst (λ (b : Body). Known state lines (seen after) letter.to b) (sym s.body) (subst (λ (a : Actor). Known state lines (seen after) a s.post.body) (sym s.to) (turn.says (seen after) (put_same w.clients c reacted.client) s.post s.there))
+      | inr sent ↦ known_later state lines (seen w) (seen after) turn_later letter.to letter.body (asking.letters letter sent)
+    ];
+    pending = λ n cell op is. let p = asking.pending n cell op is in record { write = p.write; still = pending_open n cell op is; unfinished = p.unfinished };
+    finished = λ n j. let b = asking.finished n j in let up = turn_later.seqs j in omega arith;
+  }

@@ -1,0 +1,99 @@
+-- What was known of requests is known later.
+use Rattle.std.proofs.Common.{◌≡◌, ◌≤◌, ℕ, List, [], ap, sym, ◌∙◌, ◌⊎◌, inl, inr, arith}
+use Rattle.petal_base.specs.declared.place.Cell.{Cell}
+use Rattle.petal_msg.specs.declared.body.Body.{Body}
+use Rattle.petal_msg.specs.declared.body.Body.TheVariants as body
+use Rattle.petal_msg.specs.declared.letter.Actor.{Actor}
+use Rattle.petal_msg.specs.declared.letter.Actor.TheVariants as actor
+use Rattle.petal_script.specs.declared.request.Line.{Line}
+use Rattle.petal_script.specs.declared.request.Request.{Request}
+use Rattle.petal_script.specs.declared.request.Request.TheVariants as request
+use Rattle.petal_rules.specs.State.{State, find}
+use Rattle.petal_rules.specs.Clients.{Client, Asked, cell_on}
+use Rattle.law_steps.proofs.Tests.{same_some}
+use Rattle.law_requests.specs.Asked.{IsWrite, IsOpen}
+use Rattle.law_requests.specs.Known.{Seen, IsPast, EndKnownAt, Known}
+
+name_in : Request → List ℕ
+name_in (request.Write name block pattern) = name
+name_in (request.Disk name tuple) = name
+name_in (request.Read name snap block) = name
+name_in (request.Snap name snap) = name
+name_in (request.Move name tuple) = name
+name_in (request.Stop server) = []
+name_in (request.StopAt server at) = []
+name_in (request.Fault server which kind at) = []
+name_in (request.Start server) = []
+name_in (request.Blank server) = []
+name_in request.Settle = []
+
+block_in : Request → ℕ
+block_in (request.Write name block pattern) = block
+block_in (request.Read name snap block) = block
+block_in (request.Disk name tuple) = 0
+block_in (request.Snap name snap) = 0
+block_in (request.Move name tuple) = 0
+block_in (request.Stop server) = 0
+block_in (request.StopAt server at) = 0
+block_in (request.Fault server which kind at) = 0
+block_in (request.Start server) = 0
+block_in (request.Blank server) = 0
+block_in request.Settle = 0
+
+-- a write of one number is of one cell
+pub one_cell : (state : State) (lines : List Line) (client seq : ℕ) (cell other : Cell) (epoch epoch' : ℕ) (bytes bytes' : List ℕ) → IsWrite state lines client seq cell epoch bytes → IsWrite state lines client seq other epoch' bytes' → cell ≡ other
+unfolding name_in block_in
+one_cell state lines client seq cell other epoch epoch' bytes bytes' one two =
+    let line : one.line ≡ two.line = same_some (sym one.is ∙ two.is) in
+    let asks : request.Write one.name one.block one.pattern ≡ request.Write two.name two.block two.pattern = sym one.asks ∙ ap (λ (l : Line). l.request) line ∙ two.asks in
+    let name : one.name ≡ two.name = ap name_in asks in
+    let block : one.block ≡ two.block = ap block_in asks in
+    let disk : one.disk ≡ two.disk = same_some (sym one.found ∙ ap (find state) name ∙ two.found) in
+    one.cell_is ∙ (λ i. cell_on (disk i) (block i)) ∙ sym two.cell_is
+
+-- a client has one request open
+pub one_open : (client : Client) (seq seq' : ℕ) → IsOpen client seq → IsOpen client seq' → seq ≡ seq'
+one_open client seq seq' one two = sym one.same ∙ ap (λ (a : Asked). a.seq) (same_some (sym one.is ∙ two.is)) ∙ two.same
+
+-- time goes on: numbers rise, and a write that is no longer open is one that its lead is past
+pub record Later (state : State) (lines : List Line) (v u : Seen) : Type 0 where
+  pub seqs : (c : ℕ) → (v.clients c).seq ≤ (u.clients c).seq
+  pub dones : (n c : ℕ) → v.done n c ≤ u.done n c
+  pub closes : (c seq : ℕ) → IsOpen (v.clients c) seq → IsOpen (u.clients c) seq ⊎ ((cell : Cell) (epoch : ℕ) (bytes : List ℕ) → IsWrite state lines c seq cell epoch bytes → IsPast state u cell c seq)
+
+module _ (state : State) (lines : List Line) (v u : Seen) (later : Later state lines v u) where
+  past_later : (cell : Cell) (c seq : ℕ) → IsPast state v cell c seq → IsPast state u cell c seq
+  past_later cell c seq h n leads = let lt = h n leads in let le = later.dones n c in omega arith
+
+  end_later : (seq : ℕ) (to : Actor) → EndKnownAt state lines v seq to → EndKnownAt state lines u seq to
+  end_later seq (actor.Server n) h = h
+  end_later seq (actor.Client c) h =
+      let up = later.seqs c in
+      let old = h.old in
+      record { cell = h.cell; epoch = h.epoch; bytes = h.bytes; write = h.write; old = omega arith; past = past_later h.cell c seq h.past }
+
+  pub known_later : (to : Actor) (said : Body) → Known state lines v to said → Known state lines u to said
+  known_later to (body.Write client seq cell epoch bytes) h =
+      let up = later.seqs client in
+      let old = h.old in
+      record {
+        write = h.write;
+        old = omega arith;
+        still = elim h.still [
+          | inl open_now ↦ elim (later.closes client seq open_now) [ inl open_then ↦ inl open_then | inr past ↦ inr (past cell epoch bytes h.write) ]
+          | inr past ↦ inr (past_later cell client seq past)
+        ];
+      }
+  known_later to (body.Read client seq cell epoch) h = h
+  known_later to (body.Written seq) h = end_later seq to h
+  known_later to (body.Full seq) h = end_later seq to h
+  known_later to (body.Data seq bytes) h = tt
+  known_later to (body.NotHere seq) h = tt
+  known_later to (body.BlockBusy seq) h = tt
+  known_later to (body.Held seq) h = tt
+  known_later to (body.WrongRev seq) h = tt
+  known_later to (body.Reserve number cell) h = tt
+  known_later to (body.Reserved number cell) h = tt
+  known_later to (body.PairFull number cell) h = tt
+  known_later to (body.Replicate number key version bytes) h = tt
+  known_later to (body.Replicated number cell) h = tt

@@ -1,0 +1,4 @@
+pub mod Later
+pub mod Frames
+pub mod Jobs
+pub mod Turning

@@ -1,0 +1,12 @@
+pub mod Members
+pub mod Machine
+pub mod Names
+pub mod Grounds
+pub mod Takes
+pub mod ServerFrames
+pub mod ServerJobs
+pub mod Looks
+pub mod ServerSteps
+pub mod ClientSteps
+pub mod Running
+pub mod ReadScripts

@@ -1,0 +1,105 @@
+-- Letters have names of their own.
+use Rattle.std.proofs.Common.{◌≡◌, ◌≤◌, ◌<◌, ◌+◌, ◌==◌, ◌&&◌, ℕ, List, [], ◌∷◌, ◌++◌, true, false, refl, sym, ap, ◌∙◌, subst, inl, inr, arith}
+use Rattle.petal_msg.specs.declared.letter.Actor.{Actor}
+use Rattle.petal_msg.specs.declared.letter.Actor.TheVariants as actor
+use Rattle.petal_msg.specs.declared.letter.Letter.{Letter}
+use Rattle.petal_script.specs.declared.script.Script.{Script}
+use Rattle.petal_rules.specs.Lists.{In}
+use Rattle.petal_rules.specs.State.{State}
+use Rattle.petal_rules.specs.Server.{Post, Sender, letters_of, sender}
+use Rattle.petal_rules.specs.Jobs.{here_of}
+use Rattle.petal_rules.specs.Clients.{client_sender}
+use Rattle.petal_rules.specs.World.{World, stamped, clock_of, start, setting_of, reacts}
+use Rattle.petal_rules.proofs.ListLemmas.{in-append, put_same}
+use Rattle.petal_history.specs.Events.{same_actor, same_name}
+use Rattle.petal_script.specs.declared.request.Line.{Line}
+use Rattle.law_steps.specs.Happens.{Happens, Serves, Turns, server_moves}
+use Rattle.law_steps.proofs.Letters.{said}
+use Rattle.law_steps.proofs.Tests.{both_true, same_numbers, all_put}
+use Rattle.law_run.specs.Follow.{Named}
+
+one_actor : (a b : Actor) → same_actor a b ≡ true → a ≡ b
+one_actor (actor.Server n) (actor.Server k) e = ap actor.Server (same_numbers n k e)
+one_actor (actor.Client c) (actor.Client d) e = ap actor.Client (same_numbers c d e)
+one_actor (actor.Server n) (actor.Client c) e = let f : false ≡ true = e in absurd cc
+one_actor (actor.Client c) (actor.Server n) e = let f : false ≡ true = e in absurd cc
+
+-- one sender, one stamp and one place
+record IsNamed (one other : Letter) : Type 0 where
+  from : one.from ≡ other.from
+  stamp : one.stamp ≡ other.stamp
+  nth : one.nth ≡ other.nth
+
+named_same : (one other : Letter) → same_name one other ≡ true → IsNamed one other
+named_same one other e =
+    let outer = both_true (same_actor one.from other.from && (one.stamp == other.stamp)) (one.nth == other.nth) e in
+    let inner = both_true (same_actor one.from other.from) (one.stamp == other.stamp) outer.0 in
+    record { from = one_actor one.from other.from inner.0; stamp = same_numbers one.stamp other.stamp inner.1; nth = same_numbers one.nth other.nth outer.1 }
+
+at_least : (who : Sender) (stamp nth : ℕ) (posts : List Post) (letter : Letter) → In letter (stamped stamp (letters_of who nth posts)) → nth ≤ letter.nth
+unfolding In
+at_least who stamp nth [] letter h = absurd h
+at_least who stamp nth (post ∷ posts) letter (inl e) = let f : letter.nth ≡ nth = ap (λ (l : Letter). l.nth) e in omega arith
+at_least who stamp nth (post ∷ posts) letter (inr h) = let later = at_least who stamp (nth + 1) posts letter h in omega arith
+
+one_place : (who : Sender) (stamp nth : ℕ) (posts : List Post) (one other : Letter) → In one (stamped stamp (letters_of who nth posts)) → In other (stamped stamp (letters_of who nth posts)) → one.nth ≡ other.nth → one ≡ other
+unfolding In
+one_place who stamp nth [] one other h g e = absurd h
+one_place who stamp nth (post ∷ posts) one other (inl h) (inl g) e = h ∙ sym g
+one_place who stamp nth (post ∷ posts) one other (inl h) (inr g) e = let f : one.nth ≡ nth = ap (λ (l : Letter). l.nth) h in let later = at_least who stamp (nth + 1) posts other g in absurd (omega arith)
+one_place who stamp nth (post ∷ posts) one other (inr h) (inl g) e = let f : other.nth ≡ nth = ap (λ (l : Letter). l.nth) g in let later = at_least who stamp (nth + 1) posts one h in absurd (omega arith)
+one_place who stamp nth (post ∷ posts) one other (inr h) (inr g) e = one_place who stamp (nth + 1) posts one other h g e
+
+-- the letters of a step join those that were sent
+named_more : (w v : World) (who : Sender) (stamp : ℕ) (posts : List Post) → Named w → v.sent ≡ stamped stamp (letters_of who 0 posts) ++ w.sent → clock_of w who.from < stamp → stamp ≤ clock_of v who.from → ((a : Actor) → clock_of w a ≤ clock_of v a) → Named v
+named_more w v who stamp posts named joined before now rises = record {
+  unique = λ one other h g e.
+      let n = named_same one other e in
+      elim (in-append one new w.sent (subst (In one) joined h)) [
+        | inl fresh ↦ elim (in-append other new w.sent (subst (In other) joined g)) [
+          | inl fresh' ↦ one_place who stamp 0 posts one other fresh fresh' n.nth
+          | inr old ↦ absurd (not_old one other fresh old n)
+        ]
+        | inr old ↦ elim (in-append other new w.sent (subst (In other) joined g)) [
+          | inl fresh' ↦ absurd (not_old other one fresh' old (record { from = sym n.from; stamp = sym n.stamp; nth = sym n.nth }))
+          | inr old' ↦ named.unique one other old old' e
+        ]
+      ];
+  early = λ letter h. elim (in-append letter new w.sent (subst (In letter) joined h)) [
+    | inl fresh ↦ let s = said who stamp 0 posts letter fresh in let at = s.at in subst (λ (a : Actor). letter.stamp ≤ clock_of v a) (sym s.from) (omega arith)
+    | inr old ↦ let le = named.early letter old in let up = rises letter.from in omega arith
+  ];
+}
+  where
+    new : List Letter
+    new = stamped stamp (letters_of who 0 posts)
+
+    not_old : (fresh old : Letter) → In fresh (stamped stamp (letters_of who 0 posts)) → In old w.sent → IsNamed fresh old → ⊥
+    not_old fresh old h g n =
+        let s = said who stamp 0 posts fresh h in
+        let at = s.at in
+        let same = n.stamp in
+        let le : old.stamp ≤ clock_of w who.from = subst (λ (a : Actor). old.stamp ≤ clock_of w a) (sym n.from ∙ s.from) (named.early old g) in
+        omega arith
+
+pub happens_named : (state : State) (lines : List Line) (w v : World) → Named w → Happens state lines w v → Named v
+happens_named state lines w _ named (Serves n stamp done queue lt did queued) =
+    let v = server_moves state w n stamp done queue in
+    named_more w v (sender (here_of state n (w.servers n))) stamp done.posts named refl lt
+    (subst (λ k. stamp ≤ k) (sym (put_same w.server_clocks n stamp)) (omega arith)) (rises v)
+  where
+    rises : (v : World) → (a : Actor) → clock_of w a ≤ clock_of (server_moves state w n stamp done queue) a
+    rises v (actor.Server k) = all_put w.server_clocks n stamp (λ j t. w.server_clocks j ≤ t) (λ j. omega arith) (omega arith) k
+    rises v (actor.Client c) = omega arith
+happens_named state lines w _ named (Turns c stamp in_call reacted lt within turned) =
+    let v = (reacts state w c stamp reacted).world in
+    named_more w v (client_sender state c) stamp reacted.posts named refl lt
+    (subst (λ k. stamp ≤ k) (sym (put_same w.client_clocks c stamp)) (omega arith)) rises
+  where
+    rises : (a : Actor) → clock_of w a ≤ clock_of (reacts state w c stamp reacted).world a
+    rises (actor.Server k) = omega arith
+    rises (actor.Client d) = all_put w.client_clocks c stamp (λ j t. w.client_clocks j ≤ t) (λ j. omega arith) (omega arith) d
+
+pub start_named : (script : Script) → Named (start (setting_of script))
+unfolding In
+start_named script = record { unique = λ one other h g e. absurd h; early = λ letter h. absurd h }

@@ -1,0 +1,278 @@
+-- A script that is read is sound.
+use Rattle.std.proofs.Common.{◌≡◌, ◌≤◌, ◌<◌, ◌+◌, ℕ, List, [], ◌∷◌, ◌++◌, Bool, true, false, not, ◌&&◌, ◌==◌, ◌||◌, length, codes, cond, Some, None, Result, Ok, Err, refl, sym, ap, ◌∙◌, subst, inl, inr, arith}
+use Rattle.std.specs.Prelude.{is_some}
+use Rattle.petal_base.specs.Tuple.{is_tuple, tuple_of}
+use Rattle.petal_script.specs.Words.{Word, ◌>>=◌, is_word, or_else, front_word, no_word, one_word, two_words, three_words, four_words}
+use Rattle.petal_script.specs.Fields.{a_name, a_block, a_byte, a_tuple, a_server, a_call, a_device, a_kind, in_limits, numbers_of, version_of}
+use Rattle.petal_script.specs.Client.{spread_of, disk_of, move_of, filled_of, halves_of, write_by, write_of, read_of, snap_of, client_request}
+use Rattle.petal_script.specs.Operator.{stop_at, stop_of, fault_of, boot_of, operator_request}
+use Rattle.petal_script.specs.Script.{TextLine, script_of, text_lines, lines_behind, first_line, servers_line, net_line}
+use Rattle.petal_script.specs.Text.{pieces, words_of}
+use Rattle.petal_script.specs.Laws.{Does, skipped, nets, waits, asks, Asks, line_at, Follows}
+use Rattle.petal_script.proofs.Doing.{is_accepted}
+use Rattle.petal_script.specs.declared.cause.Cause.{Cause}
+use Rattle.petal_script.specs.declared.cause.Cause.TheVariants.{BadNumber, BadTuple}
+use Rattle.petal_script.specs.declared.request.Line.{Line}
+use Rattle.petal_script.specs.declared.request.Pattern.{Pattern}
+use Rattle.petal_script.specs.declared.request.Pattern.TheVariants as pattern
+use Rattle.petal_script.specs.declared.request.Request.{Request}
+use Rattle.petal_script.specs.declared.request.Request.TheVariants as request
+use Rattle.petal_script.specs.declared.script.Script.{Script}
+use Rattle.petal_rules.specs.Lists.{In}
+use Rattle.petal_rules.proofs.ListLemmas.{in-append}
+use Rattle.petal_history.specs.Sound.{IsSound}
+use Rattle.law_steps.proofs.Tests.{by_test}
+
+-- what holds of each result that is no fault
+abbrev EachOk : {A : Type 0} → (A → Type 0) → Result A Cause → Type 0
+EachOk P (Ok x) = P x
+EachOk P (Err cause) = Unit {0}
+
+then_ok : {A B : Type 0} (P : B → Type 0) (r : Result A Cause) (f : A → Result B Cause) → ((x : A) → r ≡ Ok x → EachOk P (f x)) → EachOk P (r >>= f)
+then_ok P (Ok x) f h = h x refl
+then_ok P (Err e) f h = tt
+
+ok_is : {A : Type 0} (P : A → Type 0) (r : Result A Cause) (x : A) → EachOk P r → r ≡ Ok x → P x
+ok_is P r x h e = subst (EachOk P) e h
+
+-- ### Requests name proper tuples
+
+-- a disk is over a tuple of the servers
+abbrev IsFit : ℕ → Request → Type 0
+IsFit servers (request.Disk name tuple) = is_tuple servers tuple ≡ true
+IsFit servers (request.Write name block how) = Unit {0}
+IsFit servers (request.Read name snap block) = Unit {0}
+IsFit servers (request.Snap name snap) = Unit {0}
+IsFit servers (request.Move name tuple) = Unit {0}
+IsFit servers (request.Stop server) = Unit {0}
+IsFit servers (request.StopAt server at) = Unit {0}
+IsFit servers (request.Fault server which kind at) = Unit {0}
+IsFit servers (request.Start server) = Unit {0}
+IsFit servers (request.Blank server) = Unit {0}
+IsFit servers request.Settle = Unit {0}
+
+module _ (servers : ℕ) where
+  abbrev Fit : Result Request Cause → Type 0
+  Fit r = EachOk (IsFit servers) r
+
+  tuple_fits : (ids : List ℕ) → EachOk (λ tuple. is_tuple servers tuple ≡ true) (or_else (tuple_of servers ids) BadTuple)
+  tuple_fits ids = by (is_tuple servers ids) refl
+    where
+      by : (b : Bool) → is_tuple servers ids ≡ b → EachOk (λ tuple. is_tuple servers tuple ≡ true) (or_else (cond b (Some ids) None) BadTuple)
+      by true e = e
+      by false e = tt
+
+  a_tuple_fits : (words : List Word) → EachOk (λ tuple. is_tuple servers tuple ≡ true) (a_tuple servers words)
+  unfolding a_tuple
+  a_tuple_fits words = then_ok _ (or_else (numbers_of words) BadNumber) (λ ids. or_else (tuple_of servers ids) BadTuple) (λ ids e. tuple_fits ids)
+
+  spread_fits : (words : List Word) → EachOk (λ (parts : List ℕ × List ℕ). is_tuple servers parts.1 ≡ true) (spread_of servers words)
+  unfolding spread_of
+  spread_fits words = then_ok _ (front_word words) _ (λ disk e. then_ok _ (front_word disk.1) _ (λ on f.
+      by_test (EachOk (λ (parts : List ℕ × List ℕ). is_tuple servers parts.1 ≡ true)) (not (is_word on.0 (codes "on")) || length on.1 == 0) _ _ (λ t. tt)
+      (λ t. then_ok _ (a_name disk.0) _ (λ name g. then_ok _ (a_tuple servers on.1) _ (λ tuple k. ok_is (λ x. is_tuple servers x ≡ true) (a_tuple servers on.1) tuple (a_tuple_fits on.1) k)))))
+
+  disk_fits : (words : List Word) → Fit (disk_of servers words)
+  unfolding disk_of
+  disk_fits words = then_ok _ (spread_of servers words) _ (λ parts e. ok_is (λ (x : List ℕ × List ℕ). is_tuple servers x.1 ≡ true) (spread_of servers words) parts (spread_fits words) e)
+
+  move_fits : (words : List Word) → Fit (move_of servers words)
+  unfolding move_of
+  move_fits words = then_ok _ (spread_of servers words) _ (λ parts e. tt)
+
+  filled_fits : (disk place : Word) (how : ℕ → Pattern) (x : Word) → Fit (filled_of disk place how x)
+  unfolding filled_of
+  filled_fits disk place how x = then_ok _ (a_name disk) _ (λ name e. then_ok _ (a_block place) _ (λ block f. then_ok _ (a_byte x) _ (λ y g. tt)))
+
+  halves_fits : (disk place x y : Word) → Fit (halves_of disk place x y)
+  unfolding halves_of
+  halves_fits disk place x y = then_ok _ (a_name disk) _ (λ name e. then_ok _ (a_block place) _ (λ block f. then_ok _ (a_byte x) _ (λ a g. then_ok _ (a_byte y) _ (λ b h. tt))))
+
+  write_by_fits : (disk place kind : Word) (numbers : List Word) → Fit (write_by disk place kind numbers)
+  write_by_fits disk place kind numbers =
+      by_test Fit (is_word kind (codes "fill")) _ _ (λ t. then_ok _ (one_word numbers) _ (λ x e. filled_fits disk place pattern.Fill x)) (λ t.
+      by_test Fit (is_word kind (codes "ramp")) _ _ (λ t. then_ok _ (one_word numbers) _ (λ x e. filled_fits disk place pattern.Ramp x)) (λ t.
+      by_test Fit (is_word kind (codes "halves")) _ _ (λ t. then_ok _ (two_words numbers) _ (λ xy e. halves_fits disk place xy.0 xy.1)) (λ t. tt)))
+
+  write_fits : (words : List Word) → Fit (write_of words)
+  unfolding write_of
+  write_fits words = then_ok _ (front_word words) _ (λ disk e. then_ok _ (front_word disk.1) _ (λ place f. then_ok _ (front_word place.1) _ (λ kind g. write_by_fits disk.0 place.0 kind.0 kind.1)))
+
+  read_fits : (words : List Word) → Fit (read_of words)
+  unfolding read_of
+  read_fits words = then_ok _ (two_words words) _ (λ parts e. then_ok _ (version_of parts.0) _ (λ version f. then_ok _ (a_block parts.1) _ (λ block g. tt)))
+
+  snap_fits : (words : List Word) → Fit (snap_of words)
+  unfolding snap_of
+  snap_fits words = then_ok _ (two_words words) _ (λ parts e. then_ok _ (a_name parts.0) _ (λ name f. then_ok _ (a_name parts.1) _ (λ snap g. tt)))
+
+  client_fits : (words : List Word) → Fit (client_request servers words)
+  unfolding client_request
+  client_fits words = then_ok _ (front_word words) _ (λ verb e.
+      by_test Fit (is_word verb.0 (codes "disk")) _ _ (λ t. disk_fits verb.1) (λ t.
+      by_test Fit (is_word verb.0 (codes "write")) _ _ (λ t. write_fits verb.1) (λ t.
+      by_test Fit (is_word verb.0 (codes "read")) _ _ (λ t. read_fits verb.1) (λ t.
+      by_test Fit (is_word verb.0 (codes "snap")) _ _ (λ t. snap_fits verb.1) (λ t.
+      by_test Fit (is_word verb.0 (codes "move")) _ _ (λ t. move_fits verb.1) (λ t. tt))))))
+
+  stop_at_fits : (s : Word) (calls : Word × Word) → Fit (stop_at servers s calls)
+  unfolding stop_at
+  stop_at_fits s calls = by_test Fit (not (is_word calls.0 (codes "at"))) _ _ (λ t. tt) (λ t. then_ok _ (a_server servers s) _ (λ server e. then_ok _ (a_call calls.1) _ (λ at f. tt)))
+
+  stop_fits : (words : List Word) → Fit (stop_of servers words)
+  unfolding stop_of
+  stop_fits words = then_ok _ (front_word words) _ (λ s e. by_test Fit (length s.1 == 0) _ _ (λ t. then_ok _ (a_server servers s.0) _ (λ server f. tt)) (λ t. then_ok _ (two_words s.1) _ (λ calls f. stop_at_fits s.0 calls)))
+
+  fault_fits : (words : List Word) → Fit (fault_of servers words)
+  unfolding fault_of
+  fault_fits words = then_ok _ (four_words words) _ (λ parts e. then_ok _ (a_device parts.1) _ (λ which f. then_ok _ (a_kind parts.2) _ (λ kind g. then_ok _ (a_server servers parts.0) _ (λ server h. then_ok _ (a_call parts.3) _ (λ at k. tt)))))
+
+  boot_fits : (of : ℕ → Request) → ((server : ℕ) → IsFit servers (of server)) → (words : List Word) → Fit (boot_of servers of words)
+  unfolding boot_of
+  boot_fits of h words = then_ok _ (one_word words) _ (λ s e. then_ok _ (a_server servers s) _ (λ server f. h server))
+
+  operator_fits : (words : List Word) → Fit (operator_request servers words)
+  unfolding operator_request
+  operator_fits words = then_ok _ (front_word words) _ (λ verb e.
+      by_test Fit (is_word verb.0 (codes "stop")) _ _ (λ t. stop_fits verb.1) (λ t.
+      by_test Fit (is_word verb.0 (codes "start")) _ _ (λ t. boot_fits request.Start (λ server. tt) verb.1) (λ t.
+      by_test Fit (is_word verb.0 (codes "blank")) _ _ (λ t. boot_fits request.Blank (λ server. tt) verb.1) (λ t.
+      by_test Fit (is_word verb.0 (codes "fault")) _ _ (λ t. fault_fits verb.1) (λ t.
+      by_test Fit (is_word verb.0 (codes "settle")) _ _ (λ t. then_ok _ (no_word verb.1) _ (λ none f. tt)) (λ t. tt))))))
+
+  asks_fits : (first : Word) (words : List Word) (client : ℕ) (asked : Request) → Asks servers first words client asked → IsFit servers asked
+  asks_fits first words client asked (inl op) = ok_is (IsFit servers) (operator_request servers words) asked (operator_fits words) op.2
+  asks_fits first words client asked (inr of) = ok_is (IsFit servers) (client_request servers words) asked (client_fits words) of.2
+
+fit_disk : (servers : ℕ) (asked : Request) (name tuple : List ℕ) → asked ≡ request.Disk name tuple → IsFit servers asked → is_tuple servers tuple ≡ true
+fit_disk servers asked name tuple e h = subst (IsFit servers) e h
+
+-- ### Lines behind the servers line
+
+-- the same servers and lines
+record IsLike (s t : Script) : Type 0 where
+  servers : t.servers ≡ s.servers
+  lines : t.lines ≡ s.lines
+
+net_like : (s : Script) (words : List Word) → EachOk (IsLike s) (net_line s words)
+unfolding net_line
+net_like s words = then_ok _ (two_words words) _ (λ parts e.
+    by_test (EachOk (IsLike s)) (not (length s.lines == 0)) _ _ (λ t. tt) (λ t.
+    by_test (EachOk (IsLike s)) (is_word parts.0 (codes "lose") && not (is_some s.lose)) _ _ (λ t. then_ok _ (in_limits 2 1000000 parts.1) _ (λ k f. record { servers = refl; lines = refl })) (λ t.
+    by_test (EachOk (IsLike s)) (is_word parts.0 (codes "twice") && not (is_some s.twice)) _ _ (λ t. then_ok _ (in_limits 2 1000000 parts.1) _ (λ k f. record { servers = refl; lines = refl })) (λ t. tt))))
+
+begun_empty : (words : List Word) → EachOk (λ (s : Script). s.lines ≡ []) (first_line words)
+unfolding first_line servers_line
+begun_empty [] = tt
+begun_empty (first ∷ words) = by_test (EachOk (λ (s : Script). s.lines ≡ [])) (is_word first (codes "servers")) _ _
+    (λ t. then_ok _ (three_words words) _ (λ parts e. by_test (EachOk (λ (s : Script). s.lines ≡ [])) (not (is_word parts.1 (codes "slots"))) _ _ (λ t. tt)
+    (λ t. then_ok _ (in_limits 2 8 parts.0) _ (λ servers f. then_ok _ (in_limits 1 1024 parts.2) _ (λ slots g. refl))))) (λ t. tt)
+
+-- ### Numbers
+
+-- each line's number is above this one
+abbrev AreAbove : ℕ → List TextLine → Type 0
+AreAbove n lines = (told : TextLine) → In told lines → n < told.number
+
+abbrev AreRising : List TextLine → Type 0
+AreRising [] = Unit {0}
+AreRising (told ∷ more) = AreAbove told.number more × AreRising more
+
+lines_above : (number reach : ℕ) (parts : List (List ℕ)) → AreAbove number (lines_behind number reach parts)
+unfolding lines_behind In
+lines_above number reach [] told h = absurd h
+lines_above number reach (piece ∷ more) told (inl e) = let f : told.number ≡ number + 1 = ap (λ (t : TextLine). t.number) e in omega arith
+lines_above number reach (piece ∷ more) told (inr h) = let later = lines_above (number + 1) (reach + length piece) more told h in omega arith
+
+lines_rise : (number reach : ℕ) (parts : List (List ℕ)) → AreRising (lines_behind number reach parts)
+unfolding lines_behind
+lines_rise number reach [] = tt
+lines_rise number reach (piece ∷ more) = (lines_above (number + 1) (reach + length piece) more, lines_rise (number + 1) (reach + length piece) more)
+
+behind_rises : (front : List TextLine) (told : TextLine) (behind : List TextLine) → AreRising (front ++ told ∷ behind) → AreRising behind
+behind_rises [] told behind h = h.1
+behind_rises (other ∷ front) told behind h = behind_rises front told behind h.1
+
+-- ### The script so far
+
+record IsSoFar (s : Script) (above : ℕ) : Type 0 where
+  numbered : (one other : Line) → In one s.lines → In other s.lines → one.number ≡ other.number → one ≡ other
+  below : (line : Line) → In line s.lines → line.number ≤ above
+  spread : (line : Line) (name tuple : List ℕ) → In line s.lines → line.request ≡ request.Disk name tuple → is_tuple s.servers tuple ≡ true
+
+like_so_far : (s t : Script) (above : ℕ) → IsLike s t → IsSoFar s above → IsSoFar t above
+like_so_far s t above like h = record {
+  numbered = λ one other i j e. h.numbered one other (subst (In one) like.lines i) (subst (In other) like.lines j) e;
+  below = λ line i. h.below line (subst (In line) like.lines i);
+  spread = λ line name tuple i e. subst (λ n. is_tuple n tuple ≡ true) (sym like.servers) (h.spread line name tuple (subst (In line) like.lines i) e);
+}
+
+higher : (s : Script) (low high : ℕ) → low ≤ high → IsSoFar s low → IsSoFar s high
+higher s low high le h = record { numbered = h.numbered; below = λ line i. let b = h.below line i in omega arith; spread = h.spread }
+
+more_so_far : (s t : Script) (above : ℕ) (line : Line) → above < line.number → t.servers ≡ s.servers → t.lines ≡ s.lines ++ line ∷ [] → IsFit s.servers line.request → IsSoFar s above → IsSoFar t line.number
+unfolding In
+more_so_far s t above line lt servers lines fit h = record {
+  numbered = λ one other i j e. elim (in-append one s.lines (line ∷ []) (subst (In one) lines i)) [
+    | inl old ↦ elim (in-append other s.lines (line ∷ []) (subst (In other) lines j)) [
+      | inl old' ↦ h.numbered one other old old' e
+      | inr new' ↦ elim new' [ inl is ↦ absurd (apart one other old (ap (λ (l : Line). l.number) is) e) | inr none ↦ absurd none ]
+    ]
+    | inr new ↦ elim new [
+      | inl is ↦ elim (in-append other s.lines (line ∷ []) (subst (In other) lines j)) [
+        | inl old' ↦ absurd (apart other one old' (ap (λ (l : Line). l.number) is) (sym e))
+        | inr new' ↦ elim new' [ inl is' ↦ is ∙ sym is' | inr none ↦ absurd none ]
+      ]
+      | inr none ↦ absurd none
+    ]
+  ];
+  below = λ other i. elim (in-append other s.lines (line ∷ []) (subst (In other) lines i)) [
+    | inl old ↦ let b = h.below other old in omega arith
+    | inr new ↦ elim new [ inl is ↦ let e : other.number ≡ line.number = ap (λ (l : Line). l.number) is in omega arith | inr none ↦ absurd none ]
+  ];
+  spread = λ other name tuple i e. elim (in-append other s.lines (line ∷ []) (subst (In other) lines i)) [
+    | inl old ↦ subst (λ n. is_tuple n tuple ≡ true) (sym servers) (h.spread other name tuple old e)
+    | inr new ↦ elim new [
+      | inl is ↦ subst (λ n. is_tuple n tuple ≡ true) (sym servers) (fit_disk s.servers line.request name tuple (ap (λ (l : Line). l.request) (sym is) ∙ e) fit)
+      | inr none ↦ absurd none
+    ]
+  ];
+}
+  where
+    apart : (one other : Line) → In one s.lines → other.number ≡ line.number → one.number ≡ other.number → ⊥
+    apart one other i e f = let b = h.below one i in omega arith
+
+does_so_far : (s : Script) (told : TextLine) (t : Script) (above : ℕ) → Does s told t → above < told.number → IsSoFar s above → IsSoFar t told.number
+does_so_far s told t above (skipped is same) lt h = subst (λ x. IsSoFar x told.number) (sym same) (higher s above told.number (omega arith) h)
+does_so_far s told t above (nets first words spelled is took) lt h = like_so_far s t told.number (ok_is (IsLike s) (net_line s words) t (net_like s words) took) (higher s above told.number (omega arith) h)
+does_so_far s told t above (waits first spelled is same) lt h = subst (λ x. IsSoFar x told.number) (sym same) (record { numbered = h.numbered; below = λ line i. let b = h.below line i in omega arith; spread = h.spread })
+does_so_far s told t above (asks first words client asked spelled asks_for few many same) lt h =
+    more_so_far s t above (line_at s told.number client asked) lt (ap (λ (x : Script). x.servers) same) (ap (λ (x : Script). x.lines) same) (asks_fits s.servers first words client asked asks_for) h
+
+follows_so_far : (lines : List TextLine) (s t : Script) (above : ℕ) → Follows s lines t → AreAbove above lines → AreRising lines → IsSoFar s above → IsSound t
+unfolding In
+follows_so_far [] s t above follows high rises h = subst IsSound (sym follows) (record { numbered = h.numbered; spread = h.spread })
+follows_so_far (told ∷ more) s t above follows high rises h = follows_so_far more follows.0 t told.number follows.2 rises.0 rises.1 (does_so_far s told follows.0 above follows.1 (high told (inl refl)) h)
+
+above_zero : (lines : List TextLine) → AreAbove 0 lines → (front : List TextLine) (told : TextLine) (behind : List TextLine) → lines ≡ front ++ told ∷ behind → AreAbove 0 behind
+unfolding In
+above_zero lines h front told behind e other i = h other (subst (In other) (sym e) (later front))
+  where
+    later : (front : List TextLine) → In other (front ++ told ∷ behind)
+    later [] = inr i
+    later (x ∷ xs) = inr (later xs)
+
+-- a script that a text spells is sound
+pub read_sound : (text : List ℕ) (script : Script) → script_of text ≡ Ok script → IsSound script
+unfolding In
+read_sound text script e =
+    let a = is_accepted text script e in
+    let empty : a.begun.lines ≡ [] = ok_is (λ (s : Script). s.lines ≡ []) (first_line (words_of a.servers.text)) a.begun (begun_empty (words_of a.servers.text)) a.begins in
+    follows_so_far a.behind a.begun script 0 a.follows
+    (above_zero (text_lines text) (lines_above 0 0 (pieces text)) a.front a.servers a.behind a.lies)
+    (behind_rises a.front a.servers a.behind (subst AreRising a.lies (lines_rise 0 0 (pieces text))))
+    (record {
+      numbered = λ one other i j e. absurd (subst (In one) empty i);
+      below = λ line i. absurd (subst (In line) empty i);
+      spread = λ line name tuple i e. absurd (subst (In line) empty i);
+    })

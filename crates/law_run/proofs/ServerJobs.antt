@@ -1,0 +1,335 @@
+-- Each kind of job but a second server's put leaves contents as they are, and shows what a job has to.
+use Rattle.std.proofs.Common.{◌≡◌, ◌≢◌, ◌≤◌, ◌<◌, ◌+◌, ℕ, List, [], ◌∷◌, Bool, true, false, Option, Some, None, refl, sym, ap, ◌∙◌, subst, ◌⊎◌, inl, inr, arith}
+use Rattle.std.specs.Ordering.{nat_cmp}
+use Rattle.petal_base.specs.declared.place.Cell.{Cell}
+use Rattle.petal_base.specs.Place.{cell_of}
+use Rattle.petal_table.specs.Table.{Table, at, put, without}
+use Rattle.petal_table.proofs.Rows.{at_same, at_apart}
+use Rattle.petal_machine.specs.Machine.{Plain}
+use Rattle.petal_msg.specs.declared.body.Body.{Body}
+use Rattle.petal_msg.specs.declared.body.Body.TheVariants as body
+use Rattle.petal_msg.specs.declared.letter.Actor.{Actor}
+use Rattle.petal_msg.specs.declared.letter.Actor.TheVariants as actor
+use Rattle.petal_msg.specs.declared.operation.Ending.{Ending}
+use Rattle.petal_msg.specs.declared.operation.Ending.TheVariants as ending
+use Rattle.petal_msg.specs.declared.operation.Far.{Far}
+use Rattle.petal_msg.specs.declared.operation.Far.TheVariants as far
+use Rattle.petal_msg.specs.declared.operation.Finished.{Finished}
+use Rattle.petal_msg.specs.declared.operation.Pending.{Pending}
+use Rattle.petal_rules.specs.Lists.{In}
+use Rattle.petal_rules.specs.State.{State, first, second}
+use Rattle.petal_rules.specs.Store.{cell_cmp, chain_in, entry_at, bytes_of, version_of}
+use Rattle.petal_rules.specs.Server.{Half, Here, Post, Done, post_to}
+use Rattle.petal_rules.specs.Writes.{Wanted, operation, opened, puts, with_pending, with_reserved, with_paired, ended, tells}
+use Rattle.petal_rules.specs.Jobs.{here_of}
+use Rattle.petal_rules.specs.World.{World}
+use Rattle.petal_rules.proofs.CellTables.{cell_same, cell_apart, cell_gone, cell_gone_apart}
+use Rattle.law_steps.specs.Steady.{IsSteady}
+use Rattle.law_steps.specs.Did.{Did, Ignores, Refuses, Asks_for, Shows, Repeats, Is_full, Opens, Puts, Gives_up, Closes, Sets_apart, Promises, Declines, Follows, Asks, A_slot, A_copy, IsRefusal, progress}
+use Rattle.law_steps.specs.Happens.{Handled}
+use Rattle.law_steps.specs.Ready.{Ready}
+use Rattle.law_steps.proofs.Tests.{same_or_apart, same_some, none_some, true_false}
+use Rattle.law_steps.proofs.Staged.{same_cell_or_apart}
+use Rattle.law_copies.specs.Pair.{IsPair, ceiling_of, halves_of, Good}
+use Rattle.law_copies.proofs.Frames.{apart}
+use Rattle.law_copies.proofs.Jobs.{chain_apart, heard_known, lead_pair}
+use Rattle.law_requests.specs.Asked.{IsOpen}
+use Rattle.law_run.specs.Onward.{is_held, Onward}
+use Rattle.law_run.specs.Follow.{Follow}
+use Rattle.law_run.proofs.Machine.{held_onward}
+use Rattle.law_run.proofs.ServerFrames.{JobFollow, Was}
+
+-- all kinds of job but one: a second server puts
+abbrev pub IsCalm : {heard : Body → Type 0} {here : Here} {half : Half} {done : Done} → Did heard here half done → Type 0
+IsCalm Ignores = Unit {0}
+IsCalm (Refuses to said is why) = Unit {0}
+IsCalm (Asks_for posts h) = Unit {0}
+IsCalm (Shows client seq cell epoch h r none) = Unit {0}
+IsCalm (Repeats want last h lead is e) = Unit {0}
+IsCalm (Is_full want h lead new none no_room) = Unit {0}
+IsCalm (Opens want h lead new none) = Unit {0}
+IsCalm (Puts op h is stage) = Unit {0}
+IsCalm (Gives_up op h is stage) = Unit {0}
+IsCalm (Closes op h is stage) = Unit {0}
+IsCalm (Sets_apart number cell store h s e le) = Unit {0}
+IsCalm (Promises number cell how s is) = Unit {0}
+IsCalm (Declines number cell h s no_room) = Unit {0}
+IsCalm (Follows number key version bytes h s is) = ⊥
+
+-- the letter ends no write as written
+abbrev is_written : Body → Bool
+is_written (body.Written seq) = true
+is_written (body.Read client seq cell epoch) = false
+is_written (body.Write client seq cell epoch bytes) = false
+is_written (body.Data seq bytes) = false
+is_written (body.NotHere seq) = false
+is_written (body.BlockBusy seq) = false
+is_written (body.Held seq) = false
+is_written (body.WrongRev seq) = false
+is_written (body.Full seq) = false
+is_written (body.Reserve number cell) = false
+is_written (body.Reserved number cell) = false
+is_written (body.PairFull number cell) = false
+is_written (body.Replicate number key version bytes) = false
+is_written (body.Replicated number cell) = false
+
+refusal_unwritten : (said : Body) → IsRefusal said → is_written said ≡ false
+refusal_unwritten (body.NotHere seq) h = refl
+refusal_unwritten (body.BlockBusy seq) h = refl
+refusal_unwritten (body.Held seq) h = refl
+refusal_unwritten (body.WrongRev seq) h = refl
+refusal_unwritten (body.Read client seq cell epoch) h = refl
+refusal_unwritten (body.Write client seq cell epoch bytes) h = refl
+refusal_unwritten (body.Data seq bytes) h = refl
+refusal_unwritten (body.Written seq) h = absurd h
+refusal_unwritten (body.Full seq) h = refl
+refusal_unwritten (body.Reserve number cell) h = refl
+refusal_unwritten (body.Reserved number cell) h = refl
+refusal_unwritten (body.PairFull number cell) h = refl
+refusal_unwritten (body.Replicate number key version bytes) h = refl
+refusal_unwritten (body.Replicated number cell) h = refl
+
+one_post : (to : Actor) (said : Body) (post : Post) → In post (record { to = to; body = said } ∷ []) → (post.to ≡ to) × (post.body ≡ said)
+unfolding In
+one_post to said post (inl e) = (ap (λ (p : Post). p.to) e, ap (λ (p : Post). p.body) e)
+one_post to said post (inr h) = absurd h
+
+posted : (o : Option ℕ) (said : Body) (post : Post) → In post (post_to o said) → post.body ≡ said
+unfolding In
+posted None said post h = absurd h
+posted (Some to) said post (inl e) = ap (λ (p : Post). p.body) e
+posted (Some to) said post (inr h) = absurd h
+
+asks_unwritten : (here : Here) (half : Half) (post : Post) → Asks here half post → is_written post.body ≡ false
+asks_unwritten here half _ (A_slot op to is stage e) = refl
+asks_unwritten here half _ (A_copy op to is stage e) = refl
+
+tells_unwritten : (here : Here) (new : Half) (cell : Cell) (number : ℕ) (how : Far) (post : Post) → In post (tells here new cell number how).posts → is_written post.body ≡ false
+tells_unwritten here new cell number far.Reserved post i = ap is_written (posted _ _ post i)
+tells_unwritten here new cell number far.Replicated post i = ap is_written (posted _ _ post i)
+
+module _ (state : State) (steady : IsSteady state) (name : List ℕ) (w : World) (ready : Ready state w) (good : Good state w) (m k : Plain) (follow : Follow state name w m) (onward : Onward m k) (n : ℕ) where
+  abbrev here : Here
+  here = here_of state n (w.servers n)
+
+  abbrev half : Half
+  half = halves_of w n
+
+  abbrev J : Half → List Post → Type 0
+  J new posts = JobFollow state w k n new posts
+
+  abbrev hears : Body → Type 0
+  hears = Handled w n
+
+  abbrev SaysOk : List Post → Type 0
+  SaysOk posts = (post : Post) (c seq : ℕ) → In post posts → post.to ≡ actor.Client c → post.body ≡ body.Written seq → IsOpen (w.clients c) seq → is_held k c ≡ true
+
+  unwritten : (posts : List Post) → ((post : Post) → In post posts → is_written post.body ≡ false) → SaysOk posts
+  unwritten posts h post c seq i to says still = true_false (ap is_written says) (h post i)
+
+  says_one : (to : Actor) (said : Body) → is_written said ≡ false → SaysOk (record { to = to; body = said } ∷ [])
+  says_one to said e = unwritten (record { to = to; body = said } ∷ []) (λ post i. ap is_written (one_post to said post i).1 ∙ e)
+
+  says_to : (to : Option ℕ) (said : Body) → is_written said ≡ false → SaysOk (post_to to said)
+  says_to to said e = unwritten (post_to to said) (λ post i. ap is_written (posted to said post i) ∙ e)
+
+  pub says_far : (new : Half) (cell : Cell) (number : ℕ) (how : Far) → SaysOk (tells here new cell number how).posts
+  says_far new cell number how = unwritten (tells here new cell number how).posts (λ post i. tells_unwritten here new cell number how post i)
+
+  -- a job that leaves operations as they are
+  same : (new : Half) (posts : List Post) → ((c : ℕ) → at nat_cmp new.pairs.finished c ≡ at nat_cmp half.pairs.finished c) → ((cell : Cell) → at cell_cmp new.pairs.pending cell ≡ at cell_cmp half.pairs.pending cell) → ((cell : Cell) → at cell_cmp new.pairs.last cell ≡ at cell_cmp half.pairs.last cell) → SaysOk posts → J new posts
+  same new posts finished pending last says = record {
+    finished = λ c l is how still. inl (sym (finished c) ∙ is);
+    as_first = λ cell q op pair is. inl (record { was = op; is = sym (pending cell) ∙ is; number = refl; client = refl });
+    as_second = λ cell p op pair is past. inl (subst (λ o. op.op + op.op + 1 ≤ progress o) (last cell) past);
+    says = says;
+  }
+
+  pub was_same : (cell : Cell) (op : Pending) → at cell_cmp half.pairs.pending cell ≡ Some op → Was half cell op
+  was_same cell op is = record { was = op; is = is; number = refl; client = refl }
+
+  ended_full : (c seq : ℕ) → SaysOk (record { to = actor.Client c; body = ended seq ending.Full } ∷ [])
+  ended_full c seq = says_one (actor.Client c) (ended seq ending.Full) refl
+
+  -- a request of this client is finished, for want of a slot
+  finish_full : (t : Table ℕ Finished) (client seq : ℕ) (c : ℕ) (last : Finished) → at nat_cmp (put nat_cmp t client (record { seq = seq; ending = ending.Full })) c ≡ Some last → last.ending ≡ ending.Written → (at nat_cmp t c ≡ Some last) ⊎ (is_held k c ≡ true)
+  finish_full t client seq c last is how = elim (same_or_apart c client) [
+    | inl e ↦
+        let now : Finished = record { seq = seq; ending = ending.Full } in
+        let same : now ≡ last = same_some (sym (at_same t client now) ∙ subst (λ i. at nat_cmp (put nat_cmp t client now) i ≡ Some last) e is) in
+        let no : ending.Full ≡ ending.Written = ap (λ (f : Finished). f.ending) same ∙ how in
+        absurd cc
+    | inr ne ↦ inl (sym (at_apart t client _ c ne) ∙ is)
+  ]
+
+  full_job : (want : Wanted) → J (record half { pairs = record half.pairs { finished = put nat_cmp half.pairs.finished want.client (record { seq = want.seq; ending = ending.Full }) } }) (record { to = actor.Client want.client; body = ended want.seq ending.Full } ∷ [])
+  full_job want = record {
+    finished = λ c last is how still. finish_full half.pairs.finished want.client want.seq c last is how;
+    as_first = λ cell q op pair is. inl (was_same cell op is);
+    as_second = λ cell p op pair is past. inl past;
+    says = ended_full want.client want.seq;
+  }
+
+  opens_job : (want : Wanted) → at cell_cmp half.pairs.pending want.cell ≡ None → J (opened here half want) (post_to (second state want.cell) (body.Reserve half.pairs.next want.cell))
+  opens_job want none =
+      let op = operation here half.pairs.next want in
+      let t = half.pairs.pending in
+      record {
+        finished = λ c last is how still. inl is;
+        as_first = λ cell q o pair is. elim (same_cell_or_apart cell want.cell) [
+          | inl e ↦
+              let same : op ≡ o = same_some (sym (cell_same t want.cell op) ∙ subst (λ (x : Cell). at cell_cmp (put cell_cmp t want.cell op) x ≡ Some o) e is) in
+              let ok = good.pairs cell n q pair in
+              let top : ceiling_of (at cell_cmp t cell) half.pairs.next ≡ half.pairs.next = ap (λ x. ceiling_of x half.pairs.next) (ap (at cell_cmp t) e ∙ none) in
+              let below = ok.below in
+              let number : half.pairs.next ≡ o.op = ap (λ (x : Pending). x.op) same in
+              inr (omega arith)
+          | inr ne ↦ inl (was_same cell o (sym (cell_apart t want.cell op cell ne) ∙ is))
+        ];
+        as_second = λ cell p o pair is past. inl past;
+        says = says_to (second state want.cell) (body.Reserve half.pairs.next want.cell) refl;
+      }
+
+  puts_job : (op : Pending) → at cell_cmp half.pairs.pending op.cell ≡ Some op → J (puts (with_pending half (with_reserved op)) (with_reserved op)).half []
+  unfolding In
+  puts_job op is =
+      let t = half.pairs.pending in
+      let one = with_reserved op in
+      let two : Pending = record one { version = version_of (chain_in half.store.chains op.cell) + 1; stage = record one.stage { put = true } } in
+      record {
+        finished = λ c last is how still. inl is;
+        as_first = λ cell q o pair there. elim (same_cell_or_apart cell op.cell) [
+          | inl e ↦
+              let same : two ≡ o = same_some (sym (cell_same (put cell_cmp t op.cell one) op.cell two) ∙ subst (λ (x : Cell). at cell_cmp (put cell_cmp (put cell_cmp t op.cell one) op.cell two) x ≡ Some o) e there) in
+              inl (record { was = op; is = subst (λ (x : Cell). at cell_cmp t x ≡ Some op) (sym e) is; number = ap (λ (x : Pending). x.op) same; client = ap (λ (x : Pending). x.client) same })
+          | inr ne ↦ inl (was_same cell o (sym (cell_apart (put cell_cmp t op.cell one) op.cell two cell ne ∙ cell_apart t op.cell one cell ne) ∙ there))
+        ];
+        as_second = λ cell p o pair is past. inl past;
+        says = λ post c seq i to says still. absurd i;
+      }
+
+  -- an operation is pending no more
+  gone_first : (op : Pending) (t : Table Cell Pending) → at cell_cmp t op.cell ≡ None → ((q : Cell) → q ≢ op.cell → at cell_cmp t q ≡ at cell_cmp half.pairs.pending q) → (cell : Cell) (o : Pending) → at cell_cmp t cell ≡ Some o → Was half cell o
+  gone_first op t gone others cell o is = elim (same_cell_or_apart cell op.cell) [
+    | inl e ↦ none_some gone (subst (λ (x : Cell). at cell_cmp t x ≡ Some o) e is)
+    | inr ne ↦ was_same cell o (sym (others cell ne) ∙ is)
+  ]
+
+  -- an operation that the second server has put
+  closes_held : (op : Pending) → hears (body.Replicated op.op op.cell) → at cell_cmp half.pairs.pending op.cell ≡ Some op → is_held k op.client ≡ true
+  closes_held op h is =
+      let pair = lead_pair state steady w ready good n op.cell ((ready.pending n).staged op.cell op is).lead in
+      held_onward m k op.client onward (follow.pending op.cell n pair.0 op pair.1 is (heard_known state steady w ready good n _ h op.cell n pair.0 refl pair.1))
+
+  one_client : {c d : ℕ} → actor.Client c ≡ actor.Client d → c ≡ d
+  one_client e = cc
+
+  reserves_job : (number : ℕ) (cell : Cell) (new : Half) → hears (body.Reserve number cell) → new.pairs.finished ≡ half.pairs.finished → new.pairs.pending ≡ half.pairs.pending → new.pairs.last ≡ put cell_cmp half.pairs.last cell (record { op = number; far = far.Reserved }) → J new (tells here new cell number far.Reserved).posts
+  reserves_job number cell new h finished pending last = record {
+    finished = λ c l is how still. inl (ap (λ t. at nat_cmp t c) (sym finished) ∙ is);
+    as_first = λ q j op pair is. inl (was_same q op (ap (λ t. at cell_cmp t q) (sym pending) ∙ is));
+    as_second = λ q p op pair is past. elim (same_cell_or_apart q cell) [
+      | inl e ↦
+          let there : progress (at cell_cmp new.pairs.last q) ≡ number + number = ap (λ t. progress (at cell_cmp t q)) last ∙ ap (λ (x : Cell). progress (at cell_cmp (put cell_cmp half.pairs.last cell (record { op = number; far = far.Reserved })) x)) e ∙ ap progress (cell_same half.pairs.last cell (record { op = number; far = far.Reserved })) in
+          let known : number < ceiling_of (at cell_cmp (halves_of w p).pairs.pending q) (halves_of w p).pairs.next = subst (λ (x : Cell). number < ceiling_of (at cell_cmp (halves_of w p).pairs.pending x) (halves_of w p).pairs.next) (sym e) (heard_known state steady w ready good n _ h cell p n refl (subst (λ (x : Cell). IsPair state x p n) e pair)) in
+          let top : ceiling_of (at cell_cmp (halves_of w p).pairs.pending q) (halves_of w p).pairs.next ≡ op.op + 1 = ap (λ o. ceiling_of o (halves_of w p).pairs.next) is in
+          absurd (omega arith)
+      | inr ne ↦ inl (subst (λ o. op.op + op.op + 1 ≤ progress o) (ap (λ t. at cell_cmp t q) last ∙ cell_apart half.pairs.last cell _ q ne) past)
+    ];
+    says = says_far new cell number far.Reserved;
+  }
+
+  ended_written : (seq : ℕ) (how : Ending) (other : ℕ) → ended seq how ≡ body.Written other → how ≡ ending.Written
+  ended_written seq ending.Written other e = refl
+  ended_written seq ending.Full other e = true_false {b = is_written (body.Written other)} refl (ap is_written (sym e))
+
+  seq_in : Body → ℕ
+  seq_in (body.Written seq) = seq
+  seq_in (body.Read client seq cell epoch) = 0
+  seq_in (body.Write client seq cell epoch bytes) = 0
+  seq_in (body.Data seq bytes) = 0
+  seq_in (body.NotHere seq) = 0
+  seq_in (body.BlockBusy seq) = 0
+  seq_in (body.Held seq) = 0
+  seq_in (body.WrongRev seq) = 0
+  seq_in (body.Full seq) = 0
+  seq_in (body.Reserve number cell) = 0
+  seq_in (body.Reserved number cell) = 0
+  seq_in (body.PairFull number cell) = 0
+  seq_in (body.Replicate number key version bytes) = 0
+  seq_in (body.Replicated number cell) = 0
+
+  ended_seq : (seq : ℕ) (how : Ending) (other : ℕ) → ended seq how ≡ body.Written other → seq ≡ other
+  unfolding seq_in
+  ended_seq seq ending.Written other e = ap seq_in e
+  ended_seq seq ending.Full other e = true_false {b = is_written (body.Written other)} refl (ap is_written (sym e))
+
+  -- each kind of job but a second server's put
+  pub calm_job : (done : Done) (d : Did hears here half done) → IsCalm d → J done.half done.posts
+  unfolding In
+  calm_job _ Ignores calm = same half [] (λ c. refl) (λ cell. refl) (λ cell. refl) (λ post c seq i to says still. absurd i)
+  calm_job _ (Refuses to said is why) calm = same half _ (λ c. refl) (λ cell. refl) (λ cell. refl) (says_one to said (refusal_unwritten said is))
+  calm_job _ (Asks_for posts h) calm = same half posts (λ c. refl) (λ cell. refl) (λ cell. refl) (unwritten posts (λ post i. asks_unwritten here half post (h post i)))
+  calm_job _ (Shows client seq cell epoch h r none) calm = same half _ (λ c. refl) (λ cell. refl) (λ cell. refl) (says_one (actor.Client client) (body.Data seq (bytes_of (entry_at (chain_in half.store.chains cell) epoch))) refl)
+  calm_job _ (Repeats want last h lead is e) calm = same half _ (λ c. refl) (λ cell. refl) (λ cell. refl)
+      (λ post c seq i to says still.
+      let p = one_post _ _ post i in
+      let same_client : want.client ≡ c = one_client (sym p.0 ∙ to) in
+      let said : ended want.seq last.ending ≡ body.Written seq = sym p.1 ∙ says in
+      let how = ended_written want.seq last.ending seq said in
+      let number : seq ≡ last.seq = sym (ended_seq want.seq last.ending seq said) ∙ e in
+      held_onward m k c onward (follow.finished n c last (ap (at nat_cmp half.pairs.finished) (sym same_client) ∙ is) how (subst (IsOpen (w.clients c)) number still)))
+  calm_job _ (Is_full want h lead new none no_room) calm = full_job want
+  calm_job _ (Opens want h lead new none) calm = opens_job want none
+  calm_job _ (Puts op h is stage) calm = puts_job op is
+  calm_job _ (Gives_up op h is stage) calm = record {
+    finished = λ c last is how still. finish_full half.pairs.finished op.client op.seq c last is how;
+    as_first = λ cell q o pair there. inl (gone_first op (without cell_cmp half.pairs.pending op.cell) (cell_gone half.pairs.pending op.cell) (λ q ne. cell_gone_apart half.pairs.pending op.cell q ne) cell o there);
+    as_second = λ cell p o pair is past. inl past;
+    says = ended_full op.client op.seq;
+  }
+  calm_job _ (Closes op h is stage) calm =
+      let u = put cell_cmp half.pairs.pending op.cell (with_paired op) in
+      let held = closes_held op h is in
+      record {
+        finished = λ c last there how still. elim (same_or_apart c op.client) [
+          | inl e ↦ inr (subst (λ i. is_held k i ≡ true) (sym e) held)
+          | inr ne ↦ inl (sym (at_apart half.pairs.finished op.client _ c ne) ∙ there)
+        ];
+        as_first = λ cell q o pair there. inl (gone_first op (without cell_cmp u op.cell) (cell_gone u op.cell) (λ q ne. cell_gone_apart u op.cell q ne ∙ cell_apart half.pairs.pending op.cell (with_paired op) q ne) cell o there);
+        as_second = λ cell p o pair is past. inl past;
+        says = λ post c seq i to says still. subst (λ i. is_held k i ≡ true) (one_client (sym (one_post _ _ post i).0 ∙ to)) held;
+      }
+  calm_job _ (Sets_apart number cell store h s e le) calm = reserves_job number cell _ h refl refl refl
+  calm_job _ (Promises number cell how s is) calm = promised how
+    where
+      promised : (how : Far) → J (tells here half cell number how).half (tells here half cell number how).posts
+      promised far.Reserved = same half _ (λ c. refl) (λ cell. refl) (λ cell. refl) (says_far half cell number far.Reserved)
+      promised far.Replicated = same half _ (λ c. refl) (λ cell. refl) (λ cell. refl) (says_far half cell number far.Replicated)
+  calm_job _ (Declines number cell h s no_room) calm = same half _ (λ c. refl) (λ cell. refl) (λ cell. refl) (says_to (first state cell) (body.PairFull number cell) refl)
+  calm_job _ (Follows number key version bytes h s is) calm = absurd calm
+
+  -- and the copies that count stay as they are
+  pub calm_chains : (done : Done) (d : Did hears here half done) → IsCalm d → (cell : Cell) → second state cell ≡ Some n → chain_in done.half.store.chains cell ≡ chain_in half.store.chains cell
+  calm_chains _ Ignores calm cell own = refl
+  calm_chains _ (Refuses to said is why) calm cell own = refl
+  calm_chains _ (Asks_for posts h) calm cell own = refl
+  calm_chains _ (Shows client seq c epoch h r none) calm cell own = refl
+  calm_chains _ (Repeats want last h lead is e) calm cell own = refl
+  calm_chains _ (Is_full want h lead new none no_room) calm cell own = refl
+  calm_chains _ (Opens want h lead new none) calm cell own = refl
+  calm_chains _ (Puts op h is stage) calm cell own =
+      let s = (ready.pending n).staged op.cell op is in
+      let pair = lead_pair state steady w ready good n op.cell s.lead in
+      chain_apart half.store.chains (cell_of op.key) _ cell
+      (λ e. apart state steady op.cell n n (record { leads = pair.1.leads; follows = subst (λ (c : Cell). second state c ≡ Some n) (e ∙ s.keyed) own }) refl)
+  calm_chains _ (Gives_up op h is stage) calm cell own = refl
+  calm_chains _ (Closes op h is stage) calm cell own = refl
+  calm_chains _ (Sets_apart number c store h s e le) calm cell own = ap (λ t. chain_in t cell) e
+  calm_chains _ (Promises number c how s is) calm cell own = promised how
+    where
+      promised : (how : Far) → chain_in (tells here half c number how).half.store.chains cell ≡ chain_in half.store.chains cell
+      promised far.Reserved = refl
+      promised far.Replicated = refl
+  calm_chains _ (Declines number c h s no_room) calm cell own = refl
+  calm_chains _ (Follows number key version bytes h s is) calm cell own = absurd calm

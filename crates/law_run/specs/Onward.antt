@@ -1,0 +1,44 @@
+-- The plain machine with one disk, and how its writes under way go on.
+use Rattle.std.specs.Prelude.{◌≡◌, ℕ, Bool, true, false, List, [], ◌∷◌, Option, Some, None}
+use Rattle.petal_table.specs.Table.{Table}
+use Rattle.petal_machine.specs.declared.event.Write.{Write}
+use Rattle.petal_machine.specs.declared.state.Disk.{Disk}
+use Rattle.petal_machine.specs.declared.state.Open.{Open}
+use Rattle.petal_machine.specs.Machine.{Plain, open_of, stands}
+
+-- the disk with these blocks and no snapshot
+abbrev pub one_disk : List ℕ → Table ℕ (List ℕ) → Disk
+one_disk name blocks = record { name = name; now = blocks; snaps = [] }
+
+-- the machine has this disk alone
+abbrev pub HasOnly : Plain → List ℕ → Table ℕ (List ℕ) → Type 0
+HasOnly m name blocks = m.disks ≡ one_disk name blocks ∷ []
+
+-- a write whose block has its bytes is remembered to have had them
+abbrev pub IsMindful : Plain → Type 0
+IsMindful m = (c : ℕ) (o : Open) → open_of m.opened c ≡ Some o → stands m.disks o.write ≡ true → o.held ≡ true
+
+-- the client's write under way has had its bytes
+abbrev pub held_in : Option Open → Bool
+held_in None = false
+held_in (Some o) = o.held
+
+abbrev pub is_held : Plain → ℕ → Bool
+is_held m c = held_in (open_of m.opened c)
+
+-- the write is still under way, and what it has had is not forgotten
+pub record GoesOn (later : Option Open) (o : Open) : Type 0 where
+  pub now : Open
+  pub is : later ≡ Some now
+  pub same : now.write ≡ o.write
+  pub held : o.held ≡ true → now.held ≡ true
+
+-- no write begins or ends
+pub record Onward (m k : Plain) : Type 0 where
+  pub none : (c : ℕ) → open_of m.opened c ≡ None → open_of k.opened c ≡ None
+  pub some : (c : ℕ) (o : Open) → open_of m.opened c ≡ Some o → GoesOn (open_of k.opened c) o
+
+-- the machine's write under way is the client's
+abbrev pub Seat : Option Write → Option Open → Type 0
+Seat None o = o ≡ None
+Seat (Some write) o = (held : Bool) × (o ≡ Some (record { write = write; held = held }))

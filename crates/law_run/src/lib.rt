@@ -1,0 +1,39 @@
+//! The law of lock step: the events of every legal history of a sound script are a run of the plain machine, and the contents
+//! are its disk.
+//!
+//! To the layer above it promises the whole law: the two-copy rule, the rule of requests, the run and the contents. It speaks
+//! of definitions alone and knows nothing of code.
+#![tactic(auto)]
+
+ghost use Rattle.std.specs.Prelude.{◌≡◌, ℕ, List, Ok};
+ghost use Rattle.petal_script.specs.Script.{script_of};
+ghost use Rattle.petal_script.specs.declared.script.Script.{Script};
+ghost use Rattle.petal_rules.specs.World.{setting_of, start};
+ghost use Rattle.petal_history.specs.Claims.{Holds, Keeps, Law, machine_after};
+ghost use Rattle.petal_history.specs.Contents.{content_at, disk_name};
+ghost use Rattle.petal_history.specs.Events.{IsRunOf, events_of};
+ghost use Rattle.petal_history.specs.Legal.{IsLegal, world_after};
+ghost use Rattle.petal_history.specs.Sound.{IsSound};
+ghost use Rattle.petal_history.specs.declared.record.Record.{Record};
+
+/// What the machine is told of a legal history of a sound script is a run of it: each event is allowed where it is told.
+pub fn events_are_a_run()
+    ensures { (script : Script) (records : List Record) → IsSound script → IsLegal script records → IsRunOf (events_of script records) }
+{}
+
+/// After it, the machine's disk has the contents of the world.
+pub fn contents_are_the_machines()
+    ensures { (script : Script) (records : List Record) → IsSound script → IsLegal script records → Holds (machine_after (events_of script records)).disks (disk_name (setting_of script)) (content_at (setting_of script) (world_after (setting_of script) (start (setting_of script)) records) 0) }
+{}
+
+/// The whole law: every legal history of a sound script keeps the two-copy rule and the rule of requests, is a run of the
+/// plain machine, and has the machine's contents.
+pub fn every_history_keeps_the_law()
+    ensures { Law }
+{}
+
+/// A script that is read is sound, so the whole law holds of every legal history of it.
+pub fn read_scripts_are_sound()
+    ensures sound { (text : List ℕ) (script : Script) → script_of text ≡ Ok script → IsSound script }
+    ensures law { (text : List ℕ) (script : Script) (records : List Record) → script_of text ≡ Ok script → IsLegal script records → Keeps script records }
+{}

@@ -1,0 +1,30 @@
+-- The letters of a step, and what was heard, later on.
+use Rattle.std.proofs.Common.{◌≡◌, ℕ, ◌+◌, List, [], ◌∷◌, refl, ap, inl, inr}
+use Rattle.petal_msg.specs.declared.letter.Letter.{Letter}
+use Rattle.petal_rules.specs.Lists.{In}
+use Rattle.petal_rules.specs.Server.{Post, Sender, letters_of}
+use Rattle.petal_rules.specs.World.{stamped}
+
+-- a letter of a step was posted in it
+pub record Said (who : Sender) (stamp : ℕ) (posts : List Post) (letter : Letter) : Type 0 where
+  pub post : Post
+  pub there : In post posts
+  pub to : letter.to ≡ post.to
+  pub body : letter.body ≡ post.body
+  pub from : letter.from ≡ who.from
+  pub at : letter.stamp ≡ stamp
+
+pub said : (who : Sender) (stamp nth : ℕ) (posts : List Post) (letter : Letter) → In letter (stamped stamp (letters_of who nth posts)) → Said who stamp posts letter
+unfolding In
+said who stamp nth [] letter h = absurd h
+said who stamp nth (post ∷ posts) letter (inl e) = record {
+  post = post;
+  there = inl refl;
+  to = ap (λ (l : Letter). l.to) e;
+  body = ap (λ (l : Letter). l.body) e;
+  from = ap (λ (l : Letter). l.from) e;
+  at = ap (λ (l : Letter). l.stamp) e;
+}
+said who stamp nth (post ∷ posts) letter (inr h) =
+    let later = said who stamp (nth + 1) posts letter h in
+    record { post = later.post; there = inr later.there; to = later.to; body = later.body; from = later.from; at = later.at }

@@ -1,0 +1,107 @@
+-- Rows of a table that was made by puts: each row is what stands at its key.
+use Rattle.std.proofs.Common.{◌≡◌, List, [], ◌∷◌, Bool, true, false, cond, Some, refl, sym, ap, ◌∙◌, subst, ◌⊎◌, inl, inr}
+use Rattle.std.specs.Prelude.{filter}
+use Rattle.std.specs.declared.cmp.Ordering.{Ordering}
+use Rattle.std.specs.declared.cmp.Ordering.TheVariants.{Less, Equal, Greater}
+use Rattle.std.specs.Ordering.{is_eq, match_ordering, ordering_reverse}
+use Rattle.std.specs.Cmp.{IsTotalOrder, tied_itself}
+use Rattle.std.specs.BTreeMap.{insert_entry, is_at}
+use Rattle.std.specs.Map.{lookup}
+use Rattle.petal_table.specs.Table.{Table, at, put, without}
+use Rattle.petal_rules.specs.Lists.{In}
+use Rattle.law_steps.specs.Ready.{IsRising}
+
+-- a row of this key stands in the table
+abbrev HasKey : {K X : Type 0} → Table K X → K → Type 0
+HasKey {K} {X} t k = (x : X) × In (k, x) t
+
+key_of_row : {K X : Type 0} (row : K × X) (t : Table K X) → In row t → HasKey t row.0
+key_of_row row t h = (row.1, h)
+
+key_later : {K X : Type 0} (e : K × X) (t : Table K X) (k : K) → HasKey t k → HasKey (e ∷ t) k
+unfolding In
+key_later e t k h = (h.0, inr h.1)
+
+key_first : {K X : Type 0} (e row : K × X) (t : Table K X) → row ≡ e → HasKey (e ∷ t) row.0
+unfolding In
+key_first e row t h = (row.1, inl h)
+
+keys_put : {K X : Type 0} (R : K → K → Ordering) (t : Table K X) (k : K) (x : X) (row : K × X) → In row (insert_entry R t k x) → (row.0 ≡ k) ⊎ HasKey t row.0
+unfolding In
+keys_put R [] k x row (inl e) = inl (ap (λ r. r.0) e)
+keys_put R [] k x row (inr h) = absurd h
+keys_put {K} {X} R (e ∷ es) k x row h =
+    elim (R k e.0) as (λ o. In row (match_ordering o ((k, x) ∷ e ∷ es) ((e.0, x) ∷ es) (e ∷ insert_entry R es k x)) → (In row (insert_entry R es k x) → (row.0 ≡ k) ⊎ HasKey es row.0) → (row.0 ≡ k) ⊎ HasKey (e ∷ es) row.0) [
+      | Less ↦ λ i ih. less i
+      | Equal ↦ λ i ih. equal i
+      | Greater ↦ λ i ih. greater i ih
+    ] h (keys_put R es k x row)
+  where
+    less : In row ((k, x) ∷ e ∷ es) → (row.0 ≡ k) ⊎ HasKey (e ∷ es) row.0
+    less (inl f) = inl (ap (λ r. r.0) f)
+    less (inr i) = inr (row.1, i)
+
+    equal : In row ((e.0, x) ∷ es) → (row.0 ≡ k) ⊎ HasKey (e ∷ es) row.0
+    equal (inl f) = inr (subst (λ (q : K). HasKey (e ∷ es) q) (sym (ap (λ r. r.0) f)) (key_first e e es refl))
+    equal (inr i) = inr (row.1, inr i)
+
+    greater : In row (e ∷ insert_entry R es k x) → (In row (insert_entry R es k x) → (row.0 ≡ k) ⊎ HasKey es row.0) → (row.0 ≡ k) ⊎ HasKey (e ∷ es) row.0
+    greater (inl f) ih = inr (key_first e row es f)
+    greater (inr i) ih = elim (ih i) [ inl f ↦ inl f | inr g ↦ inr (key_later e es row.0 g) ]
+
+greater_less : {K : Type 0} {R : K → K → Ordering} → IsTotalOrder R → (a b : K) → R a b ≡ Greater → R b a ≡ Less
+greater_less o a b e = o.antisymm b a ∙ ap ordering_reverse e
+
+less_greater : {K : Type 0} {R : K → K → Ordering} → IsTotalOrder R → (a b : K) → R a b ≡ Less → R b a ≡ Greater
+less_greater o a b e = o.antisymm b a ∙ ap ordering_reverse e
+
+pub rising_put : {K X : Type 0} {R : K → K → Ordering} → IsTotalOrder R → (t : Table K X) (k : K) (x : X) → IsRising R t → IsRising R (insert_entry R t k x)
+unfolding In
+rising_put o [] k x h = ((λ other i. absurd i), tt)
+rising_put {K} {X} {R} o (e ∷ es) k x h =
+    let later = rising_put o es k x h.1 in
+    elim (R k e.0) as (λ r. R k e.0 ≡ r → IsRising R (match_ordering r ((k, x) ∷ e ∷ es) ((e.0, x) ∷ es) (e ∷ insert_entry R es k x))) [
+      | Less ↦ λ is. ((λ other i. elim i [ inl f ↦ subst (λ (r : K × X). R k r.0 ≡ Less) (sym f) is | inr j ↦ o.trans k e.0 other.0 is (h.0 other j) ]), h)
+      | Equal ↦ λ is. (h.0, h.1)
+      | Greater ↦ λ is. (
+        (λ other i. elim (keys_put R es k x other i) [
+          | inl f ↦ subst (λ (q : K). R e.0 q ≡ Less) (sym f) (greater_less o k e.0 is)
+          | inr g ↦ h.0 (other.0, g.0) g.1
+        ]),
+        later,
+      )
+    ] refl
+
+in_filter : {A : Type 0} (p : A → Bool) (xs : List A) (x : A) → In x (filter p xs) → In x xs
+unfolding In
+in_filter p [] x h = h
+in_filter {A} p (y ∷ ys) x h = elim (p y) as (λ b. In x (cond b (y ∷ filter p ys) (filter p ys)) → In x (y ∷ ys)) [
+  | true ↦ λ i. elim i [ inl e ↦ inl e | inr j ↦ inr (in_filter p ys x j) ]
+  | false ↦ λ i. inr (in_filter p ys x i)
+] h
+
+pub rising_filter : {K X : Type 0} (R : K → K → Ordering) (p : K × X → Bool) (t : Table K X) → IsRising R t → IsRising R (filter p t)
+rising_filter R p [] h = tt
+rising_filter R p (e ∷ es) h =
+    let later = rising_filter R p es h.1 in
+    elim (p e) as (λ b. IsRising R (cond b (e ∷ filter p es) (filter p es))) [
+      | true ↦ ((λ other i. h.0 other (in_filter p es other i)), later)
+      | false ↦ later
+    ]
+
+pub put_rises : {K X : Type 0} {R : K → K → Ordering} → IsTotalOrder R → (t : Table K X) (k : K) (x : X) → IsRising R t → IsRising R (put R t k x)
+unfolding put
+put_rises o t k x h = rising_put o t k x h
+
+pub without_rises : {K X : Type 0} (R : K → K → Ordering) (t : Table K X) (k : K) → IsRising R t → IsRising R (without R t k)
+unfolding without
+without_rises R t k h = rising_filter R _ t h
+
+-- a row is what stands at its key
+pub at_row : {K X : Type 0} {R : K → K → Ordering} → IsTotalOrder R → (t : Table K X) (row : K × X) → IsRising R t → In row t → at R t row.0 ≡ Some row.1
+unfolding In at
+at_row o [] row h i = absurd i
+at_row {K} {X} {R} o (e ∷ es) row h (inl f) =
+    subst (λ (r : K × X). lookup (is_at (R r.0)) (e ∷ es) ≡ Some r.1) (sym f) (ap (λ r. cond (is_eq r) (Some e.1) (lookup (is_at (R e.0)) es)) (tied_itself o e.0))
+at_row {R = R} o (e ∷ es) row h (inr i) =
+    ap (λ r. cond (is_eq r) (Some e.1) (lookup (is_at (R row.0)) es)) (less_greater o e.0 row.0 (h.0 row i)) ∙ at_row o es row h.1 i

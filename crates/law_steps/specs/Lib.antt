@@ -1,0 +1,4 @@
+pub mod Steady
+pub mod Did
+pub mod Happens
+pub mod Ready

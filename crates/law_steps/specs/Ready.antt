@@ -1,0 +1,28 @@
+-- What holds of queues and pending operations in every world: the ground on which each step is one of the kinds named.
+use Rattle.std.specs.Prelude.{◌≡◌, ℕ, [], ◌∷◌, Some}
+use Rattle.std.specs.declared.cmp.Ordering.{Ordering}
+use Rattle.std.specs.declared.cmp.Ordering.TheVariants.{Less}
+use Rattle.petal_base.specs.declared.place.Cell.{Cell}
+use Rattle.petal_table.specs.Table.{Table, at}
+use Rattle.petal_msg.specs.declared.operation.Pending.{Pending}
+use Rattle.petal_rules.specs.Lists.{In}
+use Rattle.petal_rules.specs.State.{State}
+use Rattle.petal_rules.specs.Store.{cell_cmp}
+use Rattle.petal_rules.specs.World.{World}
+use Rattle.law_steps.specs.Did.{IsStaged}
+use Rattle.law_steps.specs.Happens.{AreQueued}
+
+-- each row is below those after it
+abbrev pub IsRising : {K X : Type 0} → (K → K → Ordering) → Table K X → Type 0
+IsRising R [] = Unit {0}
+IsRising {K} {X} R (row ∷ rows) = ((other : K × X) → In other rows → R row.0 other.0 ≡ Less) × IsRising R rows
+
+-- the operations that are pending at a server rest in one of two stages, each on its own cell, which the server leads
+pub record IsReady (state : State) (me : ℕ) (pending : Table Cell Pending) : Type 0 where
+  pub staged : (cell : Cell) (op : Pending) → at cell_cmp pending cell ≡ Some op → IsStaged state me cell op
+  pub rising : IsRising cell_cmp pending
+
+-- and what waits in a queue was sent
+pub record Ready (state : State) (w : World) : Type 0 where
+  pub queues : (n : ℕ) → AreQueued w n (w.servers n).queue
+  pub pending : (n : ℕ) → IsReady state n (w.servers n).pairs.pending

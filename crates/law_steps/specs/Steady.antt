@@ -1,0 +1,32 @@
+-- What the laws need to know of a state that does not change.
+use Rattle.std.specs.Prelude.{◌≡◌, ◌≢◌, ◌⊎◌, ℕ, List, Some, None, true}
+use Rattle.petal_base.specs.declared.place.Cell.{Cell}
+use Rattle.petal_state.specs.declared.answer.DiskView.{DiskView}
+use Rattle.petal_state.specs.declared.answer.Hold.TheVariants.{No}
+use Rattle.petal_history.specs.Contents.{first_name}
+use Rattle.petal_rules.specs.State.{State, find, lead, is_lead, leads_link, first, second, readable, held, authority, snapshot}
+
+-- the cell has another server, that follows
+pub record HasSecond (state : State) (cell : Cell) (n : ℕ) : Type 0 where
+  pub other : ℕ
+  pub is : second state cell ≡ Some other
+  pub apart : n ≢ other
+
+-- of a disk that was found by its name: it is the one disk, its cells are under map 0, and its epoch is 0
+pub record IsNewDisk (state : State) (name : List ℕ) (disk : DiskView) : Type 0 where
+  pub named : first_name state.disks.rows ≡ name
+  pub under : disk.map ≡ 0
+  pub newest : disk.epoch ≡ 0
+
+-- the first server of a cell leads it, and has a second one apart from it, whose copy counts; only these two are read; no
+-- fence holds a cell; the one disk is new and has no snapshot
+pub record IsSteady (state : State) : Type 0 where
+  pub leads : (cell : Cell) → lead state cell ≡ first state cell
+  pub goes_on : (n : ℕ) (cell : Cell) → leads_link state n cell ≡ is_lead state n cell
+  pub pairs : (cell : Cell) (n : ℕ) → first state cell ≡ Some n → HasSecond state cell n
+  pub followed : (cell : Cell) (m : ℕ) → second state cell ≡ Some m → (n : ℕ) × (first state cell ≡ Some n)
+  pub counts : (cell : Cell) → authority state cell ≡ second state cell
+  pub free : (cell : Cell) → held state cell ≡ No
+  pub readers : (n : ℕ) (cell : Cell) → readable state n cell ≡ true → (first state cell ≡ Some n) ⊎ (second state cell ≡ Some n)
+  pub disks : (name : List ℕ) (disk : DiskView) → find state name ≡ Some disk → IsNewDisk state name disk
+  pub no_snapshots : (disk : ℕ) (name : List ℕ) → snapshot state disk name ≡ None

@@ -1,0 +1,117 @@
+//! A server and its store.
+
+ghost use Rattle.std.specs.Prelude.{◌≡◌, true, IfOk};
+ghost use Rattle.petal_rules.specs.Server.{first_server};
+ghost use Rattle.petal_rules.specs.declared.step.Step.TheVariants.{Work};
+ghost use Rattle.petal_rules.specs.declared.step.WorkEnd.TheVariants.{Done};
+ghost use Rattle.petal_world.specs.Desks.{acted_at};
+ghost use Rattle.memory_server.specs.Server.{Place, site_of};
+
+use global_state::GlobalState;
+use petal_base::{NoMemory, Rev, Sequence, ServerId};
+use petal_disk::MemDisk;
+use petal_msg::Letter;
+use petal_rules::{Step, WorkEnd};
+use petal_world::Host;
+use server_core::{ServerCore, Worked};
+use server_store::{DATA_START, SLOT_BYTES, Store};
+use std::alloc::Global;
+use std::marker::Model;
+
+/// A server and its store. Contracts see the core and what the store holds.
+#[derive(Drop)]
+pub struct MemServer {
+    core: ServerCore,
+    store: Store<MemDisk>,
+    over: bool,
+}
+
+impl Model for MemServer {
+    ghost use Rattle.std.specs.Prelude.{◌≡◌, false};
+    ghost use Rattle.petal_disk.specs.declared.memory_disk.MemDisk.{MemDisk};
+    ghost use Rattle.write_pair.specs.Desk.{HasTicketsAt};
+    ghost use Rattle.server_core.specs.Core.{desk_of};
+    ghost use Rattle.memory_server.specs.Server.{Place};
+
+    ghost Value = { Place MemDisk };
+
+    ghost view = { λ s. record { core = s.core; store = s.store } };
+
+    ghost invariant = { λ s. s.over ≡ false → HasTicketsAt (desk_of s.core s.store) };
+}
+
+impl MemServer {
+    /// The first incarnation of a server, with a blank device of so many slots.
+    pub fn start(
+        alloc: Global,
+        me: ServerId,
+        state: GlobalState,
+        slots: u32,
+    ) -> Result<MemServer, NoMemory>
+        requires { state.rev ≡ 1 }
+        ensures { IfOk result (λ server. site_of server ≡ record { me = me; state = state; server = first_server true slots }) }
+    {
+        let Ok(disk) = MemDisk::new(alloc, DATA_START + SLOT_BYTES * u64::from(slots)) else {
+            return Err(NoMemory);
+        };
+        match Store::format(alloc, disk, slots, false) {
+            Ok(store) => Ok(MemServer {
+                core: ServerCore::start(alloc, me, state),
+                store,
+                over: false,
+            }),
+            Err(_) => Err(NoMemory),
+        }
+    }
+
+    /// Does the first job of the queue.
+    fn work(&mut self, alloc: Global) -> Result<Sequence<Letter>, NoMemory>
+        ensures { IfOk result (λ letters. record { site = site_of self.new; letters = letters } ≡ acted_at (site_of self.old) (Work Done)) }
+    {
+        if self.over || self.core.spent(&self.store) {
+            return Err(NoMemory);
+        }
+        match self.core.work(alloc, &mut self.store) {
+            Ok(Worked::Did(letters)) => Ok(letters),
+            Ok(Worked::Idle) => Ok(Sequence::new(alloc)),
+            Err(_) => {
+                self.over = true;
+                Err(NoMemory)
+            }
+        }
+    }
+}
+
+impl Host for MemServer {
+    ghost use Rattle.memory_server.specs.Server.{site_of};
+
+    ghost seen = { site_of };
+
+    fn step(&mut self, alloc: Global, step: &Step) -> Result<Sequence<Letter>, NoMemory> {
+        match step {
+            Step::Call { line: _ } => Ok(Sequence::new(alloc)),
+            Step::Deliver { letter } => {
+                self.core.deliver(letter.share()?)?;
+                Ok(Sequence::new(alloc))
+            }
+            Step::Tick => self.core.tick(alloc),
+            Step::Work(WorkEnd::Done) => self.work(alloc),
+        }
+    }
+
+    fn is_running(&self) -> bool {
+        true
+    }
+
+    fn is_idle(&self) -> bool {
+        self.core.is_idle()
+    }
+
+    fn is_spent(&self) -> bool {
+        self.core.spent(&self.store)
+    }
+
+    fn rev(&self) -> Rev {
+        self.core.rev()
+    }
+}

@@ -1,0 +1,27 @@
+-- What the words and the text of a script ask the program to do.
+use Rattle.std.specs.Prelude.{ℕ, List, [], codes, Option, Some, None, Result, Ok, Err, if◌then◌else◌}
+use Rattle.petal_script.specs.Script.{Refusal, script_of}
+use Rattle.petal_script.specs.Printed.{refusal_line, cause_text}
+use Rattle.petal_script.specs.declared.script.Script.{Script}
+use Rattle.petal_run.specs.Built.{first_not_built}
+use Rattle.petal_run.specs.Words.{is_run}
+
+-- to refuse, with a status and a line of text; or to play a script
+pub data Asked : Type 0 where
+  Refuse : (status : ℕ) (bytes : List ℕ) → Asked
+  Play : Script → Asked
+
+-- a script whose lines are all built is played
+abbrev pub by_built : Script → Option ℕ → Asked
+by_built script (Some line) = Refuse 2 (refusal_line line (codes "not built"))
+by_built script None = Play script
+
+-- a text that is no script is refused at its first refused line
+abbrev pub by_text : Result Script Refusal → Asked
+by_text (Err refusal) = Refuse 2 (refusal_line refusal.line (cause_text refusal.cause))
+by_text (Ok script) = by_built script (first_not_built [] script.lines)
+
+-- other words than `run` get a line that says how the program is used
+abbrev pub asked : List (List ℕ) → List ℕ → Asked
+asked words text =
+    if is_run words then by_text (script_of text) else Refuse 1 (codes "usage: petal run [FOLDER] | petal drill SEED COUNT\n")

@@ -1,0 +1,230 @@
+-- What is kept behind a step is that of the world behind it.
+use Rattle.std.proofs.Common.{◌≡◌, ◌≢◌, ℕ, ◌≤◌, ◌<◌, List, [], ◌∷◌, ◌++◌, inl, inr, Option, Some, None, refl, sym, ap, ◌∙◌, subst, arith}
+use Rattle.std.proofs.lemmas.Bool.{cases_eq}
+use Rattle.std.specs.Prelude.{slice_set}
+use Rattle.petal_table.specs.Table.{Table}
+use Rattle.petal_msg.specs.declared.letter.Actor.{Actor}
+use Rattle.petal_msg.specs.declared.letter.Actor.TheVariants as actor
+use Rattle.petal_msg.specs.declared.letter.Letter.{Letter}
+use Rattle.petal_script.specs.declared.answer.Answer.{Answer}
+use Rattle.petal_script.specs.declared.request.Line.{Line}
+use Rattle.petal_rules.specs.Lists.{In, put_at}
+use Rattle.petal_rules.specs.State.{State}
+use Rattle.petal_rules.specs.Server.{Post, Sender, Server, letters_of, sender}
+use Rattle.petal_rules.specs.Jobs.{Acted, here_of, works}
+use Rattle.petal_rules.specs.Clients.{Reacted, client_sender}
+use Rattle.petal_rules.specs.World.{Setting, World, Stepped, step, stamped, clock_of, with_answer, client_step, server_step, next_line, lines_of}
+use Rattle.petal_rules.specs.declared.job.Job.{Job}
+use Rattle.petal_rules.specs.declared.step.Step.{Step}
+use Rattle.petal_rules.specs.declared.step.Step.TheVariants.{Call, Deliver, Tick, Work}
+use Rattle.petal_rules.specs.declared.step.WorkEnd.TheVariants as work_end
+use Rattle.petal_rules.proofs.ListLemmas.{in-append, put_same, put_apart}
+use Rattle.petal_world.specs.declared.name.LetterName.{LetterName}
+use Rattle.petal_world.specs.declared.seat.Seat.{Seat}
+use Rattle.petal_world.specs.Desks.{Desk, desk_of, acted_at}
+use Rattle.petal_world.specs.Seats.{seat_of, reacted_at}
+use Rattle.petal_world.specs.Sent.{Lists, with_letters}
+use Rattle.petal_world.specs.Waiting.{Await}
+use Rattle.petal_world.specs.Stage.{Kept, Shows, without_answered, client_letters, with_client, server_letters, with_server}
+use Rattle.petal_world.specs.Play.{IsSteady}
+use Rattle.petal_world.proofs.Ranges.{set_range, same_range}
+use Rattle.petal_world.proofs.Letters.{IsPast, lists_all, step_letters_new, of_step}
+use Rattle.petal_world.proofs.Awaiting.{one_answered}
+
+-- an answer ends its line's waiting
+pub answer_kept : (lines : List Line) (given : List (ℕ × Answer)) (rows : Table ℕ ℕ) (answer : Option (ℕ × Answer)) → Await lines given rows → Await lines (with_answer answer given) (without_answered rows answer)
+answer_kept lines given rows None h = h
+answer_kept lines given rows (Some answer) h = one_answered lines given rows h answer.0 answer.1
+
+-- ### Letters of a step
+
+-- letters that one sender posts in a step
+pub record ArePosted (who : Actor) (stamp : ℕ) (letters : List Letter) : Type 0 where
+  pub sender : Sender
+  pub posts : List Post
+  pub from : sender.from ≡ who
+  pub are : letters ≡ stamped stamp (letters_of sender 0 posts)
+
+-- no letter ever sent is of its sender's future
+abbrev pub ArePast : World → Type 0
+ArePast w = (letter : Letter) → In letter w.sent → letter.stamp ≤ clock_of w letter.from
+
+past_of : (w : World) (who from : Actor) (stamp : ℕ) → from ≡ who → ArePast w → clock_of w who < stamp → IsPast from stamp 0 w.sent
+past_of w who from stamp is past less other m e =
+    let clock : clock_of w other.from ≡ clock_of w who = ap (λ a. clock_of w a) (e ∙ is) in
+    let le = past other m in
+    inl (omega arith)
+
+pub posted_kept : (w : World) (who : Actor) (stamp : ℕ) (rows : Table LetterName Letter) (letters : List Letter) → ArePosted who stamp letters → ArePast w → clock_of w who < stamp → Lists rows w.sent
+    → Lists (with_letters rows letters) (letters ++ w.sent)
+posted_kept w who stamp rows letters posted past less h =
+    let new = step_letters_new posted.sender stamp 0 posted.posts w.sent (past_of w who posted.sender.from stamp posted.from past less) in
+    subst (λ (ls : List Letter). Lists (with_letters rows ls) (ls ++ w.sent)) (sym posted.are) (lists_all (stamped stamp (letters_of posted.sender 0 posted.posts)) rows w.sent h new)
+
+pub posted_past : (w later : World) (who : Actor) (stamp : ℕ) (letters : List Letter) → ArePosted who stamp letters → later.sent ≡ letters ++ w.sent → clock_of later who ≡ stamp → ((a : Actor) → clock_of w a ≤ clock_of later a) → ArePast w → ArePast later
+posted_past w later who stamp letters posted sent clock grows past letter m =
+    elim (in-append letter letters w.sent (subst (λ (ls : List Letter). In letter ls) sent m)) [
+      | inl new ↦
+          let own = of_step posted.sender stamp 0 posted.posts letter (subst (λ (ls : List Letter). In letter ls) posted.are new) in
+          let at : clock_of later letter.from ≡ clock_of later who = ap (λ a. clock_of later a) (own.from ∙ posted.from) in
+          let stamped_at = own.at in
+          omega arith
+      | inr old ↦ let le = past letter old in let more = grows letter.from in omega arith
+    ]
+
+-- ### A client's step
+
+module _ (setting : Setting) (steady : IsSteady setting) (w : World) (kept : Kept) (h : Shows setting w kept) (c : ℕ) (what : Step) (stamp : ℕ) where
+  abbrev seat : Seat
+  seat = seat_of setting w c
+
+  abbrev by_client : Stepped
+  by_client = step (actor.Client c) what setting w stamp
+
+  client_posts : ArePosted (actor.Client c) stamp (client_letters seat what stamp)
+  client_posts = record { sender = client_sender (setting.states (w.clients c).rev) c; posts = _; from = refl; are = refl }
+
+  client_sent : by_client.world.sent ≡ client_letters seat what stamp ++ w.sent
+  unfolding step
+  client_sent = refl
+
+  client_clock : clock_of by_client.world (actor.Client c) ≡ stamp
+  unfolding step
+  client_clock = put_same w.client_clocks c stamp
+
+  client_grows : clock_of w (actor.Client c) < stamp → (a : Actor) → clock_of w a ≤ clock_of by_client.world a
+  unfolding step
+  client_grows less (actor.Server n) = omega arith
+  client_grows less (actor.Client d) = elim (cases_eq d c) [
+    | inl same ↦
+        let new : put_at w.client_clocks c stamp d ≡ stamp = ap (λ k. put_at w.client_clocks c stamp k) same ∙ put_same w.client_clocks c stamp in
+        let old : w.client_clocks d ≡ w.client_clocks c = ap w.client_clocks same in
+        omega arith
+    | inr ne ↦ let e = put_apart w.client_clocks c stamp d ne in omega arith
+  ]
+
+  abbrev reacts_so : Reacted
+  reacts_so = client_step what (setting.states (w.clients c).rev) c (w.clients c) (next_line setting.lines c (w.clients c))
+
+  -- the client's own seat is that of the world behind
+  own_seat : record seat { core = (reacted_at seat what).core; clock = stamp } ≡ seat_of setting by_client.world c
+  unfolding step
+  own_seat =
+      let client : reacts_so.client ≡ put_at w.clients c reacts_so.client c = sym (put_same w.clients c reacts_so.client) in
+      let clock : stamp ≡ put_at w.client_clocks c stamp c = sym (put_same w.client_clocks c stamp) in
+      let state = steady (w.clients c).rev (put_at w.clients c reacts_so.client c).rev in
+      λ i. record { core = record { me = c; state = state i; client = client i }; clock = clock i; lines = lines_of setting.lines c }
+
+  other_seat : (k : ℕ) → k ≢ c → seat_of setting w k ≡ seat_of setting by_client.world k
+  unfolding step
+  other_seat k ne =
+      let client : w.clients k ≡ put_at w.clients c reacts_so.client k = sym (put_apart w.clients c reacts_so.client k ne) in
+      let clock : w.client_clocks k ≡ put_at w.client_clocks c stamp k = sym (put_apart w.client_clocks c stamp k ne) in
+      λ i. record { core = record { me = k; state = setting.states (client i).rev; client = client i }; clock = clock i; lines = lines_of setting.lines k }
+
+  same_desk : (n : ℕ) → desk_of setting w n ≡ desk_of setting by_client.world n
+  unfolding step
+  same_desk n = refl
+
+  client_waits : Await setting.lines by_client.world.answers (without_answered kept.waiting (reacted_at seat what).reaction.answer)
+  unfolding step
+  client_waits = answer_kept setting.lines w.answers kept.waiting (reacted_at seat what).reaction.answer h.waiting
+
+  -- what is kept behind a client's step is that of the world behind it
+  pub client_shows : c < 9 → clock_of w (actor.Client c) < stamp → Shows setting by_client.world (with_client kept c seat what stamp)
+  client_shows within less = record {
+    seats = ap (λ seats. slice_set seats c (record seat { core = (reacted_at seat what).core; clock = stamp })) h.seats
+        ∙ set_range (seat_of setting w) (seat_of setting by_client.world) 9 c _ within own_seat other_seat;
+    desks = h.desks ∙ same_range (desk_of setting w) (desk_of setting by_client.world) setting.servers same_desk;
+    sent = subst (λ (ls : List Letter). Lists (with_letters kept.sent (client_letters seat what stamp)) ls) (sym client_sent)
+        (posted_kept w (actor.Client c) stamp kept.sent (client_letters seat what stamp) client_posts h.past less h.sent);
+    waiting = client_waits;
+    past = posted_past w by_client.world (actor.Client c) stamp (client_letters seat what stamp) client_posts client_sent client_clock (client_grows less) h.past;
+  }
+
+  pub client_gives : (by_client.letters ≡ client_letters seat what stamp) × (by_client.answer ≡ (reacted_at seat what).reaction.answer)
+  unfolding step
+  client_gives = (refl, refl)
+
+-- ### A server's step
+
+work_posts : (queue : List Job) (state : State) (n stamp : ℕ) (server : Server) → ArePosted (actor.Server n) stamp (stamped stamp (works (here_of state n server) server queue).letters)
+work_posts [] state n stamp server = record { sender = sender (here_of state n server); posts = []; from = refl; are = refl }
+work_posts (first ∷ rest) state n stamp server = record { sender = sender (here_of state n server); posts = _; from = refl; are = refl }
+
+server_posts : (what : Step) (state : State) (n stamp : ℕ) (server : Server) → ArePosted (actor.Server n) stamp (stamped stamp (server_step what state n server).letters)
+server_posts (Call line) state n stamp server = record { sender = sender (here_of state n server); posts = []; from = refl; are = refl }
+server_posts (Deliver letter) state n stamp server = record { sender = sender (here_of state n server); posts = []; from = refl; are = refl }
+server_posts Tick state n stamp server = record { sender = sender (here_of state n server); posts = _; from = refl; are = refl }
+server_posts (Work work_end.Done) state n stamp server = work_posts server.queue state n stamp server
+
+module _ (setting : Setting) (steady : IsSteady setting) (w : World) (kept : Kept) (h : Shows setting w kept) (n : ℕ) (what : Step) (stamp : ℕ) where
+  abbrev desk : Desk
+  desk = desk_of setting w n
+
+  abbrev by_server : Stepped
+  by_server = step (actor.Server n) what setting w stamp
+
+  server_sent : by_server.world.sent ≡ server_letters desk what stamp ++ w.sent
+  unfolding step
+  server_sent = refl
+
+  server_clock : clock_of by_server.world (actor.Server n) ≡ stamp
+  unfolding step
+  server_clock = put_same w.server_clocks n stamp
+
+  server_grows : clock_of w (actor.Server n) < stamp → (a : Actor) → clock_of w a ≤ clock_of by_server.world a
+  unfolding step
+  server_grows less (actor.Client d) = omega arith
+  server_grows less (actor.Server m) = elim (cases_eq m n) [
+    | inl same ↦
+        let new : put_at w.server_clocks n stamp m ≡ stamp = ap (λ k. put_at w.server_clocks n stamp k) same ∙ put_same w.server_clocks n stamp in
+        let old : w.server_clocks m ≡ w.server_clocks n = ap w.server_clocks same in
+        omega arith
+    | inr ne ↦ let e = put_apart w.server_clocks n stamp m ne in omega arith
+  ]
+
+  abbrev acts_so : Acted
+  acts_so = server_step what (setting.states (w.servers n).life.rev) n (w.servers n)
+
+  own_desk : record { site = (acted_at desk.site what).site; clock = stamp } ≡ desk_of setting by_server.world n
+  unfolding step
+  own_desk =
+      let server : acts_so.server ≡ put_at w.servers n acts_so.server n = sym (put_same w.servers n acts_so.server) in
+      let clock : stamp ≡ put_at w.server_clocks n stamp n = sym (put_same w.server_clocks n stamp) in
+      let state = steady (w.servers n).life.rev (put_at w.servers n acts_so.server n).life.rev in
+      λ i. record { site = record { me = n; state = state i; server = server i }; clock = clock i }
+
+  other_desk : (k : ℕ) → k ≢ n → desk_of setting w k ≡ desk_of setting by_server.world k
+  unfolding step
+  other_desk k ne =
+      let server : w.servers k ≡ put_at w.servers n acts_so.server k = sym (put_apart w.servers n acts_so.server k ne) in
+      let clock : w.server_clocks k ≡ put_at w.server_clocks n stamp k = sym (put_apart w.server_clocks n stamp k ne) in
+      λ i. record { site = record { me = k; state = setting.states (server i).life.rev; server = server i }; clock = clock i }
+
+  same_seat : (c : ℕ) → seat_of setting w c ≡ seat_of setting by_server.world c
+  unfolding step
+  same_seat c = refl
+
+  server_waits : Await setting.lines by_server.world.answers kept.waiting
+  unfolding step
+  server_waits = h.waiting
+
+  abbrev posts : ArePosted (actor.Server n) stamp (server_letters desk what stamp)
+  posts = server_posts what (setting.states (w.servers n).life.rev) n stamp (w.servers n)
+
+  -- what is kept behind a server's step is that of the world behind it
+  pub server_shows : n < setting.servers → clock_of w (actor.Server n) < stamp → Shows setting by_server.world (with_server kept n desk what stamp)
+  server_shows within less = record {
+    seats = h.seats ∙ same_range (seat_of setting w) (seat_of setting by_server.world) 9 same_seat;
+    desks = ap (λ desks. slice_set desks n (record { site = (acted_at desk.site what).site; clock = stamp })) h.desks
+        ∙ set_range (desk_of setting w) (desk_of setting by_server.world) setting.servers n _ within own_desk other_desk;
+    sent = subst (λ (ls : List Letter). Lists (with_letters kept.sent (server_letters desk what stamp)) ls) (sym server_sent)
+        (posted_kept w (actor.Server n) stamp kept.sent (server_letters desk what stamp) posts h.past less h.sent);
+    waiting = server_waits;
+    past = posted_past w by_server.world (actor.Server n) stamp (server_letters desk what stamp) posts server_sent server_clock (server_grows less) h.past;
+  }
+
+  pub server_gives : (by_server.letters ≡ server_letters desk what stamp) × (by_server.answer ≡ None)
+  unfolding step
+  server_gives = (refl, refl)

@@ -1,0 +1,20 @@
+-- What is kept at the start is that of the world without steps.
+use Rattle.std.proofs.Common.{false, List, [], sym, ap, ◌∙◌, subst}
+use Rattle.petal_script.specs.declared.request.Line.{Line}
+use Rattle.petal_rules.specs.State.{State, servers_of}
+use Rattle.petal_history.specs.declared.record.Record.{Record}
+use Rattle.petal_world.specs.Play.{IsKept}
+use Rattle.petal_world.specs.Stage.{Kept}
+use Rattle.petal_world.specs.Waiting.{Await}
+use Rattle.petal_world.proofs.Starting.{state_servers, start_kept}
+use Rattle.petal_world.proofs.world.World.start.Goals as goal
+
+pub start-requires-clause-servers : goal.start-requires-clause-servers
+start-requires-clause-servers g c = ap (λ (s : State). servers_of s) c.requires.state ∙ state_servers c.args.script.servers c.args.script.lines
+
+pub invariant_of-result : goal.invariant_of-result
+invariant_of-result g c =
+    let kept : Kept = record { seats = c.in_ok-start.field-0; desks = c.in_ok-start-2.field-0; sent = c.new.result; waiting = c.in_ok-start-3.field-0 } in
+    let waiting = subst (λ (lines : List Line). Await lines [] c.in_ok-start-3.field-0) c.as_slice.ensures c.in_ok-start-3.ensures in
+    subst (λ (rs : List Record). IsKept (record { script = c.args.script; records = rs; phase = 0; floor = 0; over = false }) kept) (sym c.new-2.ensures)
+    (start_kept g.H.Host.seen c.args.hosts c.args.script kept c.requires.ordered c.requires.hosts c.in_ok-start.ensures c.in_ok-start-2.ensures c.new.ensures waiting)

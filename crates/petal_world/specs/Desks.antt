@@ -1,0 +1,57 @@
+-- The servers of a world.
+use Rattle.std.specs.Prelude.{ℕ, ◌==◌, ◌||◌, Bool, List, map}
+use Rattle.std.specs.List.{range_with_len}
+use Rattle.petal_msg.specs.declared.letter.Letter.{Letter}
+use Rattle.petal_script.specs.declared.script.Script.{Script}
+use Rattle.petal_rules.specs.State.{State}
+use Rattle.petal_rules.specs.Store.{top_of}
+use Rattle.petal_rules.specs.Server.{Server}
+use Rattle.petal_rules.specs.Jobs.{Acted}
+use Rattle.petal_rules.specs.World.{Setting, World, server_step, setting_of, start, greatest_u64}
+use Rattle.petal_rules.specs.declared.step.Step.{Step}
+
+-- a server's number, the global state at its revision, and what the rules know of it
+pub record Site : Type 0 where
+  pub me : ℕ
+  pub state : State
+  pub server : Server
+
+-- a server behind a step, and the letters that it sends, with no stamp yet
+pub record Gone : Type 0 where
+  pub site : Site
+  pub letters : List Letter
+
+abbrev pub gone : Site → Acted → Gone
+gone site acted = record { site = record site { server = acted.server }; letters = acted.letters }
+
+-- the rule of a step, at this server
+abbrev pub acted_at : Site → Step → Gone
+acted_at site step = gone site (server_step step site.state site.me site.server)
+
+-- a number of the server is the greatest of its type
+abbrev pub is_spent : Server → Bool
+is_spent server = (server.pairs.next == greatest_u64) || (top_of server.store.chains == greatest_u64)
+
+-- a server and the stamp of its last step
+pub record Desk : Type 0 where
+  pub site : Site
+  pub clock : ℕ
+
+-- what a world keeps of one server
+abbrev pub desk_of : Setting → World → ℕ → Desk
+desk_of setting w n = record {
+  site = record { me = n; state = setting.states (w.servers n).life.rev; server = w.servers n };
+  clock = w.server_clocks n;
+}
+
+-- and of all
+abbrev pub desks_of : Setting → World → List Desk
+desks_of setting w = map (desk_of setting w) (range_with_len 0 setting.servers)
+
+-- a server that has taken no step
+abbrev pub first_desk : Site → Desk
+first_desk site = record { site = site; clock = 0 }
+
+-- the servers of a run that begins
+abbrev pub first_sites : Script → List Site
+first_sites script = map (λ n. (desk_of (setting_of script) (start (setting_of script)) n).site) (range_with_len 0 script.servers)

@@ -1,0 +1,61 @@
+-- What a world keeps beside its records, and of which world it is.
+use Rattle.std.specs.Prelude.{◌≡◌, ℕ, ◌≤◌, List, slice_set, Option, Some, None}
+use Rattle.std.specs.Ordering.{nat_cmp}
+use Rattle.petal_table.specs.Table.{Table, without}
+use Rattle.petal_msg.specs.declared.letter.Letter.{Letter}
+use Rattle.petal_script.specs.declared.answer.Answer.{Answer}
+use Rattle.petal_rules.specs.Lists.{In}
+use Rattle.petal_rules.specs.World.{Setting, World, clock_of, stamped}
+use Rattle.petal_rules.specs.declared.step.Step.{Step}
+use Rattle.petal_world.specs.declared.name.LetterName.{LetterName}
+use Rattle.petal_world.specs.declared.seat.Seat.{Seat}
+use Rattle.petal_world.specs.Desks.{Desk, desks_of, acted_at}
+use Rattle.petal_world.specs.Seats.{seats_of, reacted_at}
+use Rattle.petal_world.specs.Sent.{Lists, with_letters}
+use Rattle.petal_world.specs.Waiting.{Await}
+
+-- the clients, the servers, the letters ever sent, and the lines without an answer
+pub record Kept : Type 0 where
+  pub seats : List Seat
+  pub desks : List Desk
+  pub sent : Table LetterName Letter
+  pub waiting : Table ℕ ℕ
+
+-- this is kept of this world
+pub record Shows (setting : Setting) (w : World) (kept : Kept) : Type 0 where
+  pub seats : kept.seats ≡ seats_of setting w
+  pub desks : kept.desks ≡ desks_of setting w
+  pub sent : Lists kept.sent w.sent
+  pub waiting : Await setting.lines w.answers kept.waiting
+  pub past : (letter : Letter) → In letter w.sent → letter.stamp ≤ clock_of w letter.from
+
+-- a line that has its answer waits no longer
+abbrev pub without_answered : Table ℕ ℕ → Option (ℕ × Answer) → Table ℕ ℕ
+without_answered rows None = rows
+without_answered rows (Some given) = without nat_cmp rows given.0
+
+-- the letters that a client's step sends
+abbrev pub client_letters : Seat → Step → ℕ → List Letter
+client_letters seat what stamp = stamped stamp (reacted_at seat what).reaction.letters
+
+-- what is kept behind it
+abbrev pub with_client : Kept → ℕ → Seat → Step → ℕ → Kept
+with_client kept c seat what stamp = record {
+  seats = slice_set kept.seats c (record seat { core = (reacted_at seat what).core; clock = stamp });
+  desks = kept.desks;
+  sent = with_letters kept.sent (client_letters seat what stamp);
+  waiting = without_answered kept.waiting (reacted_at seat what).reaction.answer;
+}
+
+-- the letters that a server's step sends
+abbrev pub server_letters : Desk → Step → ℕ → List Letter
+server_letters desk what stamp = stamped stamp (acted_at desk.site what).letters
+
+-- what is kept behind it
+abbrev pub with_server : Kept → ℕ → Desk → Step → ℕ → Kept
+with_server kept n desk what stamp = record {
+  seats = kept.seats;
+  desks = slice_set kept.desks n (record { site = (acted_at desk.site what).site; clock = stamp });
+  sent = with_letters kept.sent (server_letters desk what stamp);
+  waiting = kept.waiting;
+}

@@ -1,0 +1,138 @@
+//! Which steps are allowed.
+
+ghost use Rattle.std.specs.Prelude.{◌≡◌, ◌↔◌, ℕ, Some, IsTrue, slice_get};
+ghost use Rattle.petal_msg.specs.declared.letter.Actor.TheVariants as actor;
+ghost use Rattle.petal_rules.specs.World.{Setting, World, MayCall, MayClient, MayServer, MayStep, received};
+ghost use Rattle.petal_table.specs.Table.{at};
+ghost use Rattle.petal_world.specs.Playable.{AreOrdered};
+ghost use Rattle.petal_world.specs.Seats.{seat_of};
+ghost use Rattle.petal_world.specs.Desks.{desk_of};
+ghost use Rattle.petal_world.specs.Sent.{name_of, name_cmp};
+ghost use Rattle.petal_world.specs.Stage.{Shows};
+
+use crate::Host;
+use crate::desks::Place;
+use crate::seat::Seat;
+use crate::stage::Stage;
+use petal_base::{ClientId, ServerId, Stamp};
+use petal_msg::{Actor, Letter};
+use petal_rules::{Step, WorkEnd};
+
+/// The greatest stamp: no step comes after it.
+const LAST: Stamp = Stamp::MAX;
+
+/// The stamp of what a step receives.
+pub fn received(step: &Step) -> Stamp
+    ensures { result ≡ received step.now }
+{
+    match step {
+        Step::Deliver { letter } => letter.get().stamp,
+        Step::Call { line: _ } | Step::Tick | Step::Work(_) => 0,
+    }
+}
+
+fn is_same_actor(one: Actor, other: Actor) -> bool
+    ensures { IsTrue result ↔ (one ≡ other) }
+{
+    match (one, other) {
+        (Actor::Server(n), Actor::Server(m)) => n == m,
+        (Actor::Client(c), Actor::Client(d)) => c == d,
+        (Actor::Server(_), Actor::Client(_)) | (Actor::Client(_), Actor::Server(_)) => false,
+    }
+}
+
+impl<H: Host> Stage<H> {
+    /// Whether the letter was sent, and to this actor.
+    fn may_deliver(&self, to: Actor, letter: &Letter) -> bool
+        ensures { IsTrue result ↔ ((letter.now.to ≡ to) × (at name_cmp self.now.sent (name_of letter.now) ≡ Some letter.now)) }
+    {
+        is_same_actor(letter.to, to) && self.sent.has(letter)
+    }
+
+    /// Whether the client may call this line.
+    fn may_call(&self, seat: &Seat, line: u32) -> bool
+        ensures { (setting : Setting) (w : World) (c : ℕ) → AreOrdered setting.lines → Shows setting w self.now → seat.now ≡ seat_of setting w c
+            → IsTrue result ↔ MayCall setting w c line }
+    {
+        let Some(next) = seat.next_line() else {
+            return false;
+        };
+        if next.number != line {
+            return false;
+        }
+        if !seat.core.is_free() {
+            return false;
+        }
+        self.waiting.is_behind(next.phase)
+    }
+
+    fn may_react(&self, seat: &Seat, client: ClientId, step: &Step) -> bool
+        ensures { (setting : Setting) (w : World) → AreOrdered setting.lines → Shows setting w self.now → seat.now ≡ seat_of setting w client
+            → IsTrue result ↔ MayClient step.now setting w client }
+    {
+        match step {
+            Step::Call { line } => self.may_call(seat, *line),
+            Step::Deliver { letter } => self.may_deliver(Actor::Client(client), letter.get()),
+            Step::Tick => true,
+            Step::Work(_) => false,
+        }
+    }
+
+    fn may_serve(&self, place: &Place<H>, server: ServerId, step: &Step) -> bool
+        ensures { (setting : Setting) (w : World) → Shows setting w self.now → place.now ≡ desk_of setting w server
+            → IsTrue result ↔ MayServer step.now w server }
+    {
+        match step {
+            Step::Call { line: _ } => false,
+            Step::Deliver { letter } => self.may_deliver(Actor::Server(server), letter.get()),
+            Step::Tick => place.host.is_running(),
+            Step::Work(WorkEnd::Done) => place.host.is_running() && !place.host.is_idle(),
+        }
+    }
+
+    fn may_client(&self, client: ClientId, step: &Step) -> bool
+        ensures { (setting : Setting) (w : World) → AreOrdered setting.lines → Shows setting w self.now → IsTrue result ↔ MayStep setting w (actor.Client client) step.now }
+    {
+        let Some(seat) = self.seats.get(client) else {
+            return false;
+        };
+        if seat.clock >= LAST {
+            return false;
+        }
+        if received(step) >= LAST {
+            return false;
+        }
+        if seat.core.spent() {
+            return false;
+        }
+        self.may_react(seat, client, step)
+    }
+
+    fn may_server(&self, server: ServerId, step: &Step) -> bool
+        ensures { (setting : Setting) (w : World) → Shows setting w self.now → IsTrue result ↔ MayStep setting w (actor.Server server) step.now }
+    {
+        let Some(place) = self.desks.get(server) else {
+            return false;
+        };
+        if place.clock >= LAST {
+            return false;
+        }
+        if received(step) >= LAST {
+            return false;
+        }
+        if place.host.is_spent() {
+            return false;
+        }
+        self.may_serve(place, server, step)
+    }
+
+    /// Whether the step is one of the world's.
+    pub fn may(&self, actor: Actor, step: &Step) -> bool
+        ensures { (setting : Setting) (w : World) → AreOrdered setting.lines → Shows setting w self.now → IsTrue result ↔ MayStep setting w actor step.now }
+    {
+        match actor {
+            Actor::Server(server) => self.may_server(server, step),
+            Actor::Client(client) => self.may_client(client, step),
+        }
+    }
+}

@@ -1,0 +1,82 @@
+//! What a world asks of a script.
+
+ghost use Rattle.std.specs.Prelude.{◌≡◌, None, Some, IfOk, IfSome, IsTrue, MatchOption};
+ghost use Rattle.petal_rules.specs.World.{state_of};
+ghost use Rattle.petal_rules.specs.State.{fixed};
+ghost use Rattle.petal_world.specs.Playable.{AreNumbered, AreOrdered, disk_of};
+
+use global_state::GlobalState;
+use petal_base::{Name, NoMemory, Tuple};
+use petal_script::{Line, Request};
+use std::alloc::Global;
+
+/// Whether the lines' numbers rise from 1 and their phases do not fall, as in every script that is read. Then lines of one
+/// number are one line, and phases rise with numbers.
+pub fn are_in_order(lines: &[Line]) -> bool
+    ensures numbered { IsTrue result → AreNumbered lines.now }
+    ensures ordered { IsTrue result → AreOrdered lines.now }
+{
+    let mut number = 0;
+    let mut phase = 0;
+    for line in lines {
+        if line.number <= number {
+            return false;
+        }
+        if line.phase < phase {
+            return false;
+        }
+        number = line.number;
+        phase = line.phase;
+    }
+    true
+}
+
+/// The disk that a line makes.
+fn disk_of(line: &Line) -> Option<(&Name, &Tuple)>
+    ensures { MatchOption result (disk_of line.now.request ≡ None) (λ disk. disk_of line.now.request ≡ Some (disk.0.now, disk.1.now)) }
+{
+    match &line.request {
+        Request::Disk { name, tuple } => Some((name, tuple)),
+        Request::Write { .. }
+        | Request::Read { .. }
+        | Request::Snap { .. }
+        | Request::Move { .. }
+        | Request::Stop { .. }
+        | Request::StopAt { .. }
+        | Request::Fault { .. }
+        | Request::Start { .. }
+        | Request::Blank { .. }
+        | Request::Settle => None,
+    }
+}
+
+/// The global state of a run: that of its first disk line. None where no line makes a disk, or where the first one is not
+/// over the script's servers.
+pub fn fixed_state(
+    alloc: Global,
+    servers: u8,
+    lines: &[Line],
+) -> Result<Option<GlobalState>, NoMemory>
+    ensures { IfOk result (λ found. IfSome found (λ state. state ≡ state_of servers lines.now)) }
+{
+    for line in lines {
+        if let Some((name, tuple)) = disk_of(line) {
+            return fixed_by(alloc, servers, name, tuple);
+        }
+    }
+    Ok(None)
+}
+
+fn fixed_by(
+    alloc: Global,
+    servers: u8,
+    name: &Name,
+    tuple: &Tuple,
+) -> Result<Option<GlobalState>, NoMemory>
+    ensures { IfOk result (λ found. IfSome found (λ state. state ≡ fixed servers name.now tuple.now)) }
+{
+    match Tuple::new(tuple.ids(), servers) {
+        None => Ok(None),
+        Some(own) => Ok(Some(GlobalState::fixed(alloc, servers, name, own.ids())?)),
+    }
+}

@@ -1,0 +1,73 @@
+//! One client of a world.
+
+ghost use Rattle.std.specs.Prelude.{◌≡◌, ◌∷◌, [], None, false, slice_get, option_copied, IfOk, OnErr};
+ghost use Rattle.client_core.specs.Core.{given, is_spent};
+ghost use Rattle.petal_rules.specs.World.{calls};
+ghost use Rattle.petal_world.specs.Seats.{CanTake, reacted_at};
+
+use crate::copies::request_again;
+use client_core::{ClientCore, Reaction};
+use petal_base::{NoMemory, Sequence, Stamp};
+use petal_rules::Step;
+use petal_script::Line;
+use std::alloc::Global;
+
+/// A client, the stamp of its last step, and its lines in order.
+#[derive(Drop)]
+pub struct Seat {
+    pub core: ClientCore,
+    pub clock: Stamp,
+    pub lines: Sequence<Line>,
+}
+
+impl Seat {
+    /// The line that the client calls next.
+    pub fn next_line(&self) -> Option<&Line>
+        ensures { option_copied result ≡ slice_get self.now.lines self.now.core.client.seq }
+    {
+        self.lines.as_slice().get(self.core.called() as usize)
+    }
+
+    /// The client calls its next line.
+    fn call(&mut self, alloc: Global) -> Result<Reaction, NoMemory>
+        requires free { self.old.core.client.asked ≡ None }
+        requires goes_on { is_spent self.old.core.client ≡ false }
+        ensures ok { IfOk result (λ reaction. record { core = self.new.core; reaction = reaction }
+            ≡ given self.old.core (calls self.old.core.state self.old.core.me self.old.core.client (slice_get self.old.lines self.old.core.client.seq))) }
+        ensures rest { self.new ≡ record self.old { core = self.new.core } }
+        ensures err { OnErr result (self.new ≡ self.old) }
+    {
+        let (number, request) = match self.next_line() {
+            None => return Ok(nothing(alloc)),
+            Some(line) => (line.number, request_again(&line.request)),
+        };
+        self.core.call(alloc, number, request)
+    }
+
+    /// The client takes a step that it can take.
+    pub fn step(&mut self, alloc: Global, step: &Step) -> Result<Reaction, NoMemory>
+        requires can { CanTake step.now self.old.core.client }
+        requires goes_on { is_spent self.old.core.client ≡ false }
+        ensures ok { IfOk result (λ reaction. record { core = self.new.core; reaction = reaction }
+            ≡ reacted_at self.old step.now) }
+        ensures rest { self.new ≡ record self.old { core = self.new.core } }
+        ensures err { OnErr result (self.new ≡ self.old) }
+    {
+        match step {
+            Step::Call { line: _ } => self.call(alloc),
+            Step::Deliver { letter } => self.core.deliver(alloc, letter.get()),
+            Step::Tick => self.core.tick(alloc),
+            Step::Work(_) => Ok(nothing(alloc)),
+        }
+    }
+}
+
+/// Nothing is sent or answered.
+fn nothing(alloc: Global) -> Reaction
+    ensures { result ≡ record { letters = []; answer = None } }
+{
+    Reaction {
+        letters: Sequence::new(alloc),
+        answer: None,
+    }
+}

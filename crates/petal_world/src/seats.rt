@@ -1,0 +1,121 @@
+//! The clients of a world.
+
+ghost use Rattle.std.specs.Prelude.{◌≡◌, ◌<◌, false, max, map, Some, length, slice_get, slice_set, option_copied, IfOk, IfSome};
+ghost use Rattle.std.specs.List.{fold};
+ghost use Rattle.client_core.specs.Core.{is_spent};
+ghost use Rattle.petal_rules.specs.State.{servers_of};
+ghost use Rattle.petal_rules.specs.World.{lines_of, setting_of, start, state_of};
+ghost use Rattle.petal_world.specs.Seats.{CanTake, reacted_at, seat_of, seats_of};
+ghost use Rattle.petal_world.specs.declared.seat.Seat.{Seat};
+
+use crate::copies::line_again;
+use crate::seat::Seat;
+use client_core::{ClientCore, Reaction};
+use global_state::GlobalState;
+use petal_base::{ClientId, NoMemory, Sequence, Stamp};
+use petal_rules::Step;
+use petal_script::{Line, Script};
+use std::alloc::Global;
+use std::marker::Model;
+
+/// All clients, by number.
+#[derive(Drop)]
+pub struct Seats {
+    seats: Vec<Seat>,
+}
+
+impl Model for Seats {
+    ghost use Rattle.std.specs.Prelude.{List};
+    ghost use Rattle.petal_world.specs.declared.seat.Seat.{Seat};
+
+    ghost Value = { List Seat };
+
+    ghost view = { λ s. s.seats.items };
+}
+
+/// The lines of a client, in order.
+fn lines_of(alloc: Global, lines: &[Line], client: ClientId) -> Result<Sequence<Line>, NoMemory>
+    ensures { IfOk result (λ own. own ≡ lines_of lines.now client) }
+{
+    let mut own = Sequence::new(alloc);
+    for line in lines {
+        if line.client == client {
+            own.push(line_again(line))?;
+        }
+    }
+    Ok(own)
+}
+
+/// A client of a run that begins.
+fn first_seat(
+    alloc: Global,
+    script: &Script,
+    state: &GlobalState,
+    client: ClientId,
+) -> Result<Seat, NoMemory>
+    requires state { state.now ≡ state_of script.now.servers script.now.lines }
+    requires servers { servers_of state.now ≡ script.now.servers }
+    ensures { IfOk result (λ seat. seat ≡ seat_of (setting_of script.now) (start (setting_of script.now)) client) }
+{
+    Ok(Seat {
+        core: ClientCore::new(client, script.servers, state.copy()?),
+        clock: 0,
+        lines: lines_of(alloc, script.lines.as_slice(), client)?,
+    })
+}
+
+/// How many clients there are, the operator counted.
+const CLIENTS: u8 = 9;
+
+impl Seats {
+    /// The clients of a run that begins.
+    pub fn start(alloc: Global, script: &Script, state: &GlobalState) -> Result<Seats, NoMemory>
+        requires state { state.now ≡ state_of script.now.servers script.now.lines }
+        requires servers { servers_of state.now ≡ script.now.servers }
+        ensures { IfOk result (λ seats. seats ≡ seats_of (setting_of script.now) (start (setting_of script.now))) }
+    {
+        let mut seats = Vec::new(alloc);
+        for client in 0..CLIENTS {
+            seats.push(first_seat(alloc, script, state, client)?)?;
+        }
+        Ok(Seats { seats })
+    }
+
+    /// The greatest of the clients' last stamps.
+    pub fn greatest_clock(&self) -> Stamp
+        ensures { result ≡ fold max 0 (map (λ (seat : Seat). seat.clock) self.now) }
+    {
+        let mut greatest = 0;
+        for seat in &self.seats {
+            greatest = seat.clock.max(greatest);
+        }
+        greatest
+    }
+
+    /// The client of a number.
+    pub fn get(&self, client: ClientId) -> Option<&Seat>
+        ensures { option_copied result ≡ slice_get self.now client }
+    {
+        self.seats.get(client as usize)
+    }
+
+    /// A step of one client, with its stamp.
+    pub fn step(
+        &mut self,
+        alloc: Global,
+        client: ClientId,
+        step: &Step,
+        stamp: Stamp,
+    ) -> Result<Reaction, NoMemory>
+        requires within { client < length self.old }
+        requires can { IfSome (slice_get self.old client) (λ seat. CanTake step.now seat.core.client) }
+        requires goes_on { IfSome (slice_get self.old client) (λ seat. is_spent seat.core.client ≡ false) }
+        ensures { IfOk result (λ reaction. (seat : Seat) → slice_get self.old client ≡ Some seat
+            → (reaction ≡ (reacted_at seat step.now).reaction) × (self.new ≡ slice_set self.old client (record seat { core = (reacted_at seat step.now).core; clock = stamp }))) }
+    {
+        let seat = &mut self.seats[client as usize];
+        let reaction = seat.step(alloc, step)?;
+        seat.clock = stamp;
+        Ok(reaction)
+    }
+}

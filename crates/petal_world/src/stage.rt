@@ -1,0 +1,86 @@
+//! What a world keeps beside its records.
+
+ghost use Rattle.std.specs.Prelude.{◌≡◌, ◌<◌, false, None, Some, length, slice_get, IfOk, IfSome};
+ghost use Rattle.client_core.specs.Core.{is_spent};
+ghost use Rattle.petal_world.specs.Desks.{Desk};
+ghost use Rattle.petal_world.specs.Seats.{CanTake, reacted_at};
+ghost use Rattle.petal_world.specs.Stage.{client_letters, server_letters, with_client, with_server};
+ghost use Rattle.petal_world.specs.declared.seat.Seat.{Seat};
+
+use crate::Host;
+use crate::desks::Desks;
+use crate::seats::Seats;
+use crate::sent::Sent;
+use crate::stamping::stamped;
+use crate::stepped::Stepped;
+use crate::waiting::Waiting;
+use petal_base::{ClientId, NoMemory, ServerId, Stamp};
+use petal_rules::Step;
+use std::alloc::Global;
+use std::marker::Model;
+
+/// All clients and servers, the letters ever sent, and the lines without an answer.
+#[derive(Drop)]
+pub struct Stage<H: Host> {
+    pub seats: Seats,
+    pub desks: Desks<H>,
+    pub sent: Sent,
+    pub waiting: Waiting,
+}
+
+impl<H: Host> Model for Stage<H> {
+    ghost use Rattle.petal_world.specs.Stage.{Kept};
+
+    ghost Value = { Kept };
+
+    ghost view = { λ s. record { seats = s.seats; desks = s.desks; sent = s.sent; waiting = s.waiting } };
+}
+
+impl<H: Host> Stage<H> {
+    /// A client takes a step that it can take, with this stamp.
+    pub fn react(
+        &mut self,
+        alloc: Global,
+        client: ClientId,
+        step: &Step,
+        stamp: Stamp,
+    ) -> Result<Stepped, NoMemory>
+        requires within { client < length self.old.seats }
+        requires can { IfSome (slice_get self.old.seats client) (λ seat. CanTake step.now seat.core.client) }
+        requires goes_on { IfSome (slice_get self.old.seats client) (λ seat. is_spent seat.core.client ≡ false) }
+        ensures { IfOk result (λ stepped. (seat : Seat) → slice_get self.old.seats client ≡ Some seat
+            → (stepped ≡ record { letters = client_letters seat step.now stamp; answer = (reacted_at seat step.now).reaction.answer }) × (self.new ≡ with_client self.old client seat step.now stamp)) }
+    {
+        let reaction = self.seats.step(alloc, client, step, stamp)?;
+        let letters = stamped(alloc, reaction.letters, stamp)?;
+        self.sent.add_all(letters.as_slice())?;
+        if let Some((line, _answer)) = &reaction.answer {
+            self.waiting.answered(*line);
+        }
+        Ok(Stepped {
+            letters,
+            answer: reaction.answer,
+        })
+    }
+
+    /// A server takes a step, with this stamp.
+    pub fn serve(
+        &mut self,
+        alloc: Global,
+        server: ServerId,
+        step: &Step,
+        stamp: Stamp,
+    ) -> Result<Stepped, NoMemory>
+        requires { server < length self.old.desks }
+        ensures { IfOk result (λ stepped. (desk : Desk) → slice_get self.old.desks server ≡ Some desk
+            → (stepped ≡ record { letters = server_letters desk step.now stamp; answer = None }) × (self.new ≡ with_server self.old server desk step.now stamp)) }
+    {
+        let letters = self.desks.step(alloc, server, step, stamp)?;
+        let letters = stamped(alloc, letters, stamp)?;
+        self.sent.add_all(letters.as_slice())?;
+        Ok(Stepped {
+            letters,
+            answer: None,
+        })
+    }
+}

@@ -1,0 +1,227 @@
+//! The world.
+
+ghost use Rattle.std.specs.Prelude.{◌≡◌, ◌+◌, ◌++◌, ◌∷◌, [], map, min, false, true, IfOk, OnOk, OnErr, IsErrOf};
+ghost use Rattle.petal_history.specs.Legal.{IsLegal};
+ghost use Rattle.petal_rules.specs.World.{MayStep, greatest_u64, setting_of, state_of};
+ghost use Rattle.petal_world.specs.Play.{Can, LeavesIn, entered, played, rev_of, told_by, world_of};
+ghost use Rattle.petal_world.specs.Desks.{first_sites};
+ghost use Rattle.petal_world.specs.Playable.{AreNumbered, AreOrdered};
+ghost use Rattle.petal_world.specs.declared.error.WorldError.TheVariants as error;
+
+use crate::copies::{answer_again, step_again};
+use crate::desks::Desks;
+use crate::seats::Seats;
+use crate::sent::Sent;
+use crate::stage::Stage;
+use crate::waiting::Waiting;
+use crate::{Host, Stepped, WorldError};
+use global_state::GlobalState;
+use petal_base::{NoMemory, Rev, Sequence, Stamp};
+use petal_history::{History, Record};
+use petal_msg::{Actor, SharedLetter};
+use petal_rules::Step;
+use petal_script::{Answer, Script};
+use std::alloc::Global;
+use std::marker::Model;
+
+/// All servers and clients of a script's run, and the records of their steps. Contracts see the script, the records, the
+/// phase, and the least stamp of a client's next step. The records are a legal history of the script.
+#[derive(Drop)]
+pub struct World<H: Host> {
+    script: Script,
+    records: Sequence<Record>,
+    phase: u32,
+    floor: Stamp,
+    over: bool,
+    stage: Stage<H>,
+}
+
+impl<H: Host> Model for World<H> {
+    ghost use Rattle.petal_world.specs.Play.{Play, IsKept};
+
+    ghost Value = { Play };
+
+    ghost view = { λ w. record { script = w.script; records = w.records; phase = w.phase; floor = w.floor; over = w.over } };
+
+    ghost invariant = { λ w. IsKept (record { script = w.script; records = w.records; phase = w.phase; floor = w.floor; over = w.over }) w.stage };
+}
+
+fn shared(letters: &[SharedLetter], alloc: Global) -> Result<Sequence<SharedLetter>, NoMemory>
+    ensures { IfOk result (λ again. again ≡ letters.now) }
+{
+    let mut again = Sequence::new(alloc);
+    for letter in letters {
+        again.push(letter.share()?)?;
+    }
+    Ok(again)
+}
+
+fn given_again(answer: &Option<(u32, Answer)>) -> Result<Option<(u32, Answer)>, NoMemory>
+    ensures { IfOk result (λ again. again ≡ answer.now) }
+{
+    match answer {
+        None => Ok(None),
+        Some((line, answer)) => Ok(Some((*line, answer_again(answer)?))),
+    }
+}
+
+/// The record of a step, which shares its letters and its answer with what the step tells.
+fn record(
+    alloc: Global,
+    actor: Actor,
+    stamp: Stamp,
+    phase: u32,
+    step: &Step,
+    stepped: &Stepped,
+) -> Result<Record, NoMemory>
+    ensures { IfOk result (λ own. own ≡ record { actor = actor; stamp = stamp; phase = phase; step = step.now; sent = stepped.now.letters; answer = stepped.now.answer }) }
+{
+    Ok(Record {
+        actor,
+        stamp,
+        phase,
+        step: step_again(step)?,
+        sent: shared(stepped.letters.as_slice(), alloc)?,
+        answer: given_again(&stepped.answer)?,
+    })
+}
+
+/// Takes a step that can be taken, and keeps its record.
+fn take<H: Host>(
+    alloc: Global,
+    stage: &mut Stage<H>,
+    records: &mut Sequence<Record>,
+    actor: Actor,
+    stamp: Stamp,
+    phase: u32,
+    step: &Step,
+) -> Result<Stepped, NoMemory>
+    requires { Can stage.old actor step.now }
+    ensures ok { IfOk result (λ stepped. (records.new ≡ records.old ++ record { actor = actor; stamp = stamp; phase = phase; step = step.now; sent = stepped.letters; answer = stepped.answer } ∷ []) × LeavesIn stage.old actor step.now stamp stage.new stepped) }
+    ensures err { OnErr result (records.new ≡ records.old) }
+{
+    let stepped = stage.act(alloc, actor, step, stamp)?;
+    let record = record(alloc, actor, stamp, phase, step, &stepped)?;
+    records.push(record)?;
+    Ok(stepped)
+}
+
+/// One more than a stamp, while there is one.
+fn after(stamp: Stamp) -> Stamp
+    ensures { result ≡ min (stamp + 1) greatest_u64 }
+{
+    if stamp < Stamp::MAX { stamp + 1 } else { stamp }
+}
+
+impl<H: Host> World<H> {
+    /// The world of a run that begins: nothing was called or sent. The servers and the state are those of the script, whose
+    /// lines have numbers of their own that rise with their phases.
+    pub fn start(
+        alloc: Global,
+        script: Script,
+        state: &GlobalState,
+        hosts: Sequence<H>,
+    ) -> Result<World<H>, NoMemory>
+        requires numbered { AreNumbered script.lines }
+        requires ordered { AreOrdered script.lines }
+        requires state { state.now ≡ state_of script.servers script.lines }
+        requires hosts { map H.seen hosts ≡ first_sites script }
+        ensures { IfOk result (λ world. world ≡ record { script = script; records = []; phase = 0; floor = 0; over = false }) }
+    {
+        let stage = Stage {
+            seats: Seats::start(alloc, &script, state)?,
+            desks: Desks::start(alloc, hosts)?,
+            sent: Sent::new(alloc),
+            waiting: Waiting::start(alloc, script.lines.as_slice())?,
+        };
+        Ok(World {
+            script,
+            records: Sequence::new(alloc),
+            phase: 0,
+            floor: 0,
+            over: false,
+            stage,
+        })
+    }
+
+    /// A phase begins: each client's clock is the greatest of all theirs. Want of memory is told again where a step met it.
+    pub fn enter(&mut self, phase: u32) -> Result<(), NoMemory>
+        ensures ok { OnOk result (self.new ≡ entered self.old phase) }
+        ensures err { OnErr result (self.new ≡ self.old) }
+    {
+        if self.over {
+            return Err(NoMemory);
+        }
+        self.floor = after(self.stage.seats.greatest_clock());
+        self.phase = phase;
+        Ok(())
+    }
+
+    /// The revision of a client or of a running server; None exactly where the world has no such actor, or the server is
+    /// stopped. Nothing is said of it once a step met want of memory.
+    pub fn rev(&self, actor: Actor) -> Option<Rev>
+        ensures { self.now.over ≡ false → result ≡ rev_of (setting_of self.now.script) (world_of self.now) actor }
+    {
+        self.stage.rev(actor)
+    }
+
+    /// Takes a step, and tells the letters that it sent and the answer that it gave. `NotAllowed` comes exactly where the
+    /// step is not one of the world's in this state. After want of memory the step did not happen, and none follows.
+    pub fn step(&mut self, alloc: Global, actor: Actor, step: &Step) -> Result<Stepped, WorldError>
+        ensures allowed { OnOk result (MayStep (setting_of self.old.script) (world_of self.old) actor step.now) }
+        ensures ok { OnOk result (self.new ≡ played self.old actor step.now) }
+        ensures told { IfOk result (λ stepped. stepped ≡ told_by self.old actor step.now) }
+        ensures not_allowed { IsErrOf result error.NotAllowed → MayStep (setting_of self.old.script) (world_of self.old) actor step.now → ⊥ }
+        ensures unchanged { IsErrOf result error.NotAllowed → self.new ≡ self.old }
+        ensures no_memory { IsErrOf result error.NoMemory → self.new ≡ record self.old { over = true } }
+    {
+        if self.over {
+            return Err(WorldError::NoMemory);
+        }
+        if !self.stage.may(actor, step) {
+            return Err(WorldError::NotAllowed);
+        }
+        let stamp = self.stage.stamp_of(self.floor, actor, step);
+        let phase = self.stage.phase_for(self.phase, actor, step);
+        match take(
+            alloc,
+            &mut self.stage,
+            &mut self.records,
+            actor,
+            stamp,
+            phase,
+            step,
+        ) {
+            Ok(stepped) => Ok(stepped),
+            Err(_) => {
+                self.over = true;
+                Err(WorldError::NoMemory)
+            }
+        }
+    }
+
+    /// The script.
+    pub fn script(&self) -> &Script
+        ensures { result.now ≡ self.now.script }
+    {
+        &self.script
+    }
+
+    /// The records so far, which are a legal history of the script.
+    pub fn records(&self) -> &[Record]
+        ensures value { result.now ≡ self.now.records }
+        ensures legal { IsLegal self.now.script self.now.records }
+    {
+        self.records.as_slice()
+    }
+
+    /// The history of all steps, which is legal for the script.
+    pub fn into_history(self) -> History
+        ensures value { result ≡ record { records = self.records } }
+        ensures legal { IsLegal self.script self.records }
+    {
+        History {
+            records: self.records,
+        }
+    }
+}

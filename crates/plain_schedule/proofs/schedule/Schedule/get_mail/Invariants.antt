@@ -1,0 +1,5 @@
+use Rattle.std.proofs.Common.{◌≡◌}
+use Rattle.plain_schedule.proofs.schedule.Schedule.get_mail.Given as goal
+
+abbrev pub invariant-loop : goal.invariant-loop
+invariant-loop l = l.self.world.script ≡ l.fn.self.world.script

@@ -1,0 +1,93 @@
+//! The answers of a history.
+
+ghost use Rattle.std.specs.Prelude.{◌≡◌, ◌∷◌, [], is_some, IfOk, OnOk, OnErr, IfSome, IfNone};
+ghost use Rattle.std.specs.Ordering.{nat_cmp};
+ghost use Rattle.petal_table.specs.Table.{at, put};
+ghost use Rattle.petal_history.specs.Text.{answers_of};
+ghost use Rattle.plain_schedule.specs.Whole.{all_answered};
+
+use petal_base::NoMemory;
+use petal_history::Record;
+use petal_script::{Answer, Line};
+use std::alloc::Global;
+use std::collections::BTreeMap;
+use std::marker::Model;
+
+/// What lines were answered. Contracts see rows of a line's number and its answer, by rising number.
+#[derive(Drop)]
+pub struct Answers {
+    rows: BTreeMap<u32, Answer>,
+}
+
+impl Model for Answers {
+    ghost use Rattle.std.specs.Prelude.{ℕ};
+    ghost use Rattle.petal_table.specs.Table.{Table};
+    ghost use Rattle.petal_script.specs.declared.answer.Answer.{Answer};
+
+    ghost Value = { Table ℕ Answer };
+
+    ghost view = { λ a. a.rows.entries };
+}
+
+impl Answers {
+    /// No answers. It takes no memory.
+    pub fn new(alloc: Global) -> Answers
+        ensures { result ≡ [] }
+    {
+        Answers {
+            rows: BTreeMap::new(alloc),
+        }
+    }
+
+    /// What a history answers.
+    pub fn of_records(alloc: Global, records: &[Record]) -> Result<Answers, NoMemory>
+        ensures { IfOk result (λ answers. answers ≡ answers_of records.now) }
+    {
+        let mut answers = Answers::new(alloc);
+        for record in records {
+            if let Some((line, answer)) = &record.answer {
+                answers.put(*line, answer.clone()?)?;
+            }
+        }
+        Ok(answers)
+    }
+
+    #[tactic(auto, unfolding(petal_table::specs::Table::put))]
+    fn put(&mut self, line: u32, answer: Answer) -> Result<(), NoMemory>
+        ensures { OnOk result (self.new ≡ put nat_cmp self.old line answer) }
+    {
+        let _ = self.rows.insert(line, answer)?;
+        Ok(())
+    }
+
+    /// Whether a line has an answer.
+    #[tactic(auto, unfolding(petal_table::specs::Table::at))]
+    pub fn has(&self, line: u32) -> bool
+        ensures { result ≡ is_some (at nat_cmp self.now line) }
+    {
+        match self.rows.get(&line) {
+            Some(_) => true,
+            None => false,
+        }
+    }
+
+    /// Whether each of the lines has an answer.
+    pub fn has_all(&self, lines: &[Line]) -> bool
+        ensures { result ≡ all_answered self.now lines.now }
+    {
+        for line in lines {
+            if !self.has(line.number) {
+                return false;
+            }
+        }
+        true
+    }
+
+    /// Takes out the answer of the least line.
+    pub fn pop_first(&mut self) -> Option<(u32, Answer)>
+        ensures first { IfSome result (λ row. self.old ≡ row ∷ self.new) }
+        ensures none { IfNone result (self.old ≡ []) }
+    {
+        self.rows.pop_first()
+    }
+}

@@ -1,0 +1,83 @@
+//! Letters on their way.
+
+use petal_base::{NoMemory, Sequence};
+use petal_msg::SharedLetter;
+use std::alloc::Global;
+use std::collections::VecDeque;
+
+/// For each actor the letters that were sent to it and not yet handed over, in the order of sending.
+#[derive(Drop)]
+pub(crate) struct Post {
+    boxes: Vec<VecDeque<SharedLetter>>,
+    handed: u32,
+    lose: Option<u32>,
+    twice: Option<u32>,
+}
+
+/// How often a letter is handed over.
+#[derive(Clone, Copy, Debug, PartialEq, Eq)]
+pub(crate) enum Handing {
+    Lost,
+    Once,
+    Twice,
+}
+
+fn is_due(every: Option<u32>, count: u32) -> bool {
+    match every {
+        Some(every) => every != 0 && count % every == 0,
+        None => false,
+    }
+}
+
+impl Post {
+    pub(crate) fn new(
+        alloc: Global,
+        actors: usize,
+        lose: Option<u32>,
+        twice: Option<u32>,
+    ) -> Result<Post, NoMemory> {
+        let mut boxes = Vec::new(alloc);
+        for _ in 0..actors {
+            boxes.push(VecDeque::new(alloc))?;
+        }
+        Ok(Post {
+            boxes,
+            handed: 0,
+            lose,
+            twice,
+        })
+    }
+
+    /// A letter is on its way to the actor at this place.
+    pub(crate) fn send(&mut self, place: usize, letter: SharedLetter) -> Result<(), NoMemory> {
+        if let Some(mail) = self.boxes.get_mut(place) {
+            mail.push_back(letter)?;
+        }
+        Ok(())
+    }
+
+    /// How many letters wait for the actor at this place.
+    pub(crate) fn waiting(&self, place: usize) -> usize {
+        match self.boxes.get(place) {
+            Some(mail) => mail.len(),
+            None => 0,
+        }
+    }
+
+    /// The next letter of the actor at this place.
+    pub(crate) fn take(&mut self, place: usize) -> Option<SharedLetter> {
+        self.boxes.get_mut(place)?.pop_front()
+    }
+
+    /// What becomes of the next letter that is to be handed over. A letter that is lost is not doubled.
+    pub(crate) fn next_handing(&mut self) -> Handing {
+        self.handed = self.handed.wrapping_add(1);
+        if is_due(self.lose, self.handed) {
+            Handing::Lost
+        } else if is_due(self.twice, self.handed) {
+            Handing::Twice
+        } else {
+            Handing::Once
+        }
+    }
+}

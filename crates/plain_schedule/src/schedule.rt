@@ -1,0 +1,317 @@
+//! Rounds of all clients and servers.
+
+ghost use Rattle.std.specs.Prelude.{◌≡◌, true, IfOk};
+ghost use Rattle.petal_history.specs.Legal.{IsLegal};
+ghost use Rattle.petal_history.specs.Sound.{IsSound};
+ghost use Rattle.petal_history.specs.Text.{answers_of};
+ghost use Rattle.petal_world.specs.Playable.{AreOrdered};
+ghost use Rattle.plain_schedule.specs.Whole.{all_answered, begins_with_disk};
+
+use crate::answers::Answers;
+use crate::cast::{fixed_state, members};
+use crate::patience::Patience;
+use crate::post::{Handing, Post};
+use crate::seat::{ClientSeat, seats_of};
+use memory_server::MemServer;
+use petal_base::{ClientId, NoMemory, ServerId};
+use petal_history::History;
+use petal_msg::{Actor, SharedLetter};
+use petal_rules::{Step, WorkEnd};
+use petal_script::{Line, Script};
+use petal_world::{Stepped, World, WorldError};
+use std::alloc::Global;
+use std::sync::Wait;
+
+/// The clients `a` to `h` and the operator.
+const CLIENTS: u8 = 9;
+
+/// A run that is over: its history, and the answers that stand in it by line number.
+#[derive(Drop)]
+pub struct Run {
+    pub history: History,
+    pub answers: Answers,
+}
+
+/// A world in the middle of a run: the letters that are on their way, what each client has still to call, how long each server
+/// waits to be ticked, the phase, and how many of its lines have no answer yet.
+#[derive(Drop)]
+struct Schedule {
+    world: World<MemServer>,
+    servers: u8,
+    post: Post,
+    clients: Vec<ClientSeat>,
+    patience: Vec<Patience>,
+    phase: u32,
+    left: usize,
+}
+
+fn lines_of_phase(lines: &[Line], phase: u32) -> usize {
+    lines.iter().filter(|line| line.phase == phase).count()
+}
+
+/// The world of a run that begins.
+fn world_of(alloc: Global, script: Script) -> Result<World<MemServer>, NoMemory>
+    requires disk { begins_with_disk script.lines ≡ true }
+    requires sound { IsSound script }
+    requires ordered { AreOrdered script.lines }
+    ensures { IfOk result (λ world. world.script ≡ script) }
+{
+    let state = fixed_state(alloc, &script)?;
+    let members = members(alloc, script.servers, script.slots, &state)?;
+    World::start(alloc, script, &state, members)
+}
+
+impl Schedule {
+    fn new(alloc: Global, script: Script) -> Result<Schedule, NoMemory>
+        requires disk { begins_with_disk script.lines ≡ true }
+        requires sound { IsSound script }
+        requires ordered { AreOrdered script.lines }
+        ensures { IfOk result (λ schedule. schedule.world.script ≡ script) }
+    {
+        let servers = script.servers;
+        let actors = servers as usize + CLIENTS as usize;
+        let mut patience = Vec::new(alloc);
+        for _ in 0..servers {
+            patience.push(Patience::new())?;
+        }
+        let post = Post::new(alloc, actors, script.lose, script.twice)?;
+        let clients = seats_of(alloc, CLIENTS, &script)?;
+        let left = lines_of_phase(script.lines.as_slice(), 0);
+        Ok(Schedule {
+            world: world_of(alloc, script)?,
+            servers,
+            post,
+            clients,
+            patience,
+            phase: 0,
+            left,
+        })
+    }
+
+    fn place_of(&self, actor: Actor) -> usize {
+        match actor {
+            Actor::Server(server) => server as usize,
+            Actor::Client(client) => self.servers as usize + client as usize,
+        }
+    }
+
+    fn post_all(&mut self, letters: &[SharedLetter]) -> Result<(), NoMemory>
+        ensures { self.new.world ≡ self.old.world }
+    {
+        for letter in letters {
+            let place = self.place_of(letter.get().to);
+            self.post.send(place, letter.share()?)?;
+        }
+        Ok(())
+    }
+
+    // A line of the phase was answered to the client that called it.
+    fn note_answer(&mut self, actor: Actor)
+        ensures { self.new.world ≡ self.old.world }
+    {
+        self.left = self.left.saturating_sub(1);
+        if let Actor::Client(client) = actor {
+            if let Some(seat) = self.clients.get_mut(client as usize) {
+                seat.answered();
+            }
+        }
+    }
+
+    fn note(&mut self, actor: Actor, stepped: &Stepped) -> Result<(), NoMemory>
+        ensures { self.new.world ≡ self.old.world }
+    {
+        if stepped.answer.is_some() {
+            self.note_answer(actor);
+        }
+        self.post_all(stepped.letters.as_slice())
+    }
+
+    // Takes a step. Gives whether it was one of the world's.
+    fn take(&mut self, alloc: Global, actor: Actor, step: &Step) -> Result<bool, NoMemory>
+        ensures { self.new.world.script ≡ self.old.world.script }
+    {
+        match self.world.step(alloc, actor, step) {
+            Ok(stepped) => {
+                self.note(actor, &stepped)?;
+                Ok(true)
+            }
+            Err(WorldError::NotAllowed) => Ok(false),
+            Err(WorldError::NoMemory) => Err(NoMemory),
+        }
+    }
+
+    fn hand_over(
+        &mut self,
+        alloc: Global,
+        actor: Actor,
+        letter: SharedLetter,
+    ) -> Result<(), NoMemory>
+        ensures { self.new.world.script ≡ self.old.world.script }
+    {
+        match self.post.next_handing() {
+            Handing::Lost => {}
+            Handing::Once => {
+                self.take(alloc, actor, &Step::Deliver { letter })?;
+            }
+            Handing::Twice => {
+                let again = letter.share()?;
+                self.take(alloc, actor, &Step::Deliver { letter })?;
+                self.take(alloc, actor, &Step::Deliver { letter: again })?;
+            }
+        }
+        Ok(())
+    }
+
+    // The actor gets each letter that waits for it.
+    fn get_mail(&mut self, alloc: Global, actor: Actor) -> Result<(), NoMemory>
+        ensures { self.new.world.script ≡ self.old.world.script }
+    {
+        let place = self.place_of(actor);
+        for _ in 0..self.post.waiting(place) {
+            if let Some(letter) = self.post.take(place) {
+                self.hand_over(alloc, actor, letter)?;
+            }
+        }
+        Ok(())
+    }
+
+    fn next_call(&self, client: ClientId) -> Option<u32> {
+        self.clients.get(client as usize)?.next(self.phase)
+    }
+
+    fn note_call(&mut self, client: ClientId)
+        ensures { self.new.world ≡ self.old.world }
+    {
+        if let Some(seat) = self.clients.get_mut(client as usize) {
+            seat.called();
+        }
+    }
+
+    fn call_next(&mut self, alloc: Global, client: ClientId) -> Result<(), NoMemory>
+        ensures { self.new.world.script ≡ self.old.world.script }
+    {
+        if let Some(line) = self.next_call(client) {
+            self.note_call(client);
+            self.take(alloc, Actor::Client(client), &Step::Call { line })?;
+        }
+        Ok(())
+    }
+
+    // A client with nothing open has nothing to send anew.
+    fn client_passes(&mut self, client: ClientId) -> bool
+        ensures { self.new.world ≡ self.old.world }
+    {
+        match self.clients.get_mut(client as usize) {
+            Some(seat) => seat.is_open && seat.patience.passes(),
+            None => false,
+        }
+    }
+
+    fn client_turn(&mut self, alloc: Global, client: ClientId) -> Result<(), NoMemory>
+        ensures { self.new.world.script ≡ self.old.world.script }
+    {
+        let actor = Actor::Client(client);
+        self.get_mail(alloc, actor)?;
+        self.call_next(alloc, client)?;
+        if self.client_passes(client) {
+            self.take(alloc, actor, &Step::Tick)?;
+        }
+        Ok(())
+    }
+
+    fn server_passes(&mut self, server: ServerId) -> bool
+        ensures { self.new.world ≡ self.old.world }
+    {
+        match self.patience.get_mut(server as usize) {
+            Some(patience) => patience.passes(),
+            None => false,
+        }
+    }
+
+    // The server does jobs until none is left.
+    fn work_off<R: Wait>(&mut self, rt: &R, alloc: Global, server: ServerId) -> Result<(), NoMemory>
+        ensures { self.new.world.script ≡ self.old.world.script }
+    {
+        for _ in rt.forever() {
+            if !self.take(alloc, Actor::Server(server), &Step::Work(WorkEnd::Done))? {
+                break;
+            }
+        }
+        Ok(())
+    }
+
+    fn server_turn<R: Wait>(
+        &mut self,
+        rt: &R,
+        alloc: Global,
+        server: ServerId,
+    ) -> Result<(), NoMemory>
+        ensures { self.new.world.script ≡ self.old.world.script }
+    {
+        let actor = Actor::Server(server);
+        self.get_mail(alloc, actor)?;
+        if self.server_passes(server) {
+            self.take(alloc, actor, &Step::Tick)?;
+        }
+        self.work_off(rt, alloc, server)
+    }
+
+    fn round<R: Wait>(&mut self, rt: &R, alloc: Global) -> Result<(), NoMemory>
+        ensures { self.new.world.script ≡ self.old.world.script }
+    {
+        for client in 0..CLIENTS {
+            self.client_turn(alloc, client)?;
+        }
+        for server in 0..self.servers {
+            self.server_turn(rt, alloc, server)?;
+        }
+        Ok(())
+    }
+
+    // The next phase begins where each line of this one is answered.
+    fn go_on(&mut self) -> Result<(), NoMemory>
+        ensures { self.new.world.script ≡ self.old.world.script }
+    {
+        if self.left == 0 && self.phase < self.world.script().phases {
+            self.phase += 1;
+            self.left = lines_of_phase(self.world.script().lines.as_slice(), self.phase);
+            self.world.enter(self.phase)?;
+        }
+        Ok(())
+    }
+
+    fn is_over(&self) -> bool {
+        self.left == 0 && self.phase.saturating_add(1) >= self.world.script().phases
+    }
+}
+
+/// Plays a script, whose first request makes its disk, until each of its lines is answered. It waits for as long as that takes.
+///
+/// A round goes through the clients and then the servers, by number. Each in its turn gets the letters that were sent to it,
+/// a client with nothing open calls its next line of the present phase, a tick is passed on where the actor has waited for it
+/// long enough, and a server works until its queue is empty. A phase ends with the round in which its last line is answered.
+pub fn play<R: Wait>(rt: &R, alloc: Global, script: Script) -> Result<Run, NoMemory>
+    requires disk { begins_with_disk script.lines ≡ true }
+    requires sound { IsSound script }
+    requires ordered { AreOrdered script.lines }
+    ensures legal { IfOk result (λ run. IsLegal script run.history.records) }
+    ensures answers { IfOk result (λ run. run.answers ≡ answers_of run.history.records) }
+    ensures whole { IfOk result (λ run. all_answered run.answers script.lines ≡ true) }
+{
+    let mut schedule = Schedule::new(alloc, script)?;
+    let mut answers = Answers::new(alloc);
+    for _ in rt.forever() {
+        if schedule.is_over() {
+            answers = Answers::of_records(alloc, schedule.world.records())?;
+            if answers.has_all(schedule.world.script().lines.as_slice()) {
+                break;
+            }
+        }
+        schedule.round(rt, alloc)?;
+        schedule.go_on()?;
+    }
+    Ok(Run {
+        history: schedule.world.into_history(),
+        answers,
+    })
+}

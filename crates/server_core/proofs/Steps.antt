@@ -1,0 +1,17 @@
+-- What a step of a server leaves.
+use Rattle.std.proofs.Common.{◌≡◌, ◌≢◌, ◌<◌, ◌+◌, arith, ℕ, List, [], ◌∷◌, Option, Some, None, Result, Ok, Err, IfOk, refl, ap}
+use Rattle.std.specs.Prelude.{slice_get}
+
+-- a list without a first item is empty
+pub no_first : {A : Type 0} (xs : List A) → slice_get xs 0 ≡ None → xs ≡ []
+no_first [] is = refl
+no_first (x ∷ xs) is = cc
+
+-- what holds of each value holds of the one that came
+pub of_each : {A E : Type 0} (P Q : A → Type 0) → ((a : A) → P a → Q a) → (result : Result A E) → IfOk result P → IfOk result Q
+of_each P Q each (Ok a) holds = each a holds
+of_each P Q each (Err e) holds = tt
+
+-- a number of a type that is not its greatest can be counted up
+pub below : (n known most : ℕ) → known ≡ n → known < most + 1 → n ≢ most → n < most
+below n known most is fits other = grind arith

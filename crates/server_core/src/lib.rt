@@ -1,0 +1,15 @@
+//! One server, step by step: it takes letters into a queue, does the first job of the queue, and sends anew what is not yet
+//! answered.
+//!
+//! To the layer above it promises that each of its steps is the rule of `petal_rules`: the server afterwards and the letters.
+//! It knows nothing of threads, of the way letters travel, or of what is kept of its steps.
+#![tactic(auto)]
+
+mod jobs;
+mod queue;
+mod server;
+mod worked;
+
+pub use server::ServerCore;
+pub use worked::Worked;
+pub use write_pair::WorkError;

@@ -1,0 +1,161 @@
+//! A server.
+
+ghost use Rattle.std.specs.Prelude.{◌≡◌, ◌<◌, ◌-◌, ◌^◌, ◌++◌, ◌∷◌, ◌||◌, ◌↔◌, ◌≢◌, [], false, IsTrue, IfOk, OnOk, OnErr, Err};
+ghost use Rattle.petal_rules.specs.Jobs.{ticks};
+ghost use Rattle.petal_rules.specs.Store as stores;
+ghost use Rattle.petal_rules.specs.World.{greatest_u64};
+ghost use Rattle.petal_rules.specs.declared.job.Job.TheVariants as job;
+ghost use Rattle.kept_chains.specs.Kept.{kept_of};
+ghost use Rattle.write_pair.specs.declared.error.WorkError.TheVariants as error;
+ghost use Rattle.write_pair.specs.Desk.{HasFault, HasTicketsAt, HasVersions};
+ghost use Rattle.server_core.specs.Core.{IsWork, acted, desk_of, here_in, is_spent, server_of};
+
+use crate::Worked;
+use crate::jobs::does;
+use crate::queue::JobQueue;
+use global_state::GlobalState;
+use pair_lock::PairLock;
+use petal_base::{Inc, NoMemory, Op, Rev, Sequence, ServerId};
+use petal_disk::Disk;
+use petal_msg::{Letter, SharedLetter};
+use petal_rules::Job;
+use server_store::Store;
+use std::alloc::Global;
+use std::marker::Model;
+use write_pair::{Here, Tables, WorkError, letters_anew};
+
+/// What a server has in memory. Contracts see its number and incarnation, the state at its revision, the number of its next
+/// operation, what is pending and what it keeps of writes, and its queue.
+#[derive(Drop)]
+pub struct ServerCore {
+    me: ServerId,
+    inc: Inc,
+    state: GlobalState,
+    next: Op,
+    locks: PairLock,
+    tables: Tables,
+    queue: JobQueue,
+}
+
+impl Model for ServerCore {
+    ghost use Rattle.server_core.specs.Core.{Core};
+
+    ghost Value = { Core };
+
+    ghost view = { λ c. record { me = c.me; inc = c.inc; state = c.state; next = c.next; pending = c.locks; books = c.tables; queue = c.queue } };
+}
+
+// What the store promises of its greatest version tells the proof that it can be counted up.
+fn has_versions<D: Disk>(store: &Store<D>)
+    requires { stores.top_of (kept_of store.now).chains ≢ greatest_u64 }
+    ensures { HasVersions store.now }
+{
+    let _ = store.free();
+    let _ = store.top();
+}
+
+fn either(a: bool, b: bool) -> bool
+    ensures { result ≡ (a || b) }
+{
+    a || b
+}
+
+impl ServerCore {
+    /// The first incarnation of a server, at this state, with nothing pending. It takes no memory.
+    pub fn start(alloc: Global, me: ServerId, state: GlobalState) -> ServerCore
+        ensures { result ≡ record {
+          me = me;
+          inc = 1;
+          state = state;
+          next = 1;
+          pending = [];
+          books = record { finished = []; last = []; own = []; apart = [] };
+          queue = [];
+        } }
+    {
+        ServerCore {
+            me,
+            inc: 1,
+            state,
+            next: 1,
+            locks: PairLock::new(alloc),
+            tables: Tables::new(alloc),
+            queue: JobQueue::new(alloc),
+        }
+    }
+
+    /// How many entries of the agreed log it has applied.
+    pub fn rev(&self) -> Rev
+        ensures { result ≡ self.now.state.rev }
+    {
+        self.state.rev()
+    }
+
+    /// Whether no job waits.
+    pub fn is_idle(&self) -> bool
+        ensures { IsTrue result ↔ (self.now.queue ≡ []) }
+    {
+        self.queue.is_empty()
+    }
+
+    /// A letter comes: it joins the queue.
+    pub fn deliver(&mut self, letter: SharedLetter) -> Result<(), NoMemory>
+        ensures ok { OnOk result (self.new ≡ record self.old { queue = self.old.queue ++ job.Letter letter ∷ [] }) }
+        ensures err { OnErr result (self.new ≡ self.old) }
+    {
+        self.queue.push(Job::Letter(letter))
+    }
+
+    /// A tick: each letter of a pending operation that is not yet answered goes out anew, with the stamp 0. Nothing else
+    /// changes.
+    pub fn tick(&self, alloc: Global) -> Result<Sequence<Letter>, NoMemory>
+        ensures { IfOk result (λ letters. (store : stores.Store) → acted self.now store letters ≡ ticks (here_in self.now) (server_of self.now store)) }
+    {
+        letters_anew(alloc, &self.state, self.me, self.inc, &self.locks)
+    }
+
+    /// Whether a number of the server is the greatest of its type, so that a job could not count on.
+    pub fn spent<D: Disk>(&self, store: &Store<D>) -> bool
+        ensures { result ≡ is_spent self.now (kept_of store.now) }
+    {
+        let _ = store.free();
+        either(self.next == u64::MAX, store.top() == u64::MAX)
+    }
+
+    /// Does the first job of the queue, with at most one commit.
+    ///
+    /// # Errors
+    /// `Failed`, `JournalFull`: the server is to be stopped. `NoMemory`: nothing happened.
+    pub fn work<D: Disk>(
+        &mut self,
+        alloc: Global,
+        store: &mut Store<D>,
+    ) -> Result<Worked, WorkError>
+        requires goes_on { is_spent self.old (kept_of store.old) ≡ false }
+        requires tickets { HasTicketsAt (desk_of self.old store.old) }
+        ensures work { IfOk result (λ worked. D.told → IsWork self.old (kept_of store.old) self.new (kept_of store.new) worked) }
+        ensures place { here_in self.new ≡ here_in self.old }
+        ensures keeps { OnOk result (HasTicketsAt (desk_of self.new store.new)) }
+        ensures same { result ≡ Err error.NoMemory → (self.new ≡ self.old) × (store.new ≡ record store.old { disk = store.new.disk }) }
+        ensures cause { HasFault (D.faults store.old.disk) (D.faults store.new.disk) result }
+        ensures run { D.came_to store.old.disk store.new.disk }
+    {
+        has_versions(store);
+        let here = Here {
+            alloc,
+            state: &self.state,
+            me: self.me,
+            inc: self.inc,
+            next: self.next,
+        };
+        let outcome = match self.queue.first() {
+            Some(job) => does(&here, &mut self.tables, &mut self.locks, store, job)?,
+            None => return Ok(Worked::Idle),
+        };
+        if outcome.opened {
+            self.next += 1;
+        }
+        self.queue.go_on(outcome.follow);
+        Ok(Worked::Did(outcome.letters))
+    }
+}

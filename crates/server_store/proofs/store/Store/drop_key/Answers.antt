@@ -1,0 +1,41 @@
+use Rattle.std.proofs.Common.{◌∙◌, List, sym, ap}
+use Rattle.physical_map.specs.declared.entry.Entry.{Entry}
+use Rattle.physical_map.specs.Entries.{without_key}
+use Rattle.server_store.specs.Holdings.{listed}
+use Rattle.server_store.proofs.Changes.{listed_still, not_there, not_held, none_is, on_err}
+use Rattle.server_store.proofs.Contents.{listed-held, is_listed, map-without}
+use Rattle.server_store.proofs.store.Store.drop_key.Goals as goal
+
+pub returns-then-not-has_key-clause-ok : goal.returns-then-not-has_key-clause-ok
+returns-then-not-has_key-clause-ok g c = sym (not_there (listed c.args.self.now.entries) c.args.key (none_is _ (sym c.has_key.ensures ∙ c.if-not-has_key.true)))
+
+pub returns-then-not-has_key-clause-content : goal.returns-then-not-has_key-clause-content
+returns-then-not-has_key-clause-content g c told = sym (not_held c.args.self.now.entries c.args.key (none_is _ (sym c.has_key.ensures ∙ c.if-not-has_key.true)))
+
+pub returns-in_err-commit-clause-listed : goal.returns-in_err-commit-clause-listed
+returns-in_err-commit-clause-listed g c = on_err c.from_residual.result _ (rw (← c.self.view_is) (listed_still (g.D.Disk.seen c.self.inside.disk) (g.D.Disk.seen c.commit.new.disk) c.self.inside.ledger.entries))
+
+pub returns-in_err-commit-clause-either : goal.returns-in_err-commit-clause-either
+returns-in_err-commit-clause-either g c told = rw (← c.self.view_is) (λ h. c.commit.ensures.either told c.self.inside.ledger.slots _ h)
+
+pub returns-clause-ok : goal.returns-clause-ok
+returns-clause-ok g c =
+    let x = g.D.Disk.seen c.self.inside.disk in
+    let y = g.D.Disk.seen c.commit.new.disk in
+    let es = c.self.inside.ledger.entries in
+    rw (c.drop_key.ensures, ← c.self.view_is) (listed-held y (without_key es c.args.key) ∙ ap (λ (l : List Entry). without_key l c.args.key) (is_listed x es))
+
+pub returns-clause-content : goal.returns-clause-content
+returns-clause-content g c told =
+    let x = g.D.Disk.seen c.self.inside.disk in
+    let es = c.self.inside.ledger.entries in
+    rw (c.drop_key.ensures, c.commit.ensures.contents told (without_key es c.args.key), ← c.self.view_is) (map-without x es c.args.key)
+
+pub returns-clause-holds : goal.returns-clause-holds
+returns-clause-holds g c told =
+    let x = g.D.Disk.seen c.self.inside.disk in
+    let es = c.self.inside.ledger.entries in
+    rw (← c.self.view_is, c.drop_key.ensures, c.commit.ensures.contents told (without_key es c.args.key) ∙ map-without x es c.args.key) (λ h. c.in_ok-commit.ensures.keeps told c.self.inside.ledger.slots _ h)
+
+pub returns-clause-either : goal.returns-clause-either
+returns-clause-either g c told = rw (← c.self.view_is) (λ h. c.commit.ensures.either told c.self.inside.ledger.slots _ h)

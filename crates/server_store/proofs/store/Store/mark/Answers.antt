@@ -1,0 +1,44 @@
+use Rattle.std.proofs.Common.{◌≡◌, ◌∙◌, List, false, not, refl, sym, ap}
+use Rattle.busy_marks.specs.declared.marks.Mark.{Mark}
+use Rattle.busy_marks.specs.Marks.{has_mark, without_mark}
+use Rattle.server_store.proofs.Changes.{listed_still, taken_back}
+use Rattle.server_store.proofs.store.Store.mark.Goals as goal
+
+pub invariant_of-self-in-Err : goal.invariant_of-self-in-Err
+invariant_of-self-in-Err g c =
+    let m : Mark = record { kind = c.args.kind; cell = c.args.cell } in
+    let marks = c.self.inside.marks in
+    let none : has_mark m marks ≡ false = sym c.has.ensures ∙ c.if-has.false in
+    let back : c.clear.new.self ≡ marks = c.clear.ensures ∙ ap (λ (ms : List Mark). without_mark ms m) c.in_ok-set.ensures.ok ∙ taken_back m marks none in
+    rw (back, c.commit.ensures.size, c.commit.ensures.fresh, c.in-Err.ensures.err) c.self.invariant
+
+pub returns-in-Ok-clause-listed : goal.returns-in-Ok-clause-listed
+returns-in-Ok-clause-listed g c = rw (← c.self.view_is) (listed_still _ _ c.self.inside.ledger.entries)
+
+pub returns-in-Ok-clause-holds : goal.returns-in-Ok-clause-holds
+returns-in-Ok-clause-holds g c told = rw (← c.self.view_is, c.in_ok-set.ensures.ok, c.commit.ensures.contents told c.self.inside.ledger.entries) (λ h. c.in-Ok.ensures.keeps told c.self.inside.ledger.slots _ h)
+
+pub returns-in-Ok-clause-either : goal.returns-in-Ok-clause-either
+returns-in-Ok-clause-either g c told = rw (← c.self.view_is) (λ h. c.commit.ensures.either told c.self.inside.ledger.slots _ h)
+
+pub returns-in-Err-clause-err : goal.returns-in-Err-clause-err
+returns-in-Err-clause-err g c =
+    let m : Mark = record { kind = c.args.kind; cell = c.args.cell } in
+    let marks = c.self.inside.marks in
+    let none : has_mark m marks ≡ false = sym c.has.ensures ∙ c.if-has.false in
+    rw (← c.self.view_is) (c.clear.ensures ∙ ap (λ (ms : List Mark). without_mark ms m) c.in_ok-set.ensures.ok ∙ taken_back m marks none)
+
+pub returns-in-Err-clause-listed : goal.returns-in-Err-clause-listed
+returns-in-Err-clause-listed g c = rw (← c.self.view_is) (listed_still _ _ c.self.inside.ledger.entries)
+
+pub returns-in-Err-clause-full : goal.returns-in-Err-clause-full
+returns-in-Err-clause-full g c is =
+    let m : Mark = record { kind = c.args.kind; cell = c.args.cell } in
+    let marks = c.self.inside.marks in
+    let none : has_mark m marks ≡ false = sym c.has.ensures ∙ c.if-has.false in
+    let back : c.clear.new.self ≡ marks = c.clear.ensures ∙ ap (λ (ms : List Mark). without_mark ms m) c.in_ok-set.ensures.ok ∙ taken_back m marks none in
+    let same = c.in-Err.ensures.unchanged is in
+    rw (← c.self.view_is) (c.in-Err.ensures.full.0 is, ap not none, rw (back, same.0, same.1) refl)
+
+pub returns-in-Err-clause-either : goal.returns-in-Err-clause-either
+returns-in-Err-clause-either g c told = rw (← c.self.view_is) (λ h. c.commit.ensures.either told c.self.inside.ledger.slots _ h)

@@ -1,0 +1,305 @@
+-- What changes of the tables do to the tickets.
+use Rattle.std.proofs.Common.{◌≡◌, ◌≢◌, ◌⊎◌, inl, inr, ℕ, zero, suc, length-append, ◌==◌, ◌||◌, ◌+◌, ◌-◌, ◌≤◌, ◌<◌, Bool, true, false, not, cond, List, [], ◌∷◌, ◌++◌, length, Option, Some, None, is_some, refl, sym, subst, ap, ◌∙◌, arith}
+use Rattle.std.proofs.lemmas.Bool.{cases_Bool, cases_eq}
+use Rattle.std.proofs.lemmas.Bool.Decides.{nat_tests}
+use Rattle.std.specs.List.{Contains}
+use Rattle.std.specs.declared.cmp.Ordering.{Ordering}
+use Rattle.std.specs.declared.cmp.Ordering.TheVariants.{Less, Equal, Greater}
+use Rattle.std.specs.Ordering.{is_eq, match_ordering}
+use Rattle.std.specs.List.Sorted.{IsStrictlySortedBy}
+use Rattle.std.specs.BTreeMap.{insert_entry, is_at}
+use Rattle.std.specs.Map.{lookup, remove_entry, keys_of, values_of}
+use Rattle.petal_base.specs.declared.place.Cell.{Cell}
+use Rattle.petal_table.specs.Table.{Table, at, put, without}
+use Rattle.petal_table.proofs.Rows.{remove_is_without}
+use Rattle.petal_msg.specs.declared.operation.Finished.{Finished}
+use Rattle.petal_msg.specs.declared.operation.LastOp.{LastOp}
+use Rattle.petal_msg.specs.declared.operation.Pending.{Pending}
+use Rattle.petal_rules.specs.Store.{cell_cmp}
+use Rattle.petal_rules.specs.Writes.{has_slot}
+use Rattle.petal_rules.proofs.CellTables.{cell_cmp_total, cell_same, cell_apart, cell_gone, cell_gone_apart}
+use Rattle.petal_base.specs.declared.place.Key.{Key}
+use Rattle.physical_map.specs.Keys.{placed}
+use Rattle.petal_rules.specs.Store.{with_entry, with_ticket, without_ticket}
+use Rattle.server_store.specs.Holdings.{Holdings, key_held}
+use Rattle.kept_chains.specs.Kept.{chains_of, kept_of}
+use Rattle.kept_chains.proofs.Kept.{placed_is}
+use Rattle.server_store.specs.Tickets as store
+use Rattle.kept_chains.proofs.Chains.{cell_cases}
+use Rattle.write_pair.specs.Books.{Books, HasTickets, times, needs_own, needs_apart, in_stages}
+
+-- 1 where the numbers are the same
+abbrev pub one_at : ℕ → ℕ → ℕ
+one_at n slot = times n (slot ∷ [])
+
+times_append : (n slot : ℕ) (ts : List ℕ) → times n (ts ++ slot ∷ []) ≡ times n ts + one_at n slot
+times_append n slot [] = omega arith
+times_append n slot (t ∷ ts) = let rest = times_append n slot ts in omega (arith, rest)
+
+times_put : (n slot : ℕ) (cell : Cell) (t : Table Cell ℕ) → lookup (is_at (cell_cmp cell)) t ≡ None → times n (values_of (insert_entry cell_cmp t cell slot)) ≡ times n (values_of t) + one_at n slot
+times_put n slot cell [] none = omega arith
+times_put n slot cell (r ∷ rs) none =
+    let rest = times_put n slot cell rs in
+    elim (cell_cmp cell r.0) as (λ o. cond (is_eq o) (Some r.1) (lookup (is_at (cell_cmp cell)) rs) ≡ None → times n (values_of (match_ordering o ((cell, slot) ∷ r ∷ rs) ((r.0, slot) ∷ rs) (r ∷ insert_entry cell_cmp rs cell slot))) ≡ times n (r.1 ∷ values_of rs) + one_at n slot) [
+      | Less ↦ λ e. omega arith
+      | Equal ↦ λ e. absurd (cc)
+      | Greater ↦ λ e. let more = rest e in omega (arith, more)
+    ] none
+
+times_removed : (n slot : ℕ) (test : Cell → Bool) (t : Table Cell ℕ) → lookup test t ≡ Some slot → times n (values_of (remove_entry test t)) + one_at n slot ≡ times n (values_of t)
+times_removed n slot test [] is = absurd (cc)
+times_removed n slot test (r ∷ rs) is =
+    let rest = times_removed n slot test rs in
+    elim (test r.0) as (λ b. cond b (Some r.1) (lookup test rs) ≡ Some slot → times n (values_of (cond b rs (r ∷ remove_entry test rs))) + one_at n slot ≡ times n (r.1 ∷ values_of rs)) [
+      | true ↦ λ e. let same : r.1 ≡ slot = cc in let one : one_at n r.1 ≡ one_at n slot = ap (one_at n) same in omega (arith, one)
+      | false ↦ λ e. let more = rest e in omega (arith, more)
+    ] is
+
+times_without : (n slot : ℕ) (cell : Cell) (t : Table Cell ℕ) → IsStrictlySortedBy cell_cmp (keys_of t) → at cell_cmp t cell ≡ Some slot → times n (values_of (without cell_cmp t cell)) + one_at n slot ≡ times n (values_of t)
+unfolding at
+times_without n slot cell t sorted is =
+    subst (λ (u : Table Cell ℕ). times n (values_of u) + one_at n slot ≡ times n (values_of t)) (remove_is_without cell_cmp_total t cell sorted) (times_removed n slot (is_at (cell_cmp cell)) t is)
+
+times_new : (n slot : ℕ) (cell : Cell) (t : Table Cell ℕ) → at cell_cmp t cell ≡ None → times n (values_of (put cell_cmp t cell slot)) ≡ times n (values_of t) + one_at n slot
+unfolding at put
+times_new n slot cell t none = times_put n slot cell t none
+
+one_itself : (slot : ℕ) → one_at slot slot ≡ 1
+one_itself slot = grind (arith, nat_tests)
+
+one_same : (n s t : ℕ) → (s == t) ≡ true → one_at n s ≡ one_at n t
+one_same n s t is = grind (arith, nat_tests)
+
+one_other : (s t : ℕ) → (t == s) ≡ false → one_at s t ≡ 0
+one_other s t is = grind (arith, nat_tests)
+
+same_number : (s t : ℕ) → (t == s) ≡ true → t ≡ s
+same_number s t is = grind (arith, nat_tests)
+
+-- what is counted is there
+pub counted_in : (slot : ℕ) (ts : List ℕ) → 1 ≤ times slot ts → Contains ts slot
+counted_in slot [] h = absurd (omega arith)
+counted_in slot (t ∷ ts) h = elim (cases_Bool (t == slot)) [
+  | inl is ↦ (0, omega arith, same_number slot t is)
+  | inr is ↦
+      let none = one_other slot t is in
+      let more = counted_in slot ts (omega (arith, none)) in
+      (suc more.0, omega (arith, more.1), more.2)
+]
+
+times_less : (n slot : ℕ) (ts : List ℕ) → 1 ≤ times slot ts → times n (store.without ts slot) + one_at n slot ≡ times n ts
+times_less n slot [] h = absurd (omega arith)
+times_less n slot (t ∷ ts) h = elim (cases_Bool (t == slot)) [
+  | inl is ↦ rw is (let same = one_same n t slot is in omega (arith, same))
+  | inr is ↦
+      let none = one_other slot t is in
+      let rest = times_less n slot ts (omega (arith, none)) in
+      rw is (omega (arith, rest))
+]
+
+pub length_less : (slot : ℕ) (ts : List ℕ) → 1 ≤ times slot ts → length (store.without ts slot) + 1 ≡ length ts
+length_less slot [] h = absurd (omega arith)
+length_less slot (t ∷ ts) h = elim (cases_Bool (t == slot)) [
+  | inl is ↦ rw is (omega arith)
+  | inr is ↦
+      let none = one_other slot t is in
+      let rest = length_less slot ts (omega (arith, none)) in
+      rw is (omega (arith, rest))
+]
+
+-- a ticket that comes last goes without a trace
+pub without_last : (slot : ℕ) (ts : List ℕ) → ¬ Contains ts slot → store.without (ts ++ slot ∷ []) slot ≡ ts
+without_last slot [] other = grind (arith, nat_tests)
+without_last slot (t ∷ ts) other = elim (cases_Bool (t == slot)) [
+  | inl is ↦ absurd (other (0, omega arith, same_number slot t is))
+  | inr is ↦ rw is (ap (λ (us : List ℕ). t ∷ us) (without_last slot ts (λ more. other (suc more.0, omega (arith, more.1), more.2))))
+]
+
+-- the slot of a ticket of the first table is out
+counted_own : (cell : Cell) (slot : ℕ) (own : Table Cell ℕ) → at cell_cmp own cell ≡ Some slot → 1 ≤ times slot (values_of own)
+unfolding at
+counted_own cell slot own is = go own is
+  where
+    go : (t : Table Cell ℕ) → lookup (is_at (cell_cmp cell)) t ≡ Some slot → 1 ≤ times slot (values_of t)
+    go [] is = absurd (cc)
+    go (r ∷ rs) is =
+        let rest = go rs in
+        elim (is_eq (cell_cmp cell r.0)) as (λ b. cond b (Some r.1) (lookup (is_at (cell_cmp cell)) rs) ≡ Some slot → 1 ≤ times slot (r.1 ∷ values_of rs)) [
+          | true ↦ λ e. let same : r.1 ≡ slot = cc in let one : one_at slot r.1 ≡ one_at slot slot = ap (one_at slot) same in omega (arith, one, one_itself slot)
+          | false ↦ λ e. let more = rest e in omega (arith, more)
+        ] is
+
+module _ (pending : Table Cell Pending) (books : Books) (tickets : List ℕ) (h : HasTickets pending books tickets) where
+  own_counted : (cell : Cell) (slot : ℕ) → at cell_cmp books.own cell ≡ Some slot → 1 ≤ times slot tickets
+  own_counted cell slot is = let own = counted_own cell slot books.own is in let all = h.out slot in omega (arith, own, all)
+
+  apart_counted : (cell : Cell) (slot : ℕ) → at cell_cmp books.apart cell ≡ Some slot → 1 ≤ times slot tickets
+  apart_counted cell slot is = let own = counted_own cell slot books.apart is in let all = h.out slot in omega (arith, own, all)
+
+  pub own_out : (cell : Cell) (slot : ℕ) → at cell_cmp books.own cell ≡ Some slot → Contains tickets slot
+  own_out cell slot is = counted_in slot tickets (own_counted cell slot is)
+
+  pub apart_out : (cell : Cell) (slot : ℕ) → at cell_cmp books.apart cell ≡ Some slot → Contains tickets slot
+  apart_out cell slot is = counted_in slot tickets (apart_counted cell slot is)
+
+  -- nothing but what was finished changed
+  pub kept_finished : (finished : Table ℕ Finished) → HasTickets pending (record books { finished = finished }) tickets
+  kept_finished finished = record { out = h.out; own = h.own; stages = h.stages; apart = h.apart }
+
+  stages_put : (cell : Cell) (op : Pending) → in_stages (Some op) ≡ true → (q : Cell) → in_stages (at cell_cmp (put cell_cmp pending cell op) q) ≡ true
+  stages_put cell op order q = elim (cell_cases q cell) [
+    | inl is ↦ subst (λ (c : Cell). in_stages (at cell_cmp (put cell_cmp pending cell op) c) ≡ true) (sym is) (ap in_stages (cell_same pending cell op) ∙ order)
+    | inr ne ↦ ap in_stages (cell_apart pending cell op q ne) ∙ h.stages q
+  ]
+
+  stages_gone : (cell : Cell) → (q : Cell) → in_stages (at cell_cmp (without cell_cmp pending cell) q) ≡ true
+  stages_gone cell q = elim (cell_cases q cell) [
+    | inl is ↦ subst (λ (c : Cell). in_stages (at cell_cmp (without cell_cmp pending cell) c) ≡ true) (sym is) (ap in_stages (cell_gone pending cell))
+    | inr ne ↦ ap in_stages (cell_gone_apart pending cell q ne) ∙ h.stages q
+  ]
+
+  -- what is pending on a cell is another operation, whose copy is put or not as it was
+  pub kept_moved : (cell : Cell) (op : Pending) → in_stages (Some op) ≡ true → needs_own (at cell_cmp pending cell) ≡ not op.stage.put → HasTickets (put cell_cmp pending cell op) books tickets
+  kept_moved cell op order same = record {
+    out = h.out;
+    stages = stages_put cell op order;
+    own = λ q. elim (cell_cases q cell) [
+      | inl is ↦ subst (λ (c : Cell). is_some (at cell_cmp books.own c) ≡ needs_own (at cell_cmp (put cell_cmp pending cell op) c)) (sym is) (h.own cell ∙ same ∙ sym (ap needs_own (cell_same pending cell op)))
+      | inr ne ↦ h.own q ∙ sym (ap needs_own (cell_apart pending cell op q ne))
+    ];
+    apart = h.apart;
+  }
+
+  -- an operation is opened with a slot of its own
+  pub kept_opened : (cell : Cell) (op : Pending) (slot : ℕ) → at cell_cmp books.own cell ≡ None → op.stage.put ≡ false → HasTickets (put cell_cmp pending cell op) (record books { own = put cell_cmp books.own cell slot }) (tickets ++ slot ∷ [])
+  kept_opened cell op slot none new = record {
+    stages = stages_put cell op (ap (λ (b : Bool). not b || op.stage.reserved) new);
+    out = λ n. let all = h.out n in let more = times_append n slot tickets in let one = times_new n slot cell books.own none in omega (arith, all, more, one);
+    own = λ q. elim (cell_cases q cell) [
+      | inl is ↦ subst (λ (c : Cell). is_some (at cell_cmp (put cell_cmp books.own cell slot) c) ≡ needs_own (at cell_cmp (put cell_cmp pending cell op) c)) (sym is)
+          (ap is_some (cell_same books.own cell slot) ∙ sym (ap not new) ∙ sym (ap needs_own (cell_same pending cell op)))
+      | inr ne ↦ ap is_some (cell_apart books.own cell slot q ne) ∙ h.own q ∙ sym (ap needs_own (cell_apart pending cell op q ne))
+    ];
+    apart = h.apart;
+  }
+
+  out_spent : (cell : Cell) (slot : ℕ) → IsStrictlySortedBy cell_cmp (keys_of books.own) → at cell_cmp books.own cell ≡ Some slot → (n : ℕ) → times n (store.without tickets slot) ≡ times n (values_of (without cell_cmp books.own cell)) + times n (values_of books.apart)
+  out_spent cell slot sorted is n =
+      let all = h.out n in
+      let less = times_less n slot tickets (own_counted cell slot is) in
+      let gone = times_without n slot cell books.own sorted is in
+      omega (arith, all, less, gone)
+
+  -- the operation's copy is put in its slot
+  pub kept_put : (cell : Cell) (op : Pending) (slot : ℕ) → IsStrictlySortedBy cell_cmp (keys_of books.own) → at cell_cmp books.own cell ≡ Some slot → op.stage.put ≡ true → op.stage.reserved ≡ true → HasTickets (put cell_cmp pending cell op) (record books { own = without cell_cmp books.own cell }) (store.without tickets slot)
+  kept_put cell op slot sorted is done reserved = record {
+    stages = stages_put cell op (ap (λ (b : Bool). not b || op.stage.reserved) done ∙ reserved);
+    out = out_spent cell slot sorted is;
+    own = λ q. elim (cell_cases q cell) [
+      | inl same ↦ subst (λ (c : Cell). is_some (at cell_cmp (without cell_cmp books.own cell) c) ≡ needs_own (at cell_cmp (put cell_cmp pending cell op) c)) (sym same)
+          (ap is_some (cell_gone books.own cell) ∙ sym (ap not done) ∙ sym (ap needs_own (cell_same pending cell op)))
+      | inr ne ↦ ap is_some (cell_gone_apart books.own cell q ne) ∙ h.own q ∙ sym (ap needs_own (cell_apart pending cell op q ne))
+    ];
+    apart = h.apart;
+  }
+
+  -- an operation ends whose slot is used
+  pub kept_closed : (cell : Cell) → needs_own (at cell_cmp pending cell) ≡ false → HasTickets (without cell_cmp pending cell) books tickets
+  kept_closed cell done = record {
+    stages = stages_gone cell;
+    out = h.out;
+    own = λ q. elim (cell_cases q cell) [
+      | inl same ↦ subst (λ (c : Cell). is_some (at cell_cmp books.own c) ≡ needs_own (at cell_cmp (without cell_cmp pending cell) c)) (sym same) (h.own cell ∙ done ∙ sym (ap needs_own (cell_gone pending cell)))
+      | inr ne ↦ h.own q ∙ sym (ap needs_own (cell_gone_apart pending cell q ne))
+    ];
+    apart = h.apart;
+  }
+
+  -- an operation ends whose slot is free again
+  pub kept_dropped : (cell : Cell) (slot : ℕ) → IsStrictlySortedBy cell_cmp (keys_of books.own) → at cell_cmp books.own cell ≡ Some slot → HasTickets (without cell_cmp pending cell) (record books { own = without cell_cmp books.own cell }) (store.without tickets slot)
+  kept_dropped cell slot sorted is = record {
+    stages = stages_gone cell;
+    out = out_spent cell slot sorted is;
+    own = λ q. elim (cell_cases q cell) [
+      | inl same ↦ subst (λ (c : Cell). is_some (at cell_cmp (without cell_cmp books.own cell) c) ≡ needs_own (at cell_cmp (without cell_cmp pending cell) c)) (sym same)
+          (ap is_some (cell_gone books.own cell) ∙ sym (ap needs_own (cell_gone pending cell)))
+      | inr ne ↦ ap is_some (cell_gone_apart books.own cell q ne) ∙ h.own q ∙ sym (ap needs_own (cell_gone_apart pending cell q ne))
+    ];
+    apart = h.apart;
+  }
+
+  -- the second server goes on from an operation that has a slot to one that has, or from one that has none to one that has none
+  pub kept_last : (cell : Cell) (last : LastOp) → needs_apart (at cell_cmp books.last cell) ≡ has_slot last.far → HasTickets pending (record books { last = put cell_cmp books.last cell last }) tickets
+  kept_last cell last same = record {
+    stages = h.stages;
+    out = h.out;
+    own = h.own;
+    apart = λ q. elim (cell_cases q cell) [
+      | inl is ↦ subst (λ (c : Cell). is_some (at cell_cmp books.apart c) ≡ needs_apart (at cell_cmp (put cell_cmp books.last cell last) c)) (sym is) (h.apart cell ∙ same ∙ sym (ap needs_apart (cell_same books.last cell last)))
+      | inr ne ↦ h.apart q ∙ sym (ap needs_apart (cell_apart books.last cell last q ne))
+    ];
+  }
+
+  -- a slot is set apart for the lead
+  pub kept_apart : (cell : Cell) (last : LastOp) (slot : ℕ) → at cell_cmp books.apart cell ≡ None → has_slot last.far ≡ true → HasTickets pending (record books { last = put cell_cmp books.last cell last; apart = put cell_cmp books.apart cell slot }) (tickets ++ slot ∷ [])
+  kept_apart cell last slot none new = record {
+    stages = h.stages;
+    out = λ n. let all = h.out n in let more = times_append n slot tickets in let one = times_new n slot cell books.apart none in omega (arith, all, more, one);
+    own = h.own;
+    apart = λ q. elim (cell_cases q cell) [
+      | inl is ↦ subst (λ (c : Cell). is_some (at cell_cmp (put cell_cmp books.apart cell slot) c) ≡ needs_apart (at cell_cmp (put cell_cmp books.last cell last) c)) (sym is)
+          (ap is_some (cell_same books.apart cell slot) ∙ sym new ∙ sym (ap needs_apart (cell_same books.last cell last)))
+      | inr ne ↦ ap is_some (cell_apart books.apart cell slot q ne) ∙ h.apart q ∙ sym (ap needs_apart (cell_apart books.last cell last q ne))
+    ];
+  }
+
+  -- the second server puts its copy in the slot that was set apart
+  pub kept_followed : (cell : Cell) (last : LastOp) (slot : ℕ) → IsStrictlySortedBy cell_cmp (keys_of books.apart) → at cell_cmp books.apart cell ≡ Some slot → has_slot last.far ≡ false → HasTickets pending (record books { last = put cell_cmp books.last cell last; apart = without cell_cmp books.apart cell }) (store.without tickets slot)
+  kept_followed cell last slot sorted is used = record {
+    stages = h.stages;
+    out = λ n.
+        let all = h.out n in
+        let less = times_less n slot tickets (apart_counted cell slot is) in
+        let gone = times_without n slot cell books.apart sorted is in
+        omega (arith, all, less, gone);
+    own = h.own;
+    apart = λ q. elim (cell_cases q cell) [
+      | inl same ↦ subst (λ (c : Cell). is_some (at cell_cmp (without cell_cmp books.apart cell) c) ≡ needs_apart (at cell_cmp (put cell_cmp books.last cell last) c)) (sym same)
+          (ap is_some (cell_gone books.apart cell) ∙ sym used ∙ sym (ap needs_apart (cell_same books.last cell last)))
+      | inr ne ↦ ap is_some (cell_gone_apart books.apart cell q ne) ∙ h.apart q ∙ sym (ap needs_apart (cell_apart books.last cell last q ne))
+    ];
+  }
+
+-- a ticket that was taken and given back
+pub undone : {D : Type 0} (old new : Holdings D) (slot back : ℕ) → new ≡ record old { tickets = old.tickets ++ slot ∷ [] } → back ≡ slot → ¬ Contains old.tickets slot → record new { tickets = store.without new.tickets back } ≡ old
+undone old new slot back is same other = rw (is, same) (ap (λ (ts : List ℕ). record old { tickets = ts }) (without_last slot old.tickets other))
+
+pub contained : (slot : ℕ) (ts : List ℕ) → Contains ts slot → 1 ≤ times slot ts
+contained slot [] has = absurd (omega (arith, has.1))
+contained slot (t ∷ ts) (zero, within, is) = let here : one_at slot t ≡ 1 = grind (arith, nat_tests) in omega (arith, here)
+contained slot (t ∷ ts) (suc k, within, is) = let more = contained slot ts (k, omega arith, is) in omega (arith, more)
+
+-- a put of an entry, as the rules see the store
+pub spent_is : {D : Type 0} (old new : Holdings D) (key : Key) (version slot : ℕ) (bytes : List ℕ) → Contains old.tickets slot
+    → new.entries ≡ placed key_held old.entries (record { entry = record { key = key; slot = slot; version = version }; content = bytes })
+    → new ≡ record old { entries = new.entries; tickets = store.without old.tickets slot; log = new.log; disk = new.disk }
+    → kept_of new ≡ with_entry (kept_of old) key (record { version = version; bytes = bytes })
+spent_is {D = D} old new key version slot bytes has entries rest =
+    let fewer : length new.tickets ≡ length old.tickets - 1 =
+    (let gone = length_less slot old.tickets (contained slot old.tickets has) in
+    let same : length new.tickets ≡ length (store.without old.tickets slot) = ap (λ (s : Holdings D). length s.tickets) rest in
+    omega (arith, gone, same)) in
+    let slots : new.slots ≡ old.slots = ap (λ (s : Holdings D). s.slots) rest in
+    let chains = ap chains_of entries ∙ placed_is old.entries (record { entry = record { key = key; slot = slot; version = version }; content = bytes }) in
+    λ i. record { slots = slots i; chains = chains i; tickets = fewer i }
+
+-- a slot that is free again, as the rules see the store
+pub given_is : {D : Type 0} (old new : Holdings D) (slot : ℕ) → Contains old.tickets slot → new ≡ record old { tickets = store.without old.tickets slot } → kept_of new ≡ without_ticket (kept_of old)
+given_is {D = D} old new slot has is =
+    let gone = length_less slot old.tickets (contained slot old.tickets has) in
+    let fewer : length (store.without old.tickets slot) ≡ length old.tickets - 1 = omega (arith, gone) in
+    ap (λ (s : Holdings D). kept_of s) is ∙ (λ i. record { slots = old.slots; chains = chains_of old.entries; tickets = fewer i })
+
+-- a slot that is set apart, as the rules see the store
+pub kept_is : {D : Type 0} (old new : Holdings D) (slot : ℕ) → new ≡ record old { tickets = old.tickets ++ slot ∷ [] } → kept_of new ≡ with_ticket (kept_of old)
+kept_is {D = D} old new slot is = ap (λ (s : Holdings D). kept_of s) is ∙ (λ i. record { slots = old.slots; chains = chains_of old.entries; tickets = length-append old.tickets (slot ∷ []) i })
