@@ -151,7 +151,8 @@ fn scripts_of_one_disk(rt: HostRuntime) -> Result<(), Fail> {
     Ok(())
 }
 
-const RACE: &str = "wait\na write vol 5 fill 1\nb write vol 5 fill 2\nwait\na read vol 5\nb read vol 5\n";
+const RACE: &str =
+    "wait\na write vol 5 fill 1\nb write vol 5 fill 2\nwait\na read vol 5\nb read vol 5\n";
 
 fn race<R: Wait>(rt: &R, alloc: Global, start: &str) -> Result<Vec<u8>, AllocError> {
     let script = format!(in alloc; "{start}{RACE}")?;
@@ -170,7 +171,11 @@ fn two_clients_write_one_block(rt: HostRuntime) -> Result<(), Fail> {
 
 #[test]
 fn two_clients_write_one_block_of_five_servers(rt: HostRuntime) -> Result<(), Fail> {
-    let text = race(&rt, rt.alloc(), "servers 5 slots 16\na disk vol on 0 1 2 3 4\n")?;
+    let text = race(
+        &rt,
+        rt.alloc(),
+        "servers 5 slots 16\na disk vol on 0 1 2 3 4\n",
+    )?;
     let first = b"2: ok\n4: ok\n5: ok\n7: data 65536x1\n8: data 65536x1\n";
     let second = b"2: ok\n4: ok\n5: ok\n7: data 65536x2\n8: data 65536x2\n";
     assert!(rt; text.as_slice() == first.as_slice() || text.as_slice() == second.as_slice());
@@ -179,9 +184,13 @@ fn two_clients_write_one_block_of_five_servers(rt: HostRuntime) -> Result<(), Fa
 
 #[test]
 fn letters_that_are_lost_and_doubled(rt: HostRuntime) -> Result<(), Fail> {
-    let script = "servers 3 slots 4\nnet lose 4\nnet twice 3\na disk vol on 0 1 2\na write vol 5 fill 7\nwait\nh read vol 5\n";
+    let script =
+        "servers 3 slots 4\nnet lose 4\nnet twice 3\na disk vol on 0 1 2\na write vol 5 fill 7\nwait\nh read vol 5\n";
     let (status, text) = run(&rt, rt.alloc(), &["run"], script, SOUND)?;
-    assert_eq!(rt; text.as_slice(), b"4: ok\n5: ok\n7: data 65536x7\n".as_slice());
+    assert_eq!(rt;
+        text.as_slice(),
+        b"4: ok\n5: ok\n7: data 65536x7\n".as_slice()
+    );
     assert_eq!(rt; status, 0);
     Ok(())
 }
