@@ -5,10 +5,10 @@
 #![tactic(auto)]
 
 ghost use Rattle.std.specs.Prelude.{◌≡◌, ◌<◌, ◌^◌, ◌-◌, [], length, IfOk, OnOk, OnErr, option_copied};
-ghost use Rattle.petal_tables.specs.Map.{added, tuple_of, disk_of};
+ghost use Rattle.global_tables.specs.Map.{added, tuple_of, disk_of};
 
+pub use global_tables::MapRow;
 use petal_base::{DiskId, MapId, NoMemory, Tuple};
-pub use petal_tables::MapRow;
 use std::alloc::Global;
 use std::marker::Model;
 
@@ -20,7 +20,7 @@ pub struct Maps {
 
 impl Model for Maps {
     ghost use Rattle.std.specs.Prelude.{List};
-    ghost use Rattle.petal_tables.specs.declared.map.MapRow.{MapRow};
+    ghost use Rattle.global_tables.specs.declared.map.MapRow.{MapRow};
 
     ghost Value = { List MapRow };
 

@@ -1,9 +1,9 @@
 -- There is room for what an entry adds, and for each snapshot that a fence takes.
 use Rattle.std.proofs.Common.{◌≡◌, ℕ, ◌+◌, ◌<◌, ◌≤◌, suc, length, Some, is_some, if◌then◌else◌, arith, subst, sym, ap, ◌∙◌}
-use Rattle.petal_tables.specs.declared.disk.DiskRow.{DiskRow}
-use Rattle.petal_tables.specs.declared.fence.Fence.{Fence}
-use Rattle.petal_tables.specs.Disk.{disk_at}
-use Rattle.petal_tables.specs.View.{View, ready, behind, passed, taken, servers_in}
+use Rattle.global_tables.specs.declared.disk.DiskRow.{DiskRow}
+use Rattle.global_tables.specs.declared.fence.Fence.{Fence}
+use Rattle.global_tables.specs.Disk.{disk_at}
+use Rattle.global_tables.specs.View.{View, ready, behind, passed, taken, servers_in}
 use Rattle.petal_command.specs.declared.command.Command.{Command}
 use Rattle.petal_state.specs.State.{State}
 use Rattle.petal_state.specs.Fence.{effect}

@@ -1,16 +1,16 @@
 //! What is known of a disk, of a link and of a client's commands.
 
 ghost use Rattle.std.specs.Prelude.{◌≡◌, option_copied, option_map};
-ghost use Rattle.petal_tables.specs.Disk.{disk_at, named, snapshot_named};
-ghost use Rattle.petal_tables.specs.Link.{link_at};
+ghost use Rattle.global_tables.specs.Disk.{disk_at, named, snapshot_named};
+ghost use Rattle.global_tables.specs.Link.{link_at};
 ghost use Rattle.petal_state.specs.State.{latest};
 ghost use Rattle.petal_state.specs.Place.{view_of, owner, region_at, cell_link, link_of_row, snapshot, least, next_epoch, next_snapshot};
 
 use crate::place::move_region;
 use crate::tables::Tables;
+use global_tables::{DiskRow, LinkRow, RegionState, Snapshot, Verdict};
 use petal_base::{Cell, ClientId, DiskId, Epoch, MapId, Name, Seq};
 use petal_state::{DiskView, Link};
-use petal_tables::{DiskRow, LinkRow, RegionState, Snapshot, Verdict};
 
 fn view_of(row: &DiskRow) -> DiskView
     ensures { result ≡ view_of row.now }

@@ -2,16 +2,16 @@
 
 ghost use Rattle.std.specs.Prelude.{◌≡◌, ◌<◌, ◌-◌, ◌^◌, IfOk, length, is_some};
 ghost use Rattle.std.specs.List.{list_any};
-ghost use Rattle.petal_tables.specs.Disk.{named, snapshot_named};
-ghost use Rattle.petal_tables.specs.Link.{other_of};
+ghost use Rattle.global_tables.specs.Disk.{named, snapshot_named};
+ghost use Rattle.global_tables.specs.Link.{other_of};
 ghost use Rattle.petal_state.specs.Command.{may_join, join, leave, is_alone, may_catch, caught, is_new, make_disk, takes, is_taken, snap_target, snap, move_target, start_move, is_head, drained, after_region, note, mover_in, moved, act};
 
 use crate::ask::snapshot_named;
 use crate::place::{is_fenced, move_region};
 use crate::tables::Tables;
+use global_tables::{DiskRow, Fence, FenceKind, Latest, LinkRow, LinkState, Member, Verdict};
 use petal_base::{ClientId, DiskId, Inc, MapId, Name, NoMemory, REGIONS, Seq, ServerId, Tuple};
 use petal_command::Command;
-use petal_tables::{DiskRow, Fence, FenceKind, Latest, LinkRow, LinkState, Member, Verdict};
 use std::alloc::Global;
 
 /// The region with which a move ends.

@@ -13,8 +13,8 @@ mod settled;
 mod state;
 mod tables;
 
+pub use global_tables::{Fence, FenceKind, Latest, LinkState, Member, RegionState, Verdict};
 pub use petal_state::{DiskView, Hold, Link};
-pub use petal_tables::{Fence, FenceKind, Latest, LinkState, Member, RegionState, Verdict};
 pub use state::GlobalState;
 
 #[cfg(test)]

@@ -2,14 +2,14 @@
 
 ghost use Rattle.std.specs.Prelude.{◌≡◌, ℕ, ◌<◌, ◌-◌, ◌^◌, IfOk};
 ghost use Rattle.std.specs.Option.{ForSome};
-ghost use Rattle.petal_tables.specs.Disk.{disk_at};
+ghost use Rattle.global_tables.specs.Disk.{disk_at};
 ghost use Rattle.petal_state.specs.State.{latest};
 ghost use Rattle.petal_state.specs.Fence.{confirmed, effect, settled};
 ghost use Rattle.global_state.specs.Room.{HasRoom};
 
 use crate::tables::Tables;
+use global_tables::{FenceKind, Verdict};
 use petal_base::{ClientId, NoMemory, Seq};
-use petal_tables::{FenceKind, Verdict};
 use std::alloc::Global;
 
 impl Tables {

@@ -1,15 +1,15 @@
 //! Which cells are live, and who leads, reads and holds them.
 
 ghost use Rattle.std.specs.Prelude.{◌≡◌, Option, option_and_then, option_copied};
-ghost use Rattle.petal_tables.specs.Disk.{has_link};
+ghost use Rattle.global_tables.specs.Disk.{has_link};
 ghost use Rattle.petal_state.specs.State.{leaves, mover};
 ghost use Rattle.petal_state.specs.Place.{move_region, has_map, owner, live_new, live_old, live_under, live, is_fenced, leaving, cell_link, state_lead, row_lead, link_lead, lead, serves, readable, is_of, holds, held, noted_in, noted};
 
 use crate::tables::Tables;
 use chain_place::{link_of, region};
+use global_tables::{DiskRow, FenceKind, LinkRow, LinkState, Move, RegionState};
 use petal_base::{Cell, DiskId, MapId, ServerId};
 use petal_state::Hold;
-use petal_tables::{DiskRow, FenceKind, LinkRow, LinkState, Move, RegionState};
 
 pub fn move_region(region: u8, moving: &Option<Move>) -> RegionState
     ensures { result ≡ move_region region moving.now }

@@ -5,8 +5,8 @@ ghost use Rattle.std.specs.List.{list_all};
 ghost use Rattle.petal_state.specs.Settled.{agrees, all_agree, is_only, link_settled, lacks_lead, move_settled, is_settled};
 
 use crate::tables::Tables;
+use global_tables::{LinkRow, LinkState, Member, Move};
 use petal_base::{Inc, MapId};
-use petal_tables::{LinkRow, LinkState, Member, Move};
 
 fn agrees(member: Member, running: Option<Inc>) -> bool
     ensures { result ≡ agrees member running }

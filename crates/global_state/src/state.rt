@@ -2,9 +2,9 @@
 
 ghost use Rattle.std.specs.Prelude.{◌≡◌, ◌<◌, ◌-◌, ◌^◌, IfOk, OnOk, OnErr, IsTrue, option_and_then, option_map, option_copied};
 ghost use Rattle.petal_base.specs.Tuple.{is_tuple};
-ghost use Rattle.petal_tables.specs.Disk.{disk_at, named};
-ghost use Rattle.petal_tables.specs.Link.{link_at};
-ghost use Rattle.petal_tables.specs.View.{head};
+ghost use Rattle.global_tables.specs.Disk.{disk_at, named};
+ghost use Rattle.global_tables.specs.Link.{link_at};
+ghost use Rattle.global_tables.specs.View.{head};
 ghost use Rattle.petal_state.specs.State.{start, inc_of, latest};
 ghost use Rattle.petal_state.specs.Place.{view_of, owner, region_at, link_of_row, snapshot, next_snapshot, live, cell_link, row_lead, lead, link_lead, readable, held, noted};
 ghost use Rattle.petal_state.specs.Command.{after, fixed};
@@ -12,10 +12,10 @@ ghost use Rattle.petal_state.specs.Settled.{is_settled};
 ghost use Rattle.petal_state.specs.Bound.{IsWithin};
 
 use crate::tables::Tables;
+use global_tables::{Fence, RegionState, Verdict};
 use petal_base::{Cell, ClientId, DiskId, Epoch, Inc, MapId, Name, NoMemory, Rev, Seq, ServerId};
 use petal_command::Command;
 use petal_state::{DiskView, Hold, Link};
-use petal_tables::{Fence, RegionState, Verdict};
 use std::alloc::Global;
 use std::marker::Model;
 

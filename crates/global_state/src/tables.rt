@@ -1,14 +1,14 @@
 //! The tables of the state, and what more than one command does to them.
 
 ghost use Rattle.std.specs.Prelude.{◌≡◌, ◌<◌, ◌-◌, ◌^◌, IfOk, Some, length, map, slice_set};
-ghost use Rattle.petal_tables.specs.View.{is_in};
+ghost use Rattle.global_tables.specs.View.{is_in};
 ghost use Rattle.petal_state.specs.State.{start, inc_of, is_up, is_up_as, latest, told, links_of};
 ghost use Rattle.petal_state.specs.Command.{with_map, with_disk, with_fence, with_move};
 
 use global_map::Maps;
+use global_tables::{FenceKind, Latest, Member, Verdict};
 use link_table::Links;
 use petal_base::{ClientId, DiskId, Inc, MapId, Name, NoMemory, Rev, Seq, ServerId, Tuple};
-use petal_tables::{FenceKind, Latest, Member, Verdict};
 use std::alloc::{AllocError, Global};
 use std::marker::Model;
 use view_fence::ViewFence;

@@ -7,15 +7,15 @@ use Rattle.std.proofs.Math.Nat.{mod_self, mod-eq_of_lt}
 use Rattle.std.proofs.lemmas.Bool.Decides.{Decides-eqb, nat_tests}
 use Rattle.petal_base.specs.Tuple.{is_tuple, distinct}
 use Rattle.petal_base.specs.declared.place.Cell.{Cell}
-use Rattle.petal_tables.specs.declared.fence.Member.TheVariants as member
-use Rattle.petal_tables.specs.declared.link.LinkRow.{LinkRow}
-use Rattle.petal_tables.specs.declared.link.LinkState.TheVariants.{Both}
-use Rattle.petal_tables.specs.Link.{is_link, link_at, new_row, new_rows, new_state, is_up, has_server}
-use Rattle.petal_tables.specs.View.{is_in}
-use Rattle.petal_tables.specs.declared.disk.DiskRow.{DiskRow}
-use Rattle.petal_tables.specs.Disk.{same_name, snapshot_named}
-use Rattle.petal_tables.specs.Place.{link_of, region_of}
-use Rattle.petal_tables.specs.Map.{tuple_of}
+use Rattle.global_tables.specs.declared.fence.Member.TheVariants as member
+use Rattle.global_tables.specs.declared.link.LinkRow.{LinkRow}
+use Rattle.global_tables.specs.declared.link.LinkState.TheVariants.{Both}
+use Rattle.global_tables.specs.Link.{is_link, link_at, new_row, new_rows, new_state, is_up, has_server}
+use Rattle.global_tables.specs.View.{is_in}
+use Rattle.global_tables.specs.declared.disk.DiskRow.{DiskRow}
+use Rattle.global_tables.specs.Disk.{same_name, snapshot_named}
+use Rattle.global_tables.specs.Place.{link_of, region_of}
+use Rattle.global_tables.specs.Map.{tuple_of}
 use Rattle.petal_state.specs.State.{ups, start}
 use Rattle.petal_state.specs.Place.{live, live_under, leaving, cell_link, row_lead, state_lead, serves}
 use Rattle.petal_state.specs.declared.answer.DiskView.{DiskView}

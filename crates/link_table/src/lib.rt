@@ -5,10 +5,10 @@
 #![tactic(auto)]
 
 ghost use Rattle.std.specs.Prelude.{◌≡◌, ◌≤◌, [], ◌++◌, IfOk, OnOk, OnErr, length, true, option_copied};
-ghost use Rattle.petal_tables.specs.Link.{link_at, new_rows, new_row, new_state, is_up, left, row_left, left_state, joined, row_blanked, blanked_state, caught, row_caught, dropped, has_server, other_of, is_link, row_between};
+ghost use Rattle.global_tables.specs.Link.{link_at, new_rows, new_row, new_state, is_up, left, row_left, left_state, joined, row_blanked, blanked_state, caught, row_caught, dropped, has_server, other_of, is_link, row_between};
 
+pub use global_tables::{LinkRow, LinkState};
 use petal_base::{MapId, NoMemory, ServerId, Tuple};
-pub use petal_tables::{LinkRow, LinkState};
 use std::alloc::{AllocError, Global};
 use std::marker::Model;
 
@@ -20,7 +20,7 @@ pub struct Links {
 
 impl Model for Links {
     ghost use Rattle.std.specs.Prelude.{List};
-    ghost use Rattle.petal_tables.specs.declared.link.LinkRow.{LinkRow};
+    ghost use Rattle.global_tables.specs.declared.link.LinkRow.{LinkRow};
 
     ghost Value = { List LinkRow };
 

@@ -6,7 +6,7 @@ use Rattle.petal_msg.specs.declared.operation.OpKind.TheVariants.{Write, Fill, C
 use Rattle.petal_msg.specs.declared.operation.Pending.{Pending}
 use Rattle.petal_msg.specs.declared.operation.Stage.{Stage}
 use Rattle.petal_table.specs.Table.{Table, at, put}
-use Rattle.petal_tables.specs.Place.{region_of}
+use Rattle.global_tables.specs.Place.{region_of}
 use Rattle.petal_rules.specs.Store.{cell_cmp}
 use Rattle.pair_lock.specs.declared.error.PairError.{PairError}
 use Rattle.pair_lock.specs.declared.error.PairError.TheVariants as error

@@ -1,4 +1,4 @@
--- What is to be shown of every history at this stage. Here these are statements; a law carries one once it is proved.
+-- What every legal history keeps. These are statements; `law_run` shows them.
 use Rattle.std.specs.Prelude.{◌≡◌, ◌≢◌, ◌⊎◌, ◌+◌, ◌≤◌, ℕ, List, Option, Some, None, true, false}
 use Rattle.std.specs.Ordering.{nat_cmp}
 use Rattle.petal_base.specs.declared.place.Cell.{Cell}
@@ -72,7 +72,7 @@ pub record Holds (disks : List Disk) (name : List ℕ) (contents : ℕ → List 
   pub is : disk_of disks name ≡ Some disk
   pub same : (block : ℕ) → content disk.now block ≡ contents block
 
--- what every legal history of a script is to keep: the two-copy rule and the rule of requests at its end, that its events
+-- what every legal history of a script keeps: the two-copy rule and the rule of requests at its end, that its events
 -- are a run of the plain machine, and that the contents are the machine's
 pub record Keeps (script : Script) (records : List Record) : Type 0 where
   pub copies : (cell : Cell) → TwoCopies (chosen_state (setting_of script)) (world_after (setting_of script) (start (setting_of script)) records) cell
@@ -80,6 +80,6 @@ pub record Keeps (script : Script) (records : List Record) : Type 0 where
   pub run : IsRunOf (events_of script records)
   pub holds : Holds (machine_after (events_of script records)).disks (disk_name (setting_of script)) (content_at (setting_of script) (world_after (setting_of script) (start (setting_of script)) records) 0)
 
--- the law to come, of each sound script
+-- the whole law, of each sound script
 abbrev pub Law : Type 0
 Law = (script : Script) (records : List Record) → IsSound script → IsLegal script records → Keeps script records

@@ -2,7 +2,7 @@
 use Rattle.std.specs.Prelude.{ℕ, List, [], ◌∷◌, Option, Some, None}
 use Rattle.petal_base.specs.Block.{zero_block}
 use Rattle.petal_base.specs.declared.place.Cell.{Cell}
-use Rattle.petal_tables.specs.declared.disk.DiskRow.{DiskRow}
+use Rattle.global_tables.specs.declared.disk.DiskRow.{DiskRow}
 use Rattle.petal_rules.specs.State.{State, authority}
 use Rattle.petal_rules.specs.Store.{chain_in, entry_at, bytes_of}
 use Rattle.petal_rules.specs.Server.{Server}

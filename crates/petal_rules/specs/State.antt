@@ -2,10 +2,10 @@
 use Rattle.std.specs.Prelude.{ℕ, Bool, false, ◌==◌, List, length, if◌then◌else◌, Option, Some, None, option_map, option_and_then}
 use Rattle.std.specs.Option.{option_map_or}
 use Rattle.petal_base.specs.declared.place.Cell.{Cell}
-use Rattle.petal_tables.specs.declared.link.LinkRow.{LinkRow}
-use Rattle.petal_tables.specs.declared.link.LinkState.{LinkState}
-use Rattle.petal_tables.specs.declared.link.LinkState.TheVariants.{Both, Only, Lost}
-use Rattle.petal_tables.specs.Disk.{named}
+use Rattle.global_tables.specs.declared.link.LinkRow.{LinkRow}
+use Rattle.global_tables.specs.declared.link.LinkState.{LinkState}
+use Rattle.global_tables.specs.declared.link.LinkState.TheVariants.{Both, Only, Lost}
+use Rattle.global_tables.specs.Disk.{named}
 use Rattle.petal_state.specs.State.{is_up_as}
 use Rattle.petal_state.specs.Place.{cell_link, row_lead, view_of}
 use Rattle.petal_state.specs.declared.answer.DiskView.{DiskView}

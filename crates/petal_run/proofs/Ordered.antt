@@ -14,14 +14,14 @@ use Rattle.petal_script.specs.declared.request.Request.{Request}
 use Rattle.petal_script.specs.declared.script.Script.{Script}
 use Rattle.petal_rules.specs.Lists.{In}
 use Rattle.petal_rules.proofs.ListLemmas.{in-append}
-use Rattle.petal_run.specs.Rising.{Rise}
+use Rattle.petal_world.specs.Playable.{AreOrdered}
 
 -- the lines that were read up to this number, and how many phases were begun
 record Read (phases : ℕ) (lines : List Line) (n : ℕ) : Type 0 where
   begun : 0 < phases
   below : (line : Line) → In line lines → line.number ≤ n
   within : (line : Line) → In line lines → line.phase < phases
-  rise : Rise lines
+  rise : AreOrdered lines
 
 none_read : (n : ℕ) → Read 1 [] n
 unfolding In
@@ -180,7 +180,7 @@ first_no_lines (first ∷ words) s is =
 
 -- ### The whole text
 
-pub script-rises : (text : List ℕ) (s : Script) → script_of text ≡ Ok s → Rise s.lines
+pub script-rises : (text : List ℕ) (s : Script) → script_of text ≡ Ok s → AreOrdered s.lines
 script-rises text s is =
     let a = is_accepted text s is in
     let n = behind_numbered a.front a.servers a.behind 0 0 (pieces text) a.lies in

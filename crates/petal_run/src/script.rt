@@ -8,7 +8,7 @@ ghost use Rattle.petal_history.specs.Sound.{IsSound};
 ghost use Rattle.petal_history.specs.Text.{answers_of, text_of};
 ghost use Rattle.petal_run.specs.Asked.{by_built, by_text};
 ghost use Rattle.petal_run.specs.Built.{first_not_built};
-ghost use Rattle.petal_run.specs.Rising.{Rise};
+ghost use Rattle.petal_world.specs.Playable.{AreOrdered};
 ghost use Rattle.petal_run.specs.Said.{Done, DoneInPart, Plays};
 
 use crate::built::not_built;
@@ -79,7 +79,7 @@ fn refuse<W: Sink>(alloc: Global, sink: &mut W, line: u32, cause: &str) -> Outco
 fn play_lines<R: Wait>(rt: &R, alloc: Global, script: Script) -> Result<Run, NoMemory>
     requires built { first_not_built [] script.lines ≡ None }
     requires sound { IsSound script }
-    requires ordered { Rise script.lines }
+    requires ordered { AreOrdered script.lines }
     ensures plays { IfOk result (λ run. Plays script run.history.records) }
     ensures answers { IfOk result (λ run. run.answers ≡ answers_of run.history.records) }
 {
@@ -125,7 +125,7 @@ fn tell<W: Sink>(alloc: Global, sink: &mut W, run: Run) -> Outcome
 fn run_built<R: Wait, W: Sink>(rt: &R, alloc: Global, script: Script, sink: &mut W) -> Outcome
     requires built { first_not_built [] script.lines ≡ None }
     requires sound { IsSound script }
-    requires ordered { Rise script.lines }
+    requires ordered { AreOrdered script.lines }
     ensures known { (result.status ≡ 0) ⊎ (result.status ≡ 3) ⊎ (result.status ≡ 5) }
     ensures plays { (result.status ≡ 0) ⊎ (result.status ≡ 5) → Plays script result.history.records }
     ensures empty { result.status ≡ 3 → result.history.records ≡ [] }
@@ -144,7 +144,7 @@ fn run_built<R: Wait, W: Sink>(rt: &R, alloc: Global, script: Script, sink: &mut
 /// Refuses the first line that is not built, or plays all lines.
 fn run_script<R: Wait, W: Sink>(rt: &R, alloc: Global, script: Script, sink: &mut W) -> Outcome
     requires sound { IsSound script }
-    requires ordered { Rise script.lines }
+    requires ordered { AreOrdered script.lines }
     ensures known { (result.status ≡ 0) ⊎ (result.status ≡ 2) ⊎ (result.status ≡ 3) ⊎ (result.status ≡ 5) }
     ensures done { W.told → result.status ≤ 2
         → Done (by_built script (first_not_built [] script.lines)) result.status result.history.records [] (W.taken sink.old) (W.taken sink.new) }

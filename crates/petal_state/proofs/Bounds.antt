@@ -2,17 +2,17 @@
 use Rattle.std.proofs.Common.{◌≡◌, ℕ, ◌+◌, ◌≤◌, ◌==◌, ◌++◌, zero, suc, Bool, true, false, cond, if◌then◌else◌, List, [], ◌∷◌, length, Option, Some, None, Result, Ok, Err, refl, arith, subst, length-append, is_some}
 use Rattle.std.proofs.lemmas.Bool.Decides.{nat_tests}
 use Rattle.std.specs.Option.{option_map_or}
-use Rattle.petal_tables.specs.declared.disk.DiskRow.{DiskRow}
-use Rattle.petal_tables.specs.declared.disk.Latest.{Latest}
-use Rattle.petal_tables.specs.declared.disk.Verdict.TheVariants as Verdict
-use Rattle.petal_tables.specs.declared.disk.Verdict.{Verdict}
-use Rattle.petal_tables.specs.declared.fence.Fence.{Fence}
-use Rattle.petal_tables.specs.declared.fence.FenceKind.{FenceKind}
-use Rattle.petal_tables.specs.declared.fence.FenceKind.TheVariants.{Whole, Region}
-use Rattle.petal_tables.specs.Disk as disks
-use Rattle.petal_tables.specs.Disk.{change, disk_at, is_disk, row_frozen, row_moving, row_fenced, row_noted}
-use Rattle.petal_tables.specs.Link as links
-use Rattle.petal_tables.specs.View as view
+use Rattle.global_tables.specs.declared.disk.DiskRow.{DiskRow}
+use Rattle.global_tables.specs.declared.disk.Latest.{Latest}
+use Rattle.global_tables.specs.declared.disk.Verdict.TheVariants as Verdict
+use Rattle.global_tables.specs.declared.disk.Verdict.{Verdict}
+use Rattle.global_tables.specs.declared.fence.Fence.{Fence}
+use Rattle.global_tables.specs.declared.fence.FenceKind.{FenceKind}
+use Rattle.global_tables.specs.declared.fence.FenceKind.TheVariants.{Whole, Region}
+use Rattle.global_tables.specs.Disk as disks
+use Rattle.global_tables.specs.Disk.{change, disk_at, is_disk, row_frozen, row_moving, row_fenced, row_noted}
+use Rattle.global_tables.specs.Link as links
+use Rattle.global_tables.specs.View as view
 use Rattle.petal_command.specs.declared.command.Command.{Command}
 use Rattle.petal_command.specs.declared.command.Command.TheVariants.{Join, Leave, Caught, MakeDisk, Snap, StartMove, Drained, Moved, Witness}
 use Rattle.petal_state.specs.State.{State, start, latest, told, links_of}
@@ -84,7 +84,7 @@ requeued r s v long count h = record {
   epochs = epochs_weaker (length s.view.queue) (length v.queue) s.view.queued v.queued s.disks.rows (omega (arith, count, long)) h.epochs;
 }
 
-relinked : (r : ℕ) (s : State) (l : List Rattle.petal_tables.specs.declared.link.LinkRow.LinkRow) → IsWithin r s → IsWithin r (record s { links = l })
+relinked : (r : ℕ) (s : State) (l : List Rattle.global_tables.specs.declared.link.LinkRow.LinkRow) → IsWithin r s → IsWithin r (record s { links = l })
 relinked r s l h = record { maps = h.maps; made = h.made; queued = h.queued; queue = h.queue; epochs = h.epochs }
 
 -- a disk is changed that keeps its epoch

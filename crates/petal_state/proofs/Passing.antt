@@ -1,18 +1,18 @@
 -- How fences leave the queue, one at a time.
 use Rattle.std.proofs.Common.{◌≡◌, ℕ, ◌==◌, zero, suc, true, false, cond, List, [], ◌∷◌, length, Option, Some, None, refl, ap, sym, ◌∙◌}
 use Rattle.std.specs.Option.{option_map_or}
-use Rattle.petal_tables.specs.declared.disk.Latest.{Latest}
-use Rattle.petal_tables.specs.declared.fence.Fence.{Fence}
-use Rattle.petal_tables.specs.declared.fence.FenceKind.{FenceKind}
-use Rattle.petal_tables.specs.declared.fence.FenceKind.TheVariants.{Whole, Region}
-use Rattle.petal_tables.specs.View.{View, ready, behind, awaiting, passed, servers_in}
+use Rattle.global_tables.specs.declared.disk.Latest.{Latest}
+use Rattle.global_tables.specs.declared.fence.Fence.{Fence}
+use Rattle.global_tables.specs.declared.fence.FenceKind.{FenceKind}
+use Rattle.global_tables.specs.declared.fence.FenceKind.TheVariants.{Whole, Region}
+use Rattle.global_tables.specs.View.{View, ready, behind, awaiting, passed, servers_in}
 use Rattle.petal_state.specs.State.{State, latest, told}
 use Rattle.petal_state.specs.Fence.{confirmed, effect, let_through, settled}
 
 -- what is told leaves the queue alone
 view_of-confirmed : (s : State) (client seq : ℕ) (last : Option Latest) → (confirmed s client seq last).view ≡ s.view
 view_of-confirmed s client seq None = refl
-view_of-confirmed s client seq (Some last) = elim (last.seq == seq) as (λ b. (cond b (told s client seq Rattle.petal_tables.specs.declared.disk.Verdict.TheVariants.Ok) s).view ≡ s.view) [ true ↦ refl | false ↦ refl ]
+view_of-confirmed s client seq (Some last) = elim (last.seq == seq) as (λ b. (cond b (told s client seq Rattle.global_tables.specs.declared.disk.Verdict.TheVariants.Ok) s).view ≡ s.view) [ true ↦ refl | false ↦ refl ]
 
 -- an effect leaves the queue alone
 pub view-effect : (kind : FenceKind) (s : State) → (effect kind s).view ≡ s.view

@@ -1,12 +1,12 @@
 -- Runs worked by hand from the rules, computed from the definitions.
 use Rattle.std.proofs.Common.{◌≡◌, ℕ, ◌+◌, ◌++◌, Bool, true, false, List, [], ◌∷◌, map, length, Option, Some, None, refl, codes}
 use Rattle.std.specs.Prelude.{slice_get}
-use Rattle.petal_tables.specs.declared.link.LinkState.{LinkState}
-use Rattle.petal_tables.specs.declared.link.LinkState.TheVariants.{Both, Only, Lost}
-use Rattle.petal_tables.specs.declared.disk.Verdict.TheVariants as Verdict
+use Rattle.global_tables.specs.declared.link.LinkState.{LinkState}
+use Rattle.global_tables.specs.declared.link.LinkState.TheVariants.{Both, Only, Lost}
+use Rattle.global_tables.specs.declared.disk.Verdict.TheVariants as Verdict
 use Rattle.petal_command.specs.declared.command.Command.{Command}
-use Rattle.petal_tables.specs.declared.disk.RegionState.{RegionState}
-use Rattle.petal_tables.specs.declared.disk.RegionState.TheVariants.{Old, Fenced, New}
+use Rattle.global_tables.specs.declared.disk.RegionState.{RegionState}
+use Rattle.global_tables.specs.declared.disk.RegionState.TheVariants.{Old, Fenced, New}
 use Rattle.petal_command.specs.declared.command.Command.TheVariants.{Join, Leave, Caught, MakeDisk, Snap, StartMove, Drained, Moved}
 use Rattle.petal_state.specs.State.{State, latest}
 use Rattle.petal_state.specs.Place.{lead, live, region_at}
@@ -58,7 +58,7 @@ reports fence = Drained 0 1 fence ∷ Drained 1 1 fence ∷ Drained 2 1 fence �
 abbrev snapping : List Command
 snapping = disk ∷ Snap 0 2 (codes "vol") (codes "s1") ∷ []
 
-abbrev verdict_of : List Command → Option Rattle.petal_tables.specs.declared.disk.Latest.Latest
+abbrev verdict_of : List Command → Option Rattle.global_tables.specs.declared.disk.Latest.Latest
 verdict_of log = latest (state_after 5 log) 0
 
 pub snapshot_waits : verdict_of snapping ≡ Some (record { seq = 2; verdict = Verdict.Waiting })

@@ -1,6 +1,6 @@
 -- No number of the state passes the revision.
 use Rattle.std.specs.Prelude.{ℕ, ◌+◌, ◌≤◌, List, [], ◌∷◌, length}
-use Rattle.petal_tables.specs.declared.disk.DiskRow.{DiskRow}
+use Rattle.global_tables.specs.declared.disk.DiskRow.{DiskRow}
 use Rattle.petal_state.specs.State.{State}
 
 -- each disk's epoch leaves room for as many snapshots as fences wait, of all that were queued so far

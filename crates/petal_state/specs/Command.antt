@@ -3,22 +3,22 @@
 use Rattle.std.specs.Prelude.{ℕ, ◌+◌, Bool, true, false, not, ◌==◌, ◌&&◌, ◌||◌, nat_lt, if◌then◌else◌, List, ◌++◌, length, fold, slice_get, Option, Some, None, is_some, option_and_then, Result, Ok, Err}
 use Rattle.std.specs.List.{list_any}
 use Rattle.std.specs.Option.{option_map_or}
-use Rattle.petal_tables.specs.declared.link.LinkRow.{LinkRow}
-use Rattle.petal_tables.specs.declared.link.LinkState.{LinkState}
-use Rattle.petal_tables.specs.declared.link.LinkState.TheVariants.{Both, Only, Lost}
-use Rattle.petal_tables.specs.declared.disk.DiskRow.{DiskRow}
-use Rattle.petal_tables.specs.declared.disk.Move.{Move}
-use Rattle.petal_tables.specs.declared.disk.Latest.{Latest}
-use Rattle.petal_tables.specs.declared.disk.Verdict.{Verdict}
-use Rattle.petal_tables.specs.declared.disk.Verdict.TheVariants as Verdict
-use Rattle.petal_tables.specs.declared.fence.Member.{Member}
-use Rattle.petal_tables.specs.declared.fence.Member.TheVariants.{In, Out}
-use Rattle.petal_tables.specs.declared.fence.FenceKind.{FenceKind}
-use Rattle.petal_tables.specs.declared.fence.FenceKind.TheVariants.{Whole, Region}
-use Rattle.petal_tables.specs.Map as maps
-use Rattle.petal_tables.specs.Link as links
-use Rattle.petal_tables.specs.Disk as disks
-use Rattle.petal_tables.specs.View as view
+use Rattle.global_tables.specs.declared.link.LinkRow.{LinkRow}
+use Rattle.global_tables.specs.declared.link.LinkState.{LinkState}
+use Rattle.global_tables.specs.declared.link.LinkState.TheVariants.{Both, Only, Lost}
+use Rattle.global_tables.specs.declared.disk.DiskRow.{DiskRow}
+use Rattle.global_tables.specs.declared.disk.Move.{Move}
+use Rattle.global_tables.specs.declared.disk.Latest.{Latest}
+use Rattle.global_tables.specs.declared.disk.Verdict.{Verdict}
+use Rattle.global_tables.specs.declared.disk.Verdict.TheVariants as Verdict
+use Rattle.global_tables.specs.declared.fence.Member.{Member}
+use Rattle.global_tables.specs.declared.fence.Member.TheVariants.{In, Out}
+use Rattle.global_tables.specs.declared.fence.FenceKind.{FenceKind}
+use Rattle.global_tables.specs.declared.fence.FenceKind.TheVariants.{Whole, Region}
+use Rattle.global_tables.specs.Map as maps
+use Rattle.global_tables.specs.Link as links
+use Rattle.global_tables.specs.Disk as disks
+use Rattle.global_tables.specs.View as view
 use Rattle.petal_command.specs.declared.command.Command.{Command}
 use Rattle.petal_command.specs.declared.command.Command.TheVariants.{Join, Leave, Caught, MakeDisk, Snap, StartMove, Drained, Moved, Witness}
 use Rattle.petal_state.specs.State.{State, start, is_up_as, ups, latest, told, links_of, mover}

@@ -1,12 +1,12 @@
 -- What a fence does once nobody is waited for.
 use Rattle.std.specs.Prelude.{ℕ, zero, suc, ◌==◌, if◌then◌else◌, Option, Some, None, length}
 use Rattle.std.specs.Option.{option_map_or}
-use Rattle.petal_tables.specs.declared.disk.Latest.{Latest}
-use Rattle.petal_tables.specs.declared.disk.Verdict.TheVariants as Verdict
-use Rattle.petal_tables.specs.declared.fence.FenceKind.{FenceKind}
-use Rattle.petal_tables.specs.declared.fence.FenceKind.TheVariants.{Whole, Region}
-use Rattle.petal_tables.specs.Disk.{frozen, fenced}
-use Rattle.petal_tables.specs.View.{ready, passed}
+use Rattle.global_tables.specs.declared.disk.Latest.{Latest}
+use Rattle.global_tables.specs.declared.disk.Verdict.TheVariants as Verdict
+use Rattle.global_tables.specs.declared.fence.FenceKind.{FenceKind}
+use Rattle.global_tables.specs.declared.fence.FenceKind.TheVariants.{Whole, Region}
+use Rattle.global_tables.specs.Disk.{frozen, fenced}
+use Rattle.global_tables.specs.View.{ready, passed}
 use Rattle.petal_state.specs.State.{State, latest, told}
 
 -- where the request is still the client's last one it is told `Ok`

@@ -3,21 +3,21 @@ use Rattle.std.specs.Prelude.{ℕ, Bool, true, false, not, ◌==◌, ◌&&◌, �
 use Rattle.std.specs.List.{list_any, range_with_len}
 use Rattle.std.specs.Option.{option_map_or}
 use Rattle.petal_base.specs.declared.place.Cell.{Cell}
-use Rattle.petal_tables.specs.declared.link.LinkRow.{LinkRow}
-use Rattle.petal_tables.specs.declared.link.LinkState.{LinkState}
-use Rattle.petal_tables.specs.declared.link.LinkState.TheVariants.{Both, Only, Lost}
-use Rattle.petal_tables.specs.declared.disk.DiskRow.{DiskRow}
-use Rattle.petal_tables.specs.declared.disk.Move.{Move}
-use Rattle.petal_tables.specs.declared.disk.Snapshot.{Snapshot}
-use Rattle.petal_tables.specs.declared.disk.RegionState.{RegionState}
-use Rattle.petal_tables.specs.declared.disk.RegionState.TheVariants.{Old, Fenced, New}
-use Rattle.petal_tables.specs.declared.fence.FenceKind.{FenceKind}
-use Rattle.petal_tables.specs.declared.fence.FenceKind.TheVariants.{Whole, Region}
-use Rattle.petal_tables.specs.Place.{link_of, region_of}
-use Rattle.petal_tables.specs.Map.{tuple_of}
-use Rattle.petal_tables.specs.Link.{link_at, has_server}
-use Rattle.petal_tables.specs.Disk.{disk_at, snapshot_named, has_link}
-use Rattle.petal_tables.specs.View.{head}
+use Rattle.global_tables.specs.declared.link.LinkRow.{LinkRow}
+use Rattle.global_tables.specs.declared.link.LinkState.{LinkState}
+use Rattle.global_tables.specs.declared.link.LinkState.TheVariants.{Both, Only, Lost}
+use Rattle.global_tables.specs.declared.disk.DiskRow.{DiskRow}
+use Rattle.global_tables.specs.declared.disk.Move.{Move}
+use Rattle.global_tables.specs.declared.disk.Snapshot.{Snapshot}
+use Rattle.global_tables.specs.declared.disk.RegionState.{RegionState}
+use Rattle.global_tables.specs.declared.disk.RegionState.TheVariants.{Old, Fenced, New}
+use Rattle.global_tables.specs.declared.fence.FenceKind.{FenceKind}
+use Rattle.global_tables.specs.declared.fence.FenceKind.TheVariants.{Whole, Region}
+use Rattle.global_tables.specs.Place.{link_of, region_of}
+use Rattle.global_tables.specs.Map.{tuple_of}
+use Rattle.global_tables.specs.Link.{link_at, has_server}
+use Rattle.global_tables.specs.Disk.{disk_at, snapshot_named, has_link}
+use Rattle.global_tables.specs.View.{head}
 use Rattle.petal_state.specs.declared.answer.DiskView.{DiskView}
 use Rattle.petal_state.specs.declared.answer.Link.{Link}
 use Rattle.petal_state.specs.declared.answer.Hold.{Hold}

@@ -1,12 +1,12 @@
 -- Whether everything that was under way has come to an end.
 use Rattle.std.specs.Prelude.{ℕ, Bool, true, false, not, ◌==◌, ◌&&◌, ◌||◌, List, [], ◌∷◌, length, Option, Some, None, is_none}
 use Rattle.std.specs.List.{list_any, list_all, range_with_len}
-use Rattle.petal_tables.specs.declared.fence.Member.{Member}
-use Rattle.petal_tables.specs.declared.fence.Member.TheVariants.{In, Out}
-use Rattle.petal_tables.specs.declared.link.LinkRow.{LinkRow}
-use Rattle.petal_tables.specs.declared.link.LinkState.{LinkState}
-use Rattle.petal_tables.specs.declared.link.LinkState.TheVariants.{Both, Only, Lost}
-use Rattle.petal_tables.specs.declared.disk.Move.{Move}
+use Rattle.global_tables.specs.declared.fence.Member.{Member}
+use Rattle.global_tables.specs.declared.fence.Member.TheVariants.{In, Out}
+use Rattle.global_tables.specs.declared.link.LinkRow.{LinkRow}
+use Rattle.global_tables.specs.declared.link.LinkState.{LinkState}
+use Rattle.global_tables.specs.declared.link.LinkState.TheVariants.{Both, Only, Lost}
+use Rattle.global_tables.specs.declared.disk.Move.{Move}
 use Rattle.petal_state.specs.State.{State, is_up, links_of}
 use Rattle.petal_state.specs.Place.{link_lead}
 

@@ -1,15 +1,15 @@
 -- The global state, and its parts as commands name them.
 use Rattle.std.specs.Prelude.{ℕ, Bool, false, ◌==◌, List, [], Option, Some, None, length, map, find, replicate, slice_get, slice_set, unwrap_or, option_and_then}
 use Rattle.std.specs.Option.{option_map_or}
-use Rattle.petal_tables.specs.declared.map.MapRow.{MapRow}
-use Rattle.petal_tables.specs.declared.link.LinkRow.{LinkRow}
-use Rattle.petal_tables.specs.declared.disk.DiskRow.{DiskRow}
-use Rattle.petal_tables.specs.declared.disk.Move.{Move}
-use Rattle.petal_tables.specs.declared.disk.Latest.{Latest}
-use Rattle.petal_tables.specs.declared.disk.Verdict.{Verdict}
-use Rattle.petal_tables.specs.Map.{tuple_of}
-use Rattle.petal_tables.specs.Disk.{Disks}
-use Rattle.petal_tables.specs.View.{View, new_view, inc_in, is_in}
+use Rattle.global_tables.specs.declared.map.MapRow.{MapRow}
+use Rattle.global_tables.specs.declared.link.LinkRow.{LinkRow}
+use Rattle.global_tables.specs.declared.disk.DiskRow.{DiskRow}
+use Rattle.global_tables.specs.declared.disk.Move.{Move}
+use Rattle.global_tables.specs.declared.disk.Latest.{Latest}
+use Rattle.global_tables.specs.declared.disk.Verdict.{Verdict}
+use Rattle.global_tables.specs.Map.{tuple_of}
+use Rattle.global_tables.specs.Disk.{Disks}
+use Rattle.global_tables.specs.View.{View, new_view, inc_in, is_in}
 
 -- what the entries so far have made
 pub record State : Type 0 where

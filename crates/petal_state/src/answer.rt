@@ -1,7 +1,7 @@
 //! What the state is asked for.
 
+use global_tables::LinkState;
 use petal_base::{DiskId, Epoch, MapId, ServerId};
-use petal_tables::LinkState;
 
 /// A disk as its users see it.
 #[derive(Clone, Copy, Debug, PartialEq, Eq)]

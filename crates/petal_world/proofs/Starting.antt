@@ -13,7 +13,7 @@ use Rattle.petal_script.specs.declared.request.Line.{Line}
 use Rattle.petal_script.specs.declared.request.Request.{Request}
 use Rattle.petal_script.specs.declared.request.Request.TheVariants as request
 use Rattle.petal_script.specs.declared.script.Script.{Script}
-use Rattle.petal_tables.specs.declared.fence.Member.TheVariants as member
+use Rattle.global_tables.specs.declared.fence.Member.TheVariants as member
 use Rattle.petal_rules.specs.Lists.{In}
 use Rattle.petal_rules.specs.State.{State, fixed, servers_of}
 use Rattle.petal_rules.specs.World.{Setting, World, start, setting_of, state_of, state_by, clock_of}

@@ -7,11 +7,11 @@
 
 ghost use Rattle.std.specs.Prelude.{◌≡◌, ◌<◌, ◌+◌, ◌-◌, ◌^◌, ◌==◌, IfOk, OnOk, OnErr, IsTrue, Some, is_some, length, filter, not, slice_get, slice_set, option_copied};
 ghost use Rattle.std.specs.List.{range_with_len};
-ghost use Rattle.petal_tables.specs.declared.fence.Member.TheVariants.{Out};
-ghost use Rattle.petal_tables.specs.View.{new_view, joined, left, queued, drained, taken, ready, head, awaiting, servers_in, stands_in, last_inc, first_waiting, reported, behind, out_of};
+ghost use Rattle.global_tables.specs.declared.fence.Member.TheVariants.{Out};
+ghost use Rattle.global_tables.specs.View.{new_view, joined, left, queued, drained, taken, ready, head, awaiting, servers_in, stands_in, last_inc, first_waiting, reported, behind, out_of};
 
+pub use global_tables::{Fence, FenceKind, Member};
 use petal_base::{Inc, NoMemory, Sequence, ServerId};
-pub use petal_tables::{Fence, FenceKind, Member};
 use std::alloc::{AllocError, Global};
 use std::marker::Model;
 
@@ -26,7 +26,7 @@ pub struct ViewFence {
 
 impl Model for ViewFence {
     ghost use Rattle.std.specs.Prelude.{◌<◌, length};
-    ghost use Rattle.petal_tables.specs.View.{View};
+    ghost use Rattle.global_tables.specs.View.{View};
 
     ghost Value = { View };
 

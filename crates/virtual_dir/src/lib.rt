@@ -6,10 +6,10 @@
 
 ghost use Rattle.std.specs.Prelude.{◌≡◌, ◌<◌, ◌-◌, ◌^◌, [], IfOk, OnOk, OnErr, option_and_then, option_copied};
 ghost use Rattle.std.specs.Option.{ForSome};
-ghost use Rattle.petal_tables.specs.Disk.{disk_at, named, made, frozen, moving, fenced, noted, completes};
+ghost use Rattle.global_tables.specs.Disk.{disk_at, named, made, frozen, moving, fenced, noted, completes};
 
+pub use global_tables::{DiskRow, Latest, Move, RegionState, Snapshot, Verdict};
 use petal_base::{DiskId, MapId, Name, NoMemory, Sequence};
-pub use petal_tables::{DiskRow, Latest, Move, RegionState, Snapshot, Verdict};
 use std::alloc::Global;
 use std::marker::Model;
 
@@ -27,7 +27,7 @@ pub struct Directory {
 }
 
 impl Model for Directory {
-    ghost use Rattle.petal_tables.specs.Disk.{Disks};
+    ghost use Rattle.global_tables.specs.Disk.{Disks};
 
     ghost Value = { Disks };
 

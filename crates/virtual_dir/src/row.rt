@@ -1,10 +1,10 @@
 //! What happens to one disk.
 
 ghost use Rattle.std.specs.Prelude.{◌≡◌, ◌<◌, ◌-◌, ◌^◌, Some, IfOk, OnOk, OnErr, slice_set, if◌then◌else◌};
-ghost use Rattle.petal_tables.specs.Disk.{row_frozen, row_moving, row_fenced, row_noted, move_fenced, move_done, with_link, all_noted, completes, option_moved};
+ghost use Rattle.global_tables.specs.Disk.{row_frozen, row_moving, row_fenced, row_noted, move_fenced, move_done, with_link, all_noted, completes, option_moved};
 
+use global_tables::{DiskRow, Move, RegionState, Snapshot};
 use petal_base::{MapId, Name, NoMemory, REGIONS, Sequence};
-use petal_tables::{DiskRow, Move, RegionState, Snapshot};
 use std::alloc::{AllocError, Global};
 
 /// How many regions a disk has.

@@ -2,11 +2,11 @@
 
 ghost use Rattle.std.specs.Prelude.{◌≡◌, ◌<◌, ◌-◌, ◌^◌, IfOk, OnOk, OnErr, position, option_and_then};
 ghost use Rattle.std.specs.Option.{ForSome};
-ghost use Rattle.petal_tables.specs.Disk.{change, disk_at, row_frozen, row_moving, row_fenced, row_noted, completes, is_disk};
+ghost use Rattle.global_tables.specs.Disk.{change, disk_at, row_frozen, row_moving, row_fenced, row_noted, completes, is_disk};
 
 use crate::row::{Note, fence_row, freeze_row, move_row, note_row};
+use global_tables::DiskRow;
 use petal_base::{DiskId, MapId, Name, NoMemory};
-use petal_tables::DiskRow;
 use std::alloc::{AllocError, Global};
 
 fn place_of(rows: &[DiskRow], disk: DiskId) -> Option<usize>

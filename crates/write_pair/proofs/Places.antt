@@ -5,9 +5,9 @@ use Rattle.petal_base.specs.declared.place.Cell.{Cell}
 use Rattle.petal_state.specs.declared.answer.Link.{Link}
 use Rattle.petal_state.specs.State.{State}
 use Rattle.petal_state.specs.Place.{live, cell_link, link_of_row}
-use Rattle.petal_tables.specs.declared.link.LinkRow.{LinkRow}
-use Rattle.petal_tables.specs.declared.link.LinkState.{LinkState}
-use Rattle.petal_tables.specs.declared.link.LinkState.TheVariants.{Both, Only, Lost}
+use Rattle.global_tables.specs.declared.link.LinkRow.{LinkRow}
+use Rattle.global_tables.specs.declared.link.LinkState.{LinkState}
+use Rattle.global_tables.specs.declared.link.LinkState.TheVariants.{Both, Only, Lost}
 use Rattle.petal_rules.specs.State.{row_in_both, first, second}
 use Rattle.write_pair.specs.Place.{primary_in, secondary_in}
 

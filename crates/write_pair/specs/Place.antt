@@ -1,8 +1,8 @@
 -- Of a link in Both, its two servers.
 use Rattle.std.specs.Prelude.{ℕ, Option, None, Some}
 use Rattle.petal_state.specs.declared.answer.Link.{Link}
-use Rattle.petal_tables.specs.declared.link.LinkState.{LinkState}
-use Rattle.petal_tables.specs.declared.link.LinkState.TheVariants.{Both, Only, Lost}
+use Rattle.global_tables.specs.declared.link.LinkState.{LinkState}
+use Rattle.global_tables.specs.declared.link.LinkState.TheVariants.{Both, Only, Lost}
 
 abbrev pub primary_in : Link → LinkState → Option ℕ
 primary_in link Both = Some link.primary

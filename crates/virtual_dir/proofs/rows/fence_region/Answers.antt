@@ -1,6 +1,6 @@
 use Rattle.std.proofs.Common.{◌≡◌, Some, None, position}
-use Rattle.petal_tables.specs.Disk.{is_disk, row_fenced}
-use Rattle.petal_tables.proofs.Changes.{change_at, change_none}
+use Rattle.global_tables.specs.Disk.{is_disk, row_fenced}
+use Rattle.global_tables.proofs.Changes.{change_at, change_none}
 use Rattle.virtual_dir.proofs.rows.fence_region.Goals as goal
 
 pub returns-in_ok-fence_row-in-Some-clause-ok : goal.returns-in_ok-fence_row-in-Some-clause-ok

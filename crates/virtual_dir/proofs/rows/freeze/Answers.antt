@@ -1,6 +1,6 @@
 use Rattle.std.proofs.Common.{◌≡◌, Some, None, position}
-use Rattle.petal_tables.specs.Disk.{is_disk, row_frozen}
-use Rattle.petal_tables.proofs.Changes.{change_at, change_none, disk_at_place}
+use Rattle.global_tables.specs.Disk.{is_disk, row_frozen}
+use Rattle.global_tables.proofs.Changes.{change_at, change_none, disk_at_place}
 use Rattle.virtual_dir.proofs.rows.freeze.Goals as goal
 
 pub freeze_row-requires : goal.freeze_row-requires

@@ -1,6 +1,6 @@
 use Rattle.std.proofs.Common.{◌≡◌, refl, Some, None, position}
-use Rattle.petal_tables.specs.Disk.{is_disk, row_noted}
-use Rattle.petal_tables.proofs.Changes.{change_at, change_none, disk_at_place, disk_at_none}
+use Rattle.global_tables.specs.Disk.{is_disk, row_noted}
+use Rattle.global_tables.proofs.Changes.{change_at, change_none, disk_at_place, disk_at_none}
 use Rattle.virtual_dir.proofs.rows.note_link.Goals as goal
 
 pub returns-in_ok-note_row-in-Some-clause-ok : goal.returns-in_ok-note_row-in-Some-clause-ok

@@ -1,5 +1,5 @@
 use Rattle.std.proofs.Common.{◌≡◌, ◌<◌, Some, arith, ap, length, subst, sym, ◌∙◌}
-use Rattle.petal_tables.specs.View.{ready}
+use Rattle.global_tables.specs.View.{ready}
 use Rattle.petal_state.specs.State.{State}
 use Rattle.global_state.specs.Room.{HasRoom}
 use Rattle.global_state.proofs.Rooms.{epochs_fit, room_behind, shorter_behind}

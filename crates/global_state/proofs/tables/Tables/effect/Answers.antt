@@ -1,6 +1,6 @@
 use Rattle.std.proofs.Common.{◌≡◌, ◌<◌, Some, subst, sym}
-use Rattle.petal_tables.specs.declared.disk.DiskRow.{DiskRow}
-use Rattle.petal_tables.specs.Disk.{disk_at}
+use Rattle.global_tables.specs.declared.disk.DiskRow.{DiskRow}
+use Rattle.global_tables.specs.Disk.{disk_at}
 use Rattle.petal_state.specs.State.{State}
 use Rattle.global_state.proofs.tables.Tables.effect.Goals as goal
 

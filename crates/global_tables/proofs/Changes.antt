@@ -2,8 +2,8 @@
 use Rattle.std.proofs.Common.{◌≡◌, ℕ, ◌<◌, ◌≤◌, List, [], ◌∷◌, length, Some, None, refl, arith, get_or, set}
 use Rattle.std.specs.List.{position, position_or_len}
 use Rattle.std.proofs.lemmas.Bool.Decides.{nat_tests}
-use Rattle.petal_tables.specs.declared.disk.DiskRow.{DiskRow}
-use Rattle.petal_tables.specs.Disk.{change, disk_at, is_disk}
+use Rattle.global_tables.specs.declared.disk.DiskRow.{DiskRow}
+use Rattle.global_tables.specs.Disk.{change, disk_at, is_disk}
 
 change_there : (disk : ℕ) (f : DiskRow → DiskRow) (rows : List DiskRow) (d : DiskRow) → position_or_len (is_disk disk) rows < length rows → set rows (position_or_len (is_disk disk) rows) (f (get_or rows (position_or_len (is_disk disk) rows) d)) ≡ change disk f rows
 change_there disk f [] d below = absurd (omega arith)

@@ -1,6 +1,6 @@
 -- Global maps, numbered from 0 in the order of making.
 use Rattle.std.specs.Prelude.{ℕ, List, [], ◌∷◌, ◌++◌, Option, slice_get, option_map}
-use Rattle.petal_tables.specs.declared.map.MapRow.{MapRow}
+use Rattle.global_tables.specs.declared.map.MapRow.{MapRow}
 
 -- the servers of a map
 abbrev pub tuple_of : List MapRow → ℕ → Option (List ℕ)

@@ -1,9 +1,9 @@
 -- The links of live maps, and what joins, leaves and moves do to them.
 use Rattle.std.specs.Prelude.{ℕ, ◌+◌, ◌%◌, Bool, true, false, not, ◌==◌, ◌&&◌, ◌||◌, if◌then◌else◌, List, map, filter, find, length, slice_get, slice_index, Option, unwrap_or}
 use Rattle.std.specs.List.{range_with_len}
-use Rattle.petal_tables.specs.declared.link.LinkRow.{LinkRow}
-use Rattle.petal_tables.specs.declared.link.LinkState.{LinkState}
-use Rattle.petal_tables.specs.declared.link.LinkState.TheVariants.{Both, Only, Lost}
+use Rattle.global_tables.specs.declared.link.LinkRow.{LinkRow}
+use Rattle.global_tables.specs.declared.link.LinkState.{LinkState}
+use Rattle.global_tables.specs.declared.link.LinkState.TheVariants.{Both, Only, Lost}
 
 -- the row is that link of that map
 abbrev pub is_link : ℕ → ℕ → LinkRow → Bool

@@ -2,10 +2,10 @@
 use Rattle.std.specs.Prelude.{ℕ, ◌+◌, Bool, true, false, not, ◌==◌, if◌then◌else◌, List, [], ◌∷◌, ◌++◌, filter, length, slice_get, slice_set, Option, Some, None, is_some, replicate}
 use Rattle.std.specs.Option.{option_map_or}
 use Rattle.std.specs.List.{range_with_len}
-use Rattle.petal_tables.specs.declared.fence.Member.{Member}
-use Rattle.petal_tables.specs.declared.fence.Member.TheVariants.{In, Out}
-use Rattle.petal_tables.specs.declared.fence.FenceKind.{FenceKind}
-use Rattle.petal_tables.specs.declared.fence.Fence.{Fence}
+use Rattle.global_tables.specs.declared.fence.Member.{Member}
+use Rattle.global_tables.specs.declared.fence.Member.TheVariants.{In, Out}
+use Rattle.global_tables.specs.declared.fence.FenceKind.{FenceKind}
+use Rattle.global_tables.specs.declared.fence.Fence.{Fence}
 
 -- each server, the fences that wait with the active one first, and how many were queued so far
 pub record View : Type 0 where

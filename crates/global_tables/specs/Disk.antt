@@ -2,10 +2,10 @@
 use Rattle.std.specs.Prelude.{ℕ, ◌+◌, Bool, false, ◌==◌, nat_eq, if◌then◌else◌, List, [], ◌∷◌, ◌++◌, find, replicate, slice_set, Option, Some, None, option_map}
 use Rattle.std.specs.List.{list_any, list_all, range_with_len}
 use Rattle.std.specs.Cmp.Lexicographic.{pointwise}
-use Rattle.petal_tables.specs.declared.disk.DiskRow.{DiskRow}
-use Rattle.petal_tables.specs.declared.disk.Snapshot.{Snapshot}
-use Rattle.petal_tables.specs.declared.disk.Move.{Move}
-use Rattle.petal_tables.specs.declared.disk.RegionState.TheVariants.{Old, Fenced, New}
+use Rattle.global_tables.specs.declared.disk.DiskRow.{DiskRow}
+use Rattle.global_tables.specs.declared.disk.Snapshot.{Snapshot}
+use Rattle.global_tables.specs.declared.disk.Move.{Move}
+use Rattle.global_tables.specs.declared.disk.RegionState.TheVariants.{Old, Fenced, New}
 
 -- the disks in the order of making, and how many were made so far
 pub record Disks : Type 0 where
