@@ -8,6 +8,7 @@ use Rattle.petal_base.specs.declared.place.Key.{Key}
 use Rattle.physical_map.specs.declared.entry.Entry.{Entry}
 use Rattle.physical_map.specs.Entries.{key_of, slot_of, without_key}
 use Rattle.physical_map.specs.Keys.{key_below, same_key, placed, IsAbove, IsInOrder}
+use Rattle.physical_map.specs.Replaced.{entry_of, slot_in}
 use Rattle.physical_map.proofs.Orders.{below-other, above-other, beyond, below-trans}
 
 -- how many entries stand before a key
@@ -22,9 +23,16 @@ placed-between : (es : List Entry) (e d : Entry) → (rank es e.key < length es 
 placed-between [] e d other = refl
 placed-between (x ∷ xs) e d other = grind (arith, nat_tests, placed-between xs e d)
 
-slot-over : (es : List Entry) (key : Key) (d : Entry) → rank es key < length es → same_key (get_or es (rank es key) d).key key ≡ true → slot_of es key ≡ Some (get_or es (rank es key) d).slot
-slot-over [] key d within same = absurd (omega arith)
-slot-over (x ∷ xs) key d within same = grind (arith, nat_tests, below-other x.key key, slot-over xs key d)
+pub slot-of_entry : (es : List Entry) (key : Key) → slot_in (entry_of es key) ≡ slot_of es key
+slot-of_entry [] key = refl
+slot-of_entry (x ∷ xs) key = elim (cases_Bool (same_key x.key key)) [
+  | inl same ↦ rw same refl
+  | inr other ↦ rw other (slot-of_entry xs key)
+]
+
+entry-over : (es : List Entry) (key : Key) (d : Entry) → rank es key < length es → same_key (get_or es (rank es key) d).key key ≡ true → entry_of es key ≡ Some (get_or es (rank es key) d)
+entry-over [] key d within same = absurd (omega arith)
+entry-over (x ∷ xs) key d within same = grind (arith, nat_tests, below-other x.key key, entry-over xs key d)
 
 without-over : (es : List Entry) (key : Key) (d : Entry) → rank es key < length es → same_key (get_or es (rank es key) d).key key ≡ true → without_key es key ≡ remove es (rank es key)
 without-over [] key d within same = absurd (omega arith)
@@ -40,11 +48,14 @@ without-over (x ∷ xs) key d within same = elim (cases_Bool (key_below x.key ke
       rw (there, before) refl
 ]
 
-pub slot-above : (es : List Entry) (key : Key) → IsAbove key_of key es → slot_of es key ≡ None
-slot-above [] key above = refl
-slot-above (x ∷ xs) key above = rw (above-other x.key key above.0) (slot-above xs key above.1)
+entry-above : (es : List Entry) (key : Key) → IsAbove key_of key es → entry_of es key ≡ None
+entry-above [] key above = refl
+entry-above (x ∷ xs) key above = rw (above-other x.key key above.0) (entry-above xs key above.1)
 
-without-above : (es : List Entry) (key : Key) → IsAbove key_of key es → without_key es key ≡ es
+pub slot-above : (es : List Entry) (key : Key) → IsAbove key_of key es → slot_of es key ≡ None
+slot-above es key above = sym (slot-of_entry es key) ∙ ap slot_in (entry-above es key above)
+
+pub without-above : (es : List Entry) (key : Key) → IsAbove key_of key es → without_key es key ≡ es
 without-above [] key above = refl
 without-above (x ∷ xs) key above = rw (above-other x.key key above.0) (ap (λ (l : List Entry). x ∷ l) (without-above xs key above.1))
 
@@ -69,11 +80,11 @@ missing-above x xs key d before order missing =
     let next : key_below key x.key ≡ true = beyond x.key key before other in
     (next, further-above xs key x.key next order.0)
 
-slot-missing : (es : List Entry) (key : Key) (d : Entry) → IsInOrder key_of es → Missing es key d → slot_of es key ≡ None
-slot-missing [] key d order missing = refl
-slot-missing (x ∷ xs) key d order missing = elim (cases_Bool (key_below x.key key)) [
-  | inl before ↦ rw (below-other x.key key before) (slot-missing xs key d order.1 (missing-rest x xs key d before missing))
-  | inr before ↦ slot-above (x ∷ xs) key (missing-above x xs key d before order missing)
+entry-missing : (es : List Entry) (key : Key) (d : Entry) → IsInOrder key_of es → Missing es key d → entry_of es key ≡ None
+entry-missing [] key d order missing = refl
+entry-missing (x ∷ xs) key d order missing = elim (cases_Bool (key_below x.key key)) [
+  | inl before ↦ rw (below-other x.key key before) (entry-missing xs key d order.1 (missing-rest x xs key d before missing))
+  | inr before ↦ entry-above (x ∷ xs) key (missing-above x xs key d before order missing)
 ]
 
 without-missing : (es : List Entry) (key : Key) (d : Entry) → IsInOrder key_of es → Missing es key d → without_key es key ≡ es
@@ -118,9 +129,12 @@ found-within es key d at f = omega (arith, f.is, f.within)
 pub place-over : (es : List Entry) (e d : Entry) (at : ℕ) → Found es e.key d at → set es at e ≡ placed key_of es e
 place-over es e d at f = ap (λ (j : ℕ). set es j e) f.is ∙ sym (placed-over es e d (found-within es e.key d at f) (found-same es e.key d at f))
 
+pub entry-found : (es : List Entry) (key : Key) (d : Entry) (at : ℕ) → Found es key d at → Some d ≡ entry_of es key
+entry-found es key d at f =
+    sym (entry-over es key d (found-within es key d at f) (found-same es key d at f) ∙ ap (λ (x : Entry). Some x) (there es d at (rank es key) f.is f.here))
+
 pub slot-found : (es : List Entry) (key : Key) (d : Entry) (at : ℕ) → Found es key d at → Some d.slot ≡ slot_of es key
-slot-found es key d at f =
-    sym (slot-over es key d (found-within es key d at f) (found-same es key d at f) ∙ ap (λ (x : Entry). Some x.slot) (there es d at (rank es key) f.is f.here))
+slot-found es key d at f = ap slot_in (entry-found es key d at f) ∙ slot-of_entry es key
 
 pub without-found : (es : List Entry) (key : Key) (d : Entry) (at : ℕ) → Found es key d at → remove es at ≡ without_key es key
 without-found es key d at f = ap (λ (j : ℕ). remove es j) f.is ∙ sym (without-over es key d (found-within es key d at f) (found-same es key d at f))
@@ -138,8 +152,11 @@ absent-missing es key d at a within =
 pub place-between : (es : List Entry) (e d : Entry) (at : ℕ) → Absent es e.key d at → insert es at e ≡ placed key_of es e
 place-between es e d at a = ap (λ (j : ℕ). insert es j e) a.is ∙ sym (placed-between es e d (absent-missing es e.key d at a))
 
+pub entry-absent : (es : List Entry) (key : Key) (d : Entry) (at : ℕ) → IsInOrder key_of es → Absent es key d at → None ≡ entry_of es key
+entry-absent es key d at order a = sym (entry-missing es key d order (absent-missing es key d at a))
+
 pub slot-absent : (es : List Entry) (key : Key) (d : Entry) (at : ℕ) → IsInOrder key_of es → Absent es key d at → None ≡ slot_of es key
-slot-absent es key d at order a = sym (slot-missing es key d order (absent-missing es key d at a))
+slot-absent es key d at order a = ap slot_in (entry-absent es key d at order a) ∙ slot-of_entry es key
 
 pub without-absent : (es : List Entry) (key : Key) (d : Entry) (at : ℕ) → IsInOrder key_of es → Absent es key d at → es ≡ without_key es key
 without-absent es key d at order a = sym (without-missing es key d order (absent-missing es key d at a))

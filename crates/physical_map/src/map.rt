@@ -3,9 +3,10 @@
 ghost use Rattle.std.specs.Prelude.{◌≡◌, ◌≤◌, ◌<◌, ◌+◌, ◌⊎◌, [], vec_len, vec_capacity, is_some, if◌then◌else◌, insert, remove, OnOk, IfOk, IsSome};
 ghost use Rattle.physical_map.specs.Entries.{key_of, slot_of, without_key, chain_of, top_of, version_of, next_block_of, next_map_of};
 ghost use Rattle.physical_map.specs.Keys.{placed, newest, IsInOrder};
+ghost use Rattle.physical_map.specs.Replaced.{entry_of, slot_in, version_in};
 
 use crate::Entry;
-use crate::search::{self, is_same, rank_of};
+use crate::search::{self, is_same, rank_of, top_after};
 use petal_base::{BlockNo, Cell, Epoch, Key, MapId, NoMemory, Sequence, Version};
 use std::alloc::Global;
 use std::marker::Model;
@@ -15,18 +16,20 @@ use std::marker::Model;
 #[derive(Drop)]
 pub struct PhysicalMap {
     entries: Vec<Entry>,
+    // the greatest version of all entries, so that it is told without a walk
+    top: Version,
 }
 
 impl Model for PhysicalMap {
     ghost use Rattle.std.specs.Prelude.{◌-◌, vec_len, vec_capacity};
-    ghost use Rattle.physical_map.specs.Entries.{Table, key_of};
-    ghost use Rattle.physical_map.specs.Keys.{IsInOrder};
+    ghost use Rattle.physical_map.specs.Entries.{Table};
+    ghost use Rattle.physical_map.specs.Replaced.{IsSound};
 
     ghost Value = { Table };
 
     ghost view = { λ m. record { entries = m.entries.items; spare = vec_capacity m.entries - vec_len m.entries } };
 
-    ghost invariant = { λ m. IsInOrder key_of m.entries.items };
+    ghost invariant = { λ m. IsSound m.entries.items m.top };
 }
 
 impl PhysicalMap {
@@ -36,6 +39,7 @@ impl PhysicalMap {
     {
         PhysicalMap {
             entries: Vec::new(alloc),
+            top: 0,
         }
     }
 
@@ -59,7 +63,9 @@ impl PhysicalMap {
         ensures replaced { result ≡ slot_of self.old.entries entry.key }
         ensures spare { self.new.spare + (if is_some result then 0 else 1) ≡ self.old.spare }
     {
-        place(&mut self.entries, entry)
+        let replaced = place(&mut self.entries, entry);
+        self.top = top_after(&self.entries, self.top, version_in(replaced), entry.version);
+        slot_in(replaced)
     }
 
     /// Drops the entry that has the key, and gives its slot; None exactly where there is none.
@@ -68,7 +74,9 @@ impl PhysicalMap {
         ensures dropped { result ≡ slot_of self.old.entries key }
         ensures spare { self.old.spare ≤ self.new.spare }
     {
-        take_out(&mut self.entries, &key)
+        let dropped = take_out(&mut self.entries, &key);
+        self.top = top_after(&self.entries, self.top, version_in(dropped), 0);
+        slot_in(dropped)
     }
 
     /// The slot of the entry that has the key; None exactly where there is none.
@@ -103,7 +111,7 @@ impl PhysicalMap {
     pub fn top(&self) -> Version
         ensures { result ≡ top_of self.now.entries }
     {
-        search::top(&self.entries)
+        self.top
     }
 
     /// The least block of the map above `after` with an entry.
@@ -121,13 +129,32 @@ impl PhysicalMap {
     }
 }
 
-// Puts an entry in its place, and gives the slot of the one that it replaces.
-fn place(entries: &mut Vec<Entry>, entry: Entry) -> Option<u32>
+fn slot_in(entry: Option<Entry>) -> Option<u32>
+    ensures { result ≡ slot_in entry }
+{
+    match entry {
+        Some(entry) => Some(entry.slot),
+        None => None,
+    }
+}
+
+// The version of an entry, 0 without one.
+fn version_in(entry: Option<Entry>) -> Version
+    ensures { result ≡ version_in entry }
+{
+    match entry {
+        Some(entry) => entry.version,
+        None => 0,
+    }
+}
+
+// Puts an entry in its place, and gives the one that it replaces.
+fn place(entries: &mut Vec<Entry>, entry: Entry) -> Option<Entry>
     requires order { IsInOrder key_of entries.old.items }
     requires room { (vec_len entries.old < vec_capacity entries.old) ⊎ (IsSome (slot_of entries.old.items entry.key)) }
     ensures items { entries.new.items ≡ placed key_of entries.old.items entry }
     ensures order { IsInOrder key_of entries.new.items }
-    ensures replaced { result ≡ slot_of entries.old.items entry.key }
+    ensures replaced { result ≡ entry_of entries.old.items entry.key }
     ensures capacity { vec_capacity entries.new ≡ vec_capacity entries.old }
     ensures length { vec_len entries.new ≡ vec_len entries.old + (if is_some result then 0 else 1) }
 {
@@ -136,7 +163,7 @@ fn place(entries: &mut Vec<Entry>, entry: Entry) -> Option<u32>
         let old = entries[at];
         if is_same(&old.key, &entry.key) {
             entries[at] = entry;
-            return Some(old.slot);
+            return Some(old);
         }
     }
     insert_reserved(entries, at, entry);
@@ -154,11 +181,12 @@ fn insert_reserved(entries: &mut Vec<Entry>, at: usize, entry: Entry)
     let _ = entries.insert(at, entry);
 }
 
-fn take_out(entries: &mut Vec<Entry>, key: &Key) -> Option<u32>
+// Takes out the entry that has the key.
+fn take_out(entries: &mut Vec<Entry>, key: &Key) -> Option<Entry>
     requires { IsInOrder key_of entries.old.items }
     ensures items { entries.new.items ≡ without_key entries.old.items key.now }
     ensures order { IsInOrder key_of entries.new.items }
-    ensures dropped { result ≡ slot_of entries.old.items key.now }
+    ensures dropped { result ≡ entry_of entries.old.items key.now }
     ensures capacity { vec_capacity entries.new ≡ vec_capacity entries.old }
     ensures length { vec_len entries.new ≤ vec_len entries.old }
 {
@@ -171,5 +199,5 @@ fn take_out(entries: &mut Vec<Entry>, key: &Key) -> Option<u32>
         return None;
     }
     entries.remove(at);
-    Some(old.slot)
+    Some(old)
 }

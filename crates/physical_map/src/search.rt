@@ -1,6 +1,6 @@
 //! What is found in a list of entries in the order of their keys.
 
-ghost use Rattle.std.specs.Prelude.{◌≡◌, ◌≤◌, Some, not, max, length};
+ghost use Rattle.std.specs.Prelude.{◌≡◌, ◌≤◌, ℕ, Some, not, max, length};
 ghost use Rattle.std.specs.List.{prefix_len};
 ghost use Rattle.physical_map.specs.Entries.{key_of, slot_of, in_cell, chain_of, top_of, version_of, above, lesser, next_block_of, next_map_of};
 ghost use Rattle.physical_map.specs.Keys.{key_below, same_key, sees, newest, IsInOrder};
@@ -124,6 +124,20 @@ pub fn top(entries: &[Entry]) -> u64
         most = most.max(entry.version);
     }
     most
+}
+
+/// The greatest version of entries of which one with the version `gone` is gone and one with the version `came` is new, 0
+/// for none. `before` is what it was. It walks only where the greatest may be gone.
+pub fn top_after(entries: &[Entry], before: u64, gone: u64, came: u64) -> u64
+    ensures { (rest : ℕ) → before ≡ max gone rest → top_of entries.now ≡ max came rest → result ≡ top_of entries.now }
+{
+    if before <= came {
+        came
+    } else if gone < before {
+        before
+    } else {
+        top(entries)
+    }
 }
 
 fn is_block_above(after: Option<u64>, block: u64) -> bool

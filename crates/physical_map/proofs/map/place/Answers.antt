@@ -4,7 +4,7 @@ use Rattle.physical_map.specs.declared.entry.Entry.{Entry}
 use Rattle.physical_map.specs.Entries.{key_of, slot_of}
 use Rattle.physical_map.specs.Keys.{key_below}
 use Rattle.physical_map.proofs.Orders.{ordered-placed}
-use Rattle.physical_map.proofs.Places.{rank, Found, place-over, place-between, slot-found, slot-absent, some-none}
+use Rattle.physical_map.proofs.Places.{rank, Found, place-over, place-between, entry-found, entry-absent, slot-absent, some-none}
 use Rattle.physical_map.proofs.map.place.Goals.{then-at-len+else-is_same, else-at-len}
 use Rattle.physical_map.proofs.map.place.Goals as goal
 
@@ -30,7 +30,7 @@ returns-then-is_same-clause-replaced c =
     let key = c.args.entry.key in
     let at : c.rank_of-at.result ≡ rank es key = c.rank_of-at.ensures.rank ∙ ap (λ (l : List Entry). rank l key) c.deref.ensures.value in
     let found : Found es key c.index.result.now c.rank_of-at.result = record { is = at; within = omega (arith, c.if-at-len.true, c.args.entries.now.ok); here = c.index.ensures; same = sym c.is_same.ensures ∙ c.if-is_same.true } in
-    slot-found es key c.index.result.now c.rank_of-at.result found
+    entry-found es key c.index.result.now c.rank_of-at.result found
 
 pub insert_reserved-requires-clause-at : goal.insert_reserved-requires-clause-at
 insert_reserved-requires-clause-at c =
@@ -69,6 +69,6 @@ returns-clause-replaced c =
     let key = c.args.entry.key in
     let at : c.rank_of-at.result ≡ rank es key = c.rank_of-at.ensures.rank ∙ ap (λ (l : List Entry). rank l key) c.deref.ensures.value in
     elim c.if-at-len.branch [
-      | then-at-len+else-is_same w ↦ slot-absent es key w.index.result.now c.rank_of-at.result c.requires.order (record { is = at; other = λ within. (w.index.ensures, sym w.is_same.ensures ∙ w.if-is_same.false) })
-      | else-at-len w ↦ slot-absent es key c.args.entry c.rank_of-at.result c.requires.order (record { is = at; other = λ within. absurd (omega (arith, w.if-at-len.false, c.args.entries.now.ok, c.len.ensures)) })
+      | then-at-len+else-is_same w ↦ entry-absent es key w.index.result.now c.rank_of-at.result c.requires.order (record { is = at; other = λ within. (w.index.ensures, sym w.is_same.ensures ∙ w.if-is_same.false) })
+      | else-at-len w ↦ entry-absent es key c.args.entry c.rank_of-at.result c.requires.order (record { is = at; other = λ within. absurd (omega (arith, w.if-at-len.false, c.args.entries.now.ok, c.len.ensures)) })
     ]
