@@ -1,5 +1,5 @@
 -- The greatest version behind a put and behind a drop.
-use Rattle.std.proofs.Common.{◌≡◌, max, List, [], ◌∷◌, Option, refl, ap, arith, inl, inr}
+use Rattle.std.proofs.Common.{◌≡◌, max, List, [], ◌∷◌, refl, arith, inl, inr}
 use Rattle.std.proofs.lemmas.Bool.{cases_Bool}
 use Rattle.petal_base.specs.declared.place.Key.{Key}
 use Rattle.physical_map.specs.declared.entry.Entry.{Entry}

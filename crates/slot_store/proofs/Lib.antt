@@ -1,1 +1,3 @@
+pub mod Exchanges
 pub mod Free
+pub mod Turns

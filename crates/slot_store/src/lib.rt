@@ -5,6 +5,7 @@
 #![tactic(auto)]
 
 mod slots;
+mod usage;
 
 pub use slots::{SLOT_BYTES, SlotStore};
 

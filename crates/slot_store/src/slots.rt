@@ -2,12 +2,12 @@
 
 ghost use Rattle.std.specs.Prelude.{◌≡◌, ◌≤◌, ◌<◌, ◌+◌, ◌↔◌, true, false, length, replicate, slice_get, slice_set, IsTrue, IsNone, IfOk, IfSome, IfNone, OnOk, Some, ◌^◌};
 ghost use Rattle.std.specs.Bool.{OnFalse, OnTrue};
-ghost use Rattle.std.specs.List.{prefix_len};
 ghost use Rattle.petal_base.specs.Block.{IsBlock};
 ghost use Rattle.petal_disk.specs.Disk.{part, written, Torn, Follows, Within, Only, Elapses, LeavesOnly, LeftByWrite};
 ghost use Rattle.petal_disk.specs.Faults.{HasCause};
 ghost use Rattle.slot_store.specs.Slots.{free_in, slot_start};
 
+use crate::usage::Usage;
 use petal_base::{Block, NoMemory};
 use petal_disk::{Disk, Failed, write_kept};
 use std::alloc::Global;
@@ -20,19 +20,15 @@ pub const SLOT_BYTES: u64 = 65_536;
 #[derive(Drop)]
 pub struct SlotStore {
     base: u64,
-    used: Vec<bool>,
-    free: u32,
+    usage: Usage,
 }
 
 impl Model for SlotStore {
-    ghost use Rattle.std.specs.Prelude.{◌≡◌, ◌<◌, ◌^◌, length};
-    ghost use Rattle.slot_store.specs.Slots.{Slots, free_in};
+    ghost use Rattle.slot_store.specs.Slots.{Slots};
 
     ghost Value = { Slots };
 
-    ghost view = { λ s. record { base = s.base; used = s.used.items } };
-
-    ghost invariant = { λ s. (s.free ≡ free_in s.used.items) × (length s.used.items < 2 ^ 32) };
+    ghost view = { λ s. record { base = s.base; used = s.usage } };
 }
 
 impl SlotStore {
@@ -42,8 +38,7 @@ impl SlotStore {
     {
         Ok(SlotStore {
             base,
-            used: vec![in alloc; false; slots as usize]?,
-            free: slots,
+            usage: Usage::new(alloc, slots)?,
         })
     }
 
@@ -54,13 +49,7 @@ impl SlotStore {
         ensures none { IsNone result ↔ (free_in self.old.used ≡ 0) }
         ensures unchanged { IfNone result (self.new ≡ self.old) }
     {
-        let slot = first_free(&self.used);
-        if slot >= self.used.len() {
-            return None;
-        }
-        take_at(&mut self.used, slot);
-        self.free -= 1;
-        Some(slot as u32)
+        self.usage.take()
     }
 
     /// Takes this slot into use; false exactly where it is in use or there is no such slot.
@@ -69,13 +58,7 @@ impl SlotStore {
         ensures changed { OnTrue result (self.new ≡ record self.old { used = slice_set self.old.used slot true }) }
         ensures unchanged { OnFalse result (self.new ≡ self.old) }
     {
-        let slot = slot as usize;
-        if slot >= self.used.len() || self.used[slot] {
-            return false;
-        }
-        take_at(&mut self.used, slot);
-        self.free -= 1;
-        true
+        self.usage.take_this(slot)
     }
 
     /// The slot is free again.
@@ -83,15 +66,14 @@ impl SlotStore {
         requires { slice_get self.old.used slot ≡ Some true }
         ensures { self.new ≡ record self.old { used = slice_set self.old.used slot false } }
     {
-        give_at(&mut self.used, slot as usize);
-        self.free += 1;
+        self.usage.give(slot);
     }
 
     /// How many slots are not in use.
     pub fn free(&self) -> u32
         ensures { result ≡ free_in self.now.used }
     {
-        self.free
+        self.usage.free()
     }
 
     /// Writes a block into a slot, and syncs.
@@ -140,44 +122,10 @@ impl SlotStore {
     }
 }
 
-// How many slots are in use before the first free one.
-fn used_before(used: &[bool]) -> usize
-    ensures { result ≡ prefix_len (λ u. u) used.now }
-{
-    used.iter().take_while(|u| **u).count()
-}
-
-// The first free slot; past the end where there is none.
-fn first_free(used: &[bool]) -> usize
-    ensures free { result < length used.now → slice_get used.now result ≡ Some false }
-    ensures none { length used.now ≤ result → free_in used.now ≡ 0 }
-    ensures some { result < length used.now → 0 < free_in used.now }
-{
-    used_before(used)
-}
-
 // The first byte of a slot.
 fn start(base: u64, slot: u32) -> u64
     requires { slot_start base slot < 2 ^ 64 }
     ensures { result ≡ slot_start base slot }
 {
     base + SLOT_BYTES * u64::from(slot)
-}
-
-fn take_at(used: &mut Vec<bool>, slot: usize)
-    requires { slice_get used.old.items slot ≡ Some false }
-    ensures items { used.new.items ≡ slice_set used.old.items slot true }
-    ensures count { free_in used.new.items + 1 ≡ free_in used.old.items }
-    ensures length { length used.new.items ≡ length used.old.items }
-{
-    used[slot] = true;
-}
-
-fn give_at(used: &mut Vec<bool>, slot: usize)
-    requires { slice_get used.old.items slot ≡ Some true }
-    ensures items { used.new.items ≡ slice_set used.old.items slot false }
-    ensures count { free_in used.new.items ≡ free_in used.old.items + 1 }
-    ensures length { length used.new.items ≡ length used.old.items }
-{
-    used[slot] = false;
 }

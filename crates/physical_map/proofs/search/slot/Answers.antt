@@ -1,7 +1,6 @@
-use Rattle.std.proofs.Common.{◌≡◌, ◌<◌, true, false, length, get_or, sym, ◌∙◌, arith}
+use Rattle.std.proofs.Common.{◌<◌, length, get_or, sym, ◌∙◌, arith}
 use Rattle.std.proofs.lemmas.List.{get_or_default}
 use Rattle.physical_map.specs.declared.entry.Entry.{Entry}
-use Rattle.physical_map.specs.Keys.{same_key}
 use Rattle.physical_map.proofs.Places.{slot-found, slot-absent}
 use Rattle.physical_map.proofs.search.slot.Goals.{else-at-entries-via-then-at-entries+else-is_same, else-at-entries-via-else-at-entries}
 use Rattle.physical_map.proofs.search.slot.Goals as goal
