@@ -1,3 +1,4 @@
+pub mod Nexts
 pub mod Orders
 pub mod Places
 pub mod Searches

@@ -2,8 +2,9 @@
 
 ghost use Rattle.std.specs.Prelude.{◌≡◌, ◌≤◌, ℕ, Some, not, max, length};
 ghost use Rattle.std.specs.List.{prefix_len};
-ghost use Rattle.physical_map.specs.Entries.{key_of, slot_of, in_cell, chain_of, top_of, version_of, above, lesser, next_block_of, next_map_of};
+ghost use Rattle.physical_map.specs.Entries.{key_of, slot_of, in_cell, chain_of, top_of, version_of, above, next_block_of, next_map_of};
 ghost use Rattle.physical_map.specs.Keys.{key_below, same_key, sees, newest, IsInOrder};
+ghost use Rattle.physical_map.specs.Next.{before_blocks};
 
 use crate::Entry;
 use petal_base::{Cell, Key};
@@ -158,46 +159,53 @@ fn is_map_above(after: Option<u32>, map: u32) -> bool
     }
 }
 
-fn lesser_block(least: Option<u64>, block: u64) -> u64
-    ensures { Some result ≡ lesser least (Some block) }
+// Whether a key stands before all of the map's blocks above `after`.
+fn is_before_blocks(map: u32, after: Option<u64>, key: &Key) -> bool
+    ensures { result ≡ before_blocks map after key.now }
 {
-    match least {
-        Some(least) if least <= block => least,
-        _ => block,
-    }
+    key.map < map || (key.map == map && !is_block_above(after, key.block))
 }
 
-fn lesser_map(least: Option<u32>, map: u32) -> u32
-    ensures { Some result ≡ lesser least (Some map) }
+// How many entries stand before those of the map's blocks above `after`, by binary search.
+fn rank_of_block(entries: &[Entry], map: u32, after: Option<u64>) -> usize
+    requires { IsInOrder key_of entries.now }
+    ensures rank { result ≡ prefix_len (λ e. before_blocks map after e.key) entries.now }
+    ensures within { result ≤ length entries.now }
 {
-    match least {
-        Some(least) if least <= map => least,
-        _ => map,
-    }
+    entries.partition_point(|e| is_before_blocks(map, after, &e.key))
 }
 
 /// The least block of a map above `after` with an entry.
 pub fn next_block(entries: &[Entry], map: u32, after: Option<u64>) -> Option<u64>
+    requires { IsInOrder key_of entries.now }
     ensures { result ≡ next_block_of map after entries.now }
 {
-    let mut least = None;
-    for entry in entries {
-        if entry.key.map == map && is_block_above(after, entry.key.block) {
-            least = Some(lesser_block(least, entry.key.block));
-        }
+    let at = rank_of_block(entries, map, after);
+    if at < entries.len() && entries[at].key.map == map {
+        Some(entries[at].key.block)
+    } else {
+        None
     }
-    least
+}
+
+// How many entries stand before those of the maps above `after`, by binary search.
+fn rank_of_map(entries: &[Entry], after: Option<u32>) -> usize
+    requires { IsInOrder key_of entries.now }
+    ensures rank { result ≡ prefix_len (λ e. not (above after e.key.map)) entries.now }
+    ensures within { result ≤ length entries.now }
+{
+    entries.partition_point(|e| !is_map_above(after, e.key.map))
 }
 
 /// The least map above `after` with an entry.
 pub fn next_map(entries: &[Entry], after: Option<u32>) -> Option<u32>
+    requires { IsInOrder key_of entries.now }
     ensures { result ≡ next_map_of after entries.now }
 {
-    let mut least = None;
-    for entry in entries {
-        if is_map_above(after, entry.key.map) {
-            least = Some(lesser_map(least, entry.key.map));
-        }
+    let at = rank_of_map(entries, after);
+    if at < entries.len() {
+        Some(entries[at].key.map)
+    } else {
+        None
     }
-    least
 }

@@ -33,7 +33,7 @@ pub struct Run {
 }
 
 /// A world in the middle of a run: the letters that are on their way, what each client has still to call, how long each server
-/// waits to be ticked, the phase, and how many of its lines have no answer yet.
+/// waits to be ticked, the phase, how many lines stand in the phases up to it, and how many of its lines have no answer yet.
 #[derive(Drop)]
 struct Schedule {
     world: World<MemServer>,
@@ -42,11 +42,16 @@ struct Schedule {
     clients: Vec<ClientSeat>,
     patience: Vec<Patience>,
     phase: u32,
+    begun: usize,
     left: usize,
 }
 
-fn lines_of_phase(lines: &[Line], phase: u32) -> usize {
-    lines.iter().filter(|line| line.phase == phase).count()
+/// How many lines a phase has, where `begun` stand in the phases before it. Lines stand by phase, so no line is read twice.
+fn lines_of_phase(lines: &[Line], begun: usize, phase: u32) -> usize {
+    match lines.get(begun..) {
+        Some(rest) => rest.iter().take_while(|line| line.phase == phase).count(),
+        None => 0,
+    }
 }
 
 /// The world of a run that begins.
@@ -76,7 +81,7 @@ impl Schedule {
         }
         let post = Post::new(alloc, actors, script.lose, script.twice)?;
         let clients = seats_of(alloc, CLIENTS, &script)?;
-        let left = lines_of_phase(script.lines.as_slice(), 0);
+        let left = lines_of_phase(script.lines.as_slice(), 0, 0);
         Ok(Schedule {
             world: world_of(alloc, script)?,
             servers,
@@ -84,6 +89,7 @@ impl Schedule {
             clients,
             patience,
             phase: 0,
+            begun: left,
             left,
         })
     }
@@ -274,7 +280,9 @@ impl Schedule {
     {
         if self.left == 0 && self.phase < self.world.script().phases {
             self.phase += 1;
-            self.left = lines_of_phase(self.world.script().lines.as_slice(), self.phase);
+            let lines = self.world.script().lines.as_slice();
+            self.left = lines_of_phase(lines, self.begun, self.phase);
+            self.begun = self.begun.saturating_add(self.left);
             self.world.enter(self.phase)?;
         }
         Ok(())
