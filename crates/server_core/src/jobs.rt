@@ -4,7 +4,7 @@ ghost use Rattle.std.specs.Prelude.{◌≡◌, true, false, IfOk, IfErr, Err};
 ghost use Rattle.petal_rules.specs.State.{is_in};
 ghost use Rattle.petal_rules.specs.Server as rules;
 ghost use Rattle.petal_rules.specs.Jobs.{asked_by, at_other_rev, does, handles, is_from_in, on_letter};
-ghost use Rattle.petal_rules.specs.Reads.{on_read, said};
+ghost use Rattle.petal_rules.specs.Reads.{on_read};
 ghost use Rattle.write_pair.specs.Desk.{desk, half_at, HasTicketsAt, HasVersions, left_by, left_with};
 ghost use Rattle.write_pair.specs.Jobs.{place, is_pair_letter};
 ghost use Rattle.server_core.specs.Job.{IsJob};
@@ -14,9 +14,9 @@ use kept_chains::ReadError;
 use pair_lock::PairLock;
 use petal_base::{Cell, ClientId, Epoch, Inc, Seq, Sequence, ServerId};
 use petal_disk::Disk;
-use petal_msg::{Actor, Body, Letter, Reply};
+use petal_msg::{Actor, Body, Letter};
 use petal_rules::Job;
-use read_either::answer_read;
+use read_either::{answer_read, said};
 use server_store::Store;
 use write_pair::{Here, Outcome, Tables, WorkError};
 
@@ -124,17 +124,6 @@ fn at_other_rev<D: Disk>(
             ),
             None => silent(here, tables, locks, store),
         },
-    }
-}
-
-fn said(seq: Seq, reply: Reply) -> Body
-    ensures { result ≡ said seq reply }
-{
-    match reply {
-        Reply::Data(bytes) => Body::Data { seq, bytes },
-        Reply::NotHere => Body::NotHere { seq },
-        Reply::BlockBusy => Body::BlockBusy { seq },
-        Reply::Held => Body::Held { seq },
     }
 }
 

@@ -7,6 +7,7 @@
 
 mod jobs;
 mod queue;
+mod recent;
 mod server;
 mod worked;
 

@@ -13,6 +13,7 @@ ghost use Rattle.server_core.specs.Core.{IsWork, acted, desk_of, here_in, is_spe
 use crate::Worked;
 use crate::jobs::does;
 use crate::queue::JobQueue;
+use crate::recent::RecentBlocks;
 use global_state::GlobalState;
 use pair_lock::PairLock;
 use petal_base::{Inc, NoMemory, Op, Rev, Sequence, ServerId};
@@ -35,6 +36,7 @@ pub struct ServerCore {
     locks: PairLock,
     tables: Tables,
     queue: JobQueue,
+    recent: RecentBlocks,
 }
 
 impl Model for ServerCore {
@@ -81,6 +83,7 @@ impl ServerCore {
             locks: PairLock::new(alloc),
             tables: Tables::new(alloc),
             queue: JobQueue::new(alloc),
+            recent: RecentBlocks::new(alloc),
         }
     }
 
@@ -148,14 +151,16 @@ impl ServerCore {
             inc: self.inc,
             next: self.next,
         };
-        let outcome = match self.queue.first() {
-            Some(job) => does(&here, &mut self.tables, &mut self.locks, store, job)?,
+        let job = match self.queue.first() {
+            Some(job) => job,
             None => return Ok(Worked::Idle),
         };
+        let outcome = does(&here, &mut self.tables, &mut self.locks, store, job)?;
+        let letters = self.recent.behind(job, outcome.letters);
         if outcome.opened {
             self.next += 1;
         }
         self.queue.go_on(outcome.follow);
-        Ok(Worked::Did(outcome.letters))
+        Ok(Worked::Did(letters))
     }
 }
