@@ -1,8 +1,11 @@
 //! A server with its store on a disk in memory, as a world steps it.
 //!
-//! To the layer above it promises the rule of each step. It knows nothing of the other servers, and of how letters travel.
+//! To the layer above it promises the rule of each step, and that a script's servers are those that its run begins with. It
+//! knows nothing of how letters travel.
 #![tactic(auto)]
 
+mod cast;
 mod server;
 
+pub use cast::members;
 pub use server::MemServer;

@@ -1,1 +1,1 @@
-pub mod Casting
+pub mod First

@@ -8,11 +8,11 @@ ghost use Rattle.petal_world.specs.Playable.{AreOrdered};
 ghost use Rattle.plain_schedule.specs.Whole.{all_answered, begins_with_disk};
 
 use crate::answers::Answers;
-use crate::cast::{fixed_state, members};
+use crate::cast::fixed_state;
 use crate::patience::Patience;
 use crate::post::{Handing, Post};
 use crate::seat::{ClientSeat, seats_of};
-use memory_server::MemServer;
+use memory_server::{MemServer, members};
 use petal_base::{ClientId, NoMemory, ServerId};
 use petal_history::History;
 use petal_msg::{Actor, SharedLetter};
@@ -62,7 +62,7 @@ fn world_of(alloc: Global, script: Script) -> Result<World<MemServer>, NoMemory>
     ensures { IfOk result (λ world. world.script ≡ script) }
 {
     let state = fixed_state(alloc, &script)?;
-    let members = members(alloc, script.servers, script.slots, &state)?;
+    let members = members(alloc, &script, &state)?;
     World::start(alloc, script, &state, members)
 }
 

@@ -1,18 +1,16 @@
 -- The servers of a run that begins are those of its script.
-use Rattle.std.proofs.Common.{◌≡◌, ◌≤◌, ◌<◌, ℕ, zero, suc, ◌+◌, Bool, true, List, [], ◌∷◌, ◌++◌, map, refl, sym, ap, subst, ◌∙◌, nat_lt, arith, Some, None, inl}
+use Rattle.std.proofs.Common.{◌≡◌, ◌≤◌, ◌<◌, ℕ, zero, suc, ◌+◌, Bool, true, List, [], ◌∷◌, ◌++◌, map, refl, sym, ap, subst, ◌∙◌, nat_lt, arith}
 use Rattle.std.proofs.lemmas.Bool.Decides.{nat_tests}
 use Rattle.std.proofs.lemmas.List.FromFn.{map-range_with_len_more}
-use Rattle.std.specs.Prelude.{slice_get}
 use Rattle.std.specs.List.{range_with_len}
 use Rattle.petal_script.specs.declared.request.Line.{Line}
 use Rattle.petal_script.specs.declared.request.Request.{Request}
 use Rattle.petal_script.specs.declared.request.Request.TheVariants as request
 use Rattle.petal_script.specs.declared.script.Script.{Script}
-use Rattle.petal_rules.specs.Lists.{In}
 use Rattle.petal_rules.specs.State.{State}
 use Rattle.petal_rules.specs.World.{start, setting_of, state_by, state_of}
 use Rattle.petal_world.specs.Desks.{Site, desk_of}
-use Rattle.plain_schedule.specs.Members.{first_site}
+use Rattle.memory_server.specs.Members.{first_site}
 
 by_request : (servers : ℕ) (asked : Request) (other : State) → other.rev ≡ 1 → (state_by servers asked other).rev ≡ 1
 by_request servers (request.Disk name tuple) other is = refl
@@ -67,8 +65,3 @@ pub cast_more : {A : Type 0} (site : A → Site) (state : State) (slots n : ℕ)
     → site member ≡ first_site state slots n → map site (members ++ member ∷ []) ≡ map (first_site state slots) (range_with_len 0 (n + 1))
 cast_more site state slots n members member is next =
     map_more site members member ∙ (rw (is, next) (sym (map-range_with_len_more (first_site state slots) 0 n n (omega arith))))
-
-pub in_first : (lines : List Line) (line : Line) → slice_get lines 0 ≡ Some line → In line lines
-unfolding In
-in_first [] line is = absurd (cc)
-in_first (first ∷ lines) line is = inl (cc)

@@ -1,8 +1,8 @@
 use Rattle.std.proofs.Common.{ap, ◌∙◌}
 use Rattle.memory_server.specs.Server.{site_of}
-use Rattle.plain_schedule.specs.Members.{first_site}
-use Rattle.plain_schedule.proofs.Casting.{cast_more}
-use Rattle.plain_schedule.proofs.cast.members.Goals as goal
+use Rattle.memory_server.specs.Members.{first_site}
+use Rattle.memory_server.proofs.Casting.{cast_more}
+use Rattle.memory_server.proofs.cast.started.Goals as goal
 
 pub loop-me-preserved : goal.loop-me-preserved
 loop-me-preserved c =

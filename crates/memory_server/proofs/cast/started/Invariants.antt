@@ -1,8 +1,8 @@
 use Rattle.std.proofs.Common.{◌≡◌, map}
 use Rattle.std.specs.List.{range_with_len}
 use Rattle.memory_server.specs.Server.{site_of}
-use Rattle.plain_schedule.specs.Members.{first_site}
-use Rattle.plain_schedule.proofs.cast.members.Given as goal
+use Rattle.memory_server.specs.Members.{first_site}
+use Rattle.memory_server.proofs.cast.started.Given as goal
 
 abbrev pub invariant-loop-me : goal.invariant-loop-me
 invariant-loop-me l = map site_of l.members ≡ map (first_site l.state l.slots) (range_with_len 0 l.me)

@@ -1,0 +1,153 @@
+//! A world in the middle of its run.
+
+use crate::events::{Told, events};
+use memory_server::{MemServer, members};
+use petal_base::{ClientId, NoMemory, ServerId};
+use petal_machine::{EventError, Machine};
+use petal_msg::{Actor, SharedLetter};
+use petal_rules::{Step, WorkEnd};
+use petal_script::{Answer, Script, read_script};
+use petal_world::{Record, World, WorldError, are_in_order, fixed_state};
+use std::alloc::Global;
+use std::test::Fail;
+
+/// A world, and all letters that were sent in it, in order.
+#[derive(Drop)]
+pub struct Run {
+    world: World<MemServer>,
+    pub sent: Vec<SharedLetter>,
+}
+
+/// The world of a script that begins.
+fn world_of(alloc: Global, script: Script) -> Result<World<MemServer>, Fail> {
+    if !are_in_order(script.lines.as_slice()) {
+        return Err(Fail::new("the lines are in no order"));
+    }
+    let Some(state) = fixed_state(alloc, script.servers, script.lines.as_slice())? else {
+        return Err(Fail::new("no line makes a disk"));
+    };
+    let hosts = members(alloc, &script, &state)?;
+    Ok(World::start(alloc, script, &state, hosts)?)
+}
+
+impl Run {
+    /// The run of this script's text that begins.
+    pub fn start(alloc: Global, text: &str) -> Result<Run, Fail> {
+        let script = read_script(alloc, text.as_bytes())?;
+        Ok(Run {
+            world: world_of(alloc, script)?,
+            sent: Vec::new(alloc),
+        })
+    }
+
+    /// Takes a step. Gives whether it was one of the world's.
+    fn take(&mut self, alloc: Global, actor: Actor, step: &Step) -> Result<bool, NoMemory> {
+        match self.world.step(alloc, actor, step) {
+            Ok(stepped) => {
+                for letter in stepped.letters.into_vec() {
+                    self.sent.push(letter)?;
+                }
+                Ok(true)
+            }
+            Err(WorldError::NotAllowed) => Ok(false),
+            Err(WorldError::NoMemory) => Err(NoMemory),
+        }
+    }
+
+    /// The client calls its next line.
+    pub fn call(&mut self, alloc: Global, client: ClientId) -> Result<bool, NoMemory> {
+        let called = calls_of(self.world.records(), client);
+        match line_of(self.world.script(), client, called) {
+            Some(line) => self.take(alloc, Actor::Client(client), &Step::Call { line }),
+            None => Ok(false),
+        }
+    }
+
+    /// A letter is handed over.
+    pub fn deliver(&mut self, alloc: Global, letter: SharedLetter) -> Result<bool, NoMemory> {
+        let to = letter.get().to;
+        self.take(alloc, to, &Step::Deliver { letter })
+    }
+
+    /// The server does its next job.
+    pub fn work(&mut self, alloc: Global, server: ServerId) -> Result<bool, NoMemory> {
+        self.take(alloc, Actor::Server(server), &Step::Work(WorkEnd::Done))
+    }
+
+    /// The actor sends anew what is not answered.
+    pub fn tick(&mut self, alloc: Global, actor: Actor) -> Result<bool, NoMemory> {
+        self.take(alloc, actor, &Step::Tick)
+    }
+
+    /// A phase begins.
+    pub fn enter(&mut self, phase: u32) -> Result<(), NoMemory> {
+        self.world.enter(phase)
+    }
+
+    pub fn script(&self) -> &Script {
+        self.world.script()
+    }
+
+    pub fn records(&self) -> &[Record] {
+        self.world.records()
+    }
+
+    /// The answer of a line.
+    pub fn answer(&self, line: u32) -> Option<&Answer> {
+        answer_in(self.world.records(), line)
+    }
+
+    /// The first record whose events the plain machine refuses, counted from 1; 0 where it does not make the disk.
+    pub fn first_refused(&self, alloc: Global) -> Result<Option<usize>, NoMemory> {
+        let mut machine = Machine::new(alloc)?;
+        for told in events(alloc, self.world.script(), self.world.records())? {
+            let Told { step, event } = told;
+            let Some(event) = event else {
+                return Ok(Some(step));
+            };
+            match machine.apply(alloc, event) {
+                Ok(()) => {}
+                Err(EventError::NotAllowed) => return Ok(Some(step)),
+                Err(EventError::NoMemory) => return Err(NoMemory),
+            }
+        }
+        Ok(None)
+    }
+}
+
+/// How many lines the client has called.
+fn calls_of(records: &[Record], client: ClientId) -> usize {
+    records
+        .iter()
+        .filter(|record| record.actor == Actor::Client(client) && is_call(&record.step))
+        .count()
+}
+
+fn is_call(step: &Step) -> bool {
+    match step {
+        Step::Call { line: _ } => true,
+        Step::Deliver { letter: _ } | Step::Tick | Step::Work(_) => false,
+    }
+}
+
+/// The number of the client's line of this rank, from 0.
+fn line_of(script: &Script, client: ClientId, rank: usize) -> Option<u32> {
+    script
+        .lines
+        .as_slice()
+        .iter()
+        .filter(|line| line.client == client)
+        .nth(rank)
+        .map(|line| line.number)
+}
+
+fn answer_in(records: &[Record], line: u32) -> Option<&Answer> {
+    for record in records {
+        if let Some((answered, answer)) = &record.answer {
+            if *answered == line {
+                return Some(answer);
+            }
+        }
+    }
+    None
+}
