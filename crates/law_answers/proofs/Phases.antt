@@ -1,0 +1,120 @@
+-- Answers of greater lines stand behind.
+use Rattle.std.proofs.Common.{◌≡◌, ◌<◌, ℕ, true, false, cond, List, [], ◌∷◌, ◌++◌, Option, Some, None, is_some, refl, sym, ap, ◌∙◌, subst, inl, inr, arith}
+use Rattle.std.proofs.lemmas.Bool.Decides.{nat_tests}
+use Rattle.std.proofs.lemmas.Grind.{flat_map-append, fold-append}
+use Rattle.std.specs.Cmp.{nat_cmp_total, tied_itself}
+use Rattle.std.specs.declared.cmp.Ordering.TheVariants.{Greater}
+use Rattle.std.specs.Ordering.{nat_cmp, is_eq, match_ordering}
+use Rattle.std.specs.BTreeMap.{insert_entry, is_at}
+use Rattle.std.specs.Map.{lookup}
+use Rattle.std.specs.List.{fold, flat_map}
+use Rattle.petal_table.specs.Table.{Table, at, put}
+use Rattle.petal_script.specs.Printed.{answer_line}
+use Rattle.petal_script.specs.declared.answer.Answer.{Answer}
+use Rattle.petal_script.specs.declared.request.Line.{Line}
+use Rattle.petal_script.specs.declared.script.Script.{Script}
+use Rattle.petal_rules.specs.Lists.{In}
+use Rattle.petal_rules.specs.State.{State}
+use Rattle.petal_rules.specs.World.{Setting, World, IsAnswered, start, setting_of}
+use Rattle.petal_history.specs.Contents.{chosen_state}
+use Rattle.petal_history.specs.Legal.{IsLegal, IsLegalFrom, stepped, world_after}
+use Rattle.petal_history.specs.Text.{answers_of, text_of, with_given}
+use Rattle.petal_history.specs.declared.record.Record.{Record}
+use Rattle.law_steps.proofs.Stepping.{fixed_setting}
+use Rattle.law_steps.proofs.Tests.{by_bool}
+use Rattle.law_answers.specs.Order.{AreRising, AnsweredComeFirst, is_answered}
+use Rattle.law_answers.proofs.Once.{Ahead, answered_more, stepped_is, ahead_after, told_after, front_legal, ahead_start, told_start}
+
+-- ### Tables
+
+-- each row is of a lower number
+abbrev AreBelow : Table ℕ Answer → ℕ → Type 0
+AreBelow table number = (row : ℕ × Answer) → In row table → row.0 < number
+
+greater : (n m : ℕ) → m < n → nat_cmp n m ≡ Greater
+greater n m lt = grind (arith, nat_tests)
+
+insert_behind : (a b : Table ℕ Answer) (number : ℕ) (answer : Answer) → AreBelow a number → insert_entry nat_cmp (a ++ b) number answer ≡ a ++ insert_entry nat_cmp b number answer
+unfolding In
+insert_behind [] b number answer below = refl
+insert_behind (row ∷ rows) b number answer below =
+    let o : nat_cmp number row.0 ≡ Greater = greater number row.0 (below row (inl refl)) in
+    ap (λ r. match_ordering r ((number, answer) ∷ row ∷ rows ++ b) ((row.0, answer) ∷ rows ++ b) (row ∷ insert_entry nat_cmp (rows ++ b) number answer)) o
+    ∙ ap (λ more. row ∷ more) (insert_behind rows b number answer (λ other i. below other (inr i)))
+
+-- an answer of a greater number is put behind
+put_behind : (a b : Table ℕ Answer) (number : ℕ) (answer : Answer) → AreBelow a number → put nat_cmp (a ++ b) number answer ≡ a ++ put nat_cmp b number answer
+unfolding put
+put_behind a b number answer below = insert_behind a b number answer below
+
+given_behind : (a b : Table ℕ Answer) (o : Option (ℕ × Answer)) → ((row : ℕ × Answer) → o ≡ Some row → AreBelow a row.0) → with_given (a ++ b) o ≡ a ++ with_given b o
+given_behind a b None below = refl
+given_behind a b (Some row) below = put_behind a b row.0 row.1 (below row refl)
+
+-- a row's number is found
+row_found : (table : Table ℕ Answer) (row : ℕ × Answer) → In row table → is_some (at nat_cmp table row.0) ≡ true
+unfolding In at
+row_found [] row h = absurd h
+row_found (first ∷ rows) row (inl e) =
+    subst (λ (r : ℕ × Answer). is_some (lookup (is_at (nat_cmp r.0)) (first ∷ rows)) ≡ true) (sym e)
+    (ap (λ r. is_some (cond (is_eq r) (Some first.1) (lookup (is_at (nat_cmp first.0)) rows))) (tied_itself nat_cmp_total first.0))
+row_found (first ∷ rows) row (inr i) =
+    let rest = row_found rows row i in
+    elim (is_eq (nat_cmp row.0 first.0)) as (λ b. is_some (cond b (Some first.1) (lookup (is_at (nat_cmp row.0)) rows)) ≡ true) [
+      | true ↦ refl
+      | false ↦ rest
+    ]
+
+-- ### Histories
+
+module _ (servers slots : ℕ) (lines : List Line) (state : State) (rise : AreRising lines) where
+  abbrev setting : Setting
+  setting = fixed_setting servers slots lines state
+
+  -- the table is below every line without an answer
+  abbrev IsBefore : Table ℕ Answer → World → Type 0
+  IsBefore a w = (line : Line) → In line lines → (IsAnswered w.answers line.number → ⊥) → AreBelow a line.number
+
+  behind : (a b : Table ℕ Answer) (w : World) (records : List Record) → Ahead lines w → IsBefore a w → IsLegalFrom setting w records
+      → fold (λ rows own. with_given rows own.answer) (a ++ b) records ≡ a ++ fold (λ rows own. with_given rows own.answer) b records
+  behind a b w [] ahead before legal = refl
+  behind a b w (own ∷ later) ahead before legal =
+      let s = stepped_is servers slots lines state rise w own ahead legal.0 in
+      let v = (stepped setting w own).world in
+      let below : (row : ℕ × Answer) → own.answer ≡ Some row → AreBelow a row.0 = λ row e.
+      let fresh = s.new row (sym legal.0.answer ∙ e) in
+      subst (AreBelow a) fresh.is (before fresh.line fresh.there (λ h. fresh.new (subst (IsAnswered w.answers) fresh.is h))) in
+      let still : IsBefore a v = λ line there none. before line there (λ h. none (subst (λ (given : List (ℕ × Answer)). IsAnswered given line.number) (sym s.answers) (answered_more (stepped setting w own).answer w.answers line.number h))) in
+      ap (λ rows. fold (λ rows own. with_given rows own.answer) rows later) (given_behind a b own.answer below)
+      ∙ behind a (with_given b own.answer) v later s.ahead still legal.1
+
+  -- where what is answered comes first, its table is before what has no answer
+  comes_before : (front : List Record) → IsLegalFrom setting (start setting) front → AnsweredComeFirst lines front → IsBefore (answers_of front) (world_after setting (start setting) front)
+  comes_before front legal first line there none row i =
+      let told = told_after servers slots lines state rise (start setting) [] front (ahead_start servers slots lines state rise) (told_start servers slots lines state rise) legal in
+      let found = row_found (answers_of front) row i in
+      let one = told.lines_too row.0 found in
+      let no : is_answered front line.number ≡ false = by_bool (is_answered front line.number) (λ yes. absurd (none (told.given line.number yes))) (λ no. no) in
+      let lt = first one.0 line one.1 there (ap (is_answered front) one.2 ∙ found) no in
+      let same : one.0.number ≡ row.0 = one.2 in
+      omega arith
+
+  append_nil : (rows : Table ℕ Answer) → rows ++ [] ≡ rows
+  append_nil [] = refl
+  append_nil (row ∷ rows) = ap (λ more. row ∷ more) (append_nil rows)
+
+  joins : (front back : List Record) → IsLegalFrom setting (start setting) (front ++ back) → AnsweredComeFirst lines front → answers_of (front ++ back) ≡ answers_of front ++ answers_of back
+  joins front back legal first =
+      let parts = front_legal servers slots lines state rise (start setting) front back legal in
+      let ahead = ahead_after servers slots lines state rise (start setting) front (ahead_start servers slots lines state rise) parts.0 in
+      fold-append (λ rows own. with_given rows own.answer) [] front back
+      ∙ ap (λ rows. fold (λ rows own. with_given rows own.answer) rows back) (sym (append_nil (answers_of front)))
+      ∙ behind (answers_of front) [] (world_after setting (start setting) front) back ahead (comes_before front parts.0 first) parts.1
+
+pub answers_join : (script : Script) (front back : List Record) → AreRising script.lines → IsLegal script (front ++ back) → AnsweredComeFirst script.lines front → answers_of (front ++ back) ≡ answers_of front ++ answers_of back
+answers_join script front back rise legal first = joins script.servers script.slots script.lines (chosen_state (setting_of script)) rise front back legal first
+
+pub text_joins : (script : Script) (front back : List Record) → AreRising script.lines → IsLegal script (front ++ back) → AnsweredComeFirst script.lines front → text_of (front ++ back) ≡ text_of front ++ text_of back
+text_joins script front back rise legal first =
+    ap (λ rows. flat_map (λ row. answer_line row.0 row.1) rows) (answers_join script front back rise legal first)
+    ∙ flat_map-append (λ (row : ℕ × Answer). answer_line row.0 row.1) (answers_of front) (answers_of back)
