@@ -227,6 +227,19 @@ fn faults(rt: HostRuntime) -> Result<(), Fail> {
 }
 
 #[test]
+fn a_sink_that_fails_in_the_second_phase(rt: HostRuntime) -> Result<(), Fail> {
+    let script = "servers 2 slots 4\na disk vol on 0 1\nwait\na read vol 5\nwait\na read vol 6\n";
+    let failing = Failing {
+        sink: Some(2),
+        ..SOUND
+    };
+    let (status, written) = run(&rt, rt.alloc(), &["run"], script, failing)?;
+    assert_eq!(rt; written.as_slice(), b"2: ok\n".as_slice());
+    assert_eq!(rt; status, 5);
+    Ok(())
+}
+
+#[test]
 fn words(rt: HostRuntime) -> Result<(), Fail> {
     let usage = "usage: petal run [FOLDER] | petal drill SEED COUNT\n";
     let rows: [&[&str]; 5] = [

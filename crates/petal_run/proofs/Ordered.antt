@@ -1,19 +1,18 @@
--- In every script that is read, phases rise with the numbers of lines.
-use Rattle.std.proofs.Common.{◌≡◌, ℕ, ◌+◌, ◌-◌, ◌≤◌, ◌<◌, Bool, true, false, not, ◌&&◌, ◌==◌, List, [], ◌∷◌, ◌++◌, length, refl, sym, ap, subst, ◌∙◌, cond, codes, arith, Option, Some, None, is_some, Result, Ok, Err, ◌⊎◌, inl, inr}
-use Rattle.std.proofs.lemmas.Bool.Decides.{nat_tests}
+-- In every script that is read, lines rise, and phases rise with the numbers of lines.
+use Rattle.std.proofs.Common.{◌≡◌, ℕ, ◌+◌, ◌-◌, ◌≤◌, ◌<◌, Bool, true, false, not, ◌&&◌, ◌==◌, List, [], ◌∷◌, ◌++◌, length, refl, sym, ap, subst, cond, codes, arith, Some, None, is_some, Result, Ok, Err, ◌⊎◌, inl, inr}
 use Rattle.petal_script.specs.Text.{pieces, without_end, words_of}
 use Rattle.petal_script.specs.Words.{Word, ◌>>=◌, is_word, two_words, three_words}
 use Rattle.petal_script.specs.Fields.{in_limits}
-use Rattle.petal_script.specs.Script.{TextLine, Refusal, script_of, script_from, lines_behind, line_verdict, goes_on, ended, first_line, servers_line, net_line}
-use Rattle.petal_script.specs.Laws.{Does, skipped, nets, waits, asks, Asks, Follows, line_at}
+use Rattle.petal_script.specs.Script.{TextLine, script_of, lines_behind, first_line, servers_line, net_line}
+use Rattle.petal_script.specs.Laws.{Does, skipped, nets, waits, asks, Follows, line_at}
 use Rattle.petal_script.proofs.Doing.{is_accepted}
 use Rattle.petal_script.specs.declared.cause.Cause.{Cause}
 use Rattle.petal_script.specs.declared.cause.Cause.TheVariants.{BadLine, NoServersLine}
 use Rattle.petal_script.specs.declared.request.Line.{Line}
-use Rattle.petal_script.specs.declared.request.Request.{Request}
 use Rattle.petal_script.specs.declared.script.Script.{Script}
 use Rattle.petal_rules.specs.Lists.{In}
 use Rattle.petal_rules.proofs.ListLemmas.{in-append}
+use Rattle.law_answers.specs.Order.{AreRising}
 use Rattle.petal_world.specs.Playable.{AreOrdered}
 
 -- the lines that were read up to this number, and how many phases were begun
@@ -22,21 +21,34 @@ record Read (phases : ℕ) (lines : List Line) (n : ℕ) : Type 0 where
   below : (line : Line) → In line lines → line.number ≤ n
   within : (line : Line) → In line lines → line.phase < phases
   rise : AreOrdered lines
+  rising : AreRising lines
 
 none_read : (n : ℕ) → Read 1 [] n
 unfolding In
-none_read n = record { begun = omega arith; below = λ line h. absurd h; within = λ line h. absurd h; rise = λ one other h. absurd h }
+none_read n = record { begun = omega arith; below = λ line h. absurd h; within = λ line h. absurd h; rise = λ one other h. absurd h; rising = tt }
 
 later : (phases : ℕ) (lines : List Line) (n : ℕ) → Read phases lines n → Read phases lines (n + 1)
-later phases lines n r = record { begun = r.begun; below = (λ line h. let f = r.below line h in omega arith); within = r.within; rise = r.rise }
+later phases lines n r = record { begun = r.begun; below = (λ line h. let f = r.below line h in omega arith); within = r.within; rise = r.rise; rising = r.rising }
 
 waited : (phases : ℕ) (lines : List Line) (n : ℕ) → Read phases lines n → Read (phases + 1) lines n
-waited phases lines n r = record { begun = omega arith; below = r.below; within = (λ line h. let f = r.within line h in omega arith); rise = r.rise }
+waited phases lines n r = record { begun = omega arith; below = r.below; within = (λ line h. let f = r.within line h in omega arith); rise = r.rise; rising = r.rising }
 
 only : (line other : Line) → In line (other ∷ []) → line ≡ other
 unfolding In
 only line other (inl is) = is
 only line other (inr h) = absurd h
+
+-- a greater line behind lines that rise
+rising_more : (lines : List Line) (new : Line) → AreRising lines → ((line : Line) → In line lines → line.number < new.number) → AreRising (lines ++ new ∷ [])
+unfolding In
+rising_more [] new rising below = ((λ other h. absurd h), tt)
+rising_more (first ∷ lines) new rising below = (
+  (λ other h. elim (in-append other lines (new ∷ []) h) [
+    | inl old ↦ rising.0 other old
+    | inr last ↦ subst (λ (l : Line). first.number < l.number) (sym (only other new last)) (below first (inl refl))
+  ]),
+  rising_more lines new rising.1 (λ line h. below line (inr h)),
+)
 
 -- one line more, of the next number and the last phase
 read_more : (phases : ℕ) (lines : List Line) (n : ℕ) (new : Line) → new.number ≡ n + 1 → new.phase ≡ phases - 1 → Read phases lines n → Read phases (lines ++ new ∷ []) (n + 1)
@@ -60,6 +72,7 @@ read_more phases lines n new number phase r = record {
       | inr last ↦ (let e : one.phase ≡ new.phase = ap (λ l. l.phase) (only one new first) in let d : other.phase ≡ new.phase = ap (λ l. l.phase) (only other new last) in omega arith)
     ]
   ];
+  rising = rising_more lines new r.rising (λ line h. let f = r.below line h in omega arith);
 }
 
 -- two scripts of the same phases and lines
@@ -180,11 +193,17 @@ first_no_lines (first ∷ words) s is =
 
 -- ### The whole text
 
-pub script-rises : (text : List ℕ) (s : Script) → script_of text ≡ Ok s → AreOrdered s.lines
-script-rises text s is =
+script-read : (text : List ℕ) (s : Script) → script_of text ≡ Ok s → ReadUpTo s
+script-read text s is =
     let a = is_accepted text s is in
     let n = behind_numbered a.front a.servers a.behind 0 0 (pieces text) a.lies in
     let f = first_no_lines (words_of a.servers.text) a.begun a.begins in
     let empty : Read a.begun.phases a.begun.lines n.number = rw (f.lines, f.phases) (none_read n.number) in
     let on : Follows a.begun (lines_behind n.number n.reach n.text) s = subst (λ lines. Follows a.begun lines s) n.are a.follows in
-    (follows_read n.text n.number n.reach a.begun s empty on).read.rise
+    follows_read n.text n.number n.reach a.begun s empty on
+
+pub script-rises : (text : List ℕ) (s : Script) → script_of text ≡ Ok s → AreOrdered s.lines
+script-rises text s is = (script-read text s is).read.rise
+
+pub lines-rise : (text : List ℕ) (s : Script) → script_of text ≡ Ok s → AreRising s.lines
+lines-rise text s is = (script-read text s is).read.rising

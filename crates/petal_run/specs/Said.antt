@@ -6,6 +6,8 @@ use Rattle.petal_history.specs.declared.record.Record.{Record}
 use Rattle.petal_history.specs.Claims.{Keeps}
 use Rattle.petal_history.specs.Legal.{IsLegal}
 use Rattle.petal_history.specs.Text.{answers_of, text_of}
+use Rattle.law_answers.specs.Order.{AnsweredComeFirst}
+use Rattle.plain_schedule.specs.Phases.{IsFront}
 use Rattle.plain_schedule.specs.Whole.{all_answered}
 use Rattle.petal_run.specs.Asked.{Asked, Refuse, Play}
 
@@ -22,7 +24,25 @@ abbrev pub Done : Asked → (status : ℕ) → List Record → (left old new : L
 Done (Refuse of bytes) status history left old new = (status ≡ of) × (history ≡ []) × (new ≡ old ++ bytes)
 Done (Play script) status history left old new = (status ≡ 0) × (left ≡ []) × Plays script history × (new ≡ old ++ text_of history)
 
--- a part of what was asked for is written
+-- a part of what was asked for is done: some of a refusal is written; or the script was played so far, and some of the text of
+-- the history is written
 abbrev pub DoneInPart : Asked → List Record → (old new : List ℕ) → Type 0
 DoneInPart (Refuse of bytes) history old new = (history ≡ []) × Adds old bytes new
-DoneInPart (Play script) history old new = Plays script history × Adds old (text_of history) new
+DoneInPart (Play script) history old new = IsLegal script history × Keeps script history × Adds old (text_of history) new
+
+-- the history of a script that was played ends with a phase
+abbrev pub EndsWithPhase : Asked → List Record → Type 0
+EndsWithPhase (Refuse of bytes) history = Unit {0}
+EndsWithPhase (Play script) history = AnsweredComeFirst script.lines history
+
+-- the history begins with phases that have ended, and what is written is their text
+pub record WrotePhases (script : Script) (history : List Record) (old new : List ℕ) : Type 0 where
+  pub ended : List Record
+  pub front : IsFront ended history
+  pub first : AnsweredComeFirst script.lines ended
+  pub text : new ≡ old ++ text_of ended
+
+-- nothing is written by halves: none of a refusal, and of the text of a history that of phases that have ended
+abbrev pub WrittenByPhases : Asked → List Record → (old new : List ℕ) → Type 0
+WrittenByPhases (Refuse of bytes) history old new = new ≡ old
+WrittenByPhases (Play script) history old new = WrotePhases script history old new

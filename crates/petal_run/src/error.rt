@@ -1,14 +1,15 @@
-//! Why a script was not read.
+//! Why a run stops.
 
+use petal_base::NoMemory;
 use petal_disk::Failed;
 use std::alloc::AllocError;
 use thiserror::Error;
 
-/// Why a script was not read.
+/// Why a run stops.
 #[derive(Clone, Copy, Debug, PartialEq, Eq, Error)]
 pub(crate) enum RunError {
-    /// The source failed, and its count of faults rose.
-    #[error("the source failed")]
+    /// The source or the sink failed, and its count of faults rose.
+    #[error("the source or the sink failed")]
     Failed,
     #[error("out of memory")]
     NoMemory,
@@ -21,6 +22,17 @@ impl From<AllocError> for RunError {
     ghost from_gives = { λ _ e. e ≡ error.NoMemory };
 
     fn from(_error: AllocError) -> RunError {
+        RunError::NoMemory
+    }
+}
+
+impl From<NoMemory> for RunError {
+    ghost use Rattle.std.specs.Prelude.{◌≡◌};
+    ghost use Rattle.petal_run.specs.declared.error.RunError.TheVariants as error;
+
+    ghost from_gives = { λ _ e. e ≡ error.NoMemory };
+
+    fn from(_error: NoMemory) -> RunError {
         RunError::NoMemory
     }
 }

@@ -1,11 +1,29 @@
 //! What is plain of scripts that are read.
 
-ghost use Rattle.std.specs.Prelude.{◌≡◌, List, ℕ, Ok};
+ghost use Rattle.std.specs.Prelude.{◌≡◌, List, [], ℕ, Ok};
+ghost use Rattle.law_answers.specs.Order.{AreRising};
 ghost use Rattle.petal_script.specs.Script.{script_of};
 ghost use Rattle.petal_script.specs.declared.script.Script.{Script};
+ghost use Rattle.petal_run.specs.Asked.{by_text};
 ghost use Rattle.petal_world.specs.Playable.{AreOrdered};
+ghost use Rattle.petal_run.specs.Said.{DoneInPart, WrittenByPhases};
+
+use law_run::read_scripts_are_sound;
 
 /// In every script that is read, phases rise with the numbers of lines.
 pub fn phases_rise()
     ensures { (text : List ℕ) (script : Script) → script_of text ≡ Ok script → AreOrdered script.lines }
 {}
+
+/// In every script that is read, lines rise.
+pub fn lines_rise()
+    ensures { (text : List ℕ) (script : Script) → script_of text ≡ Ok script → AreRising script.lines }
+{}
+
+/// Where nothing is done, a part of what a text asks for is done.
+pub fn nothing_is_a_part()
+    ensures part { (text old : List ℕ) → DoneInPart (by_text (script_of text)) [] old old }
+    ensures by_phases { (text old : List ℕ) → WrittenByPhases (by_text (script_of text)) [] old old }
+{
+    read_scripts_are_sound();
+}

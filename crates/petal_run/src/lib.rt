@@ -16,5 +16,5 @@ mod text;
 mod words;
 
 pub use built::not_built;
-pub use laws::phases_rise;
+pub use laws::{lines_rise, nothing_is_a_part, phases_rise};
 pub use outcome::{Outcome, petal};

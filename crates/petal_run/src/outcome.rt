@@ -3,10 +3,11 @@
 ghost use Rattle.std.specs.Prelude.{◌≡◌, ◌≤◌, ◌<◌, ◌⊎◌, [], false, map, take};
 ghost use Rattle.std.specs.String.{string_bytes};
 ghost use Rattle.petal_run.specs.Asked.{asked};
-ghost use Rattle.petal_run.specs.Said.{Done, DoneInPart};
+ghost use Rattle.petal_run.specs.Said.{Done, DoneInPart, EndsWithPhase, WrittenByPhases};
 ghost use Rattle.petal_run.specs.Words.{is_run};
 
 use crate::error::RunError;
+use crate::laws::nothing_is_a_part;
 use crate::reading::read_text;
 use crate::script::{run_text, say, without_history};
 use crate::words::is_run;
@@ -21,7 +22,7 @@ pub struct Outcome {
     /// 0: the run ended, and all answers were written. 1: the words are no form. 2: a line of the script is refused.
     /// 3: want of memory. 4: the source failed. 5: the sink failed.
     pub status: u8,
-    /// All steps of the run at the statuses 0 and 5, else none.
+    /// The steps of the run. At 5 they end with the phase whose answers were not written whole; at 3 they are those so far.
     pub history: History,
 }
 
@@ -40,9 +41,10 @@ pub(crate) const SINK_FAILED: u8 = 5;
 const USAGE: &str = "usage: petal run [FOLDER] | petal drill SEED COUNT\n";
 
 /// Does what the words ask for. The words `run` alone read a script from the source, play it on one thread with servers and
-/// stores of its own, and write the answers to the sink when all lines are answered. It waits for as long as that takes.
+/// stores of its own, and write the answers of each phase to the sink at that phase's end. It waits for as long as that takes.
 ///
-/// Statuses 0 to 2 come exactly where the words and the script say so, unless memory is wanting or a count of faults rose.
+/// Statuses 0 to 2 come exactly where the words and the script say so, unless memory is wanting or a count of faults rose. The
+/// first failure of the sink ends the run.
 pub fn petal<T: Wait, R: Source, W: Sink, S: Shelf>(
     rt: &T,
     alloc: Global,
@@ -58,11 +60,16 @@ pub fn petal<T: Wait, R: Source, W: Sink, S: Shelf>(
         → Done (asked (map string_bytes words.now) (take 1048577 (R.left source.old))) result.status result.history.records
         (R.left source.new) (W.taken sink.old) (W.taken sink.new) }
     ensures usage { result.status ≡ 1 → is_run (map string_bytes words.now) ≡ false }
-    ensures in_part { R.told → W.told → result.status ≡ 5
+    ensures in_part { R.told → W.told → (result.status ≡ 3) ⊎ (result.status ≡ 5)
         → DoneInPart (asked (map string_bytes words.now) (take 1048577 (R.left source.old))) result.history.records
         (W.taken sink.old) (W.taken sink.new) }
-    ensures nothing { (result.status ≡ 3) ⊎ (result.status ≡ 4) → sink.new ≡ sink.old }
-    ensures empty { (result.status ≡ 3) ⊎ (result.status ≡ 4) → result.history.records ≡ [] }
+    ensures whole_phase { R.told → result.status ≡ 5
+        → EndsWithPhase (asked (map string_bytes words.now) (take 1048577 (R.left source.old))) result.history.records }
+    ensures by_phases { R.told → W.told → result.status ≡ 3
+        → WrittenByPhases (asked (map string_bytes words.now) (take 1048577 (R.left source.old))) result.history.records
+        (W.taken sink.old) (W.taken sink.new) }
+    ensures nothing { result.status ≡ 4 → sink.new ≡ sink.old }
+    ensures empty { result.status ≡ 4 → result.history.records ≡ [] }
 
     // Why it stops early.
     ensures source_failed { result.status ≡ 4 → R.faults source.old < R.faults source.new }
@@ -74,6 +81,7 @@ pub fn petal<T: Wait, R: Source, W: Sink, S: Shelf>(
     if !is_run(words) {
         return say(alloc, sink, USAGE.as_bytes(), NO_FORM);
     }
+    nothing_is_a_part();
     let text = match read_text(alloc, source) {
         Ok(text) => text,
         Err(RunError::Failed) => return without_history(alloc, SOURCE_FAILED),

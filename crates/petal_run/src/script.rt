@@ -1,26 +1,33 @@
-//! A script that was read: refused at a line that is not built, or played.
+//! A script that was read: refused at a line that is not built, or played, with the answers of each phase written at its end.
 
-ghost use Rattle.std.specs.Prelude.{◌≡◌, ◌≤◌, ◌<◌, ◌⊎◌, ◌++◌, [], length, IfOk, None};
+ghost use Rattle.std.specs.Prelude.{◌≡◌, ◌≤◌, ◌<◌, ◌⊎◌, ◌++◌, ℕ, List, [], length, true, IfOk, OnOk, IsErrOf, IfSome, Some, None};
+ghost use Rattle.law_answers.specs.Order.{AnsweredComeFirst, AreRising};
 ghost use Rattle.petal_disk.specs.Streams.{Adds};
 ghost use Rattle.petal_script.specs.Printed.{refusal_line};
 ghost use Rattle.petal_script.specs.Script.{script_of};
 ghost use Rattle.petal_history.specs.Sound.{IsSound};
 ghost use Rattle.petal_history.specs.Text.{answers_of, text_of};
-ghost use Rattle.petal_run.specs.Asked.{by_built, by_text};
+ghost use Rattle.plain_schedule.specs.Phases.{GoesByPhases, records_of};
+ghost use Rattle.plain_schedule.specs.Whole.{all_answered};
+ghost use Rattle.petal_run.specs.Asked.{Play, by_built, by_text};
 ghost use Rattle.petal_run.specs.Built.{first_not_built};
 ghost use Rattle.petal_world.specs.Playable.{AreOrdered};
-ghost use Rattle.petal_run.specs.Said.{Done, DoneInPart, Plays};
+ghost use Rattle.petal_run.specs.Said.{Done, DoneInPart, EndsWithPhase, WrittenByPhases, WrotePhases};
+ghost use Rattle.petal_run.specs.Written.{Wrote, text_of_answers};
+ghost use Rattle.petal_run.specs.declared.error.RunError.TheVariants as error;
 
 use crate::built::not_built;
-use crate::laws::phases_rise;
+use crate::error::RunError;
+use crate::laws::{lines_rise, nothing_is_a_part, phases_rise};
 use crate::outcome::{ENDED, NO_MEMORY, Outcome, REFUSED, SINK_FAILED};
 use crate::text::{answers_text, refusal_text};
+use law_answers::phases_come_one_after_the_other;
 use law_run::{every_history_keeps_the_law, read_scripts_are_sound};
 use petal_base::{NoMemory, Sequence};
 use petal_disk::{Sink, write_all};
 use petal_history::History;
 use petal_script::{Script, ScriptError, read_script};
-use plain_schedule::{Answers, Run, play};
+use plain_schedule::{Answers, Playing};
 use std::alloc::Global;
 use std::sync::Wait;
 
@@ -75,68 +82,107 @@ fn refuse<W: Sink>(alloc: Global, sink: &mut W, line: u32, cause: &str) -> Outco
     }
 }
 
+/// Writes the answers of a phase.
+fn tell<W: Sink>(alloc: Global, sink: &mut W, answers: Answers) -> Result<(), RunError>
+    ensures all { OnOk result (W.told → W.taken sink.new ≡ W.taken sink.old ++ text_of_answers answers) }
+    ensures front { IsErrOf result error.Failed → W.told → Adds (W.taken sink.old) (text_of_answers answers) (W.taken sink.new) }
+    ensures nothing { IsErrOf result error.NoMemory → sink.new ≡ sink.old }
+    ensures failed { IsErrOf result error.Failed → W.faults sink.old < W.faults sink.new }
+    ensures later { W.faults sink.old ≤ W.faults sink.new }
+{
+    let text = answers_text(alloc, answers)?;
+    write_all(sink, &text)?;
+    Ok(())
+}
+
+/// Plays the next phase and writes its answers. Gives the status with which the run ends, and None where it goes on. The text
+/// of the phases that have ended stands written, behind some bytes.
+fn play_and_tell<R: Wait, W: Sink>(
+    rt: &R,
+    alloc: Global,
+    playing: &mut Playing,
+    sink: &mut W,
+) -> Option<u8>
+    requires rising { AreRising playing.old.script.lines }
+    requires by_phases { GoesByPhases playing.old }
+    requires since { playing.old.since ≡ [] }
+    ensures script { playing.new.script ≡ playing.old.script }
+    ensures by_phases { GoesByPhases playing.new }
+    ensures known { IfSome result (λ status. (status ≡ 0) ⊎ (status ≡ 3) ⊎ (status ≡ 5)) }
+    ensures since { (result ≡ Some 3 → ⊥) → playing.new.since ≡ [] }
+    ensures whole { result ≡ Some 0 → all_answered (answers_of playing.new.ended) playing.new.script.lines ≡ true }
+    ensures goes_on { W.told → (base : List ℕ) → result ≡ None → Wrote base playing.old.ended (W.taken sink.old) → Wrote base playing.new.ended (W.taken sink.new) }
+    ensures all { W.told → (base : List ℕ) → result ≡ Some 0 → Wrote base playing.old.ended (W.taken sink.old) → Wrote base playing.new.ended (W.taken sink.new) }
+    ensures phases { W.told → (base : List ℕ) → result ≡ Some 3 → Wrote base playing.old.ended (W.taken sink.old) → WrotePhases playing.new.script (records_of playing.new) base (W.taken sink.new) }
+    ensures front { W.told → (base : List ℕ) → result ≡ Some 5 → Wrote base playing.old.ended (W.taken sink.old) → Adds base (text_of playing.new.ended) (W.taken sink.new) }
+    ensures failed { result ≡ Some 5 → W.faults sink.old < W.faults sink.new }
+    ensures later { W.faults sink.old ≤ W.faults sink.new }
+{
+    phases_come_one_after_the_other();
+    match playing.play_phase(rt, alloc) {
+        Ok(None) => Some(ENDED),
+        Ok(Some(answers)) => match tell(alloc, sink, answers) {
+            Ok(()) => None,
+            Err(RunError::Failed) => Some(SINK_FAILED),
+            Err(RunError::NoMemory) => Some(NO_MEMORY),
+        },
+        Err(NoMemory) => Some(NO_MEMORY),
+    }
+}
+
+/// Plays all phases, and writes the answers of each at its end. Gives the status with which the run ends.
+fn play_phases<R: Wait, W: Sink>(rt: &R, alloc: Global, playing: &mut Playing, sink: &mut W) -> u8
+    requires rising { AreRising playing.old.script.lines }
+    requires by_phases { GoesByPhases playing.old }
+    requires begins { (playing.old.ended ≡ []) × (playing.old.since ≡ []) }
+    ensures script { playing.new.script ≡ playing.old.script }
+    ensures by_phases { GoesByPhases playing.new }
+    ensures known { (result ≡ 0) ⊎ (result ≡ 3) ⊎ (result ≡ 5) }
+    ensures since { (result ≡ 3 → ⊥) → playing.new.since ≡ [] }
+    ensures whole { result ≡ 0 → all_answered (answers_of playing.new.ended) playing.new.script.lines ≡ true }
+    ensures all { W.told → result ≡ 0 → Wrote (W.taken sink.old) playing.new.ended (W.taken sink.new) }
+    ensures phases { W.told → result ≡ 3 → WrotePhases playing.new.script (records_of playing.new) (W.taken sink.old) (W.taken sink.new) }
+    ensures front { W.told → result ≡ 5 → Adds (W.taken sink.old) (text_of playing.new.ended) (W.taken sink.new) }
+    ensures failed { result ≡ 5 → W.faults sink.old < W.faults sink.new }
+    ensures later { W.faults sink.old ≤ W.faults sink.new }
+{
+    let mut ended = ENDED;
+    for _ in rt.forever() {
+        if let Some(status) = play_and_tell(rt, alloc, playing, sink) {
+            ended = status;
+            break;
+        }
+    }
+    ended
+}
+
 /// Plays a script whose lines are all built.
-fn play_lines<R: Wait>(rt: &R, alloc: Global, script: Script) -> Result<Run, NoMemory>
+fn play<R: Wait, W: Sink>(rt: &R, alloc: Global, script: Script, sink: &mut W) -> Outcome
     requires built { first_not_built [] script.lines ≡ None }
     requires sound { IsSound script }
     requires ordered { AreOrdered script.lines }
-    ensures plays { IfOk result (λ run. Plays script run.history.records) }
-    ensures answers { IfOk result (λ run. run.answers ≡ answers_of run.history.records) }
+    requires rising { AreRising script.lines }
+    ensures known { (result.status ≡ 0) ⊎ (result.status ≡ 3) ⊎ (result.status ≡ 5) }
+    ensures done { W.told → result.status ≡ 0 → Done (Play script) result.status result.history.records [] (W.taken sink.old) (W.taken sink.new) }
+    ensures in_part { W.told → (result.status ≡ 3) ⊎ (result.status ≡ 5) → DoneInPart (Play script) result.history.records (W.taken sink.old) (W.taken sink.new) }
+    ensures whole_phase { result.status ≡ 5 → AnsweredComeFirst script.lines result.history.records }
+    ensures by_phases { W.told → result.status ≡ 3 → WrotePhases script result.history.records (W.taken sink.old) (W.taken sink.new) }
+    ensures failed { result.status ≡ 5 → W.faults sink.old < W.faults sink.new }
+    ensures later { W.faults sink.old ≤ W.faults sink.new }
 {
     every_history_keeps_the_law();
+    phases_come_one_after_the_other();
     if script.lines.as_slice().is_empty() {
-        return Ok(Run {
-            history: no_history(alloc),
-            answers: Answers::new(alloc),
-        });
+        return without_history(alloc, ENDED);
     }
-    play(rt, alloc, script)
-}
-
-/// Writes the text of a run.
-fn tell<W: Sink>(alloc: Global, sink: &mut W, run: Run) -> Outcome
-    requires { run.answers ≡ answers_of run.history.records }
-    ensures known { (result.status ≡ 0) ⊎ (result.status ≡ 3) ⊎ (result.status ≡ 5) }
-    ensures history { (result.status ≡ 0) ⊎ (result.status ≡ 5) → result.history ≡ run.history }
-    ensures empty { result.status ≡ 3 → result.history.records ≡ [] }
-    ensures all { W.told → result.status ≡ 0 → W.taken sink.new ≡ W.taken sink.old ++ text_of run.history.records }
-    ensures front { W.told → Adds (W.taken sink.old) (text_of run.history.records) (W.taken sink.new) }
-    ensures nothing { result.status ≡ 3 → sink.new ≡ sink.old }
-    ensures failed { result.status ≡ 5 → W.faults sink.old < W.faults sink.new }
-    ensures later { W.faults sink.old ≤ W.faults sink.new }
-{
-    let history = run.history;
-    let text = match answers_text(alloc, run.answers) {
-        Ok(text) => text,
-        Err(NoMemory) => return without_history(alloc, NO_MEMORY),
-    };
-    match write_all(sink, &text) {
-        Ok(()) => Outcome {
-            status: ENDED,
-            history,
-        },
-        Err(_) => Outcome {
-            status: SINK_FAILED,
-            history,
-        },
-    }
-}
-
-fn run_built<R: Wait, W: Sink>(rt: &R, alloc: Global, script: Script, sink: &mut W) -> Outcome
-    requires built { first_not_built [] script.lines ≡ None }
-    requires sound { IsSound script }
-    requires ordered { AreOrdered script.lines }
-    ensures known { (result.status ≡ 0) ⊎ (result.status ≡ 3) ⊎ (result.status ≡ 5) }
-    ensures plays { (result.status ≡ 0) ⊎ (result.status ≡ 5) → Plays script result.history.records }
-    ensures empty { result.status ≡ 3 → result.history.records ≡ [] }
-    ensures all { W.told → result.status ≡ 0 → W.taken sink.new ≡ W.taken sink.old ++ text_of result.history.records }
-    ensures front { W.told → result.status ≡ 5 → Adds (W.taken sink.old) (text_of result.history.records) (W.taken sink.new) }
-    ensures nothing { result.status ≡ 3 → sink.new ≡ sink.old }
-    ensures failed { result.status ≡ 5 → W.faults sink.old < W.faults sink.new }
-    ensures later { W.faults sink.old ≤ W.faults sink.new }
-{
-    match play_lines(rt, alloc, script) {
-        Ok(run) => tell(alloc, sink, run),
+    match Playing::start(alloc, script) {
+        Ok(mut playing) => {
+            let status = play_phases(rt, alloc, &mut playing, sink);
+            Outcome {
+                status,
+                history: playing.into_history(),
+            }
+        }
         Err(NoMemory) => without_history(alloc, NO_MEMORY),
     }
 }
@@ -145,19 +191,21 @@ fn run_built<R: Wait, W: Sink>(rt: &R, alloc: Global, script: Script, sink: &mut
 fn run_script<R: Wait, W: Sink>(rt: &R, alloc: Global, script: Script, sink: &mut W) -> Outcome
     requires sound { IsSound script }
     requires ordered { AreOrdered script.lines }
+    requires rising { AreRising script.lines }
     ensures known { (result.status ≡ 0) ⊎ (result.status ≡ 2) ⊎ (result.status ≡ 3) ⊎ (result.status ≡ 5) }
     ensures done { W.told → result.status ≤ 2
         → Done (by_built script (first_not_built [] script.lines)) result.status result.history.records [] (W.taken sink.old) (W.taken sink.new) }
-    ensures in_part { W.told → result.status ≡ 5
+    ensures in_part { W.told → (result.status ≡ 3) ⊎ (result.status ≡ 5)
         → DoneInPart (by_built script (first_not_built [] script.lines)) result.history.records (W.taken sink.old) (W.taken sink.new) }
-    ensures empty { result.status ≡ 3 → result.history.records ≡ [] }
-    ensures nothing { result.status ≡ 3 → sink.new ≡ sink.old }
+    ensures whole_phase { result.status ≡ 5 → EndsWithPhase (by_built script (first_not_built [] script.lines)) result.history.records }
+    ensures by_phases { W.told → result.status ≡ 3
+        → WrittenByPhases (by_built script (first_not_built [] script.lines)) result.history.records (W.taken sink.old) (W.taken sink.new) }
     ensures failed { result.status ≡ 5 → W.faults sink.old < W.faults sink.new }
     ensures later { W.faults sink.old ≤ W.faults sink.new }
 {
     match not_built(&script) {
         Some(line) => refuse(alloc, sink, line, "not built"),
-        None => run_built(rt, alloc, script, sink),
+        None => play(rt, alloc, script, sink),
     }
 }
 
@@ -171,16 +219,19 @@ pub(crate) fn run_text<R: Wait, W: Sink>(
     ensures known { (result.status ≡ 0) ⊎ (result.status ≡ 2) ⊎ (result.status ≡ 3) ⊎ (result.status ≡ 5) }
     ensures done { W.told → result.status ≤ 2
         → Done (by_text (script_of text.now)) result.status result.history.records [] (W.taken sink.old) (W.taken sink.new) }
-    ensures in_part { W.told → result.status ≡ 5
+    ensures in_part { W.told → (result.status ≡ 3) ⊎ (result.status ≡ 5)
         → DoneInPart (by_text (script_of text.now)) result.history.records (W.taken sink.old) (W.taken sink.new) }
+    ensures whole_phase { result.status ≡ 5 → EndsWithPhase (by_text (script_of text.now)) result.history.records }
+    ensures by_phases { W.told → result.status ≡ 3
+        → WrittenByPhases (by_text (script_of text.now)) result.history.records (W.taken sink.old) (W.taken sink.new) }
     ensures short { result.status ≡ 0 → length text.now ≤ 1048576 }
-    ensures empty { result.status ≡ 3 → result.history.records ≡ [] }
-    ensures nothing { result.status ≡ 3 → sink.new ≡ sink.old }
     ensures failed { result.status ≡ 5 → W.faults sink.old < W.faults sink.new }
     ensures later { W.faults sink.old ≤ W.faults sink.new }
 {
     read_scripts_are_sound();
     phases_rise();
+    lines_rise();
+    nothing_is_a_part();
     match read_script(alloc, text) {
         Ok(script) => run_script(rt, alloc, script, sink),
         Err(ScriptError::Refused { line, cause }) => refuse(alloc, sink, line, cause.text()),

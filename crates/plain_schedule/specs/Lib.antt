@@ -1,1 +1,3 @@
+pub mod Phases
+pub mod Places
 pub mod Whole

@@ -1,10 +1,12 @@
 //! The answers of a history.
 
-ghost use Rattle.std.specs.Prelude.{◌≡◌, ◌∷◌, [], is_some, IfOk, OnOk, OnErr, IfSome, IfNone};
+ghost use Rattle.std.specs.Prelude.{◌≡◌, ◌∷◌, [], is_some, nat_eq, IfOk, OnOk, OnErr, IfSome, IfNone};
+ghost use Rattle.std.specs.Cmp.Lexicographic.{pointwise};
+ghost use Rattle.std.specs.Map.{keys_of};
 ghost use Rattle.std.specs.Ordering.{nat_cmp};
-ghost use Rattle.petal_table.specs.Table.{at, put};
+ghost use Rattle.petal_table.specs.Table.{put};
 ghost use Rattle.petal_history.specs.Text.{answers_of};
-ghost use Rattle.plain_schedule.specs.Whole.{all_answered};
+ghost use Rattle.plain_schedule.specs.Places.{numbers};
 
 use petal_base::NoMemory;
 use petal_history::Record;
@@ -60,27 +62,18 @@ impl Answers {
         Ok(())
     }
 
-    /// Whether a line has an answer.
-    #[tactic(auto, unfolding(petal_table::specs::Table::at))]
-    pub fn has(&self, line: u32) -> bool
-        ensures { result ≡ is_some (at nat_cmp self.now line) }
+    /// Whether exactly these lines have answers. The lines stand by rising number.
+    pub fn are_of(&self, lines: &[Line]) -> bool
+        ensures { result ≡ pointwise nat_eq (keys_of self.now) (numbers lines.now) }
     {
-        match self.rows.get(&line) {
-            Some(_) => true,
-            None => false,
-        }
-    }
-
-    /// Whether each of the lines has an answer.
-    pub fn has_all(&self, lines: &[Line]) -> bool
-        ensures { result ≡ all_answered self.now lines.now }
-    {
+        let mut keys = self.rows.keys();
         for line in lines {
-            if !self.has(line.number) {
-                return false;
+            match keys.next() {
+                Some(number) if *number == line.number => {}
+                _ => return false,
             }
         }
-        true
+        keys.next().is_none()
     }
 
     /// Takes out the answer of the least line.

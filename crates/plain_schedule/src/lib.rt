@@ -1,15 +1,17 @@
-//! The plain schedule: one thread steps a world round by round until each line of a script is answered.
+//! The plain schedule: one thread steps a world round by round, phase by phase, until each line of a script is answered.
 //!
-//! It promises its caller the history of a whole run, which is legal for the script, and the answers that stand in it. Which
-//! legal history comes out is its own choice. It knows nothing of sources, sinks or what is printed.
+//! It promises its caller at each phase's end the answers that stand in the records since the phase before, and at each moment a
+//! history that is legal for the script. Which legal history comes out is its own choice. It knows nothing of sources, sinks or
+//! what is printed.
 #![tactic(auto)]
 
 mod answers;
 mod cast;
 mod patience;
+mod playing;
 mod post;
 mod schedule;
 mod seat;
 
 pub use answers::Answers;
-pub use schedule::{Run, play};
+pub use playing::Playing;

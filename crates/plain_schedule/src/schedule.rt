@@ -1,23 +1,20 @@
 //! Rounds of all clients and servers.
 
-ghost use Rattle.std.specs.Prelude.{◌≡◌, true, IfOk};
-ghost use Rattle.petal_history.specs.Legal.{IsLegal};
+ghost use Rattle.std.specs.Prelude.{◌≡◌, [], true, IfOk};
 ghost use Rattle.petal_history.specs.Sound.{IsSound};
-ghost use Rattle.petal_history.specs.Text.{answers_of};
 ghost use Rattle.petal_world.specs.Playable.{AreOrdered};
-ghost use Rattle.plain_schedule.specs.Whole.{all_answered, begins_with_disk};
+ghost use Rattle.plain_schedule.specs.Places.{GoesOn};
+ghost use Rattle.plain_schedule.specs.Whole.{begins_with_disk};
 
-use crate::answers::Answers;
 use crate::cast::fixed_state;
 use crate::patience::Patience;
 use crate::post::{Handing, Post};
 use crate::seat::{ClientSeat, seats_of};
 use memory_server::{MemServer, members};
 use petal_base::{ClientId, NoMemory, ServerId};
-use petal_history::History;
 use petal_msg::{Actor, SharedLetter};
 use petal_rules::{Step, WorkEnd};
-use petal_script::{Line, Script};
+use petal_script::Script;
 use petal_world::{Stepped, World, WorldError};
 use std::alloc::Global;
 use std::sync::Wait;
@@ -25,33 +22,17 @@ use std::sync::Wait;
 /// The clients `a` to `h` and the operator.
 const CLIENTS: u8 = 9;
 
-/// A run that is over: its history, and the answers that stand in it by line number.
-#[derive(Drop)]
-pub struct Run {
-    pub history: History,
-    pub answers: Answers,
-}
-
 /// A world in the middle of a run: the letters that are on their way, what each client has still to call, how long each server
-/// waits to be ticked, the phase, how many lines stand in the phases up to it, and how many of its lines have no answer yet.
+/// waits to be ticked, the phase, and how many of its lines have no answer yet.
 #[derive(Drop)]
-struct Schedule {
-    world: World<MemServer>,
+pub(crate) struct Schedule {
+    pub(crate) world: World<MemServer>,
     servers: u8,
     post: Post,
     clients: Vec<ClientSeat>,
     patience: Vec<Patience>,
     phase: u32,
-    begun: usize,
     left: usize,
-}
-
-/// How many lines a phase has, where `begun` stand in the phases before it. Lines stand by phase, so no line is read twice.
-fn lines_of_phase(lines: &[Line], begun: usize, phase: u32) -> usize {
-    match lines.get(begun..) {
-        Some(rest) => rest.iter().take_while(|line| line.phase == phase).count(),
-        None => 0,
-    }
 }
 
 /// The world of a run that begins.
@@ -59,7 +40,8 @@ fn world_of(alloc: Global, script: Script) -> Result<World<MemServer>, NoMemory>
     requires disk { begins_with_disk script.lines ≡ true }
     requires sound { IsSound script }
     requires ordered { AreOrdered script.lines }
-    ensures { IfOk result (λ world. world.script ≡ script) }
+    ensures script { IfOk result (λ world. world.script ≡ script) }
+    ensures records { IfOk result (λ world. world.records ≡ []) }
 {
     let state = fixed_state(alloc, &script)?;
     let members = members(alloc, &script, &state)?;
@@ -67,11 +49,13 @@ fn world_of(alloc: Global, script: Script) -> Result<World<MemServer>, NoMemory>
 }
 
 impl Schedule {
-    fn new(alloc: Global, script: Script) -> Result<Schedule, NoMemory>
+    /// No step was taken, and no phase has begun.
+    pub(crate) fn new(alloc: Global, script: Script) -> Result<Schedule, NoMemory>
         requires disk { begins_with_disk script.lines ≡ true }
         requires sound { IsSound script }
         requires ordered { AreOrdered script.lines }
-        ensures { IfOk result (λ schedule. schedule.world.script ≡ script) }
+        ensures script { IfOk result (λ schedule. schedule.world.script ≡ script) }
+        ensures records { IfOk result (λ schedule. schedule.world.records ≡ []) }
     {
         let servers = script.servers;
         let actors = servers as usize + CLIENTS as usize;
@@ -81,7 +65,6 @@ impl Schedule {
         }
         let post = Post::new(alloc, actors, script.lose, script.twice)?;
         let clients = seats_of(alloc, CLIENTS, &script)?;
-        let left = lines_of_phase(script.lines.as_slice(), 0, 0);
         Ok(Schedule {
             world: world_of(alloc, script)?,
             servers,
@@ -89,8 +72,7 @@ impl Schedule {
             clients,
             patience,
             phase: 0,
-            begun: left,
-            left,
+            left: 0,
         })
     }
 
@@ -134,7 +116,8 @@ impl Schedule {
 
     // Takes a step. Gives whether it was one of the world's.
     fn take(&mut self, alloc: Global, actor: Actor, step: &Step) -> Result<bool, NoMemory>
-        ensures { self.new.world.script ≡ self.old.world.script }
+        ensures script { self.new.world.script ≡ self.old.world.script }
+        ensures goes_on { GoesOn self.old.world.records self.new.world.records }
     {
         match self.world.step(alloc, actor, step) {
             Ok(stepped) => {
@@ -152,7 +135,8 @@ impl Schedule {
         actor: Actor,
         letter: SharedLetter,
     ) -> Result<(), NoMemory>
-        ensures { self.new.world.script ≡ self.old.world.script }
+        ensures script { self.new.world.script ≡ self.old.world.script }
+        ensures goes_on { GoesOn self.old.world.records self.new.world.records }
     {
         match self.post.next_handing() {
             Handing::Lost => {}
@@ -170,7 +154,8 @@ impl Schedule {
 
     // The actor gets each letter that waits for it.
     fn get_mail(&mut self, alloc: Global, actor: Actor) -> Result<(), NoMemory>
-        ensures { self.new.world.script ≡ self.old.world.script }
+        ensures script { self.new.world.script ≡ self.old.world.script }
+        ensures goes_on { GoesOn self.old.world.records self.new.world.records }
     {
         let place = self.place_of(actor);
         for _ in 0..self.post.waiting(place) {
@@ -194,7 +179,8 @@ impl Schedule {
     }
 
     fn call_next(&mut self, alloc: Global, client: ClientId) -> Result<(), NoMemory>
-        ensures { self.new.world.script ≡ self.old.world.script }
+        ensures script { self.new.world.script ≡ self.old.world.script }
+        ensures goes_on { GoesOn self.old.world.records self.new.world.records }
     {
         if let Some(line) = self.next_call(client) {
             self.note_call(client);
@@ -214,7 +200,8 @@ impl Schedule {
     }
 
     fn client_turn(&mut self, alloc: Global, client: ClientId) -> Result<(), NoMemory>
-        ensures { self.new.world.script ≡ self.old.world.script }
+        ensures script { self.new.world.script ≡ self.old.world.script }
+        ensures goes_on { GoesOn self.old.world.records self.new.world.records }
     {
         let actor = Actor::Client(client);
         self.get_mail(alloc, actor)?;
@@ -236,7 +223,8 @@ impl Schedule {
 
     // The server does jobs until none is left.
     fn work_off<R: Wait>(&mut self, rt: &R, alloc: Global, server: ServerId) -> Result<(), NoMemory>
-        ensures { self.new.world.script ≡ self.old.world.script }
+        ensures script { self.new.world.script ≡ self.old.world.script }
+        ensures goes_on { GoesOn self.old.world.records self.new.world.records }
     {
         for _ in rt.forever() {
             if !self.take(alloc, Actor::Server(server), &Step::Work(WorkEnd::Done))? {
@@ -252,7 +240,8 @@ impl Schedule {
         alloc: Global,
         server: ServerId,
     ) -> Result<(), NoMemory>
-        ensures { self.new.world.script ≡ self.old.world.script }
+        ensures script { self.new.world.script ≡ self.old.world.script }
+        ensures goes_on { GoesOn self.old.world.records self.new.world.records }
     {
         let actor = Actor::Server(server);
         self.get_mail(alloc, actor)?;
@@ -262,8 +251,12 @@ impl Schedule {
         self.work_off(rt, alloc, server)
     }
 
-    fn round<R: Wait>(&mut self, rt: &R, alloc: Global) -> Result<(), NoMemory>
-        ensures { self.new.world.script ≡ self.old.world.script }
+    /// Each client and then each server has its turn, by number. In it an actor gets the letters that were sent to it, a client
+    /// with nothing open calls its next line of the phase, a tick is passed on where the actor has waited for it long enough,
+    /// and a server works until its queue is empty.
+    pub(crate) fn round<R: Wait>(&mut self, rt: &R, alloc: Global) -> Result<(), NoMemory>
+        ensures script { self.new.world.script ≡ self.old.world.script }
+        ensures goes_on { GoesOn self.old.world.records self.new.world.records }
     {
         for client in 0..CLIENTS {
             self.client_turn(alloc, client)?;
@@ -274,52 +267,18 @@ impl Schedule {
         Ok(())
     }
 
-    // The next phase begins where each line of this one is answered.
-    fn go_on(&mut self) -> Result<(), NoMemory>
-        ensures { self.new.world.script ≡ self.old.world.script }
+    /// A phase begins, which has so many lines.
+    pub(crate) fn begin(&mut self, phase: u32, lines: usize) -> Result<(), NoMemory>
+        ensures script { self.new.world.script ≡ self.old.world.script }
+        ensures records { self.new.world.records ≡ self.old.world.records }
     {
-        if self.left == 0 && self.phase < self.world.script().phases {
-            self.phase += 1;
-            let lines = self.world.script().lines.as_slice();
-            self.left = lines_of_phase(lines, self.begun, self.phase);
-            self.begun = self.begun.saturating_add(self.left);
-            self.world.enter(self.phase)?;
-        }
-        Ok(())
+        self.phase = phase;
+        self.left = lines;
+        self.world.enter(phase)
     }
 
-    fn is_over(&self) -> bool {
-        self.left == 0 && self.phase.saturating_add(1) >= self.world.script().phases
+    /// Whether each line of the phase was answered.
+    pub(crate) fn is_through(&self) -> bool {
+        self.left == 0
     }
-}
-
-/// Plays a script, whose first request makes its disk, until each of its lines is answered. It waits for as long as that takes.
-///
-/// A round goes through the clients and then the servers, by number. Each in its turn gets the letters that were sent to it,
-/// a client with nothing open calls its next line of the present phase, a tick is passed on where the actor has waited for it
-/// long enough, and a server works until its queue is empty. A phase ends with the round in which its last line is answered.
-pub fn play<R: Wait>(rt: &R, alloc: Global, script: Script) -> Result<Run, NoMemory>
-    requires disk { begins_with_disk script.lines ≡ true }
-    requires sound { IsSound script }
-    requires ordered { AreOrdered script.lines }
-    ensures legal { IfOk result (λ run. IsLegal script run.history.records) }
-    ensures answers { IfOk result (λ run. run.answers ≡ answers_of run.history.records) }
-    ensures whole { IfOk result (λ run. all_answered run.answers script.lines ≡ true) }
-{
-    let mut schedule = Schedule::new(alloc, script)?;
-    let mut answers = Answers::new(alloc);
-    for _ in rt.forever() {
-        if schedule.is_over() {
-            answers = Answers::of_records(alloc, schedule.world.records())?;
-            if answers.has_all(schedule.world.script().lines.as_slice()) {
-                break;
-            }
-        }
-        schedule.round(rt, alloc)?;
-        schedule.go_on()?;
-    }
-    Ok(Run {
-        history: schedule.world.into_history(),
-        answers,
-    })
 }

@@ -1,4 +1,4 @@
-use Rattle.std.proofs.Common.{rules, refl}
+use Rattle.std.proofs.Common.{rules}
 use Rattle.plain_schedule.proofs.First.{in_first}
 use Rattle.plain_schedule.proofs.cast.fixed_state.Goals as goal
 

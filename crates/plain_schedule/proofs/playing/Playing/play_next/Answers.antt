@@ -1,0 +1,102 @@
+use Rattle.std.proofs.Common.{◌≡◌, ◌≤◌, ◌+◌, length, take, drop, sym, ap, ◌∙◌, arith, length-drop}
+use Rattle.std.specs.Map.{keys_of}
+use Rattle.petal_script.specs.declared.script.Script.{Script}
+use Rattle.petal_history.specs.Text.{answers_of}
+use Rattle.plain_schedule.specs.Places.{numbers, KeepsPlaces}
+use Rattle.plain_schedule.proofs.Ended.{WentOn, went_on, stood_still, kept, kept_next, goes_by_phases, grows, told_stays, ends_next}
+use Rattle.plain_schedule.proofs.playing.Playing.play_next.Goals as goal
+
+pub returns-in_err-begin-clause-by_phases : goal.returns-in_err-begin-clause-by_phases
+returns-in_err-begin-clause-by_phases g c =
+    let i = c.self.inside in
+    let new = c.begin.new.self.world in
+    let went : WentOn i.schedule.world.script new.script i.schedule.world.records new.records =
+    stood_still i.schedule.world.script new.script i.schedule.world.records new.records c.begin.ensures.script c.begin.ensures.records c.self.invariant.legal in
+    goes_by_phases new.script new.records i.told i.place (kept i.schedule.world.script new.script i.schedule.world.records new.records i.told i.place c.self.invariant went)
+
+pub invariant_of-self-in-Ok : goal.invariant_of-self-in-Ok
+invariant_of-self-in-Ok g c =
+    let i = c.self.inside in
+    let mid = c.begin.new.self.world in
+    let new = c.play_lines-played.new.schedule.world in
+    let went : WentOn i.schedule.world.script new.script i.schedule.world.records new.records =
+    went_on i.schedule.world.script mid.script new.script i.schedule.world.records mid.records new.records
+    c.begin.ensures.script c.begin.ensures.records c.play_lines-played.ensures.script c.play_lines-played.ensures.goes_on c.records-told.ensures.legal in
+    let count = c.lines_of_phase-count.result in
+    let all : length c.records-told.result.now ≡ length new.records = ap length c.records-told.ensures.value in
+    let lines : length c.as_slice-lines.result.now ≡ length i.schedule.world.script.lines = ap length c.as_slice-lines.ensures ∙ ap (λ (s : Script). length s.lines) c.script.ensures in
+    let within : i.place + count ≤ length i.schedule.world.script.lines = omega (arith, lines, c.lines_of_phase-count.ensures, length-drop i.place c.as_slice-lines.result.now, c.self.invariant.place_is) in
+    let exactly : keys_of (answers_of (drop i.told new.records)) ≡ numbers (take count (drop i.place i.schedule.world.script.lines)) =
+    ap keys_of (sym c.in-Ok.ensures.answers) ∙ c.in-Ok.ensures.exactly ∙ ap (λ (s : Script). numbers (take count (drop i.place s.lines))) c.begin.ensures.script in
+    let kept_now : KeepsPlaces new.script new.records (length c.records-told.result.now) (i.place + count) =
+    kept_next i.schedule.world.script new.script i.schedule.world.records new.records i.told i.place c.self.invariant went (length c.records-told.result.now) count all (c.phases_come_one_after_the_other.ensures.answers i.schedule.world.script) within exactly in
+    kept_now
+
+pub invariant_of-self-in-Err : goal.invariant_of-self-in-Err
+invariant_of-self-in-Err g c =
+    let i = c.self.inside in
+    let mid = c.begin.new.self.world in
+    let new = c.play_lines-played.new.schedule.world in
+    let went : WentOn i.schedule.world.script new.script i.schedule.world.records new.records =
+    went_on i.schedule.world.script mid.script new.script i.schedule.world.records mid.records new.records
+    c.begin.ensures.script c.begin.ensures.records c.play_lines-played.ensures.script c.play_lines-played.ensures.goes_on c.records-told.ensures.legal in
+    kept i.schedule.world.script new.script i.schedule.world.records new.records i.told i.place c.self.invariant went
+
+pub returns-in-Ok-clause-by_phases : goal.returns-in-Ok-clause-by_phases
+returns-in-Ok-clause-by_phases g c =
+    let i = c.self.inside in
+    let mid = c.begin.new.self.world in
+    let new = c.play_lines-played.new.schedule.world in
+    let went : WentOn i.schedule.world.script new.script i.schedule.world.records new.records =
+    went_on i.schedule.world.script mid.script new.script i.schedule.world.records mid.records new.records
+    c.begin.ensures.script c.begin.ensures.records c.play_lines-played.ensures.script c.play_lines-played.ensures.goes_on c.records-told.ensures.legal in
+    let count = c.lines_of_phase-count.result in
+    let all : length c.records-told.result.now ≡ length new.records = ap length c.records-told.ensures.value in
+    let lines : length c.as_slice-lines.result.now ≡ length i.schedule.world.script.lines = ap length c.as_slice-lines.ensures ∙ ap (λ (s : Script). length s.lines) c.script.ensures in
+    let within : i.place + count ≤ length i.schedule.world.script.lines = omega (arith, lines, c.lines_of_phase-count.ensures, length-drop i.place c.as_slice-lines.result.now, c.self.invariant.place_is) in
+    let exactly : keys_of (answers_of (drop i.told new.records)) ≡ numbers (take count (drop i.place i.schedule.world.script.lines)) =
+    ap keys_of (sym c.in-Ok.ensures.answers) ∙ c.in-Ok.ensures.exactly ∙ ap (λ (s : Script). numbers (take count (drop i.place s.lines))) c.begin.ensures.script in
+    let kept_now : KeepsPlaces new.script new.records (length c.records-told.result.now) (i.place + count) =
+    kept_next i.schedule.world.script new.script i.schedule.world.records new.records i.told i.place c.self.invariant went (length c.records-told.result.now) count all (c.phases_come_one_after_the_other.ensures.answers i.schedule.world.script) within exactly in
+    goes_by_phases new.script new.records (length c.records-told.result.now) (i.place + count) kept_now
+
+pub returns-in-Ok-clause-ends : goal.returns-in-Ok-clause-ends
+returns-in-Ok-clause-ends g c =
+    let i = c.self.inside in
+    let mid = c.begin.new.self.world in
+    let new = c.play_lines-played.new.schedule.world in
+    let went : WentOn i.schedule.world.script new.script i.schedule.world.records new.records =
+    went_on i.schedule.world.script mid.script new.script i.schedule.world.records mid.records new.records
+    c.begin.ensures.script c.begin.ensures.records c.play_lines-played.ensures.script c.play_lines-played.ensures.goes_on c.records-told.ensures.legal in
+    let all : length c.records-told.result.now ≡ length new.records = ap length c.records-told.ensures.value in
+    ends_next i.schedule.world.script new.script i.schedule.world.records new.records i.told i.place c.self.invariant went c.args.self.now c.self.view_is (length c.records-told.result.now) c.in-Ok.answers all c.in-Ok.ensures.answers
+
+pub returns-in-Err-clause-by_phases : goal.returns-in-Err-clause-by_phases
+returns-in-Err-clause-by_phases g c =
+    let i = c.self.inside in
+    let mid = c.begin.new.self.world in
+    let new = c.play_lines-played.new.schedule.world in
+    let went : WentOn i.schedule.world.script new.script i.schedule.world.records new.records =
+    went_on i.schedule.world.script mid.script new.script i.schedule.world.records mid.records new.records
+    c.begin.ensures.script c.begin.ensures.records c.play_lines-played.ensures.script c.play_lines-played.ensures.goes_on c.records-told.ensures.legal in
+    goes_by_phases new.script new.records i.told i.place (kept i.schedule.world.script new.script i.schedule.world.records new.records i.told i.place c.self.invariant went)
+
+pub returns-in-Err-clause-grows : goal.returns-in-Err-clause-grows
+returns-in-Err-clause-grows g c =
+    let i = c.self.inside in
+    let mid = c.begin.new.self.world in
+    let new = c.play_lines-played.new.schedule.world in
+    let went : WentOn i.schedule.world.script new.script i.schedule.world.records new.records =
+    went_on i.schedule.world.script mid.script new.script i.schedule.world.records mid.records new.records
+    c.begin.ensures.script c.begin.ensures.records c.play_lines-played.ensures.script c.play_lines-played.ensures.goes_on c.records-told.ensures.legal in
+    grows i.schedule.world.script new.script i.schedule.world.records new.records i.told i.place c.self.invariant went c.args.self.now c.self.view_is i.told
+
+pub returns-in-Err-clause-no_memory : goal.returns-in-Err-clause-no_memory
+returns-in-Err-clause-no_memory g c =
+    let i = c.self.inside in
+    let mid = c.begin.new.self.world in
+    let new = c.play_lines-played.new.schedule.world in
+    let went : WentOn i.schedule.world.script new.script i.schedule.world.records new.records =
+    went_on i.schedule.world.script mid.script new.script i.schedule.world.records mid.records new.records
+    c.begin.ensures.script c.begin.ensures.records c.play_lines-played.ensures.script c.play_lines-played.ensures.goes_on c.records-told.ensures.legal in
+    told_stays i.schedule.world.script new.script i.schedule.world.records new.records i.told i.place c.self.invariant went c.args.self.now c.self.view_is

@@ -1,0 +1,208 @@
+//! A script that is played phase by phase.
+
+ghost use Rattle.std.specs.Prelude.{◌≡◌, ◌+◌, ◌≤◌, [], true, length, take, drop, IfOk, OnErr, IfSome, IfNone};
+ghost use Rattle.std.specs.Map.{keys_of};
+ghost use Rattle.law_answers.specs.Order.{AreRising};
+ghost use Rattle.petal_history.specs.Legal.{IsLegal};
+ghost use Rattle.petal_history.specs.Sound.{IsSound};
+ghost use Rattle.petal_history.specs.Text.{answers_of};
+ghost use Rattle.petal_world.specs.Playable.{AreOrdered};
+ghost use Rattle.plain_schedule.specs.Phases.{Ends, GoesByPhases, IsFront, records_of};
+ghost use Rattle.plain_schedule.specs.Places.{GoesOn, numbers, progress_of, KeepsPlaces};
+ghost use Rattle.plain_schedule.specs.Whole.{all_answered, begins_with_disk};
+
+use crate::answers::Answers;
+use crate::schedule::Schedule;
+use law_answers::phases_come_one_after_the_other;
+use petal_base::NoMemory;
+use petal_history::History;
+use petal_script::{Line, Script};
+use std::alloc::Global;
+use std::marker::Model;
+use std::sync::Wait;
+
+/// A script in play. Contracts see the script, the records of the phases that have ended, and the records since.
+#[derive(Drop)]
+pub struct Playing {
+    schedule: Schedule,
+    // How many records are of ended phases, and how many lines these answer.
+    told: usize,
+    place: usize,
+    // The phase that comes next.
+    phase: u32,
+    // Memory was wanting, so that no step follows.
+    stopped: bool,
+}
+
+impl Model for Playing {
+    ghost use Rattle.plain_schedule.specs.Phases.{Progress};
+    ghost use Rattle.plain_schedule.specs.Places.{progress_of, KeepsPlaces};
+
+    ghost Value = { Progress };
+
+    ghost view = { λ p. progress_of p.schedule.world.script p.schedule.world.records p.told };
+
+    ghost invariant = { λ p. KeepsPlaces p.schedule.world.script p.schedule.world.records p.told p.place };
+}
+
+/// How many of the first of these lines are of the phase.
+fn lines_of_phase(lines: &[Line], phase: u32) -> usize
+    ensures { result ≤ length lines.now }
+{
+    match lines.iter().position(|line| line.phase != phase) {
+        Some(count) => count,
+        None => lines.len(),
+    }
+}
+
+/// The answers of the records from this place on, where they are exactly those of the next lines.
+fn phase_answers(
+    alloc: Global,
+    schedule: &Schedule,
+    told: usize,
+    place: usize,
+    count: usize,
+) -> Result<Option<Answers>, NoMemory>
+    requires told { told ≤ length schedule.now.world.records }
+    requires lines { place + count ≤ length schedule.now.world.script.lines }
+    ensures answers { IfOk result (λ o. IfSome o (λ answers. answers ≡ answers_of (drop told schedule.now.world.records))) }
+    ensures exactly { IfOk result (λ o. IfSome o (λ answers. keys_of answers ≡ numbers (take count (drop place schedule.now.world.script.lines)))) }
+{
+    let answers = Answers::of_records(alloc, &schedule.world.records()[told..])?;
+    let lines = &schedule.world.script().lines.as_slice()[place..place + count];
+    if answers.are_of(lines) {
+        Ok(Some(answers))
+    } else {
+        Ok(None)
+    }
+}
+
+/// Goes through rounds until exactly the next lines are answered.
+fn play_lines<R: Wait>(
+    rt: &R,
+    alloc: Global,
+    schedule: &mut Schedule,
+    told: usize,
+    place: usize,
+    count: usize,
+) -> Result<Answers, NoMemory>
+    requires told { told ≤ length schedule.old.world.records }
+    requires lines { place + count ≤ length schedule.old.world.script.lines }
+    ensures script { schedule.new.world.script ≡ schedule.old.world.script }
+    ensures goes_on { GoesOn schedule.old.world.records schedule.new.world.records }
+    ensures answers { IfOk result (λ answers. answers ≡ answers_of (drop told schedule.new.world.records)) }
+    ensures exactly { IfOk result (λ answers. keys_of answers ≡ numbers (take count (drop place schedule.old.world.script.lines))) }
+{
+    let mut found = Answers::new(alloc);
+    for _ in rt.forever() {
+        if schedule.is_through() {
+            if let Some(answers) = phase_answers(alloc, schedule, told, place, count)? {
+                found = answers;
+                break;
+            }
+        }
+        schedule.round(rt, alloc)?;
+    }
+    Ok(found)
+}
+
+impl Playing {
+    /// The play of a script, whose first request makes its disk, before its first step.
+    pub fn start(alloc: Global, script: Script) -> Result<Playing, NoMemory>
+        requires disk { begins_with_disk script.lines ≡ true }
+        requires sound { IsSound script }
+        requires ordered { AreOrdered script.lines }
+        requires rising { AreRising script.lines }
+        ensures start { IfOk result (λ playing. playing ≡ record { script = script; ended = []; since = [] }) }
+        ensures by_phases { IfOk result (λ playing. GoesByPhases playing) }
+    {
+        Ok(Playing {
+            schedule: Schedule::new(alloc, script)?,
+            told: 0,
+            place: 0,
+            phase: 0,
+            stopped: false,
+        })
+    }
+
+    // Whether no phase is left, and no line.
+    fn is_over(&self) -> bool
+        ensures { result ≡ true → all_answered (answers_of self.now.ended) self.now.script.lines ≡ true }
+    {
+        let script = self.schedule.world.script();
+        if self.phase < script.phases {
+            return false;
+        }
+        if self.place < script.lines.len() {
+            return false;
+        }
+        true
+    }
+
+    // The next phase is played.
+    fn play_next<R: Wait>(&mut self, rt: &R, alloc: Global) -> Result<Answers, NoMemory>
+        ensures script { self.new.script ≡ self.old.script }
+        ensures by_phases { GoesByPhases self.new }
+        ensures grows { IsFront (records_of self.old) (records_of self.new) }
+        ensures ends { IfOk result (λ answers. Ends self.old self.new answers) }
+        ensures no_memory { OnErr result (self.new.ended ≡ self.old.ended) }
+    {
+        phases_come_one_after_the_other();
+        let lines = self.schedule.world.script().lines.as_slice();
+        let count = lines_of_phase(&lines[self.place..], self.phase);
+        self.schedule.begin(self.phase, count)?;
+        let played = play_lines(rt, alloc, &mut self.schedule, self.told, self.place, count);
+        let told = self.schedule.world.records().len();
+        match played {
+            Ok(answers) => {
+                self.told = told;
+                self.place += count;
+                self.phase = self.phase.saturating_add(1);
+                Ok(answers)
+            }
+            Err(NoMemory) => Err(NoMemory),
+        }
+    }
+
+    /// Plays the next phase until each of its lines is answered, and gives the answers of the records since the phase before.
+    /// None comes where no phase is left and each line is answered. It waits for as long as that takes. A phase ends with the
+    /// round in which its last line is answered. After want of memory no step follows, and want of memory is told again.
+    pub fn play_phase<R: Wait>(
+        &mut self,
+        rt: &R,
+        alloc: Global,
+    ) -> Result<Option<Answers>, NoMemory>
+        // At each end.
+        ensures script { self.new.script ≡ self.old.script }
+        ensures by_phases { GoesByPhases self.new }
+        ensures grows { IsFront (records_of self.old) (records_of self.new) }
+
+        // What the end is.
+        ensures ends { IfOk result (λ phase. IfSome phase (λ answers. Ends self.old self.new answers)) }
+        ensures over { IfOk result (λ phase. IfNone phase (self.new ≡ self.old)) }
+        ensures whole { IfOk result (λ phase. IfNone phase (all_answered (answers_of self.old.ended) self.old.script.lines ≡ true)) }
+        ensures no_memory { OnErr result (self.new.ended ≡ self.old.ended) }
+    {
+        if self.stopped {
+            return Err(NoMemory);
+        }
+        if self.is_over() {
+            return Ok(None);
+        }
+        match self.play_next(rt, alloc) {
+            Ok(answers) => Ok(Some(answers)),
+            Err(NoMemory) => {
+                self.stopped = true;
+                Err(NoMemory)
+            }
+        }
+    }
+
+    /// The history of all steps.
+    pub fn into_history(self) -> History
+        ensures value { result ≡ record { records = records_of self } }
+        ensures legal { IsLegal self.script (records_of self) }
+    {
+        self.schedule.world.into_history()
+    }
+}
