@@ -1,2 +1,1 @@
-pub mod Blank
 pub mod Casting

@@ -6,3 +6,4 @@ pub mod Opens
 pub mod Follows
 pub mod Leads
 pub mod Letters
+pub mod Blank
