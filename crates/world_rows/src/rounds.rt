@@ -59,9 +59,10 @@ impl Rounds {
     }
 
     fn go_on(&mut self) -> Result<(), NoMemory> {
-        if self.phase + 1 < self.run.script().phases && self.is_answered(self.phase) {
-            self.phase += 1;
-            self.run.enter(self.phase)?;
+        let next = self.phase.saturating_add(1);
+        if next < self.run.script().phases && self.is_answered(self.phase) {
+            self.phase = next;
+            self.run.enter(next)?;
         }
         Ok(())
     }
