@@ -1,5 +1,5 @@
 -- A read leaves all but the device's state as it was.
-use Rattle.std.proofs.Common.{◌≡◌, ◌≤◌, ◌<◌, ℕ, List, Result, Ok, Err, true, refl, ap, ◌∙◌, arith}
+use Rattle.std.proofs.Common.{◌≡◌, ◌≤◌, ◌<◌, ℕ, List, Result, Ok, Err, true, refl, sym, ap, ◌∙◌, arith}
 use Rattle.petal_base.specs.declared.place.Cell.{Cell}
 use Rattle.petal_msg.specs.declared.body.Body.{Body}
 use Rattle.petal_msg.specs.declared.letter.Actor.TheVariants as actor
@@ -24,6 +24,7 @@ module _ {D : Type 0} (told : Type 0) (faults : D → ℕ) (came_to : D → D �
     keeps = job.keeps;
     same = λ e. cc;
     kept = tt;
+    full = λ no. absurd (cc);
     cause = record { later = later; failed = λ e. cc };
     run = run;
   }
@@ -32,6 +33,7 @@ module _ {D : Type 0} (told : Type 0) (faults : D → ℕ) (came_to : D → D �
     keeps = tt;
     same = λ n. same;
     kept = λ t. ap (λ (d : Desk D). d.store.entries) same;
+    full = λ f. ap (λ (d : Desk D). d.store.log.region.count) (sym same) ∙ job.full f;
     cause = record { later = later; failed = λ f. (let r = job.cause.failed f in omega arith) };
     run = run;
   }

@@ -1,6 +1,6 @@
 //! A server.
 
-ghost use Rattle.std.specs.Prelude.{◌≡◌, ◌<◌, ◌-◌, ◌^◌, ◌++◌, ◌∷◌, ◌||◌, ◌↔◌, ◌≢◌, [], false, IsTrue, IfOk, OnOk, OnErr, Err};
+ghost use Rattle.std.specs.Prelude.{◌≡◌, ◌<◌, ◌-◌, ◌^◌, ◌++◌, ◌∷◌, ◌||◌, ◌↔◌, ◌≢◌, [], false, IsTrue, IfOk, OnOk, OnErr, IsErrOf, Err};
 ghost use Rattle.petal_rules.specs.Jobs.{ticks};
 ghost use Rattle.petal_rules.specs.Store as stores;
 ghost use Rattle.petal_rules.specs.World.{greatest_u64};
@@ -128,7 +128,8 @@ impl ServerCore {
     /// Does the first job of the queue, with at most one commit.
     ///
     /// # Errors
-    /// `Failed`, `JournalFull`: the server is to be stopped. `NoMemory`: nothing happened.
+    /// `Failed` where the device failed, `JournalFull` only where the store's journal had all its records: the server is to be
+    /// stopped. `NoMemory`: nothing happened.
     pub fn work<D: Disk>(
         &mut self,
         alloc: Global,
@@ -140,6 +141,7 @@ impl ServerCore {
         ensures place { here_in self.new ≡ here_in self.old }
         ensures keeps { OnOk result (HasTicketsAt (desk_of self.new store.new)) }
         ensures same { result ≡ Err error.NoMemory → (self.new ≡ self.old) × (store.new ≡ record store.old { disk = store.new.disk }) }
+        ensures full { IsErrOf result error.JournalFull → store.old.log.region.count ≡ 65536 }
         ensures cause { HasFault (D.faults store.old.disk) (D.faults store.new.disk) result }
         ensures run { D.came_to store.old.disk store.new.disk }
     {

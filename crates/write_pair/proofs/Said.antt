@@ -24,6 +24,7 @@ module _ {D : Type 0} (told : Type 0) (faults : D → ℕ) (came_to : D → D �
     keeps = said.keeps;
     same = λ no. absurd (cc);
     kept = tt;
+    full = λ no. absurd (cc);
     cause = record { later = let same = ap faults (disk_is old.store new.store said.store) in omega (arith, same); failed = λ no. absurd (cc) };
     run = run_same old.store new.store (disk_is old.store new.store said.store);
   }
@@ -32,6 +33,7 @@ module _ {D : Type 0} (told : Type 0) (faults : D → ℕ) (came_to : D → D �
     keeps = tt;
     same = λ _. said.err.1;
     kept = λ _. entries_are old.store new.store said.store;
+    full = λ is. absurd (let e_is : e ≡ NoMemory = said.err.0 in cc);
     cause = record { later = let same = ap faults (disk_is old.store new.store said.store) in omega (arith, same); failed = λ is. absurd (let e_is : e ≡ NoMemory = said.err.0 in cc) };
     run = run_same old.store new.store (disk_is old.store new.store said.store);
   }
@@ -43,6 +45,7 @@ module _ {D : Type 0} (told : Type 0) (faults : D → ℕ) (came_to : D → D �
     keeps = tt;
     same = λ _. refl;
     kept = λ _. refl;
+    full = λ is. absurd (cc);
     cause = record { later = omega arith; failed = λ is. absurd (cc) };
     run = stays old.store.disk;
   }

@@ -13,7 +13,7 @@ use Rattle.petal_rules.specs.declared.job.Job.TheVariants as job
 use Rattle.server_store.specs.Holdings.{Holdings, listed}
 use Rattle.kept_chains.specs.Kept.{kept_of}
 use Rattle.write_pair.specs.declared.error.WorkError.{WorkError}
-use Rattle.write_pair.specs.declared.error.WorkError.TheVariants.{Failed, NoMemory}
+use Rattle.write_pair.specs.declared.error.WorkError.TheVariants.{Failed, JournalFull, NoMemory}
 use Rattle.write_pair.specs.declared.outcome.Outcome.{Outcome}
 use Rattle.write_pair.specs.Books.{Books, HasTickets, in_stages}
 
@@ -77,12 +77,14 @@ pub record IsSaid {D : Type 0} (here : Here) (next : ℕ) (old new : Desk D) (re
   pub store : new.store ≡ record old.store { tickets = new.store.tickets }
 
 -- a job is the rule's where the device tells its bytes, and the tickets still stand where they are needed; one that was refused
--- for memory left all as it was, and any other refusal the entries
+-- for memory left all as it was, and any other refusal the entries. `JournalFull` comes only where the store's journal had all
+-- its records
 pub record IsDone {D : Type 0} (told : Type 0) (faults : D → ℕ) (came_to : D → D → Type 0) (here : Here) (next : ℕ) (old new : Desk D) (result : Result Outcome WorkError) (rule : Done) : Type 0 where
   pub done : IfOk result (λ out. told → left_with next new out ≡ left_by here rule)
   pub keeps : OnOk result (HasTicketsAt new)
   pub same : result ≡ Err NoMemory → new ≡ old
   pub kept : OnErr result (told → new.store.entries ≡ old.store.entries)
+  pub full : result ≡ Err JournalFull → old.store.log.region.count ≡ 65536
   pub cause : HasFault (faults old.store.disk) (faults new.store.disk) result
   pub run : came_to old.store.disk new.store.disk
 

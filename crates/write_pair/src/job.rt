@@ -25,8 +25,8 @@ use std::alloc::Global;
 /// it opens. Behind Ok all is as the rule `handles` says, where the device tells its bytes.
 ///
 /// # Errors
-/// `NoMemory`, and then nothing changed; `Failed` where the device failed, and `JournalFull`: the entries are as they were,
-/// and the server is to be stopped.
+/// `NoMemory`, and then nothing changed; `Failed` where the device failed, and `JournalFull` only where the store's journal had
+/// all its records: the entries are as they were, and the server is to be stopped.
 #[tactic(auto, unfolding(petal_rules::specs::Jobs::handles))]
 pub fn on_letter<D: Disk>(
     alloc: Global,

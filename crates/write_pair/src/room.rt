@@ -1,12 +1,13 @@
 //! Slots set apart by cell.
 
-ghost use Rattle.std.specs.Prelude.{◌≡◌, ◌+◌, ◌++◌, ◌∷◌, [], nat_lt, true, false, ℕ, None, Some, IsSome, IfOk, OnOk, OnErr, IfErr};
+ghost use Rattle.std.specs.Prelude.{◌≡◌, ◌+◌, ◌++◌, ◌∷◌, [], nat_lt, true, false, ℕ, None, Some, IsSome, IfOk, OnOk, OnErr, IfErr, IsErrOf};
 ghost use Rattle.std.specs.List.Sorted.{IsStrictlySortedBy};
 ghost use Rattle.std.specs.Map.{keys_of};
 ghost use Rattle.petal_table.specs.Table.{at, put, without};
 ghost use Rattle.petal_rules.specs.Store.{cell_cmp, free_of, with_entry};
 ghost use Rattle.server_store.specs.Tickets as lists;
 ghost use Rattle.kept_chains.specs.Kept.{kept_of};
+ghost use Rattle.write_pair.specs.declared.error.WorkError.TheVariants as error;
 ghost use Rattle.write_pair.specs.Desk.{HasFault};
 ghost use Rattle.write_pair.specs.Slots.{IsKept, IsStop, IsOutAt};
 
@@ -57,6 +58,7 @@ pub fn spend<D: Disk>(
     ensures sorted { IsStrictlySortedBy cell_cmp (keys_of table.old) }
     ensures kept { OnErr result (D.told → store.new.entries ≡ store.old.entries) }
     ensures errors { IfErr result IsStop }
+    ensures full { IsErrOf result error.JournalFull → store.old.log.region.count ≡ 65536 }
     ensures cause { HasFault (D.faults store.old.disk) (D.faults store.new.disk) result }
     ensures run { D.came_to store.old.disk store.new.disk }
 {

@@ -28,6 +28,7 @@ returns g c =
           table c.in_ok-spend.ensures.sorted own.1 c.in_ok-spend.ensures.table (c.in_ok-spend.ensures.tickets own.0 own.1) c.requires.reserved;
       same = λ no. absurd (cc);
       kept = tt;
+      full = λ no. absurd (cc);
       cause = record { later = c.in_ok-spend.ensures.cause.later; failed = λ no. absurd (cc) };
       run = c.in_ok-spend.ensures.run;
     })
