@@ -128,8 +128,8 @@ impl ServerCore {
     /// Does the first job of the queue, with at most one commit.
     ///
     /// # Errors
-    /// `Failed` where the device failed, `JournalFull` only where the store's journal had all its records: the server is to be
-    /// stopped. `NoMemory`: nothing happened.
+    /// `Failed` where the device failed, `JournalFull` only where the store's journal had all its records: the entries are as
+    /// they were, and the server is to be stopped. `NoMemory`: nothing happened.
     pub fn work<D: Disk>(
         &mut self,
         alloc: Global,
@@ -141,6 +141,7 @@ impl ServerCore {
         ensures place { here_in self.new ≡ here_in self.old }
         ensures keeps { OnOk result (HasTicketsAt (desk_of self.new store.new)) }
         ensures same { result ≡ Err error.NoMemory → (self.new ≡ self.old) × (store.new ≡ record store.old { disk = store.new.disk }) }
+        ensures kept { OnErr result (D.told → store.new.entries ≡ store.old.entries) }
         ensures full { IsErrOf result error.JournalFull → store.old.log.region.count ≡ 65536 }
         ensures cause { HasFault (D.faults store.old.disk) (D.faults store.new.disk) result }
         ensures run { D.came_to store.old.disk store.new.disk }
