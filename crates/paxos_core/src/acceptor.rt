@@ -1,10 +1,11 @@
 //! The acceptor, over its server's state store.
 
-ghost use Rattle.std.specs.Prelude.{◌≡◌, ◌⊎◌, ◌≤◌, ◌<◌, if◌then◌else◌, ℕ, None, OnOk, OnErr, IfOk, IsErrOf};
+ghost use Rattle.std.specs.Prelude.{◌≡◌, ◌⊎◌, ◌≤◌, ◌<◌, if◌then◌else◌, ℕ, None, OnOk, OnErr, IfOk, IfErr, IsErrOf};
 ghost use Rattle.petal_disk.specs.Disk.{LeavesOnly};
 ghost use Rattle.petal_paxos.specs.Member.{put};
 ghost use Rattle.petal_paxos.specs.Acceptor.{is_open, on_prepare, prepare_reply, on_accept, accept_reply};
 ghost use Rattle.state_store.specs.Device.{Holds, WithOrWithout};
+ghost use Rattle.state_store.specs.Errors.{IsCommitError};
 ghost use Rattle.state_store.specs.Kept.{acceptor_of};
 ghost use Rattle.state_store.specs.declared.record.StateRecord.TheVariants as kind;
 ghost use Rattle.state_store.specs.declared.error.StateError.TheVariants as error;
@@ -32,6 +33,7 @@ pub fn on_prepare<D: Disk>(
         → LeavesOnly D.moment D.left_since store.old.disk store.new.disk (λ c. WithOrWithout c store.old.records (kind.Promise place ballot)) }
     ensures full { IsErrOf result error.JournalFull → (store.old.region.count ≡ 65536) × (store.new ≡ store.old) }
     ensures memory { IsErrOf result error.NoMemory → store.new ≡ store.old }
+    ensures only { IfErr result IsCommitError }
     ensures failed { IsErrOf result error.Failed → D.faults store.old.disk < D.faults store.new.disk }
     ensures later { D.faults store.old.disk ≤ D.faults store.new.disk }
     ensures run { D.came_to store.old.disk store.new.disk }
@@ -72,6 +74,7 @@ pub fn on_accept<D: Disk>(
         → LeavesOnly D.moment D.left_since store.old.disk store.new.disk (λ c. WithOrWithout c store.old.records (kind.Accepted place ballot command.now)) }
     ensures full { IsErrOf result error.JournalFull → (store.old.region.count ≡ 65536) × (store.new ≡ store.old) }
     ensures memory { IsErrOf result error.NoMemory → store.new ≡ store.old }
+    ensures only { IfErr result IsCommitError }
     ensures failed { IsErrOf result error.Failed → D.faults store.old.disk < D.faults store.new.disk }
     ensures later { D.faults store.old.disk ≤ D.faults store.new.disk }
     ensures run { D.came_to store.old.disk store.new.disk }

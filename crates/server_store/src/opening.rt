@@ -89,6 +89,7 @@ fn read_header<D: Disk>(disk: &mut D) -> Result<Option<Header>, Failed>
     ensures found { IfOk result (λ o. IfSome o (λ said. D.told → take 64 (D.seen disk.old) ≡ header said.slots said.fresh)) }
     ensures only { (slots : ℕ) (fresh : Bool) → IfOk result (λ o. IfSome o (λ said. D.told → slots < 2 ^ 32 → take 64 (D.seen disk.old) ≡ header slots fresh → (said.slots ≡ slots) × (said.fresh ≡ fresh))) }
     ensures room { IfOk result (λ o. IfSome o (λ said. slot_start said.slots ≤ D.size disk.old)) }
+    ensures small { IfOk result (λ o. IfSome o (λ said. said.slots < 2 ^ 32)) }
     ensures blank { IfOk result (λ o. IfNone o (D.told → IsBlank (D.seen disk.old) (D.size disk.old))) }
     ensures durable { IfOk result (λ o. IfSome o (λ _. D.told → Only (D.seen disk.new) (D.may_leave disk.new))) }
     ensures seen { D.seen disk.new ≡ D.seen disk.old }
@@ -122,6 +123,7 @@ pub fn read_device<D: Disk>(alloc: Global, disk: &mut D) -> Result<Option<Found>
         → (f.ledger.slots ≡ slots) × (f.log.fresh ≡ fresh) × (f.log.records ≡ records) × Logs slots f.log (D.seen disk.new) (D.may_leave disk.new))) }
     ensures durable { IfOk result (λ o. IfSome o (λ _. D.told → Only (D.seen disk.new) (D.may_leave disk.new))) }
     ensures bad { (index slots : ℕ) (fresh : Bool) → IfErr result (λ e. e ≡ error.BadRecord index → D.told → slots < 2 ^ 32 → take 64 (D.seen disk.old) ≡ header slots fresh → IsBadOn (D.seen disk.old) slots fresh index) }
+    ensures bad_headed { (index : ℕ) → IfErr result (λ e. e ≡ error.BadRecord index → D.told → ¬ IsBlank (D.seen disk.old) (D.size disk.old)) }
     ensures good { (slots : ℕ) (fresh : Bool) (records : List StoreRecord) → IfErr result (λ e. D.told → slots < 2 ^ 32 → StandsFor (D.seen disk.old) slots fresh records → IsGoodError e) }
     ensures errors { IfErr result IsOpenError }
     ensures seen { D.seen disk.new ≡ D.seen disk.old }

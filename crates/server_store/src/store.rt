@@ -120,6 +120,7 @@ impl<D: Disk> Store<D> {
             → IsStore o (λ store. Reopened slots fresh recorded picture store (D.seen store.disk) (D.may_leave store.disk))) }
         ensures blank { IfOk result (λ o. IfBlank o (λ _. D.told → IsBlank (D.seen disk) (D.size disk))) }
         ensures bad { (index slots : ℕ) (fresh : Bool) → IfErr result (λ e. e.1 ≡ StoreError.BadRecord index → D.told → slots < 2 ^ 32 → take 64 (D.seen disk) ≡ header slots fresh → IsBadOn (D.seen disk) slots fresh index) }
+        ensures bad_headed { (index : ℕ) → IfErr result (λ e. e.1 ≡ StoreError.BadRecord index → D.told → ¬ IsBlank (D.seen disk) (D.size disk)) }
         ensures good { (slots : ℕ) (fresh : Bool) (recorded : List StoreRecord) → IfErr result (λ e. D.told → slots < 2 ^ 32 → StandsFor (D.seen disk) slots fresh recorded → IsGoodError e.1) }
         ensures errors { IfErr result (λ e. IsOpenError e.1) }
         ensures failed { IfErr result (λ e. e.1 ≡ StoreError.Failed → D.faults disk < D.faults e.0) }

@@ -25,3 +25,11 @@ IsAppendError Blank = ⊥
 IsAppendError (BadRecord index) = ⊥
 IsAppendError JournalFull = ⊤
 IsAppendError NoMemory = ⊥
+
+-- the refusals of a commit that may take memory
+abbrev pub IsCommitError : StateError → Type 0
+IsCommitError Failed = ⊤
+IsCommitError Blank = ⊥
+IsCommitError (BadRecord index) = ⊥
+IsCommitError JournalFull = ⊤
+IsCommitError NoMemory = ⊤

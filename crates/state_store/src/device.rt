@@ -92,6 +92,7 @@ impl<D: Disk> Device<D> {
         ensures blank { IfErr result (λ e. e.1 ≡ error.Blank → D.told → 8392704 ≤ D.size disk → take 64 (D.seen disk) ≢ header) }
         ensures bad { (index : ℕ) → IfErr result (λ e. e.1 ≡ error.BadRecord index → D.told → IsOpen 128 4096 (D.seen disk) index × ((r : StateRecord) → HasBody r → body_at 128 4096 (D.seen disk) index ≡ body_of r → ⊥)) }
         ensures failed { IfErr result (λ e. e.1 ≡ error.Failed → D.faults disk < D.faults e.0) }
+        ensures bad_headed { (index : ℕ) → IfErr result (λ e. e.1 ≡ error.BadRecord index → (8392704 ≤ D.size disk) × (D.told → take 64 (D.seen disk) ≡ header)) }
         ensures not_full { IfErr result (λ e. e.1 ≢ error.JournalFull) }
     {
         let mut disk = disk;
@@ -186,6 +187,7 @@ fn read_device<D: Disk>(alloc: Global, disk: &mut D) -> Result<(Journal<128>, Re
     ensures blank { IsErrOf result error.Blank → D.told → 8392704 ≤ D.size disk.old → take 64 (D.seen disk.old) ≢ header }
     ensures bad { (index : ℕ) → IfErr result (λ e. e ≡ error.BadRecord index → D.told → IsOpen 128 4096 (D.seen disk.old) index × ((r : StateRecord) → HasBody r → body_at 128 4096 (D.seen disk.old) index ≡ body_of r → ⊥)) }
     ensures failed { IsErrOf result error.Failed → D.faults disk.old < D.faults disk.new }
+    ensures bad_headed { (index : ℕ) → IfErr result (λ e. e ≡ error.BadRecord index → (8392704 ≤ D.size disk.old) × (D.told → take 64 (D.seen disk.old) ≡ header)) }
     ensures not_full { ¬ IsErrOf result error.JournalFull }
 {
     if disk.len() < DEVICE_BYTES {

@@ -6,6 +6,7 @@ ghost use Rattle.petal_disk.specs.Disk.{LeavesOnly};
 ghost use Rattle.block_journal.specs.Records.{Counts, IsOpen, body_at};
 ghost use Rattle.state_store.specs.Body.{body_of, HasBody};
 ghost use Rattle.state_store.specs.Device.{header, bodies_of, AreSpelled, StandsFor, Holds, WithOrWithout};
+ghost use Rattle.state_store.specs.Errors.{IsAppendError, IsCommitError};
 ghost use Rattle.state_store.specs.declared.record.StateRecord.{StateRecord};
 ghost use Rattle.state_store.specs.Kept.{row_of, row_after, inc_of, inc_after, AddsNothing, Commits};
 ghost use Rattle.state_store.specs.declared.row.Row.{Row};
@@ -84,6 +85,7 @@ impl<D: Disk> StateStore<D> {
         ensures blank { IfErr result (λ e. e.1 ≡ error.Blank → D.told → 8392704 ≤ D.size disk → take 64 (D.seen disk) ≢ header) }
         ensures bad { (index : ℕ) → IfErr result (λ e. e.1 ≡ error.BadRecord index → D.told → IsOpen 128 4096 (D.seen disk) index × ((r : StateRecord) → HasBody r → body_at 128 4096 (D.seen disk) index ≡ body_of r → ⊥)) }
         ensures failed { IfErr result (λ e. e.1 ≡ error.Failed → D.faults disk < D.faults e.0) }
+        ensures bad_headed { (index : ℕ) → IfErr result (λ e. e.1 ≡ error.BadRecord index → (8392704 ≤ D.size disk) × (D.told → take 64 (D.seen disk) ≡ header)) }
         ensures not_full { IfErr result (λ e. e.1 ≢ error.JournalFull) }
     {
         match Device::open(alloc, disk) {
@@ -135,6 +137,7 @@ impl<D: Disk> StateStore<D> {
         ensures full { IsErrOf result error.JournalFull → (self.old.region.count ≡ 65536) × (self.new ≡ self.old) }
         ensures full_comes { self.old.region.count ≡ 65536 → inc_of self.old.records ≢ 4294967295 → IsErrOf result error.JournalFull }
         ensures memory { ¬ IsErrOf result error.NoMemory }
+        ensures only { IfErr result IsAppendError }
         ensures failed { IsErrOf result error.Failed → D.faults self.old.disk < D.faults self.new.disk }
         ensures holds { D.told → Holds self.old.region (D.seen self.old.disk) (D.may_leave self.old.disk) self.old.records
             → OnOk result (Holds self.new.region (D.seen self.new.disk) (D.may_leave self.new.disk) self.new.records) }
@@ -164,6 +167,7 @@ impl<D: Disk> StateStore<D> {
         ensures full { IsErrOf result error.JournalFull → (self.old.region.count ≡ 65536) × (¬ AddsNothing self.old.records (kind.Promise place ballot)) × (self.new ≡ self.old) }
         ensures full_comes { self.old.region.count ≡ 65536 → ¬ AddsNothing self.old.records (kind.Promise place ballot) → IsErrOf result error.JournalFull ⊎ IsErrOf result error.NoMemory }
         ensures memory { IsErrOf result error.NoMemory → self.new ≡ self.old }
+        ensures only { IfErr result IsCommitError }
         ensures failed { IsErrOf result error.Failed → D.faults self.old.disk < D.faults self.new.disk }
         ensures holds { D.told → Holds self.old.region (D.seen self.old.disk) (D.may_leave self.old.disk) self.old.records
             → OnOk result (Holds self.new.region (D.seen self.new.disk) (D.may_leave self.new.disk) self.new.records) }
@@ -192,6 +196,7 @@ impl<D: Disk> StateStore<D> {
         ensures full { IsErrOf result error.JournalFull → (self.old.region.count ≡ 65536) × (¬ AddsNothing self.old.records (kind.Accepted place ballot command.now)) × (self.new ≡ self.old) }
         ensures full_comes { self.old.region.count ≡ 65536 → ¬ AddsNothing self.old.records (kind.Accepted place ballot command.now) → IsErrOf result error.JournalFull ⊎ IsErrOf result error.NoMemory }
         ensures memory { IsErrOf result error.NoMemory → self.new ≡ self.old }
+        ensures only { IfErr result IsCommitError }
         ensures failed { IsErrOf result error.Failed → D.faults self.old.disk < D.faults self.new.disk }
         ensures holds { D.told → Holds self.old.region (D.seen self.old.disk) (D.may_leave self.old.disk) self.old.records
             → OnOk result (Holds self.new.region (D.seen self.new.disk) (D.may_leave self.new.disk) self.new.records) }
@@ -222,6 +227,7 @@ impl<D: Disk> StateStore<D> {
         ensures full { IsErrOf result error.JournalFull → (self.old.region.count ≡ 65536) × (¬ AddsNothing self.old.records (kind.Chosen place command.now)) × (self.new ≡ self.old) }
         ensures full_comes { self.old.region.count ≡ 65536 → ¬ AddsNothing self.old.records (kind.Chosen place command.now) → IsErrOf result error.JournalFull ⊎ IsErrOf result error.NoMemory }
         ensures memory { IsErrOf result error.NoMemory → self.new ≡ self.old }
+        ensures only { IfErr result IsCommitError }
         ensures failed { IsErrOf result error.Failed → D.faults self.old.disk < D.faults self.new.disk }
         ensures holds { D.told → Holds self.old.region (D.seen self.old.disk) (D.may_leave self.old.disk) self.old.records
             → OnOk result (Holds self.new.region (D.seen self.new.disk) (D.may_leave self.new.disk) self.new.records) }
@@ -248,6 +254,7 @@ impl<D: Disk> StateStore<D> {
         ensures full { IsErrOf result error.JournalFull → (self.old.region.count ≡ 65536) × (¬ AddsNothing self.old.records entry.now) × (self.new ≡ self.old) }
         ensures full_comes { self.old.region.count ≡ 65536 → ¬ AddsNothing self.old.records entry.now → IsErrOf result error.JournalFull ⊎ IsErrOf result error.NoMemory }
         ensures memory { IsErrOf result error.NoMemory → self.new ≡ self.old }
+        ensures only { IfErr result IsCommitError }
         ensures failed { IsErrOf result error.Failed → D.faults self.old.disk < D.faults self.new.disk }
         ensures holds { D.told → Holds self.old.region (D.seen self.old.disk) (D.may_leave self.old.disk) self.old.records
             → OnOk result (Holds self.new.region (D.seen self.new.disk) (D.may_leave self.new.disk) self.new.records) }
@@ -271,6 +278,7 @@ impl<D: Disk> StateStore<D> {
         ensures full { IsErrOf result error.JournalFull → (self.old.region.count ≡ 65536) × (self.new ≡ self.old) }
         ensures full_comes { self.old.region.count ≡ 65536 → IsErrOf result error.JournalFull ⊎ IsErrOf result error.NoMemory }
         ensures memory { IsErrOf result error.NoMemory → self.new ≡ self.old }
+        ensures only { IfErr result IsCommitError }
         ensures failed { IsErrOf result error.Failed → D.faults self.old.disk < D.faults self.new.disk }
         ensures holds { D.told → Holds self.old.region (D.seen self.old.disk) (D.may_leave self.old.disk) self.old.records
             → OnOk result (Holds self.new.region (D.seen self.new.disk) (D.may_leave self.new.disk) self.new.records) }

@@ -1,4 +1,4 @@
-use Rattle.std.proofs.Common.{Bool, List, ℕ, sym, subst}
+use Rattle.std.proofs.Common.{Bool, List, ℕ, sym, subst, arith}
 use Rattle.server_store.specs.Device.{StandsFor}
 use Rattle.server_store.specs.Reading.{IsBadOn}
 use Rattle.server_store.proofs.opening.read_device.Goals as goal
@@ -21,3 +21,12 @@ returns-in-Err-clause-good g c slots fresh records told lt stands =
     (subst (λ (b : Bool). StandsFor (g.D.Disk.seen c.args.disk.now) said.slots b records) (sym same.1)
     (subst (λ (n : ℕ). StandsFor (g.D.Disk.seen c.args.disk.now) n fresh records) (sym same.0) stands)) in
     c.in-Err.ensures.good records told here
+
+pub returns-in-Err-clause-bad_headed : goal.returns-in-Err-clause-bad_headed
+returns-in-Err-clause-bad_headed g c index is told blank =
+    let said = c.in-Some.said in
+    let head = (rw c.in-Some.is at c.in_ok-said.ensures.found) told in
+    let room = rw c.in-Some.is at c.in_ok-said.ensures.room in
+    let lt = rw c.in-Some.is at c.in_ok-said.ensures.small in
+    let small = blank said.slots said.fresh lt head in
+    omega (arith, small, room)
