@@ -45,6 +45,10 @@ abbrev pub as_count : Bool → ℕ
 as_count true = 1
 as_count false = 0
 
+-- how many calls come before the one with this number, counted from 1; no call has the number 0
+abbrev pub calls_before : ℕ → Option ℕ
+calls_before number = if number == 0 then None else Some (number - 1)
+
 -- what has become of a disk's plan
 pub record PlanState : Type 0 where
   -- the plan that is armed and not met

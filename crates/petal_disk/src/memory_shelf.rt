@@ -1,7 +1,7 @@
 //! A shelf of disks in memory.
 
-ghost use Rattle.std.specs.Prelude.{◌≡◌, ◌+◌, ℕ, true, false, refl};
-ghost use Rattle.petal_disk.specs.Plans.{as_count};
+ghost use Rattle.std.specs.Prelude.{◌≡◌, ◌+◌, ℕ, true, false, None, refl};
+ghost use Rattle.petal_disk.specs.Plans.{as_count, calls_before};
 
 use crate::{MemDisk, Shelf, ShelfError, Which};
 use std::alloc::Global;
@@ -17,7 +17,8 @@ pub struct MemShelf {
 impl MemShelf {
     /// A shelf that refuses no call.
     pub fn new() -> MemShelf
-        ensures { ⟦<MemShelf as Shelf>⟧.faults result ≡ 0 }
+        ensures faults { ⟦<MemShelf as Shelf>⟧.faults result ≡ 0 }
+        ensures refuses { result.refuses_after ≡ None }
     {
         MemShelf {
             refuses_after: None,
@@ -27,7 +28,8 @@ impl MemShelf {
 
     /// A shelf that refuses the call with this number, counted from 1, and no other.
     pub fn refusing(call: u32) -> MemShelf
-        ensures { ⟦<MemShelf as Shelf>⟧.faults result ≡ 0 }
+        ensures faults { ⟦<MemShelf as Shelf>⟧.faults result ≡ 0 }
+        ensures refuses { result.refuses_after ≡ calls_before call }
     {
         MemShelf {
             refuses_after: call.checked_sub(1),

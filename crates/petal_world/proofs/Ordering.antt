@@ -1,10 +1,11 @@
 -- Lines whose numbers rise and whose phases do not fall.
-use Rattle.std.proofs.Common.{◌≡◌, ℕ, ◌+◌, ◌≤◌, ◌<◌, List, [], ◌∷◌, ◌++◌, length, take, get_or, ◌⊎◌, inl, inr, sym, ap, ◌∙◌, subst, arith}
-use Rattle.std.proofs.lemmas.List.{take_more}
+use Rattle.std.proofs.Common.{◌≡◌, ℕ, ◌+◌, ◌≤◌, ◌<◌, List, [], ◌∷◌, ◌++◌, length, take, drop, get_or, ◌⊎◌, inl, inr, sym, ap, ◌∙◌, subst, arith}
+use Rattle.std.proofs.lemmas.Bool.Decides.{nat_tests}
+use Rattle.std.proofs.lemmas.List.{take_more, drop_more}
 use Rattle.petal_script.specs.declared.request.Line.{Line}
 use Rattle.petal_rules.specs.Lists.{In}
 use Rattle.petal_rules.proofs.ListLemmas.{in-append}
-use Rattle.petal_world.specs.Playable.{AreNumbered, AreOrdered}
+use Rattle.petal_world.specs.Playable.{AreNumbered, AreOrdered, climb}
 
 -- the lines are in order, and none passes this number and this phase
 pub record AreUpTo (lines : List Line) (number phase : ℕ) : Type 0 where
@@ -66,3 +67,12 @@ pub next_up : (lines : List Line) (i : ℕ) (line : Line) (number phase : ℕ) �
 next_up lines i line number phase within is h above later =
     let more : take (i + 1) lines ≡ take i lines ++ line ∷ [] = take_more lines i line within ∙ ap (λ x. take i lines ++ x ∷ []) (sym is) in
     subst (λ (ls : List Line). AreUpTo ls line.number line.phase) (sym more) (one_up (take i lines) line number phase h above later)
+
+-- where the next line goes on from this number and phase, the rest decides
+climb_step : (line : Line) (rest : List Line) (number phase : ℕ) → number < line.number → phase ≤ line.phase → climb number phase (line ∷ rest) ≡ climb line.number line.phase rest
+climb_step line rest number phase above later = grind (arith, nat_tests)
+
+pub climb_on : (lines : List Line) (i : ℕ) (line : Line) (number phase : ℕ) → i < length lines → line ≡ get_or lines i line → number < line.number → phase ≤ line.phase → climb number phase (drop i lines) ≡ climb line.number line.phase (drop (i + 1) lines)
+climb_on lines i line number phase within is above later =
+    let more : drop i lines ≡ line ∷ drop (i + 1) lines = drop_more lines i line within ∙ ap (λ x. x ∷ drop (i + 1) lines) (sym is) in
+    ap (climb number phase) more ∙ climb_step line (drop (i + 1) lines) number phase above later

@@ -1,9 +1,10 @@
 //! What a world asks of a script.
 
-ghost use Rattle.std.specs.Prelude.{◌≡◌, None, Some, IfOk, IfSome, IsTrue, MatchOption};
+ghost use Rattle.std.specs.Prelude.{◌≡◌, false, None, Some, IfOk, IfSome, IfNone, IsTrue, MatchOption};
+ghost use Rattle.petal_base.specs.Tuple.{is_tuple};
 ghost use Rattle.petal_rules.specs.World.{state_of};
 ghost use Rattle.petal_rules.specs.State.{fixed};
-ghost use Rattle.petal_world.specs.Playable.{AreNumbered, AreOrdered, disk_of};
+ghost use Rattle.petal_world.specs.Playable.{AreNumbered, AreOrdered, IsWithoutDisk, climb, disk_of};
 
 use global_state::GlobalState;
 use petal_base::{Name, NoMemory, Tuple};
@@ -13,6 +14,7 @@ use std::alloc::Global;
 /// Whether the lines' numbers rise from 1 and their phases do not fall, as in every script that is read. Then lines of one
 /// number are one line, and phases rise with numbers.
 pub fn are_in_order(lines: &[Line]) -> bool
+    ensures exactly { result ≡ climb 0 0 lines.now }
     ensures numbered { IsTrue result → AreNumbered lines.now }
     ensures ordered { IsTrue result → AreOrdered lines.now }
 {
@@ -57,7 +59,8 @@ pub fn fixed_state(
     servers: u8,
     lines: &[Line],
 ) -> Result<Option<GlobalState>, NoMemory>
-    ensures { IfOk result (λ found. IfSome found (λ state. state ≡ state_of servers lines.now)) }
+    ensures state { IfOk result (λ found. IfSome found (λ state. state ≡ state_of servers lines.now)) }
+    ensures none { IfOk result (λ found. IfNone found (IsWithoutDisk servers lines.now)) }
 {
     for line in lines {
         if let Some((name, tuple)) = disk_of(line) {
@@ -73,7 +76,8 @@ fn fixed_by(
     name: &Name,
     tuple: &Tuple,
 ) -> Result<Option<GlobalState>, NoMemory>
-    ensures { IfOk result (λ found. IfSome found (λ state. state ≡ fixed servers name.now tuple.now)) }
+    ensures state { IfOk result (λ found. IfSome found (λ state. state ≡ fixed servers name.now tuple.now)) }
+    ensures none { IfOk result (λ found. IfNone found (is_tuple servers tuple.now ≡ false)) }
 {
     match Tuple::new(tuple.ids(), servers) {
         None => Ok(None),
