@@ -1,8 +1,8 @@
 -- The open request in code: the block that a write sends is made once.
 use Rattle.std.specs.Prelude.{ℕ, List, Option, Some, None}
-use Rattle.petal_script.specs.Pattern.{pattern_block}
-use Rattle.petal_script.specs.declared.request.Request.{Request}
-use Rattle.petal_script.specs.declared.request.Request.TheVariants as request
+use Rattle.script_lines.specs.Pattern.{pattern_block}
+use Rattle.script_lines.specs.declared.request.Request.{Request}
+use Rattle.script_lines.specs.declared.request.Request.TheVariants as request
 use Rattle.petal_rules.specs.State.{State}
 use Rattle.petal_rules.specs.Clients.{Client, Asked, Reacted, rests, answers, sends}
 use Rattle.client_core.specs.declared.hearing.Heard.{Heard}

@@ -13,7 +13,7 @@ use crate::reaction::Reaction;
 use global_state::GlobalState;
 use petal_base::{ClientId, NoMemory, Rev, Seq, Sequence};
 use petal_msg::Letter;
-use petal_script::{Answer, Request};
+use script_lines::{Answer, Request};
 use std::alloc::Global;
 use std::marker::Model;
 

@@ -8,7 +8,7 @@ ghost use Rattle.client_core.specs.Open.{heard_by};
 use crate::open::{Open, is_read, is_write};
 use petal_base::{NoMemory, Rev, Seq};
 use petal_msg::Body;
-use petal_script::Answer;
+use script_lines::Answer;
 
 /// What comes of a letter.
 #[derive(Drop)]

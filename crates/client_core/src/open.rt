@@ -5,7 +5,7 @@ ghost use Rattle.petal_rules.specs.Clients.{is_read, is_write, counts};
 ghost use Rattle.client_core.specs.Open.{bytes_sent};
 
 use petal_base::{NoMemory, Rev, Seq, SharedBlock};
-use petal_script::Request;
+use script_lines::Request;
 use std::alloc::Global;
 use std::marker::Model;
 

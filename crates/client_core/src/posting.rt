@@ -12,7 +12,7 @@ use petal_base::{
     BlockNo, Cell, ClientId, Epoch, Name, NoMemory, Seq, Sequence, ServerId, SharedBlock,
 };
 use petal_msg::{Actor, Body, Letter};
-use petal_script::Request;
+use script_lines::Request;
 use std::alloc::{AllocError, Global};
 
 /// The servers that may read a cell, by number.

@@ -2,7 +2,7 @@
 
 use petal_base::Sequence;
 use petal_msg::Letter;
-use petal_script::Answer;
+use script_lines::Answer;
 
 /// The letters that a step sends, with no stamp yet, and the answer that it gives with the number of its line.
 #[derive(Drop)]

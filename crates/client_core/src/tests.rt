@@ -8,7 +8,7 @@ use super::*;
 use global_state::GlobalState;
 use petal_base::{Block, Name, NoMemory, SharedBlock, Tuple};
 use petal_msg::{Actor, Body, Letter};
-use petal_script::{Answer, Pattern, Request};
+use script_lines::{Answer, Pattern, Request};
 use std::alloc::Global;
 use std::test::Fail;
 

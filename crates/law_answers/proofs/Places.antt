@@ -1,7 +1,7 @@
 -- Lines that rise: each has a place of its own among its client's lines.
 use Rattle.std.proofs.Common.{◌≡◌, ◌<◌, ℕ, zero, suc, Bool, true, false, cond, List, [], ◌∷◌, Some, refl, sym, ap, ◌∙◌, subst, inl, inr, arith}
 use Rattle.std.specs.Prelude.{◌==◌, filter, slice_get}
-use Rattle.petal_script.specs.declared.request.Line.{Line}
+use Rattle.script_lines.specs.declared.request.Line.{Line}
 use Rattle.petal_rules.specs.Lists.{In}
 use Rattle.petal_rules.specs.World.{lines_of}
 use Rattle.law_steps.proofs.Tests.{same_some, none_some, same_numbers}

@@ -13,10 +13,10 @@ use Rattle.petal_msg.specs.declared.operation.Ending.{Ending}
 use Rattle.petal_msg.specs.declared.operation.Ending.TheVariants as ending
 use Rattle.petal_msg.specs.declared.operation.Far.{Far}
 use Rattle.petal_msg.specs.declared.operation.Far.TheVariants as far
-use Rattle.petal_script.specs.declared.answer.Answer.{Answer}
-use Rattle.petal_script.specs.declared.answer.Answer.TheVariants as answer
-use Rattle.petal_script.specs.declared.request.Line.{Line}
-use Rattle.petal_script.specs.declared.script.Script.{Script}
+use Rattle.script_lines.specs.declared.answer.Answer.{Answer}
+use Rattle.script_lines.specs.declared.answer.Answer.TheVariants as answer
+use Rattle.script_lines.specs.declared.request.Line.{Line}
+use Rattle.script_lines.specs.declared.script.Script.{Script}
 use Rattle.petal_rules.specs.Lists.{In}
 use Rattle.petal_rules.specs.State.{State, first, second}
 use Rattle.petal_rules.specs.Store.{chain_in, entry_at, bytes_of}

@@ -8,8 +8,8 @@ ghost use Rattle.std.specs.Prelude.{◌≡◌, ◌++◌, ℕ, List, [], ◌∷�
 ghost use Rattle.petal_msg.specs.declared.body.Body.TheVariants.{BlockBusy};
 ghost use Rattle.petal_msg.specs.declared.letter.Actor.TheVariants.{Client};
 ghost use Rattle.petal_msg.specs.declared.letter.Letter.{Letter};
-ghost use Rattle.petal_script.specs.declared.answer.Answer.TheVariants.{NoSpace};
-ghost use Rattle.petal_script.specs.declared.script.Script.{Script};
+ghost use Rattle.script_lines.specs.declared.answer.Answer.TheVariants.{NoSpace};
+ghost use Rattle.script_lines.specs.declared.script.Script.{Script};
 ghost use Rattle.petal_rules.specs.Lists.{In};
 ghost use Rattle.petal_rules.specs.World.{setting_of, start};
 ghost use Rattle.petal_history.specs.Contents.{chosen_state};

@@ -1,10 +1,10 @@
 -- What a client's request of a number is: it follows from the script alone.
 use Rattle.std.specs.Prelude.{◌≡◌, ◌<◌, ℕ, List, Option, Some}
 use Rattle.petal_base.specs.declared.place.Cell.{Cell}
-use Rattle.petal_script.specs.Pattern.{pattern_block}
-use Rattle.petal_script.specs.declared.request.Line.{Line}
-use Rattle.petal_script.specs.declared.request.Pattern.{Pattern}
-use Rattle.petal_script.specs.declared.request.Request.TheVariants as request
+use Rattle.script_lines.specs.Pattern.{pattern_block}
+use Rattle.script_lines.specs.declared.request.Line.{Line}
+use Rattle.script_lines.specs.declared.request.Pattern.{Pattern}
+use Rattle.script_lines.specs.declared.request.Request.TheVariants as request
 use Rattle.petal_state.specs.declared.answer.DiskView.{DiskView}
 use Rattle.petal_rules.specs.State.{State, find}
 use Rattle.petal_rules.specs.Clients.{Client, Asked, cell_on, epoch_for}

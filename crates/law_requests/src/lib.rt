@@ -7,7 +7,7 @@
 #![tactic(auto)]
 
 ghost use Rattle.std.specs.Prelude.{List};
-ghost use Rattle.petal_script.specs.declared.script.Script.{Script};
+ghost use Rattle.script_lines.specs.declared.script.Script.{Script};
 ghost use Rattle.petal_rules.specs.World.{setting_of, start};
 ghost use Rattle.petal_history.specs.Claims.{Requests};
 ghost use Rattle.petal_history.specs.Contents.{chosen_state};

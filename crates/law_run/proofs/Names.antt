@@ -3,7 +3,7 @@ use Rattle.std.proofs.Common.{◌≡◌, ◌≤◌, ◌<◌, ◌+◌, ◌==◌, 
 use Rattle.petal_msg.specs.declared.letter.Actor.{Actor}
 use Rattle.petal_msg.specs.declared.letter.Actor.TheVariants as actor
 use Rattle.petal_msg.specs.declared.letter.Letter.{Letter}
-use Rattle.petal_script.specs.declared.script.Script.{Script}
+use Rattle.script_lines.specs.declared.script.Script.{Script}
 use Rattle.petal_rules.specs.Lists.{In}
 use Rattle.petal_rules.specs.State.{State}
 use Rattle.petal_rules.specs.Server.{Post, Sender, letters_of, sender}
@@ -12,7 +12,7 @@ use Rattle.petal_rules.specs.Clients.{client_sender}
 use Rattle.petal_rules.specs.World.{World, stamped, clock_of, start, setting_of, reacts}
 use Rattle.petal_rules.proofs.ListLemmas.{in-append, put_same}
 use Rattle.petal_history.specs.Events.{same_actor, same_name}
-use Rattle.petal_script.specs.declared.request.Line.{Line}
+use Rattle.script_lines.specs.declared.request.Line.{Line}
 use Rattle.law_steps.specs.Happens.{Happens, Serves, Turns, server_moves}
 use Rattle.law_steps.proofs.Letters.{said}
 use Rattle.law_steps.proofs.Tests.{both_true, same_numbers, all_put}

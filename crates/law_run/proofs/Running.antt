@@ -11,8 +11,8 @@ use Rattle.petal_machine.specs.Machine.{Plain, blank, content}
 use Rattle.petal_machine.specs.Run.{Obeys, after, replay}
 use Rattle.petal_msg.specs.declared.letter.Actor.{Actor}
 use Rattle.petal_msg.specs.declared.letter.Actor.TheVariants as actor
-use Rattle.petal_script.specs.declared.request.Line.{Line}
-use Rattle.petal_script.specs.declared.script.Script.{Script}
+use Rattle.script_lines.specs.declared.request.Line.{Line}
+use Rattle.script_lines.specs.declared.script.Script.{Script}
 use Rattle.petal_rules.specs.Lists.{In}
 use Rattle.petal_rules.specs.State.{State, second}
 use Rattle.petal_rules.specs.Store.{Chain, cell_cmp, chain_in, entry_at, bytes_of}

@@ -7,7 +7,7 @@
 
 ghost use Rattle.std.specs.Prelude.{◌≡◌, ℕ, List, Ok};
 ghost use Rattle.petal_script.specs.Script.{script_of};
-ghost use Rattle.petal_script.specs.declared.script.Script.{Script};
+ghost use Rattle.script_lines.specs.declared.script.Script.{Script};
 ghost use Rattle.petal_rules.specs.World.{setting_of, start};
 ghost use Rattle.petal_history.specs.Claims.{Holds, Keeps, Law, machine_after};
 ghost use Rattle.petal_history.specs.Contents.{content_at, disk_name};

@@ -3,10 +3,10 @@ use Rattle.std.proofs.Common.{◌≡◌, ◌≤◌, ℕ, zero, suc, ◌+◌, tru
 use Rattle.std.proofs.lemmas.Bool.Decides.{nat_tests}
 use Rattle.std.proofs.lemmas.List.FromFn.{map-range_with_len_more}
 use Rattle.std.specs.List.{range_with_len}
-use Rattle.petal_script.specs.declared.request.Line.{Line}
-use Rattle.petal_script.specs.declared.request.Request.{Request}
-use Rattle.petal_script.specs.declared.request.Request.TheVariants as request
-use Rattle.petal_script.specs.declared.script.Script.{Script}
+use Rattle.script_lines.specs.declared.request.Line.{Line}
+use Rattle.script_lines.specs.declared.request.Request.{Request}
+use Rattle.script_lines.specs.declared.request.Request.TheVariants as request
+use Rattle.script_lines.specs.declared.script.Script.{Script}
 use Rattle.petal_rules.specs.State.{State}
 use Rattle.petal_rules.specs.World.{start, setting_of, state_by, state_of}
 use Rattle.petal_world.specs.Desks.{Site, desk_of}

@@ -10,7 +10,7 @@ ghost use Rattle.memory_server.specs.Server.{site_of};
 use crate::MemServer;
 use global_state::GlobalState;
 use petal_base::{NoMemory, Sequence};
-use petal_script::Script;
+use script_lines::Script;
 use std::alloc::Global;
 
 fn started(

@@ -1,9 +1,9 @@
 -- Of which scripts the laws speak: those whose lines have numbers of their own and name proper tuples.
 use Rattle.std.specs.Prelude.{◌≡◌, ℕ, true, List}
 use Rattle.petal_base.specs.Tuple.{is_tuple}
-use Rattle.petal_script.specs.declared.request.Line.{Line}
-use Rattle.petal_script.specs.declared.request.Request.TheVariants.{Disk}
-use Rattle.petal_script.specs.declared.script.Script.{Script}
+use Rattle.script_lines.specs.declared.request.Line.{Line}
+use Rattle.script_lines.specs.declared.request.Request.TheVariants.{Disk}
+use Rattle.script_lines.specs.declared.script.Script.{Script}
 use Rattle.petal_rules.specs.Lists.{In}
 
 -- two lines of one number are one line, and each disk is made over a tuple of the script's servers

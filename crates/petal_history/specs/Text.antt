@@ -3,8 +3,8 @@ use Rattle.std.specs.Prelude.{ℕ, List, [], Option, Some, None}
 use Rattle.std.specs.List.{flat_map, fold}
 use Rattle.std.specs.Ordering.{nat_cmp}
 use Rattle.petal_table.specs.Table.{Table, put}
-use Rattle.petal_script.specs.Printed.{answer_line}
-use Rattle.petal_script.specs.declared.answer.Answer.{Answer}
+use Rattle.script_lines.specs.Printed.{answer_line}
+use Rattle.script_lines.specs.declared.answer.Answer.{Answer}
 use Rattle.petal_history.specs.declared.record.Record.{Record}
 
 abbrev pub with_given : Table ℕ Answer → Option (ℕ × Answer) → Table ℕ Answer

@@ -2,7 +2,7 @@
 
 ghost use Rattle.std.specs.Prelude.{◌≡◌, List, [], ◌∷◌, ◌++◌, Some};
 ghost use Rattle.petal_machine.specs.declared.event.Event.TheVariants.{Make};
-ghost use Rattle.petal_script.specs.declared.script.Script.{Script};
+ghost use Rattle.script_lines.specs.declared.script.Script.{Script};
 ghost use Rattle.petal_rules.specs.World.{setting_of};
 ghost use Rattle.petal_history.specs.Claims.{Keeps};
 ghost use Rattle.petal_history.specs.Contents.{disk_name};

@@ -3,7 +3,7 @@
 use petal_base::{Sequence, Stamp};
 use petal_msg::{Actor, SharedLetter};
 use petal_rules::Step;
-use petal_script::Answer;
+use script_lines::Answer;
 
 /// One step: whose it was, its stamp, the phase in which it was taken, what it sent, and the answer that it gave with the
 /// number of its line.

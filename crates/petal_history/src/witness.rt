@@ -2,7 +2,7 @@
 
 ghost use Rattle.std.specs.Prelude.{◌≡◌, [], ◌∷◌, ◌++◌, length};
 ghost use Rattle.petal_base.specs.Block.{fill_block};
-ghost use Rattle.petal_script.specs.declared.answer.Answer.TheVariants as answer;
+ghost use Rattle.script_lines.specs.declared.answer.Answer.TheVariants as answer;
 ghost use Rattle.petal_rules.specs.Store.{free_of};
 ghost use Rattle.petal_history.specs.Contents.{content_at};
 ghost use Rattle.petal_history.specs.Examples.{again_moves, chain_at, crowded, declined_moves, fill_moves, forgetful, freed_moves, late_moves, mindful, one_entry, read_moves, refused_moves, sevens, world_of, write_moves};

@@ -1,9 +1,9 @@
 -- A script whose lines are all built begins with its disk.
 use Rattle.std.proofs.Common.{◌≡◌, ◌≢◌, ℕ, Bool, true, false, ◌&&◌, List, [], ◌∷◌, refl, cond, nat_lt, Option, Some, None}
-use Rattle.petal_script.specs.Script.{is_disk}
-use Rattle.petal_script.specs.declared.request.Line.{Line}
-use Rattle.petal_script.specs.declared.request.Request.{Request}
-use Rattle.petal_script.specs.declared.request.Request.TheVariants.{Disk, Write, Read, Snap, Move, Stop, StopAt, Fault, Start, Blank, Settle}
+use Rattle.script_lines.specs.Requests.{is_disk}
+use Rattle.script_lines.specs.declared.request.Line.{Line}
+use Rattle.script_lines.specs.declared.request.Request.{Request}
+use Rattle.script_lines.specs.declared.request.Request.TheVariants.{Disk, Write, Read, Snap, Move, Stop, StopAt, Fault, Start, Blank, Settle}
 use Rattle.plain_schedule.specs.Whole.{begins_with_disk}
 use Rattle.petal_run.specs.Built.{is_built, is_built_request, first_not_built}
 

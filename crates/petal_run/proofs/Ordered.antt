@@ -1,15 +1,15 @@
 -- In every script that is read, lines rise, and phases rise with the numbers of lines.
 use Rattle.std.proofs.Common.{◌≡◌, ℕ, ◌+◌, ◌-◌, ◌≤◌, ◌<◌, Bool, true, false, not, ◌&&◌, ◌==◌, List, [], ◌∷◌, ◌++◌, length, refl, sym, ap, subst, cond, codes, arith, Some, None, is_some, Result, Ok, Err, ◌⊎◌, inl, inr}
-use Rattle.petal_script.specs.Text.{pieces, without_end, words_of}
-use Rattle.petal_script.specs.Words.{Word, ◌>>=◌, is_word, two_words, three_words}
-use Rattle.petal_script.specs.Fields.{in_limits}
+use Rattle.script_words.specs.Text.{pieces, without_end, words_of}
+use Rattle.script_words.specs.Words.{Word, ◌>>=◌, is_word, two_words, three_words}
+use Rattle.script_words.specs.Fields.{in_limits}
 use Rattle.petal_script.specs.Script.{TextLine, script_of, lines_behind, first_line, servers_line, net_line}
 use Rattle.petal_script.specs.Laws.{Does, skipped, nets, waits, asks, Follows, line_at}
 use Rattle.petal_script.proofs.Doing.{is_accepted}
-use Rattle.petal_script.specs.declared.cause.Cause.{Cause}
-use Rattle.petal_script.specs.declared.cause.Cause.TheVariants.{BadLine, NoServersLine}
-use Rattle.petal_script.specs.declared.request.Line.{Line}
-use Rattle.petal_script.specs.declared.script.Script.{Script}
+use Rattle.script_words.specs.declared.cause.Cause.{Cause}
+use Rattle.script_words.specs.declared.cause.Cause.TheVariants.{BadLine, NoServersLine}
+use Rattle.script_lines.specs.declared.request.Line.{Line}
+use Rattle.script_lines.specs.declared.script.Script.{Script}
 use Rattle.petal_rules.specs.Lists.{In}
 use Rattle.petal_rules.proofs.ListLemmas.{in-append}
 use Rattle.law_answers.specs.Order.{AreRising}

@@ -3,9 +3,9 @@ use Rattle.std.proofs.Common.{◌≡◌, ◌≤◌, ℕ, ◌+◌, List, [], ◌�
 use Rattle.std.proofs.lemmas.Bool.Decides.{nat_tests}
 use Rattle.std.specs.List.{concat}
 use Rattle.petal_script.proofs.Firsts.{concat-pieces}
-use Rattle.petal_script.specs.Text.{pieces, without_end}
-use Rattle.petal_script.specs.declared.cause.Cause.{Cause}
-use Rattle.petal_script.specs.declared.script.Script.{Script}
+use Rattle.script_words.specs.Text.{pieces, without_end}
+use Rattle.script_words.specs.declared.cause.Cause.{Cause}
+use Rattle.script_lines.specs.declared.script.Script.{Script}
 use Rattle.petal_script.specs.Script.{TextLine, Refusal, script_of, script_from, lines_behind, line_verdict, goes_on}
 
 verdict-short : (before : Option Script) (line : TextLine) (after : Option Script) → line_verdict before line ≡ Ok after → line.reach ≤ 1048576

@@ -6,8 +6,8 @@ use Rattle.law_answers.specs.Order.{AreRising, AnsweredComeFirst}
 use Rattle.petal_disk.specs.Streams.{Adds}
 use Rattle.petal_table.specs.Table.{Table}
 use Rattle.petal_table.proofs.Rows.{at-empty}
-use Rattle.petal_script.specs.declared.answer.Answer.{Answer}
-use Rattle.petal_script.specs.declared.script.Script.{Script}
+use Rattle.script_lines.specs.declared.answer.Answer.{Answer}
+use Rattle.script_lines.specs.declared.script.Script.{Script}
 use Rattle.petal_script.specs.Script.{Refusal, script_of}
 use Rattle.petal_history.specs.Claims.{Keeps}
 use Rattle.petal_history.specs.Legal.{IsLegal}

@@ -1,8 +1,9 @@
 -- What the words and the text of a script ask the program to do.
 use Rattle.std.specs.Prelude.{ℕ, List, [], codes, Option, Some, None, Result, Ok, Err, if◌then◌else◌}
 use Rattle.petal_script.specs.Script.{Refusal, script_of}
-use Rattle.petal_script.specs.Printed.{refusal_line, cause_text}
-use Rattle.petal_script.specs.declared.script.Script.{Script}
+use Rattle.script_lines.specs.Printed.{refusal_line}
+use Rattle.script_words.specs.Cause.{cause_text}
+use Rattle.script_lines.specs.declared.script.Script.{Script}
 use Rattle.petal_run.specs.Built.{first_not_built}
 use Rattle.petal_run.specs.Words.{is_run}
 

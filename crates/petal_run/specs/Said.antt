@@ -1,7 +1,7 @@
 -- What a call of the program has done when it ends.
 use Rattle.std.specs.Prelude.{◌≡◌, ℕ, true, List, [], ◌++◌}
 use Rattle.petal_disk.specs.Streams.{Adds}
-use Rattle.petal_script.specs.declared.script.Script.{Script}
+use Rattle.script_lines.specs.declared.script.Script.{Script}
 use Rattle.petal_history.specs.declared.record.Record.{Record}
 use Rattle.petal_history.specs.Claims.{Keeps}
 use Rattle.petal_history.specs.Legal.{IsLegal}

@@ -2,8 +2,8 @@
 use Rattle.std.specs.Prelude.{◌≡◌, ℕ, List, ◌++◌}
 use Rattle.std.specs.List.{flat_map}
 use Rattle.petal_table.specs.Table.{Table}
-use Rattle.petal_script.specs.Printed.{answer_line}
-use Rattle.petal_script.specs.declared.answer.Answer.{Answer}
+use Rattle.script_lines.specs.Printed.{answer_line}
+use Rattle.script_lines.specs.declared.answer.Answer.{Answer}
 use Rattle.petal_history.specs.Text.{text_of}
 use Rattle.petal_history.specs.declared.record.Record.{Record}
 

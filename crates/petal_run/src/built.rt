@@ -2,11 +2,11 @@
 
 ghost use Rattle.std.specs.Prelude.{◌≡◌, List, [], ◌∷◌, ◌++◌, true};
 ghost use Rattle.std.specs.Option.{option_copied};
-ghost use Rattle.petal_script.specs.declared.request.Line.{Line};
+ghost use Rattle.script_lines.specs.declared.request.Line.{Line};
 ghost use Rattle.petal_run.specs.Built.{is_built, is_built_request, is_named, first_not_built, KnowsDisk};
 
 use petal_base::{ClientId, Name};
-use petal_script::{Line, Request, Script};
+use script_lines::{Line, Request, Script};
 
 /// The clients `a` to `h`; the one behind them is the operator.
 const CLIENTS: ClientId = 8;

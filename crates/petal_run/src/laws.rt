@@ -3,7 +3,7 @@
 ghost use Rattle.std.specs.Prelude.{◌≡◌, List, [], ℕ, Ok};
 ghost use Rattle.law_answers.specs.Order.{AreRising};
 ghost use Rattle.petal_script.specs.Script.{script_of};
-ghost use Rattle.petal_script.specs.declared.script.Script.{Script};
+ghost use Rattle.script_lines.specs.declared.script.Script.{Script};
 ghost use Rattle.petal_run.specs.Asked.{by_text};
 ghost use Rattle.petal_world.specs.Playable.{AreOrdered};
 ghost use Rattle.petal_run.specs.Said.{DoneInPart, WrittenByPhases};

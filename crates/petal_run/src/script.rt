@@ -3,7 +3,7 @@
 ghost use Rattle.std.specs.Prelude.{◌≡◌, ◌≤◌, ◌<◌, ◌⊎◌, ◌++◌, ℕ, List, [], length, true, IfOk, OnOk, IsErrOf, IfSome, Some, None};
 ghost use Rattle.law_answers.specs.Order.{AnsweredComeFirst, AreRising};
 ghost use Rattle.petal_disk.specs.Streams.{Adds};
-ghost use Rattle.petal_script.specs.Printed.{refusal_line};
+ghost use Rattle.script_lines.specs.Printed.{refusal_line};
 ghost use Rattle.petal_script.specs.Script.{script_of};
 ghost use Rattle.petal_history.specs.Sound.{IsSound};
 ghost use Rattle.petal_history.specs.Text.{answers_of, text_of};

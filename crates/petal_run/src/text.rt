@@ -2,7 +2,7 @@
 
 ghost use Rattle.std.specs.Prelude.{◌≡◌, ◌++◌, OnOk, IfOk};
 ghost use Rattle.std.specs.List.{flat_map};
-ghost use Rattle.petal_script.specs.Printed.{answer_line, refusal_line};
+ghost use Rattle.script_lines.specs.Printed.{answer_line, refusal_line};
 
 use petal_base::NoMemory;
 use petal_script::{write_answer, write_refusal};

@@ -2,12 +2,12 @@
 use Rattle.std.proofs.Common.{◌≡◌, ◌≢◌, ℕ, zero, suc, ◌+◌, ◌-◌, ◌<◌, List, [], ◌∷◌, ◌++◌, length, get_or, slice_get, refl, ap, sym, ◌∙◌, arith, Option, Some, None, Result, Ok, Err, ◌⊎◌, inl, inr, ◌↔◌}
 use Rattle.std.proofs.lemmas.Bool.{cases_eq, eq-eqb, ne_eqb}
 use Rattle.std.specs.List.{concat, onto_first}
-use Rattle.petal_script.specs.Text.{pieces, without_end}
-use Rattle.petal_script.specs.declared.script.Script.{Script}
+use Rattle.script_words.specs.Text.{pieces, without_end}
+use Rattle.script_lines.specs.declared.script.Script.{Script}
 use Rattle.petal_script.specs.Script.{lines_behind, TextLine, Refusal, line_verdict, script_from, script_of, text_lines, goes_on, ended}
 use Rattle.petal_script.specs.Laws.{Taken, IsFirstRefused, IsWithoutLines, IsPiece, AreLines}
-use Rattle.petal_script.specs.declared.cause.Cause.{Cause}
-use Rattle.petal_script.specs.declared.cause.Cause.TheVariants.{NoServersLine}
+use Rattle.script_words.specs.declared.cause.Cause.{Cause}
+use Rattle.script_words.specs.declared.cause.Cause.TheVariants.{NoServersLine}
 
 -- with a state before the lines
 record RefusedFrom (lines : List TextLine) (start : Option Script) (r : Refusal) : Type 0 where

@@ -1,9 +1,5 @@
-pub mod Pieces
-pub mod WordList
-pub mod Kept
 pub mod Runs
 pub mod Tallying
-pub mod Tuples
 pub mod Following
 pub mod Firsts
 pub mod Doing

@@ -2,8 +2,8 @@
 use Rattle.std.proofs.Common.{◌≡◌, ◌≢◌, ℕ, zero, suc, ◌+◌, ◌<◌, ◌==◌, false, List, [], ◌∷◌, length, drop, get_or, refl, ap, sym, subst, ◌∙◌, arith, inl, inr, replicate, ◌++◌}
 use Rattle.std.proofs.lemmas.Bool.{cases_eq, eq-eqb, ne_eqb}
 use Rattle.std.specs.List.{prefix_len, flat_map}
-use Rattle.petal_script.specs.Contents.{runs, onto_run, run_bytes, AreLongest}
-use Rattle.petal_script.specs.declared.contents.Run.{Run}
+use Rattle.script_lines.specs.Contents.{runs, onto_run, run_bytes, AreLongest}
+use Rattle.script_lines.specs.declared.run.Run.{Run}
 
 runs-cons : (b : ℕ) (bs : List ℕ) → runs (b ∷ bs) ≡ onto_run b (runs bs)
 unfolding runs

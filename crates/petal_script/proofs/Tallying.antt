@@ -6,13 +6,14 @@ use Rattle.std.proofs.lemmas.List.{get_or-set_same, get_or-set_other}
 use Rattle.std.proofs.lemmas.List.Sums.{sum_by_push, fold-append}
 use Rattle.std.proofs.Math.Nat.{zero-add}
 use Rattle.std.specs.List.{count_by, range_with_len, fold}
-use Rattle.petal_script.specs.declared.script.Script.{Script}
-use Rattle.petal_script.specs.Script.{adds, too_many, no_majority, is_down, count, is_disk, is_snap, is_move, is_boot, down_after}
+use Rattle.script_lines.specs.declared.script.Script.{Script}
+use Rattle.script_lines.specs.Requests.{is_disk, is_snap, is_move, is_boot}
+use Rattle.petal_script.specs.Script.{adds, too_many, no_majority, is_down, count, down_after}
 use Rattle.petal_script.specs.Tally.{Tallies, tally_with}
 use Rattle.petal_script.specs.declared.tally.Tally.{Tally}
-use Rattle.petal_script.specs.declared.request.Line.{Line}
-use Rattle.petal_script.specs.declared.request.Request.{Request}
-use Rattle.petal_script.specs.declared.request.Request.TheVariants.{Disk, Write, Read, Snap, Move, Stop, StopAt, Fault, Start, Blank, Settle}
+use Rattle.script_lines.specs.declared.request.Line.{Line}
+use Rattle.script_lines.specs.declared.request.Request.{Request}
+use Rattle.script_lines.specs.declared.request.Request.TheVariants.{Disk, Write, Read, Snap, Move, Stop, StopAt, Fault, Start, Blank, Settle}
 
 count_from : (g : ℕ → Bool) (n i a : ℕ) (ys : List Bool) → n ≤ length ys → ((k : ℕ) → k < n → not (get_or ys k false) ≡ g (i + k)) → fold (λ m x. m + cond (not x) 1 0) a (take n ys) ≡ fold (λ m x. m + cond (g x) 1 0) a (range_with_len i n)
 count_from g zero i a ys room same = refl

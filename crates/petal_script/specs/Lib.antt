@@ -1,14 +1,7 @@
 pub mod Client
-pub mod Contents
 pub mod Faults
-pub mod Fields
 pub mod Laws
-pub mod Number
 pub mod Operator
-pub mod Pattern
-pub mod Printed
 pub mod Script
 pub mod Tally
-pub mod Text
 pub mod Told
-pub mod Words

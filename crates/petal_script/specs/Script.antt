@@ -2,36 +2,20 @@
 use Rattle.std.specs.Prelude.{ℕ, ◌+◌, ◌-◌, ◌/◌, Bool, true, false, not, ◌||◌, ◌&&◌, ◌==◌, nat_lt, nat_le, List, [], ◌∷◌, ◌++◌, length, slice_index, if◌then◌else◌, codes, Option, Some, None, is_some, Result, Ok, Err}
 use Rattle.std.specs.List.{list_all, count_by, fold, range_with_len}
 use Rattle.std.specs.Char.{is_ascii}
-use Rattle.petal_script.specs.Text.{pieces, without_end, words_of}
-use Rattle.petal_script.specs.Words.{Word, is_word, ◌>>=◌, front_word, no_word, two_words, three_words}
-use Rattle.petal_script.specs.Fields.{in_limits}
+use Rattle.script_lines.specs.Requests.{is_disk, is_snap, is_move, is_boot}
+use Rattle.script_words.specs.Text.{pieces, without_end, words_of}
+use Rattle.script_words.specs.Words.{Word, is_word, ◌>>=◌, front_word, no_word, two_words, three_words}
+use Rattle.script_words.specs.Fields.{in_limits}
 use Rattle.petal_script.specs.Client.{client_request}
 use Rattle.petal_script.specs.Operator.{operator_request}
-use Rattle.petal_script.specs.declared.cause.Cause.{Cause}
-use Rattle.petal_script.specs.declared.cause.Cause.TheVariants.{NotAscii, TooLong, NoServersLine, BadLine, TooMany, NoMajority}
-use Rattle.petal_script.specs.declared.request.Request.{Request}
-use Rattle.petal_script.specs.declared.request.Request.TheVariants.{Disk, Snap, Move, Stop, StopAt, Fault, Start, Blank}
-use Rattle.petal_script.specs.declared.request.Line.{Line}
-use Rattle.petal_script.specs.declared.script.Script.{Script}
+use Rattle.script_words.specs.declared.cause.Cause.{Cause}
+use Rattle.script_words.specs.declared.cause.Cause.TheVariants.{NotAscii, TooLong, NoServersLine, BadLine, TooMany, NoMajority}
+use Rattle.script_lines.specs.declared.request.Request.{Request}
+use Rattle.script_lines.specs.declared.request.Request.TheVariants.{Stop, StopAt, Fault, Start, Blank}
+use Rattle.script_lines.specs.declared.request.Line.{Line}
+use Rattle.script_lines.specs.declared.script.Script.{Script}
 
 -- ### How many
-
-abbrev pub is_disk : Request → Bool
-is_disk (Disk name tuple) = true
-is_disk _ = false
-
-abbrev pub is_snap : Request → Bool
-is_snap (Snap name snap) = true
-is_snap _ = false
-
-abbrev pub is_move : Request → Bool
-is_move (Move name tuple) = true
-is_move _ = false
-
-abbrev pub is_boot : Request → Bool
-is_boot (Start server) = true
-is_boot (Blank server) = true
-is_boot _ = false
 
 abbrev pub count : (Request → Bool) → List Line → ℕ
 count test lines = count_by (λ line. test line.request) lines

@@ -1,11 +1,12 @@
 -- The counts that the code keeps beside the lines.
 use Rattle.std.specs.Prelude.{◌≡◌, ℕ, ◌+◌, ◌<◌, ◌≤◌, true, false, List, length, get_or, slice_set}
-use Rattle.petal_script.specs.Script.{count, is_disk, is_snap, is_move, is_boot, is_down}
-use Rattle.petal_script.specs.declared.script.Script.{Script}
+use Rattle.script_lines.specs.Requests.{is_disk, is_snap, is_move, is_boot}
+use Rattle.petal_script.specs.Script.{count, is_down}
+use Rattle.script_lines.specs.declared.script.Script.{Script}
 use Rattle.petal_script.specs.declared.tally.Tally.{Tally}
-use Rattle.petal_script.specs.declared.request.Line.{Line}
-use Rattle.petal_script.specs.declared.request.Request.{Request}
-use Rattle.petal_script.specs.declared.request.Request.TheVariants.{Disk, Snap, Move, Stop, StopAt, Fault, Start, Blank}
+use Rattle.script_lines.specs.declared.request.Line.{Line}
+use Rattle.script_lines.specs.declared.request.Request.{Request}
+use Rattle.script_lines.specs.declared.request.Request.TheVariants.{Disk, Snap, Move, Stop, StopAt, Fault, Start, Blank}
 
 pub record Tallies (lines : List Line) (t : Tally) : Type 0 where
   pub requests : t.requests ≡ length lines

@@ -1,11 +1,11 @@
 -- What the functions that may want memory return.
 use Rattle.std.specs.Prelude.{◌≡◌, Result, Ok, Err}
-use Rattle.petal_script.specs.declared.cause.Cause.{Cause}
-use Rattle.petal_script.specs.declared.cause.ScriptError.{ScriptError}
-use Rattle.petal_script.specs.declared.cause.ScriptError.TheVariants as errors
-use Rattle.petal_script.specs.declared.cause.LineError.{LineError}
-use Rattle.petal_script.specs.declared.cause.LineError.TheVariants as faults
-use Rattle.petal_script.specs.declared.script.Script.{Script}
+use Rattle.script_words.specs.declared.cause.Cause.{Cause}
+use Rattle.petal_script.specs.declared.error.ScriptError.{ScriptError}
+use Rattle.petal_script.specs.declared.error.ScriptError.TheVariants as errors
+use Rattle.petal_script.specs.declared.error.LineError.{LineError}
+use Rattle.petal_script.specs.declared.error.LineError.TheVariants as faults
+use Rattle.script_lines.specs.declared.script.Script.{Script}
 use Rattle.petal_script.specs.Script.{Refusal}
 
 -- What a function returned is what the rule gives, unless memory ran out.

@@ -1,14 +1,14 @@
 //! What a client's line asks for, by the words behind the client.
 
 ghost use Rattle.std.specs.Prelude.{◌≡◌};
-ghost use Rattle.petal_script.specs.Client.{spread_of, write_of, read_of, snap_of, disk_of, move_of, client_request};
+ghost use Rattle.script_lines.specs.declared.request.Pattern.TheVariants.{Fill, Ramp};
+ghost use Rattle.petal_script.specs.Client.{spread_of, filled_of, halves_of, write_by, write_of, read_of, snap_of, disk_of, move_of, client_request};
 
-use crate::cause::Cause;
-use crate::fields::{block, byte, name, version};
-use crate::request::{Pattern, Request};
-use crate::tuple::tuple;
-use crate::words::Words;
 use petal_base::{Name, Tuple};
+use script_lines::{Pattern, Request};
+use script_words::fields::{block, byte, name, version};
+use script_words::tuple::tuple;
+use script_words::{Cause, Words};
 
 #[tactic(auto, unfolding(crate::specs::Client::spread_of))]
 fn spread(servers: u8, words: &mut Words<'_>) -> Result<(Name, Tuple), Cause>
@@ -40,46 +40,72 @@ fn move_request(servers: u8, words: &mut Words<'_>) -> Result<Request, Cause>
     Ok(Request::Move { name, tuple })
 }
 
-#[tactic(auto, unfolding(crate::specs::Client::write_of, crate::specs::Client::filled_of, crate::specs::Client::halves_of))]
+#[tactic(auto, unfolding(crate::specs::Client::filled_of))]
+fn fill_request(disk: &[u8], place: &[u8], x: &[u8]) -> Result<Request, Cause>
+    ensures { result ≡ filled_of disk.now place.now Fill x.now }
+{
+    let name = name(disk)?;
+    let block = block(place)?;
+    let pattern = Pattern::Fill(byte(x)?);
+    Ok(Request::Write {
+        name,
+        block,
+        pattern,
+    })
+}
+
+#[tactic(auto, unfolding(crate::specs::Client::filled_of))]
+fn ramp_request(disk: &[u8], place: &[u8], x: &[u8]) -> Result<Request, Cause>
+    ensures { result ≡ filled_of disk.now place.now Ramp x.now }
+{
+    let name = name(disk)?;
+    let block = block(place)?;
+    let pattern = Pattern::Ramp(byte(x)?);
+    Ok(Request::Write {
+        name,
+        block,
+        pattern,
+    })
+}
+
+#[tactic(auto, unfolding(crate::specs::Client::halves_of))]
+fn halves_request(disk: &[u8], place: &[u8], x: &[u8], y: &[u8]) -> Result<Request, Cause>
+    ensures { result ≡ halves_of disk.now place.now x.now y.now }
+{
+    let name = name(disk)?;
+    let block = block(place)?;
+    let pattern = Pattern::Halves(byte(x)?, byte(y)?);
+    Ok(Request::Write {
+        name,
+        block,
+        pattern,
+    })
+}
+
+/// A write of the contents that the words behind the block spell.
+fn write_by(disk: &[u8], place: &[u8], kind: &[u8], words: &mut Words<'_>) -> Result<Request, Cause>
+    ensures { result ≡ write_by disk.now place.now kind.now words.old }
+{
+    if kind == b"fill".as_slice() {
+        fill_request(disk, place, words.one()?)
+    } else if kind == b"ramp".as_slice() {
+        ramp_request(disk, place, words.one()?)
+    } else if kind == b"halves".as_slice() {
+        let (x, y) = words.two()?;
+        halves_request(disk, place, x, y)
+    } else {
+        Err(Cause::BadLine)
+    }
+}
+
+#[tactic(auto, unfolding(crate::specs::Client::write_of))]
 fn write_request(words: &mut Words<'_>) -> Result<Request, Cause>
     ensures { result ≡ write_of words.old }
 {
     let disk = words.front()?;
     let place = words.front()?;
     let kind = words.front()?;
-    if kind == b"fill".as_slice() {
-        let x = words.one()?;
-        let name = name(disk)?;
-        let block = block(place)?;
-        let pattern = Pattern::Fill(byte(x)?);
-        Ok(Request::Write {
-            name,
-            block,
-            pattern,
-        })
-    } else if kind == b"ramp".as_slice() {
-        let x = words.one()?;
-        let name = name(disk)?;
-        let block = block(place)?;
-        let pattern = Pattern::Ramp(byte(x)?);
-        Ok(Request::Write {
-            name,
-            block,
-            pattern,
-        })
-    } else if kind == b"halves".as_slice() {
-        let (x, y) = words.two()?;
-        let name = name(disk)?;
-        let block = block(place)?;
-        let pattern = Pattern::Halves(byte(x)?, byte(y)?);
-        Ok(Request::Write {
-            name,
-            block,
-            pattern,
-        })
-    } else {
-        Err(Cause::BadLine)
-    }
+    write_by(disk, place, kind, words)
 }
 
 #[tactic(auto, unfolding(crate::specs::Client::read_of))]

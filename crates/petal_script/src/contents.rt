@@ -2,26 +2,18 @@
 
 ghost use Rattle.std.specs.Prelude.{◌≡◌, ◌≤◌, ◌<◌, ◌==◌, ◌∷◌, ℕ, length, IfOk, MatchOption, slice_index, string_bytes};
 ghost use Rattle.std.specs.List.{prefix_len, flat_map};
-ghost use Rattle.petal_script.specs.Contents.{runs, run_text, digest_text, contents_text};
+ghost use Rattle.script_lines.specs.Contents.{runs, run_text, digest_text, contents_text};
 
 use petal_base::NoMemory;
+use script_lines::Run;
 use sha2::{Digest, Sha256};
 use std::alloc::Global;
 
 /// So many runs are printed one by one; of contents with more the digest is printed.
 const MOST_RUNS: usize = 8;
 
-/// Equal bytes in a row.
-#[derive(Clone, Copy, Debug, PartialEq, Eq)]
-pub(crate) struct Run {
-    /// How many there are.
-    pub count: usize,
-    /// Which byte it is.
-    pub byte: u8,
-}
-
 /// How many bytes at the front are this one.
-#[tactic(auto, using(crate::proofs::Kept::prefix_lens))]
+#[tactic(auto, using(script_words::proofs::Kept::prefix_lens))]
 fn run_len(bytes: &[u8], byte: u8) -> usize
     ensures value { result ≡ prefix_len (λ b. b == byte) bytes.now }
     ensures bound { result ≤ length bytes.now }
@@ -86,7 +78,7 @@ fn digest_text(alloc: Global, bytes: &[u8]) -> Result<String, NoMemory>
 
 /// The contents as they are printed behind `data`. Bytes of few runs are read once; those of more are read up to the
 /// ninth run and then taken into the digest.
-#[tactic(auto, unfolding(crate::specs::Contents::contents_text))]
+#[tactic(auto, unfolding(script_lines::specs::Contents::contents_text))]
 pub(crate) fn contents_text(alloc: Global, bytes: &[u8]) -> Result<String, NoMemory>
     ensures { IfOk result (λ text. string_bytes text ≡ contents_text bytes.now) }
 {

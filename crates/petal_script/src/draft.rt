@@ -4,13 +4,12 @@ ghost use Rattle.std.specs.Prelude.{◌≡◌, ◌≤◌, ◌<◌, ◌+◌, ◌^
 ghost use Rattle.petal_script.specs.Script.{adds, servers_line, net_line};
 ghost use Rattle.petal_script.specs.Told.{AddsTo};
 
-use crate::cause::{Cause, LineError};
-use crate::number::in_limits;
-use crate::request::{Line, Request};
-use crate::script::Script;
+use crate::error::LineError;
 use crate::tally::Tally;
-use crate::words::Words;
 use petal_base::{ClientId, Sequence};
+use script_lines::{Line, Request, Script};
+use script_words::number::in_limits;
+use script_words::{Cause, Words};
 use std::alloc::Global;
 use std::marker::Model;
 
@@ -22,7 +21,7 @@ pub(crate) struct Draft {
 }
 
 impl Model for Draft {
-    ghost use Rattle.petal_script.specs.declared.script.Script.{Script};
+    ghost use Rattle.script_lines.specs.declared.script.Script.{Script};
     ghost use Rattle.petal_script.specs.Tally.{IsDraft};
 
     ghost Value = { Script };

@@ -2,37 +2,28 @@
 //!
 //! To the layer above it promises that `read_script` gives exactly the script that a text spells, and else its first
 //! refused line with the first thing that is wrong with it; and that an answer has one printed text. It knows nothing of
-//! servers, letters or disks beyond their names.
+//! servers, letters or disks beyond their names. The types of scripts and answers are those of `script_lines`, shown again.
 #![tactic(auto)]
 
-mod answer;
-mod cause;
 mod client;
 mod contents;
 mod draft;
-mod fields;
+mod error;
 mod laws;
-mod number;
 mod operator;
 mod print;
 mod reading;
-mod request;
-mod script;
 mod tally;
-mod text;
-mod tuple;
-mod words;
 
-pub use answer::Answer;
-pub use cause::{Cause, ScriptError};
+pub use error::ScriptError;
 pub use laws::{
     first_fault, first_refused_line, lines_are_the_text, runs_are_the_block, what_a_line_does,
     what_a_script_is,
 };
 pub use print::{write_answer, write_refusal};
 pub use reading::read_script;
-pub use request::{Line, Pattern, Request};
-pub use script::Script;
+pub use script_lines::{Answer, Line, Pattern, Request, Script};
+pub use script_words::Cause;
 
 #[cfg(test)]
 mod tests;

@@ -1,14 +1,28 @@
 //! What the operator's line asks for, by the words behind `op`.
 
 ghost use Rattle.std.specs.Prelude.{◌≡◌, ◌<◌};
-ghost use Rattle.petal_script.specs.Operator.{stop_of, fault_of, operator_request};
+ghost use Rattle.petal_script.specs.Operator.{stop_at, stop_of, fault_of, operator_request};
 
-use crate::cause::Cause;
-use crate::fields::{call, call_kind, device, server};
-use crate::request::Request;
-use crate::words::Words;
+use script_lines::Request;
+use script_words::fields::{call, call_kind, device, server};
+use script_words::{Cause, Words};
 
-#[tactic(auto, unfolding(crate::specs::Operator::stop_of, crate::specs::Operator::stop_at))]
+/// A server stops in a later call of its data device: the server, `at`, and which call.
+#[tactic(auto, unfolding(crate::specs::Operator::stop_at))]
+fn stop_at(servers: u8, stopped: &[u8], at: &[u8], count: &[u8]) -> Result<Request, Cause>
+    requires { 0 < servers }
+    ensures { result ≡ stop_at servers stopped.now (at.now, count.now) }
+{
+    if at == b"at".as_slice() {
+        let server = server(servers, stopped)?;
+        let at = call(count)?;
+        Ok(Request::StopAt { server, at })
+    } else {
+        Err(Cause::BadLine)
+    }
+}
+
+#[tactic(auto, unfolding(crate::specs::Operator::stop_of))]
 fn stop_request(servers: u8, words: &mut Words<'_>) -> Result<Request, Cause>
     requires { 0 < servers }
     ensures { result ≡ stop_of servers words.old }
@@ -19,12 +33,7 @@ fn stop_request(servers: u8, words: &mut Words<'_>) -> Result<Request, Cause>
         return Ok(Request::Stop { server });
     }
     let (at, count) = words.two()?;
-    if at != b"at".as_slice() {
-        return Err(Cause::BadLine);
-    }
-    let server = server(servers, stopped)?;
-    let at = call(count)?;
-    Ok(Request::StopAt { server, at })
+    stop_at(servers, stopped, at, count)
 }
 
 #[tactic(auto, unfolding(crate::specs::Operator::fault_of))]

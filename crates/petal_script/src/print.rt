@@ -1,32 +1,12 @@
 //! How answers and refusals are printed.
 
 ghost use Rattle.std.specs.Prelude.{◌≡◌, ◌++◌, OnOk, OnErr, IfOk, string_bytes};
-ghost use Rattle.petal_script.specs.Printed.{answer_text, answer_line, cause_text, refusal_line};
+ghost use Rattle.script_lines.specs.Printed.{answer_text, answer_line, refusal_line};
 
-use crate::answer::Answer;
-use crate::cause::Cause;
 use crate::contents::contents_text;
 use petal_base::NoMemory;
+use script_lines::Answer;
 use std::alloc::Global;
-
-impl Cause {
-    /// What is wrong, as a refusal tells it.
-    pub fn text(self) -> &'static str
-        ensures { result.now ≡ cause_text self }
-    {
-        match self {
-            Cause::NotAscii => "not ascii",
-            Cause::TooLong => "too long",
-            Cause::NoServersLine => "no servers line",
-            Cause::BadLine => "bad line",
-            Cause::BadName => "bad name",
-            Cause::BadNumber => "bad number",
-            Cause::BadTuple => "bad tuple",
-            Cause::TooMany => "too many",
-            Cause::NoMajority => "no majority",
-        }
-    }
-}
 
 fn answer_text(alloc: Global, answer: &Answer) -> Result<String, NoMemory>
     ensures { IfOk result (λ text. string_bytes text ≡ answer_text answer.now) }
@@ -49,7 +29,7 @@ fn answer_text(alloc: Global, answer: &Answer) -> Result<String, NoMemory>
 }
 
 /// Adds the line of an answer: the number of the request's line, the answer, and LF.
-#[tactic(auto, unfolding(crate::specs::Printed::answer_line))]
+#[tactic(auto, unfolding(script_lines::specs::Printed::answer_line))]
 pub fn write_answer(
     alloc: Global,
     out: &mut Vec<u8>,
@@ -65,7 +45,7 @@ pub fn write_answer(
     Ok(())
 }
 
-#[tactic(auto, unfolding(crate::specs::Printed::refusal_line))]
+#[tactic(auto, unfolding(script_lines::specs::Printed::refusal_line))]
 fn refusal_line(alloc: Global, number: u32, cause: &str) -> Result<String, NoMemory>
     ensures { IfOk result (λ line. string_bytes line ≡ refusal_line number cause.now) }
 {

@@ -2,11 +2,12 @@
 
 ghost use Rattle.std.specs.Prelude.{◌≡◌, ◌+◌, ◌≤◌, ◌<◌, ◌++◌, [], ◌∷◌, ℕ, List, IsTrue, ◌/◌, slice_set, take, not, length, IsFalse, get_or, false, if◌then◌else◌};
 ghost use Rattle.std.specs.List.{count_by};
-ghost use Rattle.petal_script.specs.Script.{is_disk, is_snap, is_move, is_boot, too_many, no_majority};
+ghost use Rattle.script_lines.specs.Requests.{is_disk, is_snap, is_move, is_boot};
+ghost use Rattle.petal_script.specs.Script.{too_many, no_majority};
 ghost use Rattle.petal_script.specs.Tally.{Tallies, IsSmall, tally_with};
-ghost use Rattle.petal_script.specs.declared.request.Line.{Line};
+ghost use Rattle.script_lines.specs.declared.request.Line.{Line};
 
-use crate::request::Request;
+use script_lines::Request;
 
 #[derive(Clone, Copy, Debug, PartialEq, Eq)]
 pub(crate) struct Tally {

@@ -2,7 +2,7 @@
 use Rattle.std.specs.Prelude.{ℕ, ◌==◌, ◌||◌, Bool, List, map}
 use Rattle.std.specs.List.{range_with_len}
 use Rattle.petal_msg.specs.declared.letter.Letter.{Letter}
-use Rattle.petal_script.specs.declared.script.Script.{Script}
+use Rattle.script_lines.specs.declared.script.Script.{Script}
 use Rattle.petal_rules.specs.State.{State}
 use Rattle.petal_rules.specs.Store.{top_of}
 use Rattle.petal_rules.specs.Server.{Server}

@@ -3,8 +3,8 @@ use Rattle.std.specs.Prelude.{◌≡◌, ℕ, ◌+◌, ◌<◌, max, min, ◌&&�
 use Rattle.std.specs.List.{range_with_len, fold}
 use Rattle.petal_msg.specs.declared.letter.Actor.{Actor}
 use Rattle.petal_msg.specs.declared.letter.Actor.TheVariants as actor
-use Rattle.petal_script.specs.declared.request.Line.{Line}
-use Rattle.petal_script.specs.declared.script.Script.{Script}
+use Rattle.script_lines.specs.declared.request.Line.{Line}
+use Rattle.script_lines.specs.declared.script.Script.{Script}
 use Rattle.petal_rules.specs.World.{Setting, World, start, step, setting_of, next_line, next_stamp, clock_of, MayStep, greatest_u64}
 use Rattle.petal_rules.specs.World as rules
 use Rattle.petal_rules.specs.declared.step.Step.{Step}

@@ -3,7 +3,7 @@ use Rattle.std.specs.Prelude.{◌≡◌, ℕ, ◌≤◌, List, slice_set, Option
 use Rattle.std.specs.Ordering.{nat_cmp}
 use Rattle.petal_table.specs.Table.{Table, without}
 use Rattle.petal_msg.specs.declared.letter.Letter.{Letter}
-use Rattle.petal_script.specs.declared.answer.Answer.{Answer}
+use Rattle.script_lines.specs.declared.answer.Answer.{Answer}
 use Rattle.petal_rules.specs.Lists.{In}
 use Rattle.petal_rules.specs.World.{Setting, World, clock_of, stamped}
 use Rattle.petal_rules.specs.declared.step.Step.{Step}

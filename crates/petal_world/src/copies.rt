@@ -4,7 +4,7 @@ ghost use Rattle.std.specs.Prelude.{◌≡◌, IfOk};
 
 use petal_base::NoMemory;
 use petal_rules::Step;
-use petal_script::{Answer, Line, Request};
+use script_lines::{Answer, Line, Request};
 
 /// The same request again. It takes no memory.
 pub fn request_again(request: &Request) -> Request

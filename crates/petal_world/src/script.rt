@@ -8,7 +8,7 @@ ghost use Rattle.petal_world.specs.Playable.{AreNumbered, AreOrdered, IsWithoutD
 
 use global_state::GlobalState;
 use petal_base::{Name, NoMemory, Tuple};
-use petal_script::{Line, Request};
+use script_lines::{Line, Request};
 use std::alloc::Global;
 
 /// Whether the lines' numbers rise from 1 and their phases do not fall, as in every script that is read. Then lines of one

@@ -9,7 +9,7 @@ use crate::copies::request_again;
 use client_core::{ClientCore, Reaction};
 use petal_base::{NoMemory, Sequence, Stamp};
 use petal_rules::Step;
-use petal_script::Line;
+use script_lines::Line;
 use std::alloc::Global;
 
 /// A client, the stamp of its last step, and its lines in order.

@@ -14,7 +14,7 @@ use client_core::{ClientCore, Reaction};
 use global_state::GlobalState;
 use petal_base::{ClientId, NoMemory, Sequence, Stamp};
 use petal_rules::Step;
-use petal_script::{Line, Script};
+use script_lines::{Line, Script};
 use std::alloc::Global;
 use std::marker::Model;
 

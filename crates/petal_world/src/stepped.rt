@@ -2,7 +2,7 @@
 
 use petal_base::Sequence;
 use petal_msg::SharedLetter;
-use petal_script::Answer;
+use script_lines::Answer;
 
 /// The letters that a step sent, and the answer that it gave with the number of its line.
 #[derive(Drop)]

@@ -7,7 +7,7 @@ ghost use Rattle.petal_world.specs.Waiting.{AreBehind, AreRising, Await};
 ghost use Rattle.petal_world.specs.Playable.{AreNumbered};
 
 use petal_base::NoMemory;
-use petal_script::Line;
+use script_lines::Line;
 use std::alloc::Global;
 use std::collections::BTreeMap;
 use std::marker::Model;

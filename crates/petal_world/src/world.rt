@@ -20,7 +20,7 @@ use petal_base::{NoMemory, Rev, Sequence, Stamp};
 use petal_history::{History, Record};
 use petal_msg::{Actor, SharedLetter};
 use petal_rules::Step;
-use petal_script::{Answer, Script};
+use script_lines::{Answer, Script};
 use std::alloc::Global;
 use std::marker::Model;
 

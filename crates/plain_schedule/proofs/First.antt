@@ -1,7 +1,7 @@
 -- The first line of a script.
 use Rattle.std.proofs.Common.{◌≡◌, List, [], ◌∷◌, Some, inl}
 use Rattle.std.specs.Prelude.{slice_get}
-use Rattle.petal_script.specs.declared.request.Line.{Line}
+use Rattle.script_lines.specs.declared.request.Line.{Line}
 use Rattle.petal_rules.specs.Lists.{In}
 
 pub in_first : (lines : List Line) (line : Line) → slice_get lines 0 ≡ Some line → In line lines

@@ -10,7 +10,7 @@ ghost use Rattle.plain_schedule.specs.Places.{numbers};
 
 use petal_base::NoMemory;
 use petal_history::Record;
-use petal_script::{Answer, Line};
+use script_lines::{Answer, Line};
 use std::alloc::Global;
 use std::collections::BTreeMap;
 use std::marker::Model;
@@ -24,7 +24,7 @@ pub struct Answers {
 impl Model for Answers {
     ghost use Rattle.std.specs.Prelude.{ℕ};
     ghost use Rattle.petal_table.specs.Table.{Table};
-    ghost use Rattle.petal_script.specs.declared.answer.Answer.{Answer};
+    ghost use Rattle.script_lines.specs.declared.answer.Answer.{Answer};
 
     ghost Value = { Table ℕ Answer };
 

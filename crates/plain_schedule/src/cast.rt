@@ -7,7 +7,7 @@ ghost use Rattle.plain_schedule.specs.Whole.{begins_with_disk};
 
 use global_state::GlobalState;
 use petal_base::NoMemory;
-use petal_script::{Line, Request, Script};
+use script_lines::{Line, Request, Script};
 use std::alloc::Global;
 
 /// The global state of a run: that of the disk which the first line makes.

@@ -16,7 +16,7 @@ use crate::schedule::Schedule;
 use law_answers::phases_come_one_after_the_other;
 use petal_base::NoMemory;
 use petal_history::History;
-use petal_script::{Line, Script};
+use script_lines::{Line, Script};
 use std::alloc::Global;
 use std::marker::Model;
 use std::sync::Wait;

@@ -14,8 +14,8 @@ use memory_server::{MemServer, members};
 use petal_base::{ClientId, NoMemory, ServerId};
 use petal_msg::{Actor, SharedLetter};
 use petal_rules::{Step, WorkEnd};
-use petal_script::Script;
 use petal_world::{Stepped, World, WorldError};
+use script_lines::Script;
 use std::alloc::Global;
 use std::sync::Wait;
 

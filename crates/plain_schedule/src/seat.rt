@@ -2,7 +2,7 @@
 
 use crate::patience::Patience;
 use petal_base::{ClientId, NoMemory};
-use petal_script::{Line, Script};
+use script_lines::{Line, Script};
 use std::alloc::Global;
 use std::collections::VecDeque;
 

@@ -1,7 +1,7 @@
 //! What a line was answered.
 
 use petal_base::SharedBlock;
-use petal_script::Answer;
+use script_lines::Answer;
 
 pub fn is_done(answer: Option<&Answer>) -> bool {
     match answer {

@@ -9,8 +9,8 @@ use petal_base::{ClientId, Name, NoMemory, SharedBlock};
 use petal_machine::{Event, WriteEnd};
 use petal_msg::{Actor, Body, SharedLetter};
 use petal_rules::Step;
-use petal_script::{Answer, Line, Request, Script};
 use petal_world::Record;
+use script_lines::{Answer, Line, Request, Script};
 use std::alloc::Global;
 
 /// An event, and the number of the record that tells it: 0 for what stands before the first. There is no event where a

@@ -2,8 +2,8 @@
 
 use petal_msg::Letter;
 use petal_rules::Step;
-use petal_script::Answer;
 use petal_world::Record;
+use script_lines::Answer;
 
 /// Whether the two letters have one name.
 fn have_one_name(letter: &Letter, other: &Letter) -> bool {

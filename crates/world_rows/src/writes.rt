@@ -2,7 +2,7 @@
 
 use petal_base::{BlockNo, ClientId, NoMemory, OPERATOR, Seq, SharedBlock};
 use petal_machine::Write;
-use petal_script::Request;
+use script_lines::Request;
 use std::alloc::Global;
 
 /// A client: how many requests it has called, and its write that is not answered.

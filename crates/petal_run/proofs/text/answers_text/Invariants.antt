@@ -1,6 +1,6 @@
 use Rattle.std.proofs.Common.{◌≡◌, ◌++◌, length}
 use Rattle.std.specs.List.{flat_map}
-use Rattle.petal_script.specs.Printed.{answer_line}
+use Rattle.script_lines.specs.Printed.{answer_line}
 use Rattle.petal_run.proofs.text.answers_text.Given as goal
 
 -- the text so far, with that of the answers that are left, is that of all answers

@@ -1,7 +1,7 @@
 use Rattle.std.proofs.Common.{◌≡◌, ◌<◌, ◌++◌, length, arith, sym, ap, ◌∙◌, length-append}
 use Rattle.std.proofs.lemmas.Bool.{eqb-true}
 use Rattle.std.proofs.lemmas.List.{append-nil}
-use Rattle.petal_script.specs.Contents.{runs}
+use Rattle.script_lines.specs.Contents.{runs}
 use Rattle.petal_script.proofs.Runs.{some_left, none_left, some_bytes}
 use Rattle.petal_script.proofs.contents.few_runs.Goals as goal
 

@@ -1,5 +1,5 @@
 use Rattle.std.proofs.Common.{◌≡◌, ◌≤◌, ◌++◌, length}
-use Rattle.petal_script.specs.Contents.{runs}
+use Rattle.script_lines.specs.Contents.{runs}
 use Rattle.petal_script.proofs.contents.few_runs.Given as goal
 
 abbrev pub invariant-loop-rest : goal.invariant-loop-rest

@@ -1,7 +1,7 @@
 use Rattle.std.proofs.Common.{◌∷◌, ◌++◌, [], List, sym, refl}
-use Rattle.petal_script.specs.declared.script.Script.{Script}
+use Rattle.script_lines.specs.declared.script.Script.{Script}
 use Rattle.petal_script.specs.Tally.{Tallies, tally_with}
-use Rattle.petal_script.specs.declared.request.Line.{Line}
+use Rattle.script_lines.specs.declared.request.Line.{Line}
 use Rattle.petal_script.proofs.Tallying.{tallies_more, added, line_at}
 use Rattle.petal_script.proofs.draft.Draft.add.Goals as goal
 

@@ -1,7 +1,7 @@
 -- The seat's next line is the client's.
 use Rattle.std.proofs.Common.{sym, ap, ◌∙◌, Option}
 use Rattle.std.specs.Prelude.{slice_get}
-use Rattle.petal_script.specs.declared.request.Line.{Line}
+use Rattle.script_lines.specs.declared.request.Line.{Line}
 use Rattle.petal_rules.specs.declared.step.Step.TheVariants.{Tick}
 use Rattle.petal_world.specs.declared.seat.Seat.{Seat}
 use Rattle.petal_world.specs.Play.{phase_of}

@@ -1,6 +1,6 @@
 -- What is kept at the start is that of the world without steps.
 use Rattle.std.proofs.Common.{false, List, [], sym, ap, ◌∙◌, subst}
-use Rattle.petal_script.specs.declared.request.Line.{Line}
+use Rattle.script_lines.specs.declared.request.Line.{Line}
 use Rattle.petal_rules.specs.State.{State, servers_of}
 use Rattle.petal_history.specs.declared.record.Record.{Record}
 use Rattle.petal_world.specs.Play.{IsKept}

@@ -1,5 +1,5 @@
 use Rattle.std.proofs.Common.{◌≡◌, ◌≤◌, true, length, ap, ◌∙◌, subst, arith}
-use Rattle.petal_script.specs.declared.script.Script.{Script}
+use Rattle.script_lines.specs.declared.script.Script.{Script}
 use Rattle.petal_history.specs.Text.{answers_of}
 use Rattle.plain_schedule.specs.Phases.{Progress}
 use Rattle.plain_schedule.specs.Whole.{all_answered}

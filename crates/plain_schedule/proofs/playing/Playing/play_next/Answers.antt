@@ -1,6 +1,6 @@
 use Rattle.std.proofs.Common.{◌≡◌, ◌≤◌, ◌+◌, length, take, drop, sym, ap, ◌∙◌, arith, length-drop}
 use Rattle.std.specs.Map.{keys_of}
-use Rattle.petal_script.specs.declared.script.Script.{Script}
+use Rattle.script_lines.specs.declared.script.Script.{Script}
 use Rattle.petal_history.specs.Text.{answers_of}
 use Rattle.plain_schedule.specs.Places.{numbers, KeepsPlaces}
 use Rattle.plain_schedule.proofs.Ended.{WentOn, went_on, stood_still, kept, kept_next, goes_by_phases, grows, told_stays, ends_next}

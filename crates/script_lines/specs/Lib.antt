@@ -1,0 +1,4 @@
+pub mod Contents
+pub mod Pattern
+pub mod Printed
+pub mod Requests

@@ -1,0 +1,4 @@
+pub mod Pieces
+pub mod WordList
+pub mod Kept
+pub mod Tuples

@@ -1,0 +1,5 @@
+pub mod Cause
+pub mod Fields
+pub mod Number
+pub mod Text
+pub mod Words
