@@ -33,6 +33,3 @@ pub use print::{write_answer, write_refusal};
 pub use reading::read_script;
 pub use request::{Line, Pattern, Request};
 pub use script::Script;
-
-#[cfg(test)]
-mod tests;
