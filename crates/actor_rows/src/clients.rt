@@ -78,7 +78,10 @@ fn again(alloc: Global, client: &mut ClientCore) -> Result<Option<Actor>, Fail> 
 }
 
 fn write(rt: &impl Abort, alloc: Global, client: &mut ClientCore) -> Result<(), Fail> {
-    assert_eq!(rt; call(alloc, client, write_of(&vol()?))?, Some(Actor::Server(1)));
+    assert_eq!(rt;
+        call(alloc, client, write_of(&vol()?))?,
+        Some(Actor::Server(1))
+    );
     assert_eq!(rt; again(alloc, client)?, Some(Actor::Server(1)));
     assert!(rt; hear(alloc, client, Body::Written { seq: 2 })? == None);
     assert!(rt; hear(alloc, client, Body::Written { seq: 1 })? == Some(Answer::Ok));
@@ -93,7 +96,10 @@ fn a_write_is_sent_and_answered(rt: HostRuntime) -> Result<(), Fail> {
 }
 
 fn read(rt: &impl Abort, alloc: Global, client: &mut ClientCore) -> Result<(), Fail> {
-    assert_eq!(rt; call(alloc, client, read_of(&vol()?))?, Some(Actor::Server(1)));
+    assert_eq!(rt;
+        call(alloc, client, read_of(&vol()?))?,
+        Some(Actor::Server(1))
+    );
     assert_eq!(rt; again(alloc, client)?, Some(Actor::Server(2)));
     let bytes = SharedBlock::new(alloc, Block::fill(alloc, 7)?)?;
     let found = Body::Data {

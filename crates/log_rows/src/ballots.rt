@@ -131,7 +131,9 @@ fn second_ballot<D: Disk>(
     assert!(rt; report == promise(SECOND, Some((FIRST, leave(1)))));
     assert!(rt; matches!(&proposer.hear(0, &report), Heard::Nothing));
     let own = on_prepare(one, 1, SECOND)?;
-    assert!(rt; matches!(&proposer.hear(1, &own), Heard::Send(letter) if *letter == accept(SECOND)));
+    assert!(rt;
+        matches!(&proposer.hear(1, &own), Heard::Send(letter) if *letter == accept(SECOND))
+    );
     Ok(())
 }
 

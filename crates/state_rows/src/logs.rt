@@ -125,11 +125,7 @@ fn blank_and_back(alloc: Global, state: &mut GlobalState) -> Result<(), NoMemory
     run(alloc, state, &log)
 }
 
-fn leave_and_join(
-    rt: &impl Abort,
-    alloc: Global,
-    state: &mut GlobalState,
-) -> Result<(), NoMemory> {
+fn leave_and_join(rt: &impl Abort, alloc: Global, state: &mut GlobalState) -> Result<(), NoMemory> {
     run(alloc, state, &[leave(1, 1), leave(2, 1)])?;
     assert_eq!(rt;
         states(state),

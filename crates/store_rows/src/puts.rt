@@ -39,11 +39,7 @@ fn last_byte<D: Disk>(store: &mut Store<D>, alloc: Global, block: u64) -> Result
     Ok(content.last().copied().unwrap_or(9))
 }
 
-fn put_and_read<D: Disk>(
-    rt: &impl Abort,
-    alloc: Global,
-    store: &mut Store<D>,
-) -> Result<(), Fail> {
+fn put_and_read<D: Disk>(rt: &impl Abort, alloc: Global, store: &mut Store<D>) -> Result<(), Fail> {
     let sevens = Block::fill(alloc, 7)?;
     assert_eq!(rt; last_byte(store, alloc, 5)?, 0);
     put(store, 5, &sevens)?;
