@@ -11,6 +11,3 @@ mod reading;
 
 pub use error::JournalError;
 pub use journal::Journal;
-
-#[cfg(test)]
-mod tests;

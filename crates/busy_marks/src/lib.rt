@@ -7,6 +7,3 @@
 mod marks;
 
 pub use marks::{Mark, MarkKind, Marks};
-
-#[cfg(test)]
-mod tests;

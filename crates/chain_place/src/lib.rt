@@ -27,6 +27,3 @@ pub fn region(block: BlockNo) -> u8
 {
     ((block / RUN) % BlockNo::from(REGIONS)) as u8
 }
-
-#[cfg(test)]
-mod tests;

@@ -8,6 +8,3 @@
 mod log;
 
 pub use log::ChosenLog;
-
-#[cfg(test)]
-mod tests;

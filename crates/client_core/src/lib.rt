@@ -12,6 +12,3 @@ mod reaction;
 
 pub use client::ClientCore;
 pub use reaction::Reaction;
-
-#[cfg(test)]
-mod tests;

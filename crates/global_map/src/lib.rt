@@ -82,6 +82,3 @@ impl Maps {
         })
     }
 }
-
-#[cfg(test)]
-mod tests;

@@ -16,6 +16,3 @@ mod tables;
 pub use global_tables::{Fence, FenceKind, Latest, LinkState, Member, RegionState, Verdict};
 pub use petal_state::{DiskView, Hold, Link};
 pub use state::GlobalState;
-
-#[cfg(test)]
-mod tests;

@@ -291,6 +291,3 @@ fn all_but(alloc: Global, rows: &[LinkRow], map: MapId) -> Result<Vec<LinkRow>, 
         .copied()
         .collect(alloc)
 }
-
-#[cfg(test)]
-mod tests;

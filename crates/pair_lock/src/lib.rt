@@ -12,6 +12,3 @@ pub use error::PairError;
 pub use lock::PairLock;
 pub use petal_msg::{OpKind, Pending, Stage};
 pub use scope::Scope;
-
-#[cfg(test)]
-mod tests;

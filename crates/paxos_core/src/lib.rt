@@ -13,6 +13,3 @@ mod proposer;
 pub use acceptor::{on_accept, on_prepare};
 pub use petal_paxos::{Heard, Phase};
 pub use proposer::Proposer;
-
-#[cfg(test)]
-mod tests;

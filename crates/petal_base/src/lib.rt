@@ -25,6 +25,3 @@ pub use place::{Cell, Key};
 pub use sequence::Sequence;
 pub use shared::SharedBlock;
 pub use tuple::Tuple;
-
-#[cfg(test)]
-mod tests;

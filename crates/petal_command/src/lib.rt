@@ -19,6 +19,3 @@ pub use number::{Below, ClientNumber, LinkNumber, RegionNumber, ServerNumber};
 pub use pax::Pax;
 pub use reading::decode;
 pub use writing::encode;
-
-#[cfg(test)]
-mod tests;

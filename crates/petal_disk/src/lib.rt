@@ -27,6 +27,3 @@ pub use shelf::{Shelf, Which};
 pub use standard::{StdSink, StdSource};
 pub use stream::{Sink, Source, read_full, write_all};
 pub use write::write_kept;
-
-#[cfg(test)]
-mod tests;

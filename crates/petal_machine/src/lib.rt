@@ -12,6 +12,3 @@ mod state;
 pub use event::{Event, Write, WriteEnd};
 pub use machine::{EventError, Machine};
 pub use state::{Disk, Open, Snapshot};
-
-#[cfg(test)]
-mod tests;

@@ -14,6 +14,3 @@ pub use body::Body;
 pub use letter::{Actor, Letter};
 pub use operation::{Action, Ending, Far, Finished, LastOp, OpKind, Pending, Reply, Stage};
 pub use owner::{Shared, SharedLetter};
-
-#[cfg(test)]
-mod tests;

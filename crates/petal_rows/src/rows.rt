@@ -1,8 +1,12 @@
 //! Scripts and what the program writes, worked by hand.
 
 use petal_disk::{MemShelf, MemSink, MemSource};
-use petal_run::petal;
+use petal_history::Record;
+use petal_msg::SharedLetter;
+use petal_rules::Step;
+use petal_run::{Outcome, petal};
 use std::alloc::{AllocError, Global};
+use std::process::Abort;
 use std::sync::Wait;
 use std::test::Fail;
 
@@ -34,6 +38,23 @@ fn word_list(alloc: Global, words: &[&str]) -> Result<Vec<String>, AllocError> {
     Ok(list)
 }
 
+/// How the program ended, and the bytes written.
+fn play<R: Wait>(
+    rt: &R,
+    alloc: Global,
+    words: &[&str],
+    script: &str,
+    failing: Failing,
+) -> Result<(Outcome, Vec<u8>), AllocError> {
+    let words = word_list(alloc, words)?;
+    let bytes = Vec::from_slice(alloc, script.as_bytes())?;
+    let mut source = MemSource::new(bytes, calls(alloc, failing.source)?);
+    let mut sink = MemSink::new(alloc, calls(alloc, failing.sink)?);
+    let mut shelf = MemShelf::refusing(1);
+    let outcome = petal(rt, alloc, &words, &mut source, &mut sink, &mut shelf);
+    Ok((outcome, sink.into_bytes()))
+}
+
 /// The status, and the bytes written.
 fn run<R: Wait>(
     rt: &R,
@@ -42,13 +63,8 @@ fn run<R: Wait>(
     script: &str,
     failing: Failing,
 ) -> Result<(u8, Vec<u8>), AllocError> {
-    let words = word_list(alloc, words)?;
-    let bytes = Vec::from_slice(alloc, script.as_bytes())?;
-    let mut source = MemSource::new(bytes, calls(alloc, failing.source)?);
-    let mut sink = MemSink::new(alloc, calls(alloc, failing.sink)?);
-    let mut shelf = MemShelf::refusing(1);
-    let outcome = petal(rt, alloc, &words, &mut source, &mut sink, &mut shelf);
-    Ok((outcome.status, sink.into_bytes()))
+    let (outcome, written) = play(rt, alloc, words, script, failing)?;
+    Ok((outcome.status, written))
 }
 
 const DISK: &str = "servers 5 slots 16\na disk vol on 0 1 2 3 4\nwait\n";
@@ -182,16 +198,67 @@ fn two_clients_write_one_block_of_five_servers(rt: HostRuntime) -> Result<(), Fa
     Ok(())
 }
 
+fn is_delivery_of(record: &Record, letter: &SharedLetter) -> bool {
+    match &record.step {
+        Step::Deliver { letter: delivered } => *delivered == *letter,
+        _ => false,
+    }
+}
+
+/// How often a letter was handed over.
+fn times(records: &[Record], letter: &SharedLetter) -> usize {
+    records
+        .iter()
+        .filter(|record| is_delivery_of(record, letter))
+        .count()
+}
+
+/// How many of a record's letters were handed over so often.
+fn sent_with(records: &[Record], record: &Record, count: usize) -> usize {
+    record
+        .sent
+        .as_slice()
+        .iter()
+        .filter(|letter| times(records, letter) == count)
+        .count()
+}
+
+/// How many letters were never handed over, how many once, and how many twice.
+fn letters(records: &[Record]) -> [usize; 3] {
+    let mut counts = [0usize; 3];
+    for record in records {
+        for (count, letters) in counts.iter_mut().enumerate() {
+            *letters = letters.saturating_add(sent_with(records, record, count));
+        }
+    }
+    counts
+}
+
+const ONE_WRITE: &str = "a disk vol on 0 1 2\na write vol 5 fill 7\nwait\nh read vol 5\n";
+
+fn is_whole(rt: &impl Abort, outcome: &Outcome) {
+    let [lost, once, doubled] = letters(outcome.history.records.as_slice());
+    assert!(rt; once > 0);
+    assert_eq!(rt; (lost, doubled), (0, 0));
+}
+
+fn is_lossy(rt: &impl Abort, outcome: &Outcome, text: &[u8]) {
+    assert_eq!(rt; text, b"4: ok\n5: ok\n7: data 65536x7\n".as_slice());
+    assert_eq!(rt; outcome.status, 0);
+    let [lost, _, doubled] = letters(outcome.history.records.as_slice());
+    assert!(rt; lost > 0, "no letter is lost");
+    assert!(rt; doubled > 0, "no letter comes twice");
+}
+
 #[test]
 fn letters_that_are_lost_and_doubled(rt: HostRuntime) -> Result<(), Fail> {
-    let script =
-        "servers 3 slots 4\nnet lose 4\nnet twice 3\na disk vol on 0 1 2\na write vol 5 fill 7\nwait\nh read vol 5\n";
-    let (status, text) = run(&rt, rt.alloc(), &["run"], script, SOUND)?;
-    assert_eq!(rt;
-        text.as_slice(),
-        b"4: ok\n5: ok\n7: data 65536x7\n".as_slice()
-    );
-    assert_eq!(rt; status, 0);
+    let alloc = rt.alloc();
+    let sound = format!(in alloc; "servers 3 slots 4\n{ONE_WRITE}")?;
+    let (outcome, _) = play(&rt, alloc, &["run"], sound.as_str(), SOUND)?;
+    is_whole(&rt, &outcome);
+    let lossy = format!(in alloc; "servers 3 slots 4\nnet lose 4\nnet twice 3\n{ONE_WRITE}")?;
+    let (outcome, text) = play(&rt, alloc, &["run"], lossy.as_str(), SOUND)?;
+    is_lossy(&rt, &outcome, &text);
     Ok(())
 }
 

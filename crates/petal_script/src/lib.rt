@@ -24,6 +24,3 @@ pub use print::{write_answer, write_refusal};
 pub use reading::read_script;
 pub use script_lines::{Answer, Line, Pattern, Request, Script};
 pub use script_words::Cause;
-
-#[cfg(test)]
-mod tests;

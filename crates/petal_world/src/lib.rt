@@ -29,6 +29,3 @@ pub use petal_rules::{Step, WorkEnd};
 pub use script::{are_in_order, fixed_state};
 pub use stepped::Stepped;
 pub use world::World;
-
-#[cfg(test)]
-mod tests;

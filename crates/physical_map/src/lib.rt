@@ -10,6 +10,3 @@ mod search;
 
 pub use entry::Entry;
 pub use map::PhysicalMap;
-
-#[cfg(test)]
-mod tests;

@@ -9,6 +9,3 @@ mod answer;
 pub use answer::{answer_read, said};
 pub use kept_chains::ReadError;
 pub use petal_msg::Reply;
-
-#[cfg(test)]
-mod tests;

@@ -24,8 +24,3 @@ pub use physical_map::Entry;
 pub use slot_store::SLOT_BYTES;
 pub use store::{DATA_START, Store};
 pub use ticket::Ticket;
-
-#[cfg(test)]
-mod rows;
-#[cfg(test)]
-mod tests;

@@ -8,6 +8,3 @@ mod slots;
 mod usage;
 
 pub use slots::{SLOT_BYTES, SlotStore};
-
-#[cfg(test)]
-mod tests;

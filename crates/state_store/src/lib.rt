@@ -19,6 +19,3 @@ pub use device::DEVICE_BYTES;
 pub use error::StateError;
 pub use record::StateRecord;
 pub use store::StateStore;
-
-#[cfg(test)]
-mod tests;

@@ -12,6 +12,3 @@ mod writing;
 pub use reading::decode;
 pub use record::{RECORD_BYTES, StoreRecord};
 pub use writing::encode;
-
-#[cfg(test)]
-mod tests;

@@ -279,6 +279,3 @@ fn take_first(queue: &mut Vec<Fence>, waiting: Sequence<ServerId>) -> Fence
     await_first(queue, waiting);
     first
 }
-
-#[cfg(test)]
-mod tests;

@@ -153,6 +153,3 @@ impl Directory {
         })
     }
 }
-
-#[cfg(test)]
-mod tests;

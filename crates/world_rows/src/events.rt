@@ -21,7 +21,7 @@ pub struct Told {
     pub event: Option<Event>,
 }
 
-/// A record, its number, and the records before and behind it.
+/// A record, its number, and the records before and after it.
 #[derive(Drop)]
 struct Here<'a> {
     step: usize,
@@ -174,14 +174,7 @@ impl<'a> Telling<'a> {
     }
 }
 
-/// The events of a script's history, in order.
-pub fn events(alloc: Global, script: &Script, records: &[Record]) -> Result<Vec<Told>, NoMemory> {
-    let mut telling = Telling {
-        alloc,
-        script,
-        callers: Callers::new(alloc)?,
-        told: Vec::new(alloc),
-    };
+fn tell_all(telling: &mut Telling, records: &[Record]) -> Result<(), NoMemory> {
     telling.makes()?;
     for at in 0..records.len() {
         let here = Here {
@@ -195,5 +188,17 @@ pub fn events(alloc: Global, script: &Script, records: &[Record]) -> Result<Vec<
         telling.looks(&here)?;
         telling.ends(&here)?;
     }
+    Ok(())
+}
+
+/// The events of a script's history, in order.
+pub fn events(alloc: Global, script: &Script, records: &[Record]) -> Result<Vec<Told>, NoMemory> {
+    let mut telling = Telling {
+        alloc,
+        script,
+        callers: Callers::new(alloc)?,
+        told: Vec::new(alloc),
+    };
+    tell_all(&mut telling, records)?;
     Ok(telling.told)
 }

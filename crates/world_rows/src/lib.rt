@@ -17,6 +17,8 @@ mod own_row;
 #[cfg(test)]
 mod reads;
 #[cfg(test)]
+mod refusals;
+#[cfg(test)]
 mod rounds;
 #[cfg(test)]
 mod run;

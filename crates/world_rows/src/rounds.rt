@@ -5,85 +5,73 @@ use petal_base::{NoMemory, OPERATOR};
 use std::alloc::Global;
 use std::test::Fail;
 
-/// A run that is not over behind so many rounds is taken to hang.
+/// A run that is not over after so many rounds is taken to hang.
 const MOST_ROUNDS: u32 = 100;
 
 /// A server with so many jobs in one round is taken to hang.
 const MOST_JOBS: u32 = 10_000;
 
-/// A run, how many of its letters were handed over, and its phase.
-#[derive(Drop)]
-struct Rounds {
-    run: Run,
-    handed: usize,
-    phase: u32,
+// The letters from this place on, the last one first, each twice. Gives the place after them.
+fn hand_over(alloc: Global, run: &mut Run, from: usize) -> Result<usize, NoMemory> {
+    let end = run.sent.len();
+    for at in (from..end).rev() {
+        if let Some(letter) = run.sent.get(at) {
+            let first = letter.share()?;
+            let second = letter.share()?;
+            run.deliver(alloc, first)?;
+            run.deliver(alloc, second)?;
+        }
+    }
+    Ok(end)
 }
 
-impl Rounds {
-    // The letters of the round before, the last one first, each twice.
-    fn hand_over(&mut self, alloc: Global) -> Result<(), NoMemory> {
-        let end = self.run.sent.len();
-        for at in (self.handed..end).rev() {
-            if let Some(letter) = self.run.sent.get(at) {
-                let first = letter.share()?;
-                let second = letter.share()?;
-                self.run.deliver(alloc, first)?;
-                self.run.deliver(alloc, second)?;
+fn work_off(alloc: Global, run: &mut Run) -> Result<(), NoMemory> {
+    for server in 0..run.script().servers {
+        for _ in 0..MOST_JOBS {
+            if !run.work(alloc, server)? {
+                break;
             }
         }
-        self.handed = end;
-        Ok(())
     }
+    Ok(())
+}
 
-    fn work_off(&mut self, alloc: Global) -> Result<(), NoMemory> {
-        for server in 0..self.run.script().servers {
-            for _ in 0..MOST_JOBS {
-                if !self.run.work(alloc, server)? {
-                    break;
-                }
-            }
-        }
-        Ok(())
+fn call_all(alloc: Global, run: &mut Run) -> Result<(), NoMemory> {
+    for client in 0..OPERATOR {
+        run.call(alloc, client)?;
     }
+    Ok(())
+}
 
-    fn call_all(&mut self, alloc: Global) -> Result<(), NoMemory> {
-        for client in 0..OPERATOR {
-            self.run.call(alloc, client)?;
-        }
-        Ok(())
-    }
+fn is_answered(run: &Run, phase: u32) -> bool {
+    run.script().lines.as_slice().iter().all(|line| line.phase > phase
+        || run.answer(line.number).is_some())
+}
 
-    fn is_answered(&self, phase: u32) -> bool {
-        self.run.script().lines.as_slice().iter().all(|line| line.phase > phase
-            || self.run.answer(line.number).is_some())
-    }
-
-    fn go_on(&mut self) -> Result<(), NoMemory> {
-        let next = self.phase.saturating_add(1);
-        if next < self.run.script().phases && self.is_answered(self.phase) {
-            self.phase = next;
-            self.run.enter(next)?;
-        }
-        Ok(())
+// The phase that goes on, or the next one where each line of it is answered.
+fn next_phase(run: &mut Run, phase: u32) -> Result<u32, NoMemory> {
+    let next = phase.saturating_add(1);
+    if next < run.script().phases && is_answered(run, phase) {
+        run.enter(next)?;
+        Ok(next)
+    } else {
+        Ok(phase)
     }
 }
 
-/// Plays a script's text until each line is answered: in each round the letters of the round before are handed over, then
-/// each server works until it is idle, and then each client calls.
-pub fn play(alloc: Global, text: &str) -> Result<Run, Fail> {
-    let mut rounds = Rounds {
-        run: Run::start(alloc, text)?,
-        handed: 0,
-        phase: 0,
-    };
+/// Plays a run until each line is answered: in each round the letters of the round before are handed over, then each server
+/// works until it is idle, and then each client calls.
+pub fn play(alloc: Global, run: &mut Run) -> Result<(), Fail> {
+    let mut handed = 0;
+    let mut phase = 0;
     for _ in 0..MOST_ROUNDS {
-        if rounds.is_answered(u32::MAX) {
-            return Ok(rounds.run);
+        if is_answered(run, u32::MAX) {
+            return Ok(());
         }
-        rounds.hand_over(alloc)?;
-        rounds.work_off(alloc)?;
-        rounds.call_all(alloc)?;
-        rounds.go_on()?;
+        handed = hand_over(alloc, run, handed)?;
+        work_off(alloc, run)?;
+        call_all(alloc, run)?;
+        phase = next_phase(run, phase)?;
     }
     Err(Fail::new("a line has no answer"))
 }

@@ -3,7 +3,7 @@
 use crate::events::{Told, events};
 use memory_server::{MemServer, members};
 use petal_base::{ClientId, NoMemory, ServerId};
-use petal_machine::{EventError, Machine};
+use petal_machine::{Event, EventError, Machine};
 use petal_msg::{Actor, SharedLetter};
 use petal_rules::{Step, WorkEnd};
 use petal_script::{Answer, Script, read_script};
@@ -74,7 +74,7 @@ impl Run {
         self.take(alloc, Actor::Server(server), &Step::Work(WorkEnd::Done))
     }
 
-    /// The actor sends anew what is not answered.
+    /// The actor sends again what is not answered.
     pub fn tick(&mut self, alloc: Global, actor: Actor) -> Result<bool, NoMemory> {
         self.take(alloc, actor, &Step::Tick)
     }
@@ -100,19 +100,34 @@ impl Run {
     /// The first record whose events the plain machine refuses, counted from 1; 0 where it does not make the disk.
     pub fn first_refused(&self, alloc: Global) -> Result<Option<usize>, NoMemory> {
         let mut machine = Machine::new(alloc)?;
-        for told in events(alloc, self.world.script(), self.world.records())? {
-            let Told { step, event } = told;
-            let Some(event) = event else {
-                return Ok(Some(step));
-            };
-            match machine.apply(alloc, event) {
-                Ok(()) => {}
-                Err(EventError::NotAllowed) => return Ok(Some(step)),
-                Err(EventError::NoMemory) => return Err(NoMemory),
-            }
-        }
-        Ok(None)
+        let told = events(alloc, self.world.script(), self.world.records())?;
+        first_refused_by(alloc, &mut machine, told)
     }
+}
+
+/// Whether the machine takes the event.
+fn is_taken(alloc: Global, machine: &mut Machine, event: Option<Event>) -> Result<bool, NoMemory> {
+    let Some(event) = event else {
+        return Ok(false);
+    };
+    match machine.apply(alloc, event) {
+        Ok(()) => Ok(true),
+        Err(EventError::NotAllowed) => Ok(false),
+        Err(EventError::NoMemory) => Err(NoMemory),
+    }
+}
+
+fn first_refused_by(
+    alloc: Global,
+    machine: &mut Machine,
+    told: Vec<Told>,
+) -> Result<Option<usize>, NoMemory> {
+    for Told { step, event } in told {
+        if !is_taken(alloc, machine, event)? {
+            return Ok(Some(step));
+        }
+    }
+    Ok(None)
 }
 
 /// How many lines the client has called.

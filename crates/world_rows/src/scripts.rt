@@ -3,7 +3,7 @@
 use crate::chance::Chance;
 use std::alloc::{AllocError, Global};
 
-/// How many lines a script has behind the one that makes the disk. The writes among them have fills of their own.
+/// How many lines a script has after the one that makes the disk. The writes among them have fills of their own.
 const LINES: u8 = 240;
 
 fn client_word(client: usize) -> &'static str {

@@ -14,34 +14,22 @@ const STEPS: usize = 2_000;
 /// A run with so many choices is taken to hang.
 const CHOICES: usize = 20_000;
 
-/// A run whose steps are chosen, the letters that were never handed over, and how many letters were looked at for that.
+/// What chooses the steps of a run: the letters that were never handed over, and how many letters were looked at for that.
 #[derive(Drop)]
-struct Simulation {
-    run: Run,
+struct Choice {
     chance: Chance,
     fresh: Vec<SharedLetter>,
     seen: usize,
 }
 
-impl Simulation {
-    fn start(alloc: Global, seed: u32) -> Result<Simulation, Fail> {
-        let mut chance = Chance::new(seed);
-        let text = script_by(alloc, &mut chance)?;
-        Ok(Simulation {
-            run: Run::start(alloc, text.as_str())?,
-            chance,
-            fresh: Vec::new(alloc),
-            seen: 0,
-        })
-    }
-
-    fn note_sent(&mut self) -> Result<(), NoMemory> {
-        for at in self.seen..self.run.sent.len() {
-            if let Some(letter) = self.run.sent.get(at) {
+impl Choice {
+    fn note_sent(&mut self, run: &Run) -> Result<(), NoMemory> {
+        for at in self.seen..run.sent.len() {
+            if let Some(letter) = run.sent.get(at) {
                 self.fresh.push(letter.share()?)?;
             }
         }
-        self.seen = self.run.sent.len();
+        self.seen = run.sent.len();
         Ok(())
     }
 
@@ -60,62 +48,73 @@ impl Simulation {
     }
 
     // A letter that was ever sent.
-    fn any_letter(&mut self) -> Result<Option<SharedLetter>, NoMemory> {
-        let count = self.run.sent.len();
+    fn any_letter(&mut self, run: &Run) -> Result<Option<SharedLetter>, NoMemory> {
+        let count = run.sent.len();
         if count == 0 {
             return Ok(None);
         }
         let at = self.chance.below(count);
-        match self.run.sent.get(at) {
+        match run.sent.get(at) {
             Some(letter) => Ok(Some(letter.share()?)),
             None => Ok(None),
         }
     }
 
-    fn deliver(&mut self, alloc: Global) -> Result<bool, NoMemory> {
+    fn deliver(&mut self, alloc: Global, run: &mut Run) -> Result<bool, NoMemory> {
         let letter = if self.chance.below(4) == 0 {
-            self.any_letter()?
+            self.any_letter(run)?
         } else {
             self.fresh_letter()
         };
         match letter {
-            Some(letter) => self.run.deliver(alloc, letter),
+            Some(letter) => run.deliver(alloc, letter),
             None => Ok(false),
         }
     }
 
-    fn tick(&mut self, alloc: Global) -> Result<bool, NoMemory> {
+    fn tick(&mut self, alloc: Global, run: &mut Run) -> Result<bool, NoMemory> {
         let number = self.number();
         if self.chance.below(2) == 0 {
-            self.run.tick(alloc, Actor::Server(number))
+            run.tick(alloc, Actor::Server(number))
         } else {
-            self.run.tick(alloc, Actor::Client(number))
+            run.tick(alloc, Actor::Client(number))
         }
     }
 
     // A choice of a step, which the world takes if it is one of its own. Gives whether it was.
-    fn choose(&mut self, alloc: Global) -> Result<bool, NoMemory> {
+    fn choose(&mut self, alloc: Global, run: &mut Run) -> Result<bool, NoMemory> {
         let number = self.number();
         match self.chance.below(16) {
-            0 => self.tick(alloc),
-            1 | 2 => self.run.call(alloc, number),
-            3 | 4 | 5 | 6 | 7 | 8 => self.deliver(alloc),
-            _ => self.run.work(alloc, number),
+            0 => self.tick(alloc, run),
+            1 | 2 => run.call(alloc, number),
+            3 | 4 | 5 | 6 | 7 | 8 => self.deliver(alloc, run),
+            _ => run.work(alloc, number),
         }
+    }
+
+    // Takes steps until there are 2,000. Gives whether it came to that.
+    fn go_on(&mut self, alloc: Global, run: &mut Run) -> Result<bool, NoMemory> {
+        for _ in 0..CHOICES {
+            self.choose(alloc, run)?;
+            if run.records().len() == STEPS {
+                return Ok(true);
+            }
+            self.note_sent(run)?;
+        }
+        Ok(false)
     }
 }
 
-/// A run of 2,000 steps that the seed chooses.
-fn run_by(alloc: Global, seed: u32) -> Result<Run, Fail> {
-    let mut simulation = Simulation::start(alloc, seed)?;
-    for _ in 0..CHOICES {
-        simulation.choose(alloc)?;
-        if simulation.run.records().len() == STEPS {
-            return Ok(simulation.run);
-        }
-        simulation.note_sent()?;
-    }
-    Err(Fail::new(format_args!("seed {seed} takes too few steps")))
+/// The run of the seed's script before its first step, and what chooses its steps.
+fn begun(alloc: Global, seed: u32) -> Result<(Run, Choice), Fail> {
+    let mut chance = Chance::new(seed);
+    let text = script_by(alloc, &mut chance)?;
+    let choice = Choice {
+        chance,
+        fresh: Vec::new(alloc),
+        seen: 0,
+    };
+    Ok((Run::start(alloc, text.as_str())?, choice))
 }
 
 /// How many lines were answered in some runs, and how many of these with `nospace`.
@@ -143,29 +142,37 @@ fn no_space(run: &Run) -> usize {
         .count()
 }
 
-/// The runs of some seeds, each of which the plain machine takes.
-fn simulate(alloc: Global, first: u32, end: u32) -> Result<Count, Fail> {
-    let mut all = Count {
-        answered: 0,
-        no_space: 0,
-    };
-    for seed in first..end {
-        let run = run_by(alloc, seed)?;
-        if let Some(step) = run.first_refused(alloc)? {
-            return Err(Fail::new(format_args!(
-                "seed {seed}: the plain machine refuses step {step}"
-            )));
-        }
-        all.answered = all.answered.saturating_add(answered(&run));
-        all.no_space = all.no_space.saturating_add(no_space(&run));
+/// Takes 2,000 steps that the choice makes, all of which the plain machine takes.
+fn simulate(alloc: Global, seed: u32, run: &mut Run, choice: &mut Choice) -> Result<Count, Fail> {
+    if !choice.go_on(alloc, run)? {
+        return Err(Fail::new(format_args!("seed {seed} takes too few steps")));
     }
-    Ok(all)
+    if let Some(step) = run.first_refused(alloc)? {
+        return Err(Fail::new(format_args!("seed {seed}: the plain machine refuses step {step}")));
+    }
+    Ok(Count {
+        answered: answered(run),
+        no_space: no_space(run),
+    })
+}
+
+fn simulate_seed(alloc: Global, seed: u32) -> Result<Count, Fail> {
+    let (mut run, mut choice) = begun(alloc, seed)?;
+    simulate(alloc, seed, &mut run, &mut choice)
 }
 
 #[test]
 fn worlds_by_chance(rt: HostRuntime) -> Result<(), Fail> {
-    let count = simulate(rt.alloc(), 1, 21)?;
-    assert!(rt; count.answered >= 500, "{count:?}");
-    assert!(rt; count.no_space >= 1, "{count:?}");
+    let mut all = Count {
+        answered: 0,
+        no_space: 0,
+    };
+    for seed in 1..21 {
+        let count = simulate_seed(rt.alloc(), seed)?;
+        all.answered = all.answered.saturating_add(count.answered);
+        all.no_space = all.no_space.saturating_add(count.no_space);
+    }
+    assert!(rt; all.answered >= 500, "{all:?}");
+    assert!(rt; all.no_space >= 1, "{all:?}");
     Ok(())
 }

@@ -1,0 +1,12 @@
+//! Tests of what servers and clients are made of: pending operations, chains, reads, and a client over one disk. The
+//! crate itself has no code.
+#![tactic(auto)]
+
+#[cfg(test)]
+mod chains;
+#[cfg(test)]
+mod clients;
+#[cfg(test)]
+mod locks;
+#[cfg(test)]
+mod reads;

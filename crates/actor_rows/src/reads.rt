@@ -1,0 +1,77 @@
+//! A read of a block that was put, and of one that was not.
+
+use global_state::GlobalState;
+use pair_lock::PairLock;
+use petal_base::{Block, Cell, Key, Name, Tuple};
+use petal_disk::{Disk, MemDisk};
+use petal_msg::Body;
+use read_either::{answer_read, said};
+use server_store::{Store, StoreError};
+use std::alloc::Global;
+use std::test::Fail;
+
+/// The disk `vol` of two servers.
+fn state(alloc: Global) -> Result<GlobalState, Fail> {
+    let name = Name::read(b"vol").ok_or("a name")?;
+    let tuple = Tuple::new(&[0, 1], 2).ok_or("a tuple")?;
+    Ok(GlobalState::fixed(alloc, 2, &name, tuple.ids())?)
+}
+
+fn put<D: Disk>(store: &mut Store<D>, block: &Block) -> Result<(), StoreError> {
+    let ticket = store.reserve()?;
+    let key = Key {
+        map: 0,
+        block: 4,
+        epoch: 0,
+    };
+    store.put(ticket, key, 1, block)
+}
+
+/// A store in which block 4 was put.
+fn store(alloc: Global) -> Result<Store<MemDisk>, Fail> {
+    let sevens = Block::fill(alloc, 7)?;
+    let disk = MemDisk::new(alloc, 4_329_472)?;
+    let mut store = match Store::format(alloc, disk, 2, false) {
+        Ok(store) => store,
+        Err((_, error)) => return Err(error.into()),
+    };
+    put(&mut store, &sevens)?;
+    Ok(store)
+}
+
+fn byte_of(body: Body) -> Option<u8> {
+    match body {
+        Body::Data { seq: 3, bytes } => bytes.bytes().first().copied(),
+        _ => None,
+    }
+}
+
+// What server 1 says of a block.
+fn read<D: Disk>(
+    alloc: Global,
+    state: &GlobalState,
+    store: &mut Store<D>,
+    block: u64,
+) -> Result<Option<u8>, Fail> {
+    let cell = Cell { map: 0, block };
+    if !state.readable(1, cell) {
+        return Ok(None);
+    }
+    let locks = PairLock::new(alloc);
+    let reply = answer_read(alloc, state, 1, &locks, store, cell, 0)?;
+    Ok(byte_of(said(3, reply)))
+}
+
+/// The first byte that a read of a block gives.
+fn first_byte(alloc: Global, block: u64) -> Result<Option<u8>, Fail> {
+    let state = state(alloc)?;
+    let mut store = store(alloc)?;
+    read(alloc, &state, &mut store, block)
+}
+
+#[test]
+fn reads(rt: HostRuntime) -> Result<(), Fail> {
+    assert_eq!(rt; first_byte(rt.alloc(), 4)?, Some(7));
+    assert_eq!(rt; first_byte(rt.alloc(), 6)?, Some(0));
+    Ok(())
+}

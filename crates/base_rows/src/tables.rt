@@ -1,0 +1,46 @@
+//! Tables: happy paths at concrete keys.
+
+use petal_table::Table;
+use std::test::Fail;
+
+#[test]
+fn rows_come_and_go(rt: HostRuntime) -> Result<(), Fail> {
+    let mut table: Table<u64, u8> = Table::new(rt.alloc());
+    table.put(5, 50)?;
+    table.put(3, 30)?;
+    table.put(5, 51)?;
+    assert_eq!(rt; table.len(), 2);
+    assert_eq!(rt; table.get(&5).copied(), Some(51));
+    assert_eq!(rt; table.get(&4).copied(), None);
+    assert_eq!(rt; table.remove(&5), Some(51));
+    assert_eq!(rt; table.remove(&5), None);
+    assert_eq!(rt; table.insert(5, 52), Ok(()));
+    assert_eq!(rt; table.get(&5).copied(), Some(52));
+    assert_eq!(rt; table.get(&3).copied(), Some(30));
+    Ok(())
+}
+
+#[test]
+fn a_row_is_replaced(rt: HostRuntime) -> Result<(), Fail> {
+    let mut table: Table<u64, u8> = Table::new(rt.alloc());
+    table.put(3, 30)?;
+    table.put(5, 50)?;
+    if table.get(&5).is_some() {
+        table.replace(5, 51);
+    }
+    assert_eq!(rt; table.get(&5).copied(), Some(51));
+    assert_eq!(rt; table.get(&3).copied(), Some(30));
+    assert_eq!(rt; table.len(), 2);
+    Ok(())
+}
+
+#[test]
+fn a_copy_stands_alone(rt: HostRuntime) -> Result<(), Fail> {
+    let mut table: Table<u64, u8> = Table::new(rt.alloc());
+    table.put(5, 50)?;
+    let copy = table.clone()?;
+    table.put(5, 51)?;
+    assert_eq!(rt; copy.get(&5).copied(), Some(50));
+    assert_eq!(rt; copy.len(), 1);
+    Ok(())
+}

@@ -1,0 +1,68 @@
+//! Each kind of outside once: what its failures look like, and what a crash leaves.
+
+use petal_disk::{
+    CallKind, Disk, Failed, MemDisk, MemShelf, MemSink, MemSource, Plan, Planned, Shelf,
+    ShelfError, Sink, Source, Which, read_full, write_all, write_kept,
+};
+use std::test::Fail;
+
+#[test]
+fn listed_calls_of_streams_fail(rt: HostRuntime) -> Result<(), Fail> {
+    let alloc = rt.alloc();
+    let mut source = MemSource::new(vec![in alloc; 1, 2, 3, 4]?, vec![in alloc; 2]?);
+    let mut buffer = [0; 3];
+    assert_eq!(rt; source.read(&mut buffer), Ok(3));
+    assert_eq!(rt; source.read(&mut buffer), Err(Failed));
+    assert_eq!(rt; read_full(&mut source, &mut buffer), Ok(1));
+    assert_eq!(rt; buffer, [4, 2, 3]);
+    let mut sink = MemSink::new(alloc, vec![in alloc; 1]?);
+    assert_eq!(rt; sink.write(b"lost"), Err(Failed));
+    assert_eq!(rt; write_all(&mut sink, b"kept"), Ok(()));
+    assert_eq!(rt; sink.into_bytes().as_slice(), b"kept".as_slice());
+    Ok(())
+}
+
+#[test]
+fn a_plan_is_met_once(rt: HostRuntime) -> Result<(), Fail> {
+    let mut disk = Planned::new(MemDisk::new(rt.alloc(), 8)?);
+    disk.arm(Plan {
+        kind: CallKind::Write,
+        at: 2,
+        stop: true,
+    });
+    let first = write_kept(&mut disk, 0, b"abcd");
+    let second = disk.write_at(4, b"efgh");
+    let third = disk.sync();
+    assert_eq!(rt; (first, second, third), (Ok(()), Err(Failed), Ok(())));
+    assert_eq!(rt; disk.stopped(), true);
+    let mut seen = [0; 8];
+    assert_eq!(rt; disk.into_disk().read(0, &mut seen), Ok(()));
+    assert_eq!(rt; &seen, b"abcdef\0\0");
+    Ok(())
+}
+
+#[test]
+fn a_crash_loses_what_was_not_synced(rt: HostRuntime) -> Result<(), Fail> {
+    let mut disk = MemDisk::new(rt.alloc(), 4)?;
+    let _ = write_kept(&mut disk, 1, b"ab");
+    let _ = disk.write_at(2, b"xy");
+    disk.crash();
+    let mut seen = [0; 4];
+    assert_eq!(rt; disk.read(0, &mut seen), Ok(()));
+    assert_eq!(rt; &seen, b"\0ab\0");
+    Ok(())
+}
+
+#[test]
+fn a_shelf_refuses_the_stated_call(rt: HostRuntime) -> Result<(), Fail> {
+    let mut shelf = MemShelf::refusing(2);
+    let mut answers = [false; 3];
+    for answer in answers.iter_mut() {
+        *answer = match shelf.device(rt.alloc(), 0, Which::Data, 4) {
+            Ok(disk) => disk.len() == 4,
+            Err(error) => error != ShelfError::Failed,
+        };
+    }
+    assert_eq!(rt; answers, [true, false, true]);
+    Ok(())
+}

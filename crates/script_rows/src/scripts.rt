@@ -1,0 +1,318 @@
+//! Scripts that are accepted or refused, and texts of answers.
+
+use petal_base::SharedBlock;
+use petal_script::{
+    Answer, Cause, Pattern, Request, ScriptError, read_script, write_answer, write_refusal,
+};
+use std::alloc::Global;
+use std::process::Abort;
+use std::test::*;
+
+/// What becomes of a script: `accepted`, or the number and cause of its refused line.
+fn verdict(alloc: Global, text: &[u8]) -> Result<String, Fail> {
+    match read_script(alloc, text) {
+        Ok(_) => Ok(String::from_str(alloc, "accepted")?),
+        Err(ScriptError::Refused { line, cause }) => {
+            let cause = cause.text();
+            Ok(format!(in alloc; "{line}: {cause}")?)
+        }
+        Err(ScriptError::NoMemory) => Err("out of memory".into()),
+    }
+}
+
+/// Whole scripts: lines, ends of lines, words, and the first line that counts.
+/// In each row stand a script, with `/` for LF and `~` for CR, and what becomes of it.
+const SCRIPTS: &str = "\
+\x20| 1: no servers line\n\
+//# x/ | 1: no servers line\n\
+# a comment with \u{e9}/ | 1: not ascii\n\
+/# \u{80}/ | 2: not ascii\n\
+servers 2 slots 4 | accepted\n\
+servers 2 slots 4/ | accepted\n\
+servers 2 slots 4~/ | accepted\n\
+servers 2 slots 4~/~/# c~/wait~/ | accepted\n\
+servers 2 slots 4~ | 1: bad number\n\
+servers 2 slots 4~~/ | 1: bad number\n\
+\tservers \t2 slots   4\t/ | accepted\n\
+# c//servers 8 slots 1024/ | accepted\n\
+\x20 / | 1: no servers line\n\
+\x20# c/servers 2 slots 4/ | 1: no servers line\n\
+wait/ | 1: no servers line\n\
+Servers 2 slots 4/ | 1: no servers line\n\
+a read v 0/servers 2 slots 4/ | 1: no servers line\n\
+servers/ | 1: bad line\n\
+servers 2 slot 4/ | 1: bad line\n\
+servers 2 slots 4 4/ | 1: bad line\n\
+servers x slots/ | 1: bad line\n\
+servers 1 slots 4/ | 1: bad number\n\
+servers 9 slots 4/ | 1: bad number\n\
+servers 2 slots 0/ | 1: bad number\n\
+servers 2 slots 1025/ | 1: bad number\n\
+servers +2 slots 4/ | 1: bad number\n\
+servers 00000000000000000002 slots 4/ | accepted\n\
+servers 000000000000000000002 slots 4/ | 1: bad number\n\
+servers 2 slots 18446744073709551616/ | 1: bad number\n\
+servers 2 slots 4/wirte vol 1/ | 2: bad line\n\
+servers 2 slots 4/servers 2 slots 4/ | 2: bad line\n\
+servers 2 slots 4/ \t/ | accepted\n\
+\x20\t/servers 2 slots 4/\t~/ | accepted\n\
+servers 2 slots 4/op stop 1/ | 2: no majority\n\
+servers 3 slots 4/op stop 1/op start 1/op stop 2/ | accepted\n\
+servers 3 slots 4/op stop 1/op stop 1/ | accepted\n\
+servers 5 slots 4/op stop 1/op fault 2 data sync 1/op stop 3 at 9/ | 4: no majority\n\
+servers 2 slots 4/a read V 0/b read v x/ | 2: bad name";
+
+/// Lines after the servers line of two servers.
+const SECOND_LINES: &str = "\
+net lose 2 | accepted\n\
+net twice 1000000 | accepted\n\
+net lose 1 | 2: bad number\n\
+net twice 1000001 | 2: bad number\n\
+net drop 2 | 2: bad line\n\
+net lose | 2: bad line\n\
+wait | accepted\n\
+wait 1 | 2: bad line\n\
+a | 2: bad line\n\
+i read v 0 | 2: bad line\n\
+aa read v 0 | 2: bad line\n\
+a disk v on 0 1 | accepted\n\
+h disk v on 1 0 | accepted\n\
+a disk v on 0 1 2 | 2: bad tuple\n\
+a disk v on 0 0 | 2: bad tuple\n\
+a disk v on 0 | 2: bad tuple\n\
+a disk v on | 2: bad line\n\
+a disk v | 2: bad line\n\
+a disk v at 0 1 | 2: bad line\n\
+a disk v on 0 1 0 1 0 1 0 1 0 | 2: bad tuple\n\
+a disk v on 0 1 2 3 4 5 6 7 8 | 2: bad tuple\n\
+a disk v on 0 x | 2: bad number\n\
+a disk v on 0 2 x | 2: bad number\n\
+a disk V on 0 x | 2: bad name\n\
+a disk v on 0 18446744073709551616 | 2: bad tuple\n\
+a disk v on 0 99999999999999999999 | 2: bad tuple\n\
+a disk v on 0 000000000000000000001 | 2: bad number\n\
+a disk v on 0 00000000000000000001 | accepted\n\
+a move v on 1 0 | accepted\n\
+a move v on 1 1 | 2: bad tuple\n\
+a write v 281474976710655 fill 255 | accepted\n\
+a write v 281474976710656 fill 9 | 2: bad number\n\
+a write v 0 fill 256 | 2: bad number\n\
+a write v 0 fill | 2: bad line\n\
+a write v 0 fill 1 2 | 2: bad line\n\
+a write v 0 halves 1 | 2: bad line\n\
+a write v 0 halves 1 2 | accepted\n\
+a write v 0 halves 1 256 | 2: bad number\n\
+a write v 0 ramp 0 | accepted\n\
+a write V x fill 1 | 2: bad name\n\
+a write v x fil 1 | 2: bad line\n\
+a write v -1 fill 1 | 2: bad number\n\
+a read v 0 | accepted\n\
+a read v 18446744073709551616 | 2: bad number\n\
+a read v@t 0 | accepted\n\
+a read v@ 0 | 2: bad name\n\
+a read @t 0 | 2: bad name\n\
+a read v@t@u 0 | 2: bad name\n\
+a read v@t x | 2: bad number\n\
+a snap v abcdefghijklmn-_ | accepted\n\
+a snap v abcdefghijklmno-1 | 2: bad name\n\
+a snap v 1a | 2: bad name\n\
+a snap v _a | 2: bad name\n\
+op | 2: bad line\n\
+op stop 2 | 2: bad number\n\
+op stop 1 at 0 | 2: bad number\n\
+op stop 1 at | 2: bad line\n\
+op stop 1 at 1000001 | 2: bad number\n\
+op fault 0 data write 1 | 2: no majority\n\
+op fault 1 disk read 1 | 2: bad line\n\
+op fault 1 data any 1 | 2: bad line\n\
+op fault 2 state sync 1 | 2: bad number\n\
+op start 2 | 2: bad number\n\
+op blank 1 | accepted\n\
+op settle | accepted\n\
+op settle 1 | 2: bad line";
+
+/// Lines after accepted ones, the seventh of their script, which has three servers.
+const LAST_LINES: &str = "\
+# \u{80} | 7: not ascii\n\
+net lose 2 | 7: bad line\n\
+servers 3 slots 4 | 7: bad line\n\
+a raed v 0 | 7: bad line\n\
+a read V 0 | 7: bad name\n\
+a read v x | 7: bad number\n\
+a disk w on 0 0 | 7: bad tuple\n\
+op stop 2 | 7: no majority\n\
+op stop 2 at 1 | 7: no majority\n\
+op fault 2 state read 1000000 | 7: no majority\n\
+op stop 1 | accepted\n\
+op blank 1/op stop 2 | accepted";
+
+const BEFORE: &str =
+    "servers 3 slots 4/net lose 2/net twice 3/a disk v on 0 1 2/op stop 1 at 1/wait/";
+
+fn spelled(alloc: Global, before: &str, text: &str) -> Result<Vec<u8>, Fail> {
+    let mut bytes = Vec::new(alloc);
+    for b in before.as_bytes().iter().chain(text.as_bytes().iter()) {
+        bytes.push(match *b {
+            b'/' => b'\n',
+            b'~' => b'\r',
+            other => other,
+        })?;
+    }
+    Ok(bytes)
+}
+
+fn check_rows(rt: &impl Abort, alloc: Global, before: &str, rows: &str) -> Result<(), Fail> {
+    for row in rows.split('\n') {
+        let (text, want) = row.split_once(" | ").ok_or("a row")?;
+        let bytes = spelled(alloc, before, text)?;
+        assert_eq!(rt; verdict(alloc, &bytes)?.as_str(), want, "at {text}");
+    }
+    Ok(())
+}
+
+#[test]
+fn scripts_are_accepted_or_refused(rt: HostRuntime) -> Result<(), Fail> {
+    check_rows(&rt, rt.alloc(), "", SCRIPTS)?;
+    check_rows(&rt, rt.alloc(), "servers 2 slots 4/", SECOND_LINES)?;
+    check_rows(&rt, rt.alloc(), BEFORE, LAST_LINES)
+}
+
+/// A servers line and then so many lines.
+fn repeated(alloc: Global, line: &str, count: u32) -> Result<String, Fail> {
+    let mut text = String::from_str(alloc, "servers 2 slots 4\n")?;
+    for _ in 0..count {
+        text.push_str(line)?;
+    }
+    verdict(alloc, text.as_str().as_bytes())
+}
+
+/// Each kind of line as often as a script may have it, and what is told of one more.
+#[test]
+fn as_many_as_may_be(rt: HostRuntime) -> Result<(), Fail> {
+    let cases: [(&str, u32, &str); 6] = [
+        ("a read v 0\n", 1024, "1026: too many"),
+        ("a disk v on 0 1\n", 16, "18: too many"),
+        ("a snap v t\n", 64, "66: too many"),
+        ("a move v on 0 1\n", 8, "10: too many"),
+        ("op start 0\n", 64, "66: too many"),
+        ("op blank 1\nop start 1\n", 32, "66: too many"),
+    ];
+    for (line, most, want) in cases {
+        assert_eq!(rt;
+            repeated(rt.alloc(), line, most)?.as_str(),
+            "accepted",
+            "at {line}"
+        );
+        assert_eq!(rt;
+            repeated(rt.alloc(), line, most + 1)?.as_str(),
+            want,
+            "at {line}"
+        );
+    }
+    Ok(())
+}
+
+/// 256 bytes make a line and 1,048,576 a script; one more is refused in the line that has it.
+#[test]
+fn as_long_as_may_be(rt: HostRuntime) -> Result<(), Fail> {
+    let mut line = Vec::new(rt.alloc());
+    line.extend_from_slice(b"servers 2 slots 4\n")?;
+    for _ in 0..256 {
+        line.push(b'#')?;
+    }
+    assert_eq!(rt; verdict(rt.alloc(), &line)?.as_str(), "accepted");
+    line.extend_from_slice(b"\r\nx\n")?;
+    assert_eq!(rt; verdict(rt.alloc(), &line)?.as_str(), "3: bad line");
+    line.truncate(274);
+    line.push(b'#')?;
+    assert_eq!(rt; verdict(rt.alloc(), &line)?.as_str(), "2: too long");
+    line.push(0x80)?;
+    assert_eq!(rt; verdict(rt.alloc(), &line)?.as_str(), "2: not ascii");
+    let mut text = Vec::new(rt.alloc());
+    text.extend_from_slice(b"servers 2 slots 4\n#############\n")?;
+    for _ in 0..32_767 {
+        text.extend_from_slice(b"# 345678901234567890123456789 1\n")?;
+    }
+    assert_eq!(rt; text.len(), 1_048_576);
+    assert_eq!(rt; verdict(rt.alloc(), &text)?.as_str(), "accepted");
+    text.push(b'\n')?;
+    assert_eq!(rt; verdict(rt.alloc(), &text)?.as_str(), "32770: too long");
+    text.truncate(1_048_575);
+    text.extend_from_slice(b"x\n")?;
+    assert_eq!(rt; verdict(rt.alloc(), &text)?.as_str(), "32769: too long");
+    Ok(())
+}
+
+#[test]
+fn what_is_read(rt: HostRuntime) -> Result<(), Fail> {
+    let text =
+        b"servers 5 slots 16\r\n# c\r\nb disk vol on 0 4 2\r\nwait\r\nh write vol 5 halves 1 2\r\n\r\nop start 3";
+    let script = read_script(rt.alloc(), text).ok().ok_or("a script")?;
+    assert_eq!(rt; (script.servers, script.slots, script.phases), (5, 16, 2));
+    let places: [(u32, u32, u8); 3] = [(3, 0, 1), (5, 1, 7), (7, 1, 8)];
+    let lines = script.lines.as_slice();
+    assert_eq!(rt; lines.len(), 3);
+    for (line, want) in lines.iter().zip(places.iter()) {
+        assert_eq!(rt; (line.number, line.phase, line.client), *want);
+    }
+    match &lines[0].request {
+        Request::Disk { name, tuple } => {
+            assert_eq!(rt; name.bytes(), b"vol".as_slice());
+            assert_eq!(rt; tuple.ids(), [0, 4, 2].as_slice());
+        }
+        _ => return Err("a disk line".into()),
+    }
+    match &lines[1].request {
+        Request::Write { pattern, .. } => assert_eq!(rt; *pattern, Pattern::Halves(1, 2)),
+        _ => return Err("a write line".into()),
+    }
+    Ok(())
+}
+
+fn block(alloc: Global, pattern: Pattern) -> Result<Answer, Fail> {
+    match pattern.block(alloc) {
+        Ok(block) => match SharedBlock::new(alloc, block) {
+            Ok(block) => Ok(Answer::Data(block)),
+            Err(_) => Err("out of memory".into()),
+        },
+        Err(_) => Err("out of memory".into()),
+    }
+}
+
+/// The digest is that of the 65,536 bytes 7, 8, .., 255, 0, .., as another program computes it.
+#[test]
+fn what_is_printed(rt: HostRuntime) -> Result<(), Fail> {
+    let mut out = Vec::new(rt.alloc());
+    let answers = [
+        Answer::Ok,
+        block(rt.alloc(), Pattern::Fill(0))?,
+        block(rt.alloc(), Pattern::Halves(1, 200))?,
+        block(rt.alloc(), Pattern::Ramp(7))?,
+        Answer::NoSpace,
+        Answer::Unavailable,
+        Answer::NoDisk,
+        Answer::NoSnap,
+        Answer::Exists,
+        Answer::Moving,
+        Answer::Failed,
+    ];
+    for answer in &answers {
+        assert!(rt; write_answer(rt.alloc(), &mut out, 4, answer).is_ok());
+    }
+    assert!(rt; write_refusal(rt.alloc(), &mut out, 20, Cause::NoMajority.text()).is_ok());
+    let want = b"4: ok
+4: data 65536x0
+4: data 32768x1 32768x200
+4: data sha256 05373b6763f8979c496c184b7a0eac637558f4ee4b7b17a0449afa72410a93b5
+4: nospace
+4: unavailable
+4: nodisk
+4: nosnap
+4: exists
+4: moving
+4: failed
+refused line 20: no majority
+";
+    assert_eq!(rt; out.as_slice(), want.as_slice());
+    Ok(())
+}
