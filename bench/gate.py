@@ -120,7 +120,7 @@ def fresh(repository):
             watched = watch(child.pid, lambda: child.poll() is not None)
             child.wait()
         times = os.times()
-        report(watched, times.children_user + times.children_system)
+        report(watched, max(watched.total, times.children_user + times.children_system))
         print("rt ci: " + read(f"{room}/said").decode(errors="replace").rstrip("\n").rpartition("\n")[2])
         return child.returncode
 
