@@ -5,11 +5,13 @@ use petal_msg::SharedLetter;
 use std::alloc::Global;
 use std::collections::VecDeque;
 
-/// For each actor the letters that were sent to it and not yet handed over, in the order of sending.
+/// For each box the letters that were sent to it and not yet handed over, in the order of sending.
 #[derive(Drop)]
 pub(crate) struct Post {
     boxes: Vec<VecDeque<SharedLetter>>,
     handed: u32,
+    // Whether a letter was lost since that was last asked.
+    has_lost: bool,
     lose: Option<u32>,
     twice: Option<u32>,
 }
@@ -32,23 +34,24 @@ fn is_due(every: Option<u32>, count: u32) -> bool {
 impl Post {
     pub(crate) fn new(
         alloc: Global,
-        actors: usize,
+        places: usize,
         lose: Option<u32>,
         twice: Option<u32>,
     ) -> Result<Post, NoMemory> {
         let mut boxes = Vec::new(alloc);
-        for _ in 0..actors {
+        for _ in 0..places {
             boxes.push(VecDeque::new(alloc))?;
         }
         Ok(Post {
             boxes,
             handed: 0,
+            has_lost: false,
             lose,
             twice,
         })
     }
 
-    /// A letter is on its way to the actor at this place.
+    /// A letter is on its way to the box at this place.
     pub(crate) fn send(&mut self, place: usize, letter: SharedLetter) -> Result<(), NoMemory> {
         if let Some(mail) = self.boxes.get_mut(place) {
             mail.push_back(letter)?;
@@ -56,7 +59,7 @@ impl Post {
         Ok(())
     }
 
-    /// How many letters wait for the actor at this place.
+    /// How many letters are in the box at this place.
     pub(crate) fn waiting(&self, place: usize) -> usize {
         match self.boxes.get(place) {
             Some(mail) => mail.len(),
@@ -64,7 +67,7 @@ impl Post {
         }
     }
 
-    /// The next letter of the actor at this place.
+    /// The next letter of the box at this place.
     pub(crate) fn take(&mut self, place: usize) -> Option<SharedLetter> {
         self.boxes.get_mut(place)?.pop_front()
     }
@@ -73,11 +76,18 @@ impl Post {
     pub(crate) fn next_handing(&mut self) -> Handing {
         self.handed = self.handed.wrapping_add(1);
         if is_due(self.lose, self.handed) {
+            self.has_lost = true;
             Handing::Lost
         } else if is_due(self.twice, self.handed) {
             Handing::Twice
         } else {
             Handing::Once
         }
+    }
+    /// Whether a letter was lost since this was last asked.
+    pub(crate) fn take_loss(&mut self) -> bool {
+        let lost = self.has_lost;
+        self.has_lost = false;
+        lost
     }
 }

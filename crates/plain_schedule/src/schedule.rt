@@ -12,7 +12,7 @@ use crate::post::{Handing, Post};
 use crate::seat::{ClientSeat, seats_of};
 use memory_server::{MemServer, members};
 use petal_base::{ClientId, NoMemory, ServerId};
-use petal_msg::{Actor, SharedLetter};
+use petal_msg::{Actor, Body, Letter, SharedLetter};
 use petal_rules::{Step, WorkEnd};
 use petal_world::{Stepped, World, WorldError};
 use script_lines::Script;
@@ -33,6 +33,8 @@ pub(crate) struct Schedule {
     patience: Vec<Patience>,
     phase: u32,
     left: usize,
+    // Whether a letter was lost in the round before.
+    after_loss: bool,
 }
 
 /// The world of a run that begins.
@@ -58,12 +60,12 @@ impl Schedule {
         ensures records { IfOk result (λ schedule. schedule.world.records ≡ []) }
     {
         let servers = script.servers;
-        let actors = servers as usize + CLIENTS as usize;
+        let places = servers as usize + 2 * CLIENTS as usize;
         let mut patience = Vec::new(alloc);
         for _ in 0..servers {
             patience.push(Patience::new())?;
         }
-        let post = Post::new(alloc, actors, script.lose, script.twice)?;
+        let post = Post::new(alloc, places, script.lose, script.twice)?;
         let clients = seats_of(alloc, CLIENTS, &script)?;
         Ok(Schedule {
             world: world_of(alloc, script)?,
@@ -73,6 +75,7 @@ impl Schedule {
             patience,
             phase: 0,
             left: 0,
+            after_loss: false,
         })
     }
 
@@ -83,11 +86,25 @@ impl Schedule {
         }
     }
 
+    // A client has a second box, for the letters at which it sends its request anew.
+    fn second_place(&self, client: ClientId) -> usize {
+        self.servers as usize + CLIENTS as usize + client as usize
+    }
+
+    fn place_for(&self, letter: &Letter) -> usize {
+        match (letter.to, &letter.body) {
+            (Actor::Client(client), Body::BlockBusy { .. })
+            | (Actor::Client(client), Body::Held { .. })
+            | (Actor::Client(client), Body::WrongRev { .. }) => self.second_place(client),
+            (actor, _) => self.place_of(actor),
+        }
+    }
+
     fn post_all(&mut self, letters: &[SharedLetter]) -> Result<(), NoMemory>
         ensures { self.new.world ≡ self.old.world }
     {
         for letter in letters {
-            let place = self.place_of(letter.get().to);
+            let place = self.place_for(letter.get());
             self.post.send(place, letter.share()?)?;
         }
         Ok(())
@@ -114,42 +131,41 @@ impl Schedule {
         self.post_all(stepped.letters.as_slice())
     }
 
-    // Takes a step. Gives whether it was one of the world's.
-    fn take(&mut self, alloc: Global, actor: Actor, step: &Step) -> Result<bool, NoMemory>
+    // Takes a step. Gives how many letters it sent, and None where it is not one of the world's.
+    fn take(&mut self, alloc: Global, actor: Actor, step: &Step) -> Result<Option<usize>, NoMemory>
         ensures script { self.new.world.script ≡ self.old.world.script }
         ensures goes_on { GoesOn self.old.world.records self.new.world.records }
     {
         match self.world.step(alloc, actor, step) {
             Ok(stepped) => {
                 self.note(actor, &stepped)?;
-                Ok(true)
+                Ok(Some(stepped.letters.len()))
             }
-            Err(WorldError::NotAllowed) => Ok(false),
+            Err(WorldError::NotAllowed) => Ok(None),
             Err(WorldError::NoMemory) => Err(NoMemory),
         }
     }
 
+    // Gives whether the actor sent letters of its own.
     fn hand_over(
         &mut self,
         alloc: Global,
         actor: Actor,
         letter: SharedLetter,
-    ) -> Result<(), NoMemory>
+    ) -> Result<bool, NoMemory>
         ensures script { self.new.world.script ≡ self.old.world.script }
         ensures goes_on { GoesOn self.old.world.records self.new.world.records }
     {
-        match self.post.next_handing() {
-            Handing::Lost => {}
-            Handing::Once => {
-                self.take(alloc, actor, &Step::Deliver { letter })?;
-            }
-            Handing::Twice => {
-                let again = letter.share()?;
-                self.take(alloc, actor, &Step::Deliver { letter })?;
-                self.take(alloc, actor, &Step::Deliver { letter: again })?;
-            }
+        let handing = self.post.next_handing();
+        if handing == Handing::Lost {
+            return Ok(false);
         }
-        Ok(())
+        if handing == Handing::Twice {
+            let again = letter.share()?;
+            self.take(alloc, actor, &Step::Deliver { letter: again })?;
+        }
+        let sent = self.take(alloc, actor, &Step::Deliver { letter })?;
+        Ok(sent.unwrap_or(0) > 0)
     }
 
     // The actor gets each letter that waits for it.
@@ -161,6 +177,23 @@ impl Schedule {
         for _ in 0..self.post.waiting(place) {
             if let Some(letter) = self.post.take(place) {
                 self.hand_over(alloc, actor, letter)?;
+            }
+        }
+        Ok(())
+    }
+
+    // The client gets the letters of its second box, until one of them has it send its request anew. Were all of them handed
+    // over, a request that waits for another's end would be sent anew in ever more copies, where letters come twice.
+    fn get_second_mail(&mut self, alloc: Global, client: ClientId) -> Result<(), NoMemory>
+        ensures script { self.new.world.script ≡ self.old.world.script }
+        ensures goes_on { GoesOn self.old.world.records self.new.world.records }
+    {
+        let place = self.second_place(client);
+        for _ in 0..self.post.waiting(place) {
+            if let Some(letter) = self.post.take(place) {
+                if self.hand_over(alloc, Actor::Client(client), letter)? {
+                    break;
+                }
             }
         }
         Ok(())
@@ -190,13 +223,23 @@ impl Schedule {
     }
 
     // A client with nothing open has nothing to send anew.
-    fn client_passes(&mut self, client: ClientId) -> bool
+    fn client_ticks(&mut self, client: ClientId) -> u32
         ensures { self.new.world ≡ self.old.world }
     {
         match self.clients.get_mut(client as usize) {
-            Some(seat) => seat.is_open && seat.patience.passes(),
-            None => false,
+            Some(seat) if seat.is_open => seat.patience.ticks(self.after_loss),
+            _ => 0,
         }
+    }
+
+    fn tick(&mut self, alloc: Global, actor: Actor, times: u32) -> Result<(), NoMemory>
+        ensures script { self.new.world.script ≡ self.old.world.script }
+        ensures goes_on { GoesOn self.old.world.records self.new.world.records }
+    {
+        for _ in 0..times {
+            self.take(alloc, actor, &Step::Tick)?;
+        }
+        Ok(())
     }
 
     fn client_turn(&mut self, alloc: Global, client: ClientId) -> Result<(), NoMemory>
@@ -205,19 +248,18 @@ impl Schedule {
     {
         let actor = Actor::Client(client);
         self.get_mail(alloc, actor)?;
-        self.call_next(alloc, client)?;
-        if self.client_passes(client) {
-            self.take(alloc, actor, &Step::Tick)?;
-        }
-        Ok(())
+        self.get_second_mail(alloc, client)?;
+        let times = self.client_ticks(client);
+        self.tick(alloc, actor, times)?;
+        self.call_next(alloc, client)
     }
 
-    fn server_passes(&mut self, server: ServerId) -> bool
+    fn server_ticks(&mut self, server: ServerId) -> u32
         ensures { self.new.world ≡ self.old.world }
     {
         match self.patience.get_mut(server as usize) {
-            Some(patience) => patience.passes(),
-            None => false,
+            Some(patience) => patience.ticks(self.after_loss),
+            None => 0,
         }
     }
 
@@ -227,7 +269,8 @@ impl Schedule {
         ensures goes_on { GoesOn self.old.world.records self.new.world.records }
     {
         for _ in rt.forever() {
-            if !self.take(alloc, Actor::Server(server), &Step::Work(WorkEnd::Done))? {
+            let done = self.take(alloc, Actor::Server(server), &Step::Work(WorkEnd::Done))?;
+            if done.is_none() {
                 break;
             }
         }
@@ -245,19 +288,21 @@ impl Schedule {
     {
         let actor = Actor::Server(server);
         self.get_mail(alloc, actor)?;
-        if self.server_passes(server) {
-            self.take(alloc, actor, &Step::Tick)?;
-        }
+        let times = self.server_ticks(server);
+        self.tick(alloc, actor, times)?;
         self.work_off(rt, alloc, server)
     }
 
-    /// Each client and then each server has its turn, by number. In it an actor gets the letters that were sent to it, a client
-    /// with nothing open calls its next line of the phase, a tick is passed on where the actor has waited for it long enough,
-    /// and a server works until its queue is empty.
+    /// Each client and then each server has its turn, by number. In it an actor gets the letters that were sent to it, ticks are
+    /// passed on to it, a client with nothing open calls its next line of the phase, and a server works until its queue is
+    /// empty. A tick is passed on where the actor has waited for it long enough. In the round after a loss ticks come until
+    /// four are passed on, so that each letter that is waited for goes out four times in a row, and one exchange at least is
+    /// done: no loss of every K-th letter lasts for ever.
     pub(crate) fn round<R: Wait>(&mut self, rt: &R, alloc: Global) -> Result<(), NoMemory>
         ensures script { self.new.world.script ≡ self.old.world.script }
         ensures goes_on { GoesOn self.old.world.records self.new.world.records }
     {
+        self.after_loss = self.post.take_loss();
         for client in 0..CLIENTS {
             self.client_turn(alloc, client)?;
         }

@@ -1,0 +1,165 @@
+"""How a case runs the program. Each way gets the command, the script and a time limit, and returns the exit status, what was
+printed, and a complaint or None."""
+import fcntl, os, subprocess, tempfile, time
+
+PIPE_BYTES = 4096
+
+def file_of(script):
+    """An open file with the script, at its beginning."""
+    file = tempfile.TemporaryFile()
+    file.write(script)
+    file.flush()
+    os.lseek(file.fileno(), 0, os.SEEK_SET)
+    return file
+
+def under(setting, command):
+    """The command, started by a shell that sets something first."""
+    return ["sh", "-c", f'{setting}; exec "$@"', "sh", *command]
+
+def ended(child, seconds):
+    """The child's exit status, and its end by force where it has none in time."""
+    try:
+        return child.wait(seconds), None
+    except subprocess.TimeoutExpired:
+        child.kill()
+        child.wait()
+        return None, f"it had not ended after {seconds:g} seconds"
+
+def into_file(command, given, seconds, **how):
+    """Runs with the output in a file."""
+    with tempfile.TemporaryFile() as out:
+        child = subprocess.Popen(command, stdin=given, stdout=out, stderr=subprocess.DEVNULL, **how)
+        status, why = ended(child, seconds)
+        out.seek(0)
+        return status, out.read(), why
+
+def plain(command, script, seconds):
+    with file_of(script) as given:
+        return into_file(command, given, seconds)
+
+def keeps_input(command, script, seconds):
+    """From a file and from a pipe: all bytes of the input are still there afterwards."""
+    with file_of(script) as given:
+        status, out, why = into_file(command, given, seconds)
+        taken = os.lseek(given.fileno(), 0, os.SEEK_CUR)
+    if why or taken:
+        return status, out, why or f"it took {taken} bytes of the file that was its input"
+    ours, theirs = os.pipe()
+    few = script[:PIPE_BYTES]
+    os.write(theirs, few)
+    os.close(theirs)
+    status, out, why = into_file(command, ours, seconds)
+    left = len(os.read(ours, len(few) + 1))
+    os.close(ours)
+    return status, out, why or (f"it took {len(few) - left} bytes of the pipe that was its input" if left < len(few) else None)
+
+def slow_input(command, script, seconds):
+    """The input comes a few bytes at a time."""
+    ours, theirs = os.pipe()
+    with tempfile.TemporaryFile() as out:
+        child = subprocess.Popen(command, stdin=ours, stdout=out, stderr=subprocess.DEVNULL, pass_fds=())
+        os.close(ours)
+        for at in range(0, len(script), 7):
+            os.write(theirs, script[at : at + 7])
+            time.sleep(0.002)
+        os.close(theirs)
+        status, why = ended(child, seconds)
+        out.seek(0)
+        return status, out.read(), why
+
+def closed_input(command, script, seconds):
+    return into_file(under("exec 0<&-", command), subprocess.DEVNULL, seconds)
+
+def folder_input(command, script, seconds):
+    """Reading a folder fails at its first call."""
+    folder = os.open("/", os.O_RDONLY)
+    try:
+        return into_file(command, folder, seconds)
+    finally:
+        os.close(folder)
+
+def full_device(command, script, seconds):
+    with file_of(script) as given, open("/dev/full", "wb") as full:
+        child = subprocess.Popen(command, stdin=given, stdout=full, stderr=subprocess.DEVNULL)
+        status, why = ended(child, seconds)
+        return status, b"", why
+
+def closed_output(command, script, seconds):
+    with file_of(script) as given:
+        return into_file(under("exec 1>&-", command), given, seconds)
+
+def short_file(command, script, seconds):
+    """The output is a file of at most 512 bytes: the write that crosses its end is a short one, and the next one fails."""
+    with file_of(script) as given:
+        return into_file(under("trap '' XFSZ; ulimit -f 1", command), given, seconds)
+
+def small_pipe():
+    ours, theirs = os.pipe()
+    fcntl.fcntl(theirs, fcntl.F_SETPIPE_SZ, PIPE_BYTES)
+    return ours, theirs
+
+def started(command, script, theirs, **how):
+    """Starts with the output in a pipe. A pipe that nobody reads is an error of the write, and ends nobody by a signal."""
+    with file_of(script) as given:
+        child = subprocess.Popen(command, stdin=given, stdout=theirs, stderr=subprocess.DEVNULL, restore_signals=False, **how)
+    os.close(theirs)
+    return child
+
+def slow_reader(command, script, seconds):
+    """The output is a small pipe, of which a few bytes are taken at a time."""
+    ours, theirs = small_pipe()
+    child = started(command, script, theirs)
+    out, until = b"", time.monotonic() + seconds
+    while time.monotonic() < until:
+        piece = os.read(ours, 41)
+        if not piece:
+            break
+        out += piece
+        time.sleep(0.0005)
+    os.close(ours)
+    status, why = ended(child, max(0.1, until - time.monotonic()))
+    return status, out, why
+
+def closed_pipe(command, script, seconds):
+    """The pipe of the output is closed after its first bytes."""
+    ours, theirs = small_pipe()
+    child = started(command, script, theirs)
+    out = os.read(ours, 3)
+    os.close(ours)
+    status, why = ended(child, seconds)
+    return status, out, why
+
+def unread_pipe(command, script, seconds):
+    """The pipe of the output is closed from the beginning."""
+    ours, theirs = small_pipe()
+    os.close(ours)
+    child = started(command, script, theirs)
+    status, why = ended(child, seconds)
+    return status, b"", why
+
+def little_memory(command, script, seconds):
+    """It may have 192 MiB of addresses."""
+    with file_of(script) as given:
+        return into_file(under("ulimit -v 196608", command), given, seconds)
+
+def processor_seconds(child):
+    with open(f"/proc/{child.pid}/stat") as file:
+        fields = file.read().rpartition(")")[2].split()
+    return (int(fields[11]) + int(fields[12])) / os.sysconf("SC_CLK_TCK")
+
+def early(command, script, seconds):
+    """The first answers come in the first half of the run, by the program's own processor time."""
+    ours, theirs = os.pipe()
+    child = started(command, script, theirs)
+    first = os.read(ours, 1 << 20)
+    spent = processor_seconds(child)
+    out = [first]
+    while out[-1]:
+        out.append(os.read(ours, 1 << 20))
+    os.close(ours)
+    _, status, usage = os.wait4(child.pid, 0)
+    child.returncode = os.waitstatus_to_exitcode(status)
+    whole = usage.ru_utime + usage.ru_stime
+    late = spent > whole / 2
+    return child.returncode, b"".join(out), f"its first bytes came after {spent:.2f} of {whole:.2f} processor seconds" if late else None
+
