@@ -192,6 +192,7 @@ impl<const R: usize> Journal<R> {
             → Stored R self.old (D.seen disk.old) (D.may_leave disk.old) bodies
             → LeavesOnly D.moment D.left_since disk.old disk.new
             (LeftByAppend R self.old (D.may_leave disk.old) bodies body.now) }
+        ensures durable { OnOk result (D.told → Only (D.seen disk.new) (D.may_leave disk.new)) }
         ensures outside { D.told → Torn self.old.base (R * self.old.limit) (D.seen disk.old) (D.seen disk.new) }
         ensures full { IsErrOf result error.Full ↔ (self.old.count ≡ self.old.limit) }
         ensures unchanged { IsErrOf result error.Full → (self.new ≡ self.old) × (disk.new ≡ disk.old) }
