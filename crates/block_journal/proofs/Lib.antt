@@ -1,4 +1,5 @@
 mod Append
 pub mod Counting
 pub mod Frame
+pub mod Gates
 mod Slots

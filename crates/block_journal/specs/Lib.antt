@@ -1,3 +1,4 @@
+pub mod Gate
 pub mod Pieces
 pub mod Records
 pub mod Region

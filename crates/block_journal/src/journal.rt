@@ -1,13 +1,16 @@
 //! Appending to a journal, and making and opening one.
 
-ghost use Rattle.std.specs.Prelude.{◌≡◌, ◌≤◌, ◌<◌, ◌+◌, ◌-◌, ◌*◌, ◌^◌, ◌++◌, ◌↔◌, [], ◌∷◌, ℕ, List, length, OnOk, IfOk, IsErrOf};
-ghost use Rattle.petal_disk.specs.Disk.{LeavesOnly, LeftByWrite, Torn, Within};
+ghost use Rattle.std.specs.Prelude.{◌≡◌, ◌⊎◌, ◌≤◌, ◌<◌, ◌+◌, ◌-◌, ◌*◌, ◌^◌, ◌++◌, ◌↔◌, [], ◌∷◌, ℕ, List, length, replicate, OnOk, IfOk, IsErrOf};
+ghost use Rattle.petal_disk.specs.Disk.{LeavesOnly, LeftByWrite, Only, Torn, Within};
+ghost use Rattle.petal_disk.specs.Faults.{HasCause};
+ghost use Rattle.block_journal.specs.Gate.{IsShut};
 ghost use Rattle.block_journal.specs.Records.{contents, Counts, Stands, Stored, LeftByAppend, WithOrWithout};
 ghost use Rattle.block_journal.specs.declared.error.JournalError.TheVariants as error;
 
 use crate::JournalError;
+use crate::gate::close_gate;
 use crate::reading::read_bodies;
-use petal_disk::{Disk, write_kept};
+use petal_disk::{Disk, Failed, write_kept};
 use std::alloc::Global;
 use std::marker::Model;
 
@@ -52,6 +55,7 @@ impl<const R: usize> Journal<R> {
             (LeftByWrite base (R * limit) (D.may_leave disk.old)) }
         ensures outside { D.told → Torn base (R * limit) (D.seen disk.old) (D.seen disk.new) }
         ensures full { ¬ IsErrOf result error.Full }
+        ensures memory { IsErrOf result error.NoMemory → disk.new ≡ disk.old }
         ensures size { D.size disk.new ≡ D.size disk.old }
         ensures later { D.faults disk.old ≤ D.faults disk.new }
         ensures failed { IsErrOf result error.Failed → D.faults disk.old < D.faults disk.new }
@@ -59,7 +63,64 @@ impl<const R: usize> Journal<R> {
     {
         let _size = disk.len();
         let zeros = vec![in alloc; 0; R * limit as usize]?;
-        write_kept(disk, base, &zeros)?;
+        Ok(Journal::format_over(&zeros, disk, base, limit)?)
+    }
+
+    /// Makes a journal of no bodies on a device whose gate it closes first: so what the records that it clears stood for is
+    /// no longer read. A crash at any moment leaves what it might have left before, or a closed gate.
+    ///
+    /// # Errors
+    /// `NoMemory`, before any call of the device; `Failed` where the device failed.
+    pub fn format_behind_gate<D: Disk>(
+        alloc: Global,
+        disk: &mut D,
+        base: u64,
+        limit: u32,
+    ) -> Result<Journal<R>, JournalError>
+        requires wide { 0 < R }
+        requires behind { 1 ≤ base }
+        requires region { base + R * limit ≤ D.size disk.old }
+        ensures region { IfOk result (λ journal. journal ≡ record { base = base; limit = limit; count = 0 }) }
+        ensures stored { IfOk result (λ journal. D.told → Stored R journal (D.seen disk.new) (D.may_leave disk.new) []) }
+        ensures durable { OnOk result (D.told → Only (D.seen disk.new) (D.may_leave disk.new)) }
+        ensures shut { OnOk result (D.told → IsShut (D.seen disk.new)) }
+        ensures any_moment { D.told → LeavesOnly D.moment D.left_since disk.old disk.new (λ c. D.may_leave disk.old c ⊎ IsShut c) }
+        ensures either { D.told → (D.seen disk.new ≡ D.seen disk.old) ⊎ IsShut (D.seen disk.new) }
+        ensures full { ¬ IsErrOf result error.Full }
+        ensures memory { IsErrOf result error.NoMemory → disk.new ≡ disk.old }
+        ensures size { D.size disk.new ≡ D.size disk.old }
+        ensures later { D.faults disk.old ≤ D.faults disk.new }
+        ensures failed { IsErrOf result error.Failed → D.faults disk.old < D.faults disk.new }
+        ensures run { D.came_to disk.old disk.new }
+    {
+        let _size = disk.len();
+        let zeros = vec![in alloc; 0; R * limit as usize]?;
+        close_gate(disk)?;
+        Ok(Journal::format_over(&zeros, disk, base, limit)?)
+    }
+
+    // Makes a journal of no bodies out of zeros at hand.
+    fn format_over<D: Disk>(
+        zeros: &[u8],
+        disk: &mut D,
+        base: u64,
+        limit: u32,
+    ) -> Result<Journal<R>, Failed>
+        requires wide { 0 < R }
+        requires region { base + R * limit ≤ D.size disk.old }
+        requires zeros { zeros.now ≡ replicate (R * limit) 0 }
+        ensures region { IfOk result (λ journal. journal ≡ record { base = base; limit = limit; count = 0 }) }
+        ensures stored { IfOk result (λ journal. D.told → Stored R journal (D.seen disk.new) (D.may_leave disk.new) []) }
+        ensures durable { OnOk result (D.told → Only (D.seen disk.new) (D.may_leave disk.new)) }
+        ensures any_moment { LeavesOnly D.moment D.left_since disk.old disk.new
+            (LeftByWrite base (R * limit) (D.may_leave disk.old)) }
+        ensures outside { D.told → Torn base (R * limit) (D.seen disk.old) (D.seen disk.new) }
+        ensures size { D.size disk.new ≡ D.size disk.old }
+        ensures cause { HasCause (D.faults disk.old) (D.faults disk.new) result }
+        ensures run { D.came_to disk.old disk.new }
+    {
+        let _size = disk.len();
+        write_kept(disk, base, zeros)?;
         Ok(Journal {
             base,
             limit,
@@ -131,6 +192,7 @@ impl<const R: usize> Journal<R> {
             → Stored R self.old (D.seen disk.old) (D.may_leave disk.old) bodies
             → LeavesOnly D.moment D.left_since disk.old disk.new
             (LeftByAppend R self.old (D.may_leave disk.old) bodies body.now) }
+        ensures durable { OnOk result (D.told → Only (D.seen disk.new) (D.may_leave disk.new)) }
         ensures outside { D.told → Torn self.old.base (R * self.old.limit) (D.seen disk.old) (D.seen disk.new) }
         ensures full { IsErrOf result error.Full ↔ (self.old.count ≡ self.old.limit) }
         ensures unchanged { IsErrOf result error.Full → (self.new ≡ self.old) × (disk.new ≡ disk.old) }

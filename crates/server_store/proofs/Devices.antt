@@ -1,15 +1,19 @@
 -- What an append to the journal leaves of a data device.
-use Rattle.std.proofs.Common.{◌≡◌, inl, inr, ℕ, ◌*◌, ◌<◌, Bool, List, [], ◌∷◌, ◌++◌, length, fold, take, drop, refl, sym, ◌∙◌, ap, subst, arith}
-use Rattle.std.proofs.lemmas.List.{map-append, length-map}
-use Rattle.petal_disk.specs.Disk.{Torn, Only, written}
-use Rattle.petal_disk.proofs.Tearing.{torn_front}
+use Rattle.std.proofs.Common.{◌≡◌, ◌⊎◌, inl, inr, ℕ, ◌*◌, ◌<◌, ◌≤◌, Bool, List, [], ◌∷◌, ◌++◌, length, fold, take, drop, refl, sym, ◌∙◌, ap, subst, arith}
+use Rattle.std.proofs.lemmas.List.{map-append, length-map, take-take}
+use Rattle.petal_disk.specs.Disk.{Torn, Only, LeavesOnly, written}
+use Rattle.petal_disk.proofs.Moments.{joined, weaker}
+use Rattle.petal_disk.proofs.Tearing.{torn_front, torn_written}
+use Rattle.block_journal.specs.Gate.{IsShut}
 use Rattle.block_journal.specs.Records.{Stands, Stored, LeftByAppend}
 use Rattle.block_journal.specs.Records as journal
 use Rattle.block_journal.specs.Region.{Region}
+use Rattle.block_journal.proofs.Frame.{stands_outside}
 use Rattle.store_record.specs.declared.record.StoreRecord.{StoreRecord}
 use Rattle.store_record.specs.Spelling.{spelling, HasSpelling}
 use Rattle.server_store.specs.Device.{header, bodies_of, AreSpelled, StandsFor, Log, Logs, WithOrWithout}
 use Rattle.server_store.specs.Kept.{Kept, Fits, AllFit, kept_after, kept_of, formatted}
+use Rattle.server_store.specs.Reading.{IsBlank, LeftByFormat}
 
 -- the journal of a data device
 pub record IsPlaced (region : Region) : Type 0 where
@@ -91,15 +95,48 @@ appended slots log log' leave leave' seen seen' entry body one at at' more same 
       left = λ c i. let l = each c i in rw (more, same) (stands c (headed_still slots log.fresh log.region l.from c at l.outside (h.left l.from l.from_left).headed) (s.left c i));
     }
 
--- the header without its gate, and then the gate
-pub headed : (slots : ℕ) (fresh : Bool) (file : List ℕ) → 0 < length file → take 64 (written (written file 1 (drop 1 (header slots fresh))) 0 (165 ∷ [])) ≡ header slots fresh
-headed slots fresh [] h = absurd (omega arith)
-headed slots fresh (x ∷ xs) h = refl
+-- a device whose gate is closed is blank
+pub shut_blank : (file : List ℕ) (size : ℕ) → IsShut file → IsBlank file size
+shut_blank file size shut slots fresh lt head = absurd (shut (sym (take-take 1 64 file (omega arith)) ∙ ap (take 1) head))
+
+-- the whole header
+pub headed : (slots : ℕ) (fresh : Bool) (file : List ℕ) → take 64 (written file 0 (header slots fresh)) ≡ header slots fresh
+headed slots fresh file = refl
+
+-- a header over an empty journal
+pub headed_device : (slots : ℕ) (fresh : Bool) (region : Region) (file c : List ℕ) → IsPlaced region → 64 ≤ length file → Stands 64 region.base region.limit file [] → c ≡ written file 0 (header slots fresh) → StandsFor c slots fresh []
+headed_device slots fresh region file c at fits empty is =
+    let base = at.base in
+    let torn : Torn 0 64 file c = subst (λ f. Torn 0 64 file f) (sym is) (torn_written file 0 (header slots fresh) fits) in
+    record {
+      headed = ap (take 64) is ∙ headed slots fresh file;
+      spelled = tt;
+      fit = tt;
+      stands = placed region c [] at (stands_outside 64 region.base region.limit 0 64 file c [] (omega arith) (inr (omega arith)) torn empty);
+    }
+
+-- a closed gate, or what was there before, may be left by formatting
+pub left_by_clearing : (before : List ℕ → Type 0) (size slots : ℕ) (fresh : Bool) (c : List ℕ) → before c ⊎ IsShut c → LeftByFormat before size slots fresh c
+left_by_clearing before size slots fresh c (inl was) = inl was
+left_by_clearing before size slots fresh c (inr shut) = inr (inl (shut_blank c size shut))
+
+-- so may a header over an empty journal
+pub left_by_header : (before : List ℕ → Type 0) (size slots : ℕ) (fresh : Bool) (region : Region) (file c : List ℕ) → IsPlaced region → 64 ≤ length file → Stands 64 region.base region.limit file [] → IsShut c ⊎ (c ≡ written file 0 (header slots fresh)) → LeftByFormat before size slots fresh c
+left_by_header before size slots fresh region file c at fits empty (inl shut) = inr (inl (shut_blank c size shut))
+left_by_header before size slots fresh region file c at fits empty (inr is) = inr (inr (headed_device slots fresh region file c at fits empty is))
+
+-- at each moment of both
+pub formatting : {D : Type 0} (moment : D → ℕ) (left_since : D → ℕ → List ℕ → Type 0) (d0 d1 d2 : D) (before : List ℕ → Type 0) (size slots : ℕ) (fresh : Bool) (region : Region) (file : List ℕ) → IsPlaced region → 64 ≤ length file → Stands 64 region.base region.limit file []
+    → LeavesOnly moment left_since d0 d1 (λ c. before c ⊎ IsShut c) → LeavesOnly moment left_since d1 d2 (λ c. IsShut c ⊎ (c ≡ written file 0 (header slots fresh))) → LeavesOnly moment left_since d0 d2 (LeftByFormat before size slots fresh)
+formatting moment left_since d0 d1 d2 before size slots fresh region file at fits empty first second =
+    joined moment left_since d0 d1 d2 (LeftByFormat before size slots fresh) (λ c. IsShut c ⊎ (c ≡ written file 0 (header slots fresh)))
+    (weaker moment left_since d0 d1 (λ c. before c ⊎ IsShut c) (LeftByFormat before size slots fresh) first (left_by_clearing before size slots fresh)) second
+    (λ c left. left_by_header before size slots fresh region file c at fits empty left)
 
 -- what a formatted device stands for
-pub formatted_device : (slots : ℕ) (log : Log) (seen : List ℕ) (leave : List ℕ → Type 0) → IsPlaced log.region → log.region.count ≡ 0 → log.records ≡ [] → take 64 seen ≡ header slots log.fresh → Stands 64 log.region.base log.region.limit seen [] → Only seen leave → Logs slots log seen leave
-formatted_device slots log seen leave at count none head stands only =
-    let now : StandsFor seen slots log.fresh log.records = rw none (record { headed = head; spelled = tt; fit = tt; stands = placed log.region seen [] at stands }) in
+pub formatted_device : (slots : ℕ) (log : Log) (seen : List ℕ) (leave : List ℕ → Type 0) → log.region.count ≡ 0 → log.records ≡ [] → StandsFor seen slots log.fresh [] → Only seen leave → Logs slots log seen leave
+formatted_device slots log seen leave count none stands only =
+    let now : StandsFor seen slots log.fresh log.records = rw none stands in
     record { count = rw none count; now = now; left = λ c i. subst (λ f. StandsFor f slots log.fresh log.records) (sym (only c i)) now }
 
 -- what a device stands for that was synced and read

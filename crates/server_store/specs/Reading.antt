@@ -1,12 +1,12 @@
 -- What is read of a journal's bodies.
-use Rattle.std.specs.Prelude.{◌≡◌, ℕ, ◌<◌, ◌^◌, Bool, List, [], ◌∷◌, ◌++◌, length, take, slice_index_or, ⊤}
+use Rattle.std.specs.Prelude.{◌≡◌, ◌⊎◌, ℕ, ◌<◌, ◌^◌, Bool, List, [], ◌∷◌, ◌++◌, length, take, slice_index_or, ⊤}
 use Rattle.block_journal.specs.Records.{Counts}
 use Rattle.store_record.specs.Spelling.{spelling, HasSpelling}
 use Rattle.store_record.specs.declared.record.StoreRecord.{StoreRecord}
 use Rattle.server_store.specs.declared.error.StoreError.{StoreError}
 use Rattle.server_store.specs.declared.error.StoreError.TheVariants.{Failed, NoSpace, JournalFull, BadRecord, NoMemory}
 use Rattle.server_store.specs.declared.replay.Replay.{Replay}
-use Rattle.server_store.specs.Device.{header, bodies_of, AreSpelled}
+use Rattle.server_store.specs.Device.{header, bodies_of, AreSpelled, StandsFor}
 use Rattle.server_store.specs.Kept.{Kept, Fits, AllFit, formatted, kept_after, kept_of}
 use Rattle.server_store.specs.Slots.{slot_start}
 
@@ -60,3 +60,7 @@ pub record IsBadOn (file : List ℕ) (slots : ℕ) (fresh : Bool) (index : ℕ) 
 -- no header of the device says of slots that fit it
 abbrev pub IsBlank : List ℕ → ℕ → Type 0
 IsBlank file size = (slots : ℕ) (fresh : Bool) → slots < 2 ^ 32 → take 64 file ≡ header slots fresh → size < slot_start slots
+
+-- what formatting may leave: what might have been there before, a blank device, or the store without records
+abbrev pub LeftByFormat : (List ℕ → Type 0) → ℕ → ℕ → Bool → List ℕ → Type 0
+LeftByFormat before size slots fresh file = before file ⊎ IsBlank file size ⊎ StandsFor file slots fresh []

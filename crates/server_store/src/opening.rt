@@ -2,8 +2,9 @@
 
 ghost use Rattle.std.specs.Prelude.{◌≡◌, ◌≤◌, ◌<◌, ◌^◌, ℕ, Bool, List, [], take, IfOk, IfErr, IfSome, IfNone};
 ghost use Rattle.block_journal.specs.Records.{Counts, Stands};
-ghost use Rattle.petal_disk.specs.Disk.{Only, Within};
+ghost use Rattle.petal_disk.specs.Disk.{Only};
 ghost use Rattle.petal_disk.specs.Faults.{HasCause};
+ghost use Rattle.petal_disk.specs.Keeping.{KeepsDevice};
 ghost use Rattle.store_record.specs.declared.record.StoreRecord.{StoreRecord};
 ghost use Rattle.server_store.specs.Device.{header, bodies_of, AreSpelled, StandsFor, Logs};
 ghost use Rattle.server_store.specs.Errors.{HasFault};
@@ -42,10 +43,8 @@ fn read_journal<D: Disk>(alloc: Global, disk: &mut D, said: Header) -> Result<Fo
     ensures bad { (index : ℕ) → IfErr result (λ e. e ≡ error.BadRecord index → D.told → IsBadOn (D.seen disk.old) said.slots said.fresh index) }
     ensures good { (records : List StoreRecord) → IfErr result (λ e. D.told → StandsFor (D.seen disk.old) said.slots said.fresh records → IsGoodError e) }
     ensures errors { IfErr result IsOpenError }
-    ensures seen { D.seen disk.new ≡ D.seen disk.old }
-    ensures crash { Within (D.may_leave disk.old) (D.may_leave disk.new) }
+    ensures device { KeepsDevice D.size D.seen D.may_leave D.moment D.left_since disk.old disk.new }
     ensures cause { HasFault (D.faults disk.old) (D.faults disk.new) result }
-    ensures size { D.size disk.new ≡ D.size disk.old }
     ensures run { D.came_to disk.old disk.new }
 {
     let (journal, bodies) = Journal::open(alloc, disk, JOURNAL_BASE, JOURNAL_RECORDS)?;
@@ -92,9 +91,8 @@ fn read_header<D: Disk>(disk: &mut D) -> Result<Option<Header>, Failed>
     ensures small { IfOk result (λ o. IfSome o (λ said. said.slots < 2 ^ 32)) }
     ensures blank { IfOk result (λ o. IfNone o (D.told → IsBlank (D.seen disk.old) (D.size disk.old))) }
     ensures durable { IfOk result (λ o. IfSome o (λ _. D.told → Only (D.seen disk.new) (D.may_leave disk.new))) }
-    ensures seen { D.seen disk.new ≡ D.seen disk.old }
+    ensures device { KeepsDevice D.size D.seen D.may_leave D.moment D.left_since disk.old disk.new }
     ensures cause { HasCause (D.faults disk.old) (D.faults disk.new) result }
-    ensures size { D.size disk.new ≡ D.size disk.old }
     ensures run { D.came_to disk.old disk.new }
 {
     if disk.len() < DATA_START {
@@ -126,9 +124,8 @@ pub fn read_device<D: Disk>(alloc: Global, disk: &mut D) -> Result<Option<Found>
     ensures bad_headed { (index : ℕ) → IfErr result (λ e. e ≡ error.BadRecord index → D.told → ¬ IsBlank (D.seen disk.old) (D.size disk.old)) }
     ensures good { (slots : ℕ) (fresh : Bool) (records : List StoreRecord) → IfErr result (λ e. D.told → slots < 2 ^ 32 → StandsFor (D.seen disk.old) slots fresh records → IsGoodError e) }
     ensures errors { IfErr result IsOpenError }
-    ensures seen { D.seen disk.new ≡ D.seen disk.old }
+    ensures device { KeepsDevice D.size D.seen D.may_leave D.moment D.left_since disk.old disk.new }
     ensures cause { HasFault (D.faults disk.old) (D.faults disk.new) result }
-    ensures size { D.size disk.new ≡ D.size disk.old }
     ensures run { D.came_to disk.old disk.new }
 {
     let Some(said) = read_header(disk)? else {

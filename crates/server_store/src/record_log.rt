@@ -5,12 +5,13 @@ ghost use Rattle.petal_disk.specs.Disk.{LeavesOnly, Torn, Follows};
 ghost use Rattle.server_store.specs.Device.{Logs, WithOrWithout};
 ghost use Rattle.server_store.specs.Errors.{IsFormatError, IsCommitError, HasFault};
 ghost use Rattle.server_store.specs.Kept.{Fits, kept_of};
+ghost use Rattle.server_store.specs.Reading.{LeftByFormat};
 
 use crate::StoreError;
 use crate::header::{Header, spell};
 use crate::history::History;
-use block_journal::{Journal, JournalError};
-use petal_disk::{Disk, write_kept};
+use block_journal::{Journal, JournalError, write_header};
+use petal_disk::Disk;
 use std::alloc::Global;
 use std::marker::Model;
 use store_record::{StoreRecord, encode};
@@ -42,7 +43,7 @@ impl Model for RecordLog {
 }
 
 impl RecordLog {
-    /// Makes the device stand for no record: writes an empty journal, then the header without its gate, then the gate.
+    /// Makes the device stand for no record: closes its gate, clears the journal, writes the header, and opens the gate last.
     pub fn format<D: Disk>(
         alloc: Global,
         disk: &mut D,
@@ -52,14 +53,15 @@ impl RecordLog {
         ensures ok { IfOk result (λ log. (log.fresh ≡ said.fresh) × (log.records ≡ [])) }
         ensures logs { IfOk result (λ log. D.told → Logs said.slots log (D.seen disk.new) (D.may_leave disk.new)) }
         ensures errors { IfErr result IsFormatError }
+        ensures any_moment { D.told → LeavesOnly D.moment D.left_since disk.old disk.new (LeftByFormat (D.may_leave disk.old) (D.size disk.old) said.slots said.fresh) }
+        ensures either { D.told → LeftByFormat (λ file. file ≡ D.seen disk.old) (D.size disk.old) said.slots said.fresh (D.seen disk.new) }
+        ensures memory { IsErrOf result StoreError.NoMemory → disk.new ≡ disk.old }
         ensures cause { HasFault (D.faults disk.old) (D.faults disk.new) result }
         ensures size { D.size disk.new ≡ D.size disk.old }
         ensures run { D.came_to disk.old disk.new }
     {
-        let journal = Journal::format(alloc, disk, JOURNAL_BASE, JOURNAL_RECORDS)?;
-        let header = spell(said);
-        write_kept(disk, 1, &header[1..])?;
-        write_kept(disk, 0, &header[..1])?;
+        let journal = Journal::format_behind_gate(alloc, disk, JOURNAL_BASE, JOURNAL_RECORDS)?;
+        write_header(disk, &spell(said))?;
         Ok(RecordLog {
             journal,
             history: History::new(),

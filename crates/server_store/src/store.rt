@@ -6,6 +6,7 @@ ghost use Rattle.block_journal.specs.Records.{Counts};
 ghost use Rattle.petal_base.specs.Block.{zero_block};
 ghost use Rattle.petal_disk.specs.Disk.{LeavesOnly};
 ghost use Rattle.petal_disk.specs.Faults.{HasCause};
+ghost use Rattle.petal_disk.specs.Keeping.{KeepsDevice};
 ghost use Rattle.petal_disk.specs.Plans.{beneath, plan_state};
 ghost use Rattle.physical_map.specs.Entries.{key_of, slot_of, without_key, chain_of, top_of, version_of, next_block_of, lesser};
 ghost use Rattle.physical_map.specs.Keys.{placed, newest, IsInOrder};
@@ -15,7 +16,7 @@ ghost use Rattle.server_store.specs.Holdings.{key_held, listed, free_slots, with
 ghost use Rattle.server_store.specs.Found.{IsOpenError, IsGoodError};
 ghost use Rattle.server_store.specs.Kept.{AllFit, formatted, kept_of};
 ghost use Rattle.server_store.specs.Opening.{IfStore, IfBlank, IsStore, Reopened};
-ghost use Rattle.server_store.specs.Reading.{IsBadOn, IsBlank};
+ghost use Rattle.server_store.specs.Reading.{IsBadOn, IsBlank, LeftByFormat};
 ghost use Rattle.server_store.specs.Shown.{Picture, picture_of, picture_in, Shows, Holds, BeforeOrAfter};
 ghost use Rattle.server_store.specs.Slots.{slot_start};
 ghost use Rattle.server_store.specs.Tickets.{without};
@@ -72,10 +73,12 @@ impl<D: Disk> Model for Store<D> {
 }
 
 impl<D: Disk> Store<D> {
-    /// The store without entries on a device in which the slots fit; `fresh` where it is to be filled anew.
+    /// The store without entries on a device in which the slots fit; `fresh` where it is to be filled anew. A crash at any
+    /// moment leaves what it might have left before, a blank device, or this store.
     ///
     /// # Errors
-    /// `Failed`, where the device failed, and `NoMemory`. The device is handed back.
+    /// `NoMemory`, before any call of the device, which is handed back as it was; `Failed`, where the device failed. The device
+    /// is handed back.
     pub fn format(
         alloc: Global,
         disk: D,
@@ -87,6 +90,11 @@ impl<D: Disk> Store<D> {
         ensures holds { IfOk result (λ store. D.told → Holds store (D.seen store.disk) (D.may_leave store.disk)) }
         ensures errors { IfErr result (λ e. IsFormatError e.1) }
         ensures failed { IfErr result (λ e. e.1 ≡ StoreError.Failed → D.faults disk < D.faults e.0) }
+        ensures any_moment { IfOk result (λ store. D.told → LeavesOnly D.moment D.left_since disk store.disk (LeftByFormat (D.may_leave disk) (D.size disk) slots fresh)) }
+        ensures err_any_moment { IfErr result (λ e. D.told → LeavesOnly D.moment D.left_since disk e.0 (LeftByFormat (D.may_leave disk) (D.size disk) slots fresh)) }
+        ensures err_either { IfErr result (λ e. D.told → LeftByFormat (λ file. file ≡ D.seen disk) (D.size disk) slots fresh (D.seen e.0)) }
+        ensures err_size { IfErr result (λ e. D.size e.0 ≡ D.size disk) }
+        ensures memory { IfErr result (λ e. e.1 ≡ StoreError.NoMemory → e.0 ≡ disk) }
         ensures later { IfOk result (λ store. D.faults disk ≤ D.faults store.disk) }
         ensures run { IfOk result (λ store. D.came_to disk store.disk) }
         ensures err_run { IfErr result (λ e. D.came_to disk e.0) }
@@ -109,7 +117,7 @@ impl<D: Disk> Store<D> {
     ///
     /// # Errors
     /// `BadRecord` where the record of this index counts and has no spelling, or puts into a slot that is in use or not there;
-    /// `Failed`, where the device failed, and `NoMemory`. The device is handed back.
+    /// `Failed`, where the device failed, and `NoMemory`. The device is handed back, and but for a sync it is as it was.
     pub fn open(alloc: Global, disk: D) -> Result<Opened<D>, (D, StoreError)>
         ensures headed { IfOk result (λ o. IfStore o (λ store. D.told → take 64 (D.seen disk) ≡ header store.slots store.log.fresh)) }
         ensures counts { IfOk result (λ o. IfStore o (λ store. D.told → Counts 64 4096 65536 (D.seen disk) (bodies_of store.log.records))) }
@@ -125,6 +133,9 @@ impl<D: Disk> Store<D> {
         ensures errors { IfErr result (λ e. IsOpenError e.1) }
         ensures failed { IfErr result (λ e. e.1 ≡ StoreError.Failed → D.faults disk < D.faults e.0) }
         ensures later { IfOk result (λ o. IfStore o (λ store. D.faults disk ≤ D.faults store.disk)) }
+        ensures device { IfOk result (λ o. IfStore o (λ store. KeepsDevice D.size D.seen D.may_leave D.moment D.left_since disk store.disk)) }
+        ensures blank_device { IfOk result (λ o. IfBlank o (λ back. KeepsDevice D.size D.seen D.may_leave D.moment D.left_since disk back)) }
+        ensures err_device { IfErr result (λ e. KeepsDevice D.size D.seen D.may_leave D.moment D.left_since disk e.0) }
         ensures run { IfOk result (λ o. IfStore o (λ store. D.came_to disk store.disk)) }
         ensures blank_run { IfOk result (λ o. IfBlank o (λ back. D.came_to disk back)) }
         ensures err_run { IfErr result (λ e. D.came_to disk e.0) }
@@ -396,6 +407,8 @@ impl<D: Disk> Store<D> {
         ensures content { OnOk result (D.told → into.new ≡ content_of (newest key_held (record { map = map; block = block; epoch = epoch }) self.old.entries)) }
         ensures zeros { IfOk result (λ found. IfNone found (into.new ≡ zero_block)) }
         ensures same { self.new ≡ record self.old { disk = self.new.disk } }
+        ensures device { KeepsDevice D.size D.seen D.may_leave D.moment D.left_since self.old.disk self.new.disk }
+        ensures holds { D.told → Holds self.old (D.seen self.old.disk) (D.may_leave self.old.disk) → Holds self.new (D.seen self.new.disk) (D.may_leave self.new.disk) }
         ensures cause { HasCause (D.faults self.old.disk) (D.faults self.new.disk) result }
         ensures run { D.came_to self.old.disk self.new.disk }
     {
@@ -527,6 +540,9 @@ fn write_format<D: Disk>(
     ensures log { IfOk result (λ out. (out.1.fresh ≡ said.fresh) × (out.1.records ≡ [])) }
     ensures logs { IfOk result (λ out. D.told → Logs said.slots out.1 (D.seen disk.new) (D.may_leave disk.new)) }
     ensures errors { IfErr result IsFormatError }
+    ensures any_moment { D.told → LeavesOnly D.moment D.left_since disk.old disk.new (LeftByFormat (D.may_leave disk.old) (D.size disk.old) said.slots said.fresh) }
+    ensures either { D.told → LeftByFormat (λ file. file ≡ D.seen disk.old) (D.size disk.old) said.slots said.fresh (D.seen disk.new) }
+    ensures memory { IsErrOf result StoreError.NoMemory → disk.new ≡ disk.old }
     ensures cause { HasFault (D.faults disk.old) (D.faults disk.new) result }
     ensures size { D.size disk.new ≡ D.size disk.old }
     ensures run { D.came_to disk.old disk.new }

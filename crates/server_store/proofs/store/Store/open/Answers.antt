@@ -19,7 +19,7 @@ returns-in-Ok-Some-clause-same g c slots fresh recorded picture told lt room sho
       slots_are = same.0;
       fresh_is = same.1;
       records_are = same.2;
-      shown = sym shown ∙ ap (λ (k : Kept). picture_in seen' k) kept ∙ ap (λ (f : List ℕ). picture_in f (kept_of fresh recorded)) c.read_device.ensures.seen ∙ shows.shown;
+      shown = sym shown ∙ ap (λ (k : Kept). picture_in seen' k) kept ∙ ap (λ (f : List ℕ). picture_in f (kept_of fresh recorded)) c.read_device.ensures.device.same_seen ∙ shows.shown;
       holds = rw same.0 (record {
         count = logs.count;
         now = record { stands = logs.now; shown = shown };
