@@ -18,7 +18,7 @@ use Rattle.petal_msg.specs.declared.operation.Finished.{Finished}
 use Rattle.petal_msg.specs.declared.operation.Pending.{Pending}
 use Rattle.petal_rules.specs.Lists.{In}
 use Rattle.petal_rules.specs.State.{State, first, second, is_second}
-use Rattle.petal_rules.specs.Store.{cell_cmp, chain_in, version_of, entry_at, bytes_of, free_of}
+use Rattle.petal_rules.specs.Store.{cell_cmp, chain_in, version_of, entry_at, bytes_of}
 use Rattle.petal_rules.specs.Server.{Half, Here, Post, Done, post_to, sender}
 use Rattle.petal_rules.specs.Writes.{operation, opened, with_reserved, with_paired, ended, tells}
 use Rattle.petal_rules.specs.Jobs.{here_of, half_of}
