@@ -1,4 +1,5 @@
 mod Fronts
+pub mod Keeping
 mod Kept
 mod Mixed
 pub mod Moments

@@ -1,5 +1,6 @@
 pub mod Disk
 pub mod Faults
+pub mod Keeping
 pub mod Mixes
 pub mod PlanRuns
 pub mod Plans

@@ -6,6 +6,7 @@ ghost use Rattle.block_journal.specs.Records.{Counts};
 ghost use Rattle.petal_base.specs.Block.{zero_block};
 ghost use Rattle.petal_disk.specs.Disk.{LeavesOnly};
 ghost use Rattle.petal_disk.specs.Faults.{HasCause};
+ghost use Rattle.petal_disk.specs.Keeping.{KeepsDevice};
 ghost use Rattle.petal_disk.specs.Plans.{beneath, plan_state};
 ghost use Rattle.physical_map.specs.Entries.{key_of, slot_of, without_key, chain_of, top_of, version_of, next_block_of, lesser};
 ghost use Rattle.physical_map.specs.Keys.{placed, newest, IsInOrder};
@@ -397,6 +398,8 @@ impl<D: Disk> Store<D> {
         ensures content { OnOk result (D.told → into.new ≡ content_of (newest key_held (record { map = map; block = block; epoch = epoch }) self.old.entries)) }
         ensures zeros { IfOk result (λ found. IfNone found (into.new ≡ zero_block)) }
         ensures same { self.new ≡ record self.old { disk = self.new.disk } }
+        ensures device { KeepsDevice D.size D.seen D.may_leave D.moment D.left_since self.old.disk self.new.disk }
+        ensures holds { D.told → Holds self.old (D.seen self.old.disk) (D.may_leave self.old.disk) → Holds self.new (D.seen self.new.disk) (D.may_leave self.new.disk) }
         ensures cause { HasCause (D.faults self.old.disk) (D.faults self.new.disk) result }
         ensures run { D.came_to self.old.disk self.new.disk }
     {
