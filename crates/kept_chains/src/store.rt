@@ -2,9 +2,11 @@
 
 ghost use Rattle.std.specs.Prelude.{◌≡◌, ◌+◌, ◌-◌, ◌^◌, ◌<◌, ◌++◌, ◌∷◌, [], length, nat_lt, Contains, IfOk, IfErr, IfSome, IfNone, OnOk, OnErr, is_some};
 ghost use Rattle.petal_disk.specs.Faults.{HasCause};
+ghost use Rattle.petal_disk.specs.Keeping.{KeepsDevice};
 ghost use Rattle.petal_rules.specs.Store.{bytes_of, chain_in, entry_at, free_of, version_of, top_of};
 ghost use Rattle.physical_map.specs.Entries as map;
 ghost use Rattle.server_store.specs.Holdings.{listed};
+ghost use Rattle.server_store.specs.Shown.{Holds};
 ghost use Rattle.kept_chains.specs.Kept.{chains_of, kept_of};
 ghost use Rattle.kept_chains.specs.Reading.{IsReadFault};
 
@@ -54,7 +56,7 @@ fn buffer(alloc: Global) -> Result<Vec<u8>, AllocError>
 /// The bytes that a cell has at an epoch.
 ///
 /// # Errors
-/// `Failed`, where the device failed; want of memory. Nothing that the store has changed.
+/// `Failed`, where the device failed, and out of memory. Nothing that the store has changed, and the device keeps it as before.
 pub fn read_at<D: Disk>(
     alloc: Global,
     store: &mut Store<D>,
@@ -63,6 +65,9 @@ pub fn read_at<D: Disk>(
 ) -> Result<SharedBlock, ReadError>
     ensures bytes { IfOk result (λ bytes. D.told → bytes ≡ bytes_of (entry_at (chain_in (chains_of store.old.entries) cell) epoch)) }
     ensures same { store.new ≡ record store.old { disk = store.new.disk } }
+    ensures device { KeepsDevice D.size D.seen D.may_leave D.moment D.left_since store.old.disk store.new.disk }
+    ensures holds { D.told → Holds store.old (D.seen store.old.disk) (D.may_leave store.old.disk)
+        → Holds store.new (D.seen store.new.disk) (D.may_leave store.new.disk) }
     ensures cause { IsReadFault (D.faults store.old.disk) (D.faults store.new.disk) result }
     ensures run { D.came_to store.old.disk store.new.disk }
 {

@@ -18,7 +18,7 @@ use Rattle.petal_msg.specs.declared.operation.Finished.{Finished}
 use Rattle.petal_msg.specs.declared.operation.Pending.{Pending}
 use Rattle.petal_rules.specs.Lists.{In}
 use Rattle.petal_rules.specs.State.{State, first, second, is_second}
-use Rattle.petal_rules.specs.Store.{cell_cmp, chain_in, version_of, entry_at, bytes_of, free_of}
+use Rattle.petal_rules.specs.Store.{cell_cmp, chain_in, version_of, entry_at, bytes_of}
 use Rattle.petal_rules.specs.Server.{Half, Here, Post, Done, post_to, sender}
 use Rattle.petal_rules.specs.Writes.{operation, opened, with_reserved, with_paired, ended, tells}
 use Rattle.petal_rules.specs.Jobs.{here_of, half_of}
@@ -29,7 +29,7 @@ use Rattle.petal_rules.specs.declared.step.WorkEnd.TheVariants as work_end
 use Rattle.petal_rules.proofs.CellTables.{cell_same, cell_apart, cell_gone, cell_gone_apart}
 use Rattle.petal_rules.proofs.ListLemmas.{put_same, put_apart, in-append}
 use Rattle.law_steps.specs.Steady.{IsSteady}
-use Rattle.law_steps.specs.Did.{Did, Ignores, Refuses, Asks_for, Shows, Repeats, Is_full, Opens, Puts, Gives_up, Closes, Sets_apart, Promises, Declines, Follows, Asks, A_slot, A_copy, IsRefusal}
+use Rattle.law_steps.specs.Did.{Did, Ignores, Refuses, Asks_for, Shows, Repeats, Is_full, Opens, Puts, Gives_up, Closes, Sets_apart, Promises, Declines, Follows, Asks, A_slot, A_copy, FoundNoSlot, IsRefusal}
 use Rattle.law_steps.specs.Happens.{IsIdle, Handled, server_moves, served}
 use Rattle.law_steps.specs.Ready.{Ready}
 use Rattle.law_steps.proofs.Letters.{said}
@@ -257,7 +257,7 @@ module _ (R S : ℕ → ℕ → Type 0) (state : State) (steady : IsSteady state
       let pair = lead_pair state steady w ready good n op.cell ((ready.pending n).staged op.cell op is).lead in
       more op.client op.seq (refusals.declined h.letter op.op n op.cell op h.sent h.is pair.1.leads is refl)
 
-  declines : (number : ℕ) (cell : Cell) → hears (body.Reserve number cell) → is_second state n cell ≡ true → free_of (w.servers n).store ≡ 0 → J half (post_to (first state cell) (body.PairFull number cell))
+  declines : (number : ℕ) (cell : Cell) → hears (body.Reserve number cell) → is_second state n cell ≡ true → FoundNoSlot half cell number → J half (post_to (first state cell) (body.PairFull number cell))
   declines number cell h s no_room =
       let pair = second_pair state steady w ready good n cell s in
       record {
@@ -278,7 +278,7 @@ module _ (R S : ℕ → ℕ → Type 0) (state : State) (steady : IsSteady state
         declined = λ post k p q op i says leads is numbered.
             let same = full_cell (sym (posted _ _ post i) ∙ says) in
             let there : at cell_cmp (halves_of w p).pairs.pending cell ≡ Some op = ap (at cell_cmp (halves_of w p).pairs.pending) same.1 ∙ is in
-            now op.client op.seq (At_the_second p n cell op refl refl (ap (first state) same.1 ∙ leads) pair.1.follows there refl refl (subst (λ j. hears (body.Reserve j cell)) (same.0 ∙ sym numbered) h) no_room);
+            now op.client op.seq (At_the_second p n cell op refl refl (ap (first state) same.1 ∙ leads) pair.1.follows there refl refl (subst (λ j. hears (body.Reserve j cell)) (same.0 ∙ sym numbered) h) (subst (FoundNoSlot half cell) (same.0 ∙ sym numbered) no_room));
       }
     where
       full_cell : {a b : ℕ} {c d : Cell} → body.PairFull a c ≡ body.PairFull b d → (a ≡ b) × (c ≡ d)
@@ -302,7 +302,7 @@ module _ (R S : ℕ → ℕ → Type 0) (state : State) (steady : IsSteady state
         numbers = λ post number p cell i says leads. absurd (let g : body.Full want.seq ≡ body.PairFull number cell = sym (one_post _ _ post i).1 ∙ says in cc);
         declined = λ post number p cell op i says leads there same. absurd (let g : body.Full want.seq ≡ body.PairFull number cell = sym (one_post _ _ post i).1 ∙ says in cc);
       }
-  job_refuses _ (Is_full want h lead new none no_room) = fills want.client want.seq _ (now want.client want.seq (At_the_lead n want.cell want.epoch want.bytes refl refl lead h no_room)) refl (omega arith) (λ cell op is. inl (was_same cell op is))
+  job_refuses _ (Is_full want h lead new none no_room) = fills want.client want.seq _ (now want.client want.seq (At_the_lead n want.cell want.epoch want.bytes refl refl lead h new none no_room)) refl (omega arith) (λ cell op is. inl (was_same cell op is))
   job_refuses _ (Opens want h lead new none) =
       let op = operation here half.pairs.next want in
       quiet (opened here half want) (post_to (second state want.cell) (body.Reserve half.pairs.next want.cell)) (λ c last is how. inl is)

@@ -1,5 +1,5 @@
 -- Why a request was refused.
-use Rattle.std.specs.Prelude.{◌≡◌, ◌<◌, ◌++◌, ℕ, true, List, ◌∷◌, Some}
+use Rattle.std.specs.Prelude.{◌≡◌, ◌≤◌, ◌<◌, ◌++◌, ℕ, true, List, ◌∷◌, Some, None}
 use Rattle.std.specs.Ordering.{nat_cmp}
 use Rattle.petal_base.specs.declared.place.Cell.{Cell}
 use Rattle.petal_table.specs.Table.{at}
@@ -13,6 +13,7 @@ use Rattle.petal_msg.specs.declared.operation.Pending.{Pending}
 use Rattle.petal_rules.specs.Lists.{In}
 use Rattle.petal_rules.specs.State.{State, first, second, is_lead}
 use Rattle.petal_rules.specs.Store.{cell_cmp, free_of}
+use Rattle.petal_rules.specs.Writes.{pending_on}
 use Rattle.petal_rules.specs.Clients.{Asked}
 use Rattle.petal_rules.specs.Jobs.{here_of, half_of}
 use Rattle.petal_rules.specs.World.{Setting, World, start}
@@ -22,17 +23,19 @@ use Rattle.petal_rules.specs.declared.step.WorkEnd.TheVariants as work_end
 use Rattle.petal_history.specs.Contents.{chosen_state}
 use Rattle.petal_history.specs.Legal.{world_after}
 use Rattle.petal_history.specs.declared.record.Record.{Record}
-use Rattle.law_steps.specs.Did.{IsBusy}
+use Rattle.law_steps.specs.Did.{FoundNoSlot, IsBusy, done_to}
 use Rattle.law_steps.specs.Happens.{Handled}
 
 -- ### No slot
 
--- the actor's job found no slot for this request: the cell's lead had none free when the write came, or the second server
--- had none when it was asked for one for the operation of this request
+-- the actor's job refused this request since there was no slot. At the cell's lead the request is newer than what the lead has
+-- finished for its client, nothing is pending on the cell, and no slot is free. At the second server the operation of the
+-- request, which is pending at the lead, is newer than the last one on the cell, of which no slot is left over, and none is free
 pub data HadNoSlot (state : State) (w : World) (who : Actor) (what : Step) (client seq : ℕ) : Type 0 where
-  At_the_lead : (n : ℕ) (cell : Cell) (epoch : ℕ) (bytes : List ℕ) → who ≡ actor.Server n → what ≡ Work work_end.Done → is_lead state n cell ≡ true → Handled w n (body.Write client seq cell epoch bytes) → free_of (w.servers n).store ≡ 0 → HadNoSlot state w who what client seq
+  At_the_lead : (n : ℕ) (cell : Cell) (epoch : ℕ) (bytes : List ℕ) → who ≡ actor.Server n → what ≡ Work work_end.Done → is_lead state n cell ≡ true → Handled w n (body.Write client seq cell epoch bytes)
+      → done_to (at nat_cmp (w.servers n).pairs.finished client) ≤ seq → pending_on (half_of (w.servers n)) cell ≡ None → free_of (w.servers n).store ≡ 0 → HadNoSlot state w who what client seq
   At_the_second : (n m : ℕ) (cell : Cell) (op : Pending) → who ≡ actor.Server m → what ≡ Work work_end.Done → first state cell ≡ Some n → second state cell ≡ Some m → at cell_cmp (w.servers n).pairs.pending cell ≡ Some op → op.client ≡ client → op.seq ≡ seq
-      → Handled w m (body.Reserve op.op cell) → free_of (w.servers m).store ≡ 0 → HadNoSlot state w who what client seq
+      → Handled w m (body.Reserve op.op cell) → FoundNoSlot (half_of (w.servers m)) cell op.op → HadNoSlot state w who what client seq
 
 -- one of these records tells of such a step
 pub record WasRefused (setting : Setting) (records : List Record) (client seq : ℕ) : Type 0 where

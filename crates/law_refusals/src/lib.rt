@@ -18,8 +18,9 @@ ghost use Rattle.petal_history.specs.Sound.{IsSound};
 ghost use Rattle.petal_history.specs.declared.record.Record.{Record};
 ghost use Rattle.law_refusals.specs.Reasons.{FoundBusy, HasReason};
 
-/// Where a client's line is answered `nospace`, an earlier step found no slot for this request: its lead had none free when
-/// the write came, or the second server had none when it was asked for one for this request's operation.
+/// Where a client's line is answered `nospace`, an earlier step refused this request since there was no slot: its lead, which
+/// had not finished it and had nothing pending on its cell, had none free when the write came; or the second server had none,
+/// neither free nor left over on the cell, when it was asked for one for this request's operation, which was new to it.
 pub fn nospace_has_a_reason()
     ensures { (script : Script) (front : List Record) (own : Record) → IsSound script → IsLegal script (front ++ own ∷ []) → (client line : ℕ) → own.actor ≡ Client client → own.answer ≡ Some (line, NoSpace) → HasReason (setting_of script) front client line }
 {}

@@ -32,7 +32,7 @@ use Rattle.petal_rules.specs.declared.job.Job.TheVariants as job
 use Rattle.petal_rules.proofs.CellTables.{cell_same}
 use Rattle.law_steps.specs.Steady.{IsSteady}
 use Rattle.law_steps.specs.Did.{Did, Ignores, Refuses, Asks_for, Shows, Repeats, Is_full, Opens, Puts, Gives_up, Closes, Sets_apart, Promises, Declines, Follows, Asks, A_slot, A_copy, For_a_write, For_a_read, IsStaged, waiting, copying, progress, done_to}
-use Rattle.law_steps.proofs.Tests.{by_test, by_bool, both_true, not_true, true_false, same_numbers, only}
+use Rattle.law_steps.proofs.Tests.{by_test, by_bool, both_true, not_true, true_false, same_numbers, same_some, none_some, only}
 
 is_waiting : (stage : Stage) → (stage ≡ waiting) ⊎ (stage ≡ copying) → stage.reserved ≡ false → stage ≡ waiting
 is_waiting stage (inl e) f = e
@@ -74,12 +74,24 @@ no_free free e = grind (arith, nat_tests)
 newer : (last : Finished) (seq : ℕ) → nat_lt seq last.seq ≡ false → (seq == last.seq) ≡ false → last.seq + 1 ≤ seq
 newer last seq e f = grind (arith, nat_tests)
 
+newer_op : (last : LastOp) (number : ℕ) → nat_lt number last.op ≡ false → (number == last.op) ≡ false → last.op < number
+newer_op last number e f = grind (arith, nat_tests)
+
+used_up : (how : Far) → has_slot how ≡ false → how ≡ far.Replicated
+used_up far.Reserved e = true_false refl e
+used_up far.Replicated e = refl
+
 later_op : (last : LastOp) (number : ℕ) → nat_lt number last.op ≡ false → (number == last.op) ≡ false → progress (Some last) ≤ number + number
 later_op last number e f = by last.far (grind (arith, nat_tests))
   where
     by : (how : Far) → last.op < number → progress (Some (record last { far = how })) ≤ number + number
     by far.Reserved lt = omega arith
     by far.Replicated lt = omega arith
+
+-- the operation before this one on the cell is older, and its slot is left over or not
+record IsPast (half : Half) (cell : Cell) (number : ℕ) (has : Bool) : Type 0 where
+  newer : (last : LastOp) → last_on half cell ≡ Some last → last.op < number
+  slot : (last : LastOp) → last_on half cell ≡ Some last → has_slot last.far ≡ has
 
 module _ (heard : Body → Type 0) (here : Here) (half : Half) (steady : IsSteady here.state) (staged : (cell : Cell) (op : Pending) → pending_on half cell ≡ Some op → IsStaged here.state here.me cell op) where
   abbrev D : Done → Type 0
@@ -203,17 +215,27 @@ module _ (heard : Body → Type 0) (here : Here) (half : Half) (steady : IsStead
 
   -- ### The second server
 
-  did_reserves : (number : ℕ) (cell : Cell) (has room : Bool) → heard (body.Reserve number cell) → is_second here.state here.me cell ≡ true → progress (last_on half cell) ≤ number + number → nat_lt 0 (free_of half.store) ≡ room → D (reserves here half cell number has room)
-  did_reserves number cell true room h s le e = Sets_apart number cell half.store h s refl le
-  did_reserves number cell false true h s le e = Sets_apart number cell (with_ticket half.store) h s refl le
-  did_reserves number cell false false h s le e = Declines number cell h s (no_free (free_of half.store) e)
+  no_past : (cell : Cell) (number : ℕ) → last_on half cell ≡ None → IsPast half cell number false
+  no_past cell number e = record { newer = λ last is. none_some e is; slot = λ last is. none_some e is }
+
+  past_is : (cell : Cell) (number : ℕ) (last : LastOp) → last_on half cell ≡ Some last → last.op < number → IsPast half cell number (has_slot last.far)
+  past_is cell number last e lt = record {
+    newer = λ other is. subst (λ (o : LastOp). o.op < number) (same_some (sym e ∙ is)) lt;
+    slot = λ other is. ap (λ (o : LastOp). has_slot o.far) (same_some (sym is ∙ e));
+  }
+
+  did_reserves : (number : ℕ) (cell : Cell) (has room : Bool) → heard (body.Reserve number cell) → is_second here.state here.me cell ≡ true → IsPast half cell number has → progress (last_on half cell) ≤ number + number → nat_lt 0 (free_of half.store) ≡ room → D (reserves here half cell number has room)
+  did_reserves number cell true room h s past le e = Sets_apart number cell half.store h s refl le
+  did_reserves number cell false true h s past le e = Sets_apart number cell (with_ticket half.store) h s refl le
+  did_reserves number cell false false h s past le e =
+      Declines number cell h s (record { none_free = no_free (free_of half.store) e; newer = past.newer; none_left = λ last is. used_up last.far (past.slot last is) })
 
   did_reserve : (number : ℕ) (cell : Cell) (o : Option LastOp) → heard (body.Reserve number cell) → is_second here.state here.me cell ≡ true → last_on half cell ≡ o → D (hears_reserve here half cell number o)
-  did_reserve number cell None h s e = did_reserves number cell false (nat_lt 0 (free_of half.store)) h s (subst (λ o. progress o ≤ number + number) (sym e) (omega arith)) refl
+  did_reserve number cell None h s e = did_reserves number cell false (nat_lt 0 (free_of half.store)) h s (no_past cell number e) (subst (λ o. progress o ≤ number + number) (sym e) (omega arith)) refl
   did_reserve number cell (Some last) h s e = by_test D (nat_lt number last.op) _ _ (λ t. Ignores)
       (λ older. by_test D (number == last.op) _ _
       (λ same. Promises number cell last.far s (e ∙ λ i. Some (record { op = sym (same_numbers number last.op same) i; far = last.far })))
-      (λ apart. did_reserves number cell (has_slot last.far) (nat_lt 0 (free_of half.store)) h s (subst (λ o. progress o ≤ number + number) (sym e) (later_op last number older apart)) refl))
+      (λ apart. did_reserves number cell (has_slot last.far) (nat_lt 0 (free_of half.store)) h s (past_is cell number last e (newer_op last number older apart)) (subst (λ o. progress o ≤ number + number) (sym e) (later_op last number older apart)) refl))
 
   did_once : (number : ℕ) (key : Key) (version : ℕ) (bytes : List ℕ) (how : Far) → heard (body.Replicate number key version bytes) → is_second here.state here.me (cell_of key) ≡ true → last_on half (cell_of key) ≡ Some (record { op = number; far = how }) → D (follows_once here half number key bytes how)
   did_once number key version bytes far.Reserved h s e = Follows number key version bytes h s e

@@ -1,5 +1,5 @@
 -- What a server may have done, rule by rule: one constructor for each, with what was so when it was done.
-use Rattle.std.specs.Prelude.{◌≡◌, ◌≤◌, ◌⊎◌, ℕ, ◌+◌, true, false, List, [], Option, Some, None}
+use Rattle.std.specs.Prelude.{◌≡◌, ◌≤◌, ◌<◌, ◌⊎◌, ℕ, ◌+◌, true, false, List, [], Option, Some, None}
 use Rattle.std.specs.Ordering.{nat_cmp}
 use Rattle.petal_base.specs.declared.place.Cell.{Cell}
 use Rattle.petal_base.specs.declared.place.Key.{Key}
@@ -79,6 +79,15 @@ pub data IsBusy (heard : Body → Type 0) (here : Here) (half : Half) (seq : ℕ
   For_a_write : (want : Wanted) (op : Pending) → heard (body.Write want.client want.seq want.cell want.epoch want.bytes) → want.seq ≡ seq → is_lead here.state here.me want.cell ≡ true → pending_on half want.cell ≡ Some op → is_for op want ≡ false → IsBusy heard here half seq
   For_a_read : (client : ℕ) (cell : Cell) (epoch : ℕ) (op : Pending) → heard (body.Read client seq cell epoch) → is_lead here.state here.me cell ≡ true → pending_on half cell ≡ Some op → IsBusy heard here half seq
 
+-- ### No slot
+
+-- an operation of this number found no slot at its second server: none is free, and the operation is newer than the last one
+-- that the server took part in on the cell, of which no slot is left over
+pub record FoundNoSlot (half : Half) (cell : Cell) (number : ℕ) : Type 0 where
+  pub none_free : free_of half.store ≡ 0
+  pub newer : (last : LastOp) → last_on half cell ≡ Some last → last.op < number
+  pub none_left : (last : LastOp) → last_on half cell ≡ Some last → last.far ≡ far.Replicated
+
 -- ### Jobs
 
 -- what a server may have done that handled only such letters as `heard` knows
@@ -104,6 +113,6 @@ pub data Did (heard : Body → Type 0) (here : Here) (half : Half) : Done → Ty
       → Did heard here half (tells here (with_last (record half { store = store }) cell number far.Reserved) cell number far.Reserved)
   Promises : (number : ℕ) (cell : Cell) (how : Far) → is_second here.state here.me cell ≡ true → last_on half cell ≡ Some (record { op = number; far = how })
       → Did heard here half (tells here half cell number how)
-  Declines : (number : ℕ) (cell : Cell) → heard (body.Reserve number cell) → is_second here.state here.me cell ≡ true → free_of half.store ≡ 0 → Did heard here half (says_to half (first here.state cell) (body.PairFull number cell))
+  Declines : (number : ℕ) (cell : Cell) → heard (body.Reserve number cell) → is_second here.state here.me cell ≡ true → FoundNoSlot half cell number → Did heard here half (says_to half (first here.state cell) (body.PairFull number cell))
   Follows : (number : ℕ) (key : Key) (version : ℕ) (bytes : List ℕ) → heard (body.Replicate number key version bytes) → is_second here.state here.me (cell_of key) ≡ true → last_on half (cell_of key) ≡ Some (record { op = number; far = far.Reserved })
       → Did heard here half (follows here half number key bytes)

@@ -1,9 +1,10 @@
 //! The servers of a run that begins.
 
-ghost use Rattle.std.specs.Prelude.{◌≡◌, map, IfOk};
+ghost use Rattle.std.specs.Prelude.{◌≡◌, All, map, IfOk};
 ghost use Rattle.std.specs.List.{range_with_len};
 ghost use Rattle.petal_rules.specs.World.{state_of};
 ghost use Rattle.petal_world.specs.Desks.{first_sites};
+ghost use Rattle.server_store.specs.Slots.{slot_start};
 ghost use Rattle.memory_server.specs.Members.{first_site};
 ghost use Rattle.memory_server.specs.Server.{site_of};
 
@@ -11,6 +12,7 @@ use crate::MemServer;
 use global_state::GlobalState;
 use petal_base::{NoMemory, Sequence};
 use script_lines::Script;
+use petal_disk::{Disk, MemDisk};
 use std::alloc::Global;
 
 fn started(
@@ -20,7 +22,8 @@ fn started(
     state: &GlobalState,
 ) -> Result<Sequence<MemServer>, NoMemory>
     requires { state.now.rev ≡ 1 }
-    ensures { IfOk result (λ members. map site_of members ≡ map (first_site state.now slots) (range_with_len 0 servers)) }
+    ensures sites { IfOk result (λ members. map site_of members ≡ map (first_site state.now slots) (range_with_len 0 servers)) }
+    ensures devices { IfOk result (λ members. All (λ server. ⟦<MemDisk as Disk>⟧.size server.store.disk ≡ slot_start slots) members) }
 {
     let mut members = Sequence::new(alloc);
     for me in 0..servers {
@@ -29,14 +32,16 @@ fn started(
     Ok(members)
 }
 
-/// The servers of a script, each with an empty store, where the state is the script's.
+/// The servers of a script, each with an empty store on a device that has exactly the bytes that the script's slots need,
+/// where the state is the script's.
 pub fn members(
     alloc: Global,
     script: &Script,
     state: &GlobalState,
 ) -> Result<Sequence<MemServer>, NoMemory>
     requires { state.now ≡ state_of script.now.servers script.now.lines }
-    ensures { IfOk result (λ members. map site_of members ≡ first_sites script.now) }
+    ensures sites { IfOk result (λ members. map site_of members ≡ first_sites script.now) }
+    ensures devices { IfOk result (λ members. All (λ server. ⟦<MemDisk as Disk>⟧.size server.store.disk ≡ slot_start script.now.slots) members) }
 {
     let members = started(alloc, script.servers, script.slots, state)?;
     Ok(members)

@@ -5,11 +5,12 @@ ghost use Rattle.petal_rules.specs.Server.{first_server};
 ghost use Rattle.petal_rules.specs.declared.step.Step.TheVariants.{Work};
 ghost use Rattle.petal_rules.specs.declared.step.WorkEnd.TheVariants.{Done};
 ghost use Rattle.petal_world.specs.Desks.{acted_at};
+ghost use Rattle.server_store.specs.Slots.{slot_start};
 ghost use Rattle.memory_server.specs.Server.{Place, site_of};
 
 use global_state::GlobalState;
 use petal_base::{NoMemory, Rev, Sequence, ServerId};
-use petal_disk::MemDisk;
+use petal_disk::{Disk, MemDisk};
 use petal_msg::Letter;
 use petal_rules::{Step, WorkEnd};
 use petal_world::Host;
@@ -41,7 +42,7 @@ impl Model for MemServer {
 }
 
 impl MemServer {
-    /// The first incarnation of a server, with a blank device of so many slots.
+    /// The first incarnation of a server, with a blank device that has exactly the bytes that so many slots need.
     pub fn start(
         alloc: Global,
         me: ServerId,
@@ -49,7 +50,8 @@ impl MemServer {
         slots: u32,
     ) -> Result<MemServer, NoMemory>
         requires { state.rev ≡ 1 }
-        ensures { IfOk result (λ server. site_of server ≡ record { me = me; state = state; server = first_server true slots }) }
+        ensures site { IfOk result (λ server. site_of server ≡ record { me = me; state = state; server = first_server true slots }) }
+        ensures device { IfOk result (λ server. ⟦<MemDisk as Disk>⟧.size server.store.disk ≡ slot_start slots) }
     {
         let Ok(disk) = MemDisk::new(alloc, DATA_START + SLOT_BYTES * u64::from(slots)) else {
             return Err(NoMemory);

@@ -1,5 +1,5 @@
 -- What a client does: at a call, with a letter that comes, and at a tick.
-use Rattle.std.specs.Prelude.{ℕ, ◌+◌, ◌%◌, ◌==◌, ◌&&◌, Bool, true, false, List, [], ◌∷◌, length, filter, slice_get, if◌then◌else◌, Option, Some, None}
+use Rattle.std.specs.Prelude.{ℕ, ◌+◌, ◌%◌, ◌==◌, ◌&&◌, Bool, true, false, List, [], length, filter, slice_get, if◌then◌else◌, Option, Some, None}
 use Rattle.std.specs.List.{range_with_len}
 use Rattle.petal_base.specs.declared.place.Cell.{Cell}
 use Rattle.petal_msg.specs.declared.body.Body.{Body}

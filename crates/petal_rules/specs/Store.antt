@@ -1,7 +1,8 @@
 -- What a server keeps of blocks on its data device.
-use Rattle.std.specs.Prelude.{ℕ, ◌+◌, ◌-◌, List, [], ◌∷◌, length, max, sum_by, nat_le, if◌then◌else◌, Option, Some, None, unwrap_or}
+use Rattle.std.specs.Prelude.{ℕ, ◌+◌, ◌-◌, Bool, false, List, [], ◌∷◌, length, max, sum_by, nat_le, if◌then◌else◌, Option, Some, None, unwrap_or}
 use Rattle.std.specs.declared.cmp.Ordering.{Ordering}
 use Rattle.std.specs.Ordering.{nat_cmp, ordering_then}
+use Rattle.busy_marks.specs.declared.marks.Mark.{Mark}
 use Rattle.petal_base.specs.declared.place.Cell.{Cell}
 use Rattle.petal_base.specs.declared.place.Key.{Key}
 use Rattle.petal_base.specs.Block.{zero_block}
@@ -17,19 +18,23 @@ pub record Stored : Type 0 where
 abbrev pub Chain : Type 0
 Chain = Table ℕ Stored
 
--- the slots of the device, the chains of its cells, and how many slots are set apart for puts to come
+-- the slots of the device, the chains of its cells, how many slots are set apart for puts to come, the marks, whether the
+-- store was formatted to be filled by others and is not yet so, and how many records its journal has
 pub record Store : Type 0 where
   pub slots : ℕ
   pub chains : Table Cell Chain
   pub tickets : ℕ
+  pub marks : List Mark
+  pub fresh : Bool
+  pub records : ℕ
 
 -- cells stand by map and then by block
 abbrev pub cell_cmp : Cell → Cell → Ordering
 cell_cmp a b = ordering_then (nat_cmp a.map b.map) (nat_cmp a.block b.block)
 
--- a device on which nothing was put
+-- a device on which nothing was put, and that waits for nobody to fill it
 abbrev pub empty_store : ℕ → Store
-empty_store slots = record { slots = slots; chains = []; tickets = 0 }
+empty_store slots = record { slots = slots; chains = []; tickets = 0; marks = []; fresh = false; records = 0 }
 
 -- a cell's entries
 abbrev pub chain_in : Table Cell Chain → Cell → Chain
@@ -79,6 +84,6 @@ with_ticket store = record store { tickets = store.tickets + 1 }
 abbrev pub without_ticket : Store → Store
 without_ticket store = record store { tickets = store.tickets - 1 }
 
--- an entry is put into a slot that was set apart
+-- an entry is put into a slot that was set apart, which is one record more
 abbrev pub with_entry : Store → Key → Stored → Store
-with_entry store key entry = record store { chains = chains_with store.chains key entry; tickets = store.tickets - 1 }
+with_entry store key entry = record store { chains = chains_with store.chains key entry; tickets = store.tickets - 1; records = store.records + 1 }

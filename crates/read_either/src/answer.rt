@@ -1,9 +1,11 @@
 //! The reply to a read.
 
 ghost use Rattle.std.specs.Prelude.{◌≡◌, ℕ, true, IfOk};
+ghost use Rattle.petal_disk.specs.Keeping.{KeepsDevice};
 ghost use Rattle.petal_rules.specs.Reads as reads;
 ghost use Rattle.petal_rules.specs.Server.{Pairs};
 ghost use Rattle.petal_rules.specs.State.{is_lead, readable};
+ghost use Rattle.server_store.specs.Shown.{Holds};
 ghost use Rattle.kept_chains.specs.Reading.{IsReadFault};
 ghost use Rattle.read_either.specs.Halves.{half_of};
 
@@ -35,7 +37,8 @@ fn is_lead(state: &GlobalState, me: ServerId, cell: Cell) -> bool
 }
 
 /// What a server that may read the cell says: a fence, or at the lead an operation on the block, keeps the read back; else it
-/// gives the bytes of the entry of the greatest epoch not above, or zeros where there is none. Nothing of the store changes.
+/// gives the bytes of the entry of the greatest epoch not above, or zeros where there is none. Nothing of the store changes,
+/// and the device keeps it as before.
 ///
 /// # Errors
 /// `Failed` where the device failed, and want of memory.
@@ -51,6 +54,9 @@ pub fn answer_read<D: Disk>(
     requires { readable state.now me cell ≡ true }
     ensures reply { IfOk result (λ reply. D.told → (inc : ℕ) (pairs : Pairs) → pairs.pending ≡ locks.now → reply ≡ reads.reply_to (record { state = state.now; me = me; inc = inc }) (half_of pairs store.old) cell epoch) }
     ensures same { store.new ≡ record store.old { disk = store.new.disk } }
+    ensures device { KeepsDevice D.size D.seen D.may_leave D.moment D.left_since store.old.disk store.new.disk }
+    ensures holds { D.told → Holds store.old (D.seen store.old.disk) (D.may_leave store.old.disk)
+        → Holds store.new (D.seen store.new.disk) (D.may_leave store.new.disk) }
     ensures cause { IsReadFault (D.faults store.old.disk) (D.faults store.new.disk) result }
     ensures run { D.came_to store.old.disk store.new.disk }
 {

@@ -15,3 +15,8 @@ of_each P Q each (Err e) holds = tt
 -- a number of a type that is not its greatest can be counted up
 pub below : (n known most : ℕ) → known ≡ n → known < most + 1 → n ≢ most → n < most
 below n known most is fits other = grind arith
+
+-- a list with a first item is not empty
+pub has_first : {A : Type 0} (xs : List A) (x : A) → slice_get xs 0 ≡ Some x → xs ≢ []
+has_first [] x is empty = absurd (cc)
+has_first (y ∷ xs) x is empty = absurd (cc)

@@ -77,7 +77,8 @@ fn silent<D: Disk>(
     store: &Store<D>,
 ) -> Result<Outcome, WorkError>
     requires { HasTicketsAt (desk locks.now tables.now store.now) }
-    ensures { IsJob D.told D.faults D.came_to (place here.now) here.now.next (desk locks.now tables.now store.now) (desk locks.now tables.now store.now) result
+    ensures { IsJob D.told D.seen D.may_leave D.faults D.came_to (place here.now) here.now.next
+        (desk locks.now tables.now store.now) (desk locks.now tables.now store.now) result
         (rules.silent (half_at here.now.next (desk locks.now tables.now store.now))) }
 {
     Ok(only(Sequence::new(here.alloc)))
@@ -93,7 +94,8 @@ fn says<D: Disk>(
     body: Body,
 ) -> Result<Outcome, WorkError>
     requires { HasTicketsAt (desk locks.now tables.now store.now) }
-    ensures { IsJob D.told D.faults D.came_to (place here.now) here.now.next (desk locks.now tables.now store.now) (desk locks.now tables.now store.now) result
+    ensures { IsJob D.told D.seen D.may_leave D.faults D.came_to (place here.now) here.now.next
+        (desk locks.now tables.now store.now) (desk locks.now tables.now store.now) result
         (rules.says (half_at here.now.next (desk locks.now tables.now store.now)) to body) }
 {
     Ok(only(here.says(to, body)?))
@@ -108,7 +110,8 @@ fn at_other_rev<D: Disk>(
     letter: &Letter,
 ) -> Result<Outcome, WorkError>
     requires { HasTicketsAt (desk locks.now tables.now store.now) }
-    ensures { IsJob D.told D.faults D.came_to (place here.now) here.now.next (desk locks.now tables.now store.now) (desk locks.now tables.now store.now) result
+    ensures { IsJob D.told D.seen D.may_leave D.faults D.came_to (place here.now) here.now.next
+        (desk locks.now tables.now store.now) (desk locks.now tables.now store.now) result
         (at_other_rev (half_at here.now.next (desk locks.now tables.now store.now)) letter.now letter.now.from) }
 {
     match letter.from {
@@ -140,7 +143,8 @@ fn on_read<D: Disk>(
     epoch: Epoch,
 ) -> Result<Outcome, WorkError>
     requires { HasTicketsAt (desk locks.now tables.now store.old) }
-    ensures { IsJob D.told D.faults D.came_to (place here.now) here.now.next (desk locks.now tables.now store.old) (desk locks.now tables.now store.new) result
+    ensures { IsJob D.told D.seen D.may_leave D.faults D.came_to (place here.now) here.now.next
+        (desk locks.now tables.now store.old) (desk locks.now tables.now store.new) result
         (on_read (place here.now) (half_at here.now.next (desk locks.now tables.now store.old)) client seq cell epoch) }
 {
     if !here.state.readable(here.me, cell) {
@@ -171,7 +175,8 @@ fn handles<D: Disk>(
 ) -> Result<Outcome, WorkError>
     requires tickets { HasTicketsAt (desk locks.old tables.old store.old) }
     requires versions { HasVersions store.old }
-    ensures { IsJob D.told D.faults D.came_to (place here.now) here.now.next (desk locks.old tables.old store.old) (desk locks.new tables.new store.new) result
+    ensures { IsJob D.told D.seen D.may_leave D.faults D.came_to (place here.now) here.now.next
+        (desk locks.old tables.old store.old) (desk locks.new tables.new store.new) result
         (handles (place here.now) (half_at here.now.next (desk locks.old tables.old store.old)) letter.now.body) }
 {
     match &letter.body {
@@ -209,7 +214,8 @@ fn on_letter<D: Disk>(
 ) -> Result<Outcome, WorkError>
     requires tickets { HasTicketsAt (desk locks.old tables.old store.old) }
     requires versions { HasVersions store.old }
-    ensures { IsJob D.told D.faults D.came_to (place here.now) here.now.next (desk locks.old tables.old store.old) (desk locks.new tables.new store.new) result
+    ensures { IsJob D.told D.seen D.may_leave D.faults D.came_to (place here.now) here.now.next
+        (desk locks.old tables.old store.old) (desk locks.new tables.new store.new) result
         (on_letter (place here.now) (half_at here.now.next (desk locks.old tables.old store.old)) letter.now) }
 {
     if !is_in(here.state, here.me, here.inc) {
@@ -234,7 +240,8 @@ pub fn does<D: Disk>(
 ) -> Result<Outcome, WorkError>
     requires tickets { HasTicketsAt (desk locks.old tables.old store.old) }
     requires versions { HasVersions store.old }
-    ensures { IsJob D.told D.faults D.came_to (place here.now) here.now.next (desk locks.old tables.old store.old) (desk locks.new tables.new store.new) result
+    ensures { IsJob D.told D.seen D.may_leave D.faults D.came_to (place here.now) here.now.next
+        (desk locks.old tables.old store.old) (desk locks.new tables.new store.new) result
         (does (place here.now) (half_at here.now.next (desk locks.old tables.old store.old)) job.now) }
 {
     match job {

@@ -1,13 +1,13 @@
 //! A server.
 
-ghost use Rattle.std.specs.Prelude.{◌≡◌, ◌<◌, ◌-◌, ◌^◌, ◌++◌, ◌∷◌, ◌||◌, ◌↔◌, ◌≢◌, [], false, IsTrue, IfOk, OnOk, OnErr, IsErrOf, Err};
+ghost use Rattle.std.specs.Prelude.{◌≡◌, ◌<◌, ◌-◌, ◌^◌, ◌++◌, ◌∷◌, ◌||◌, ◌↔◌, ◌≢◌, [], false, IsTrue, IfOk, OnOk, OnErr, IsErrOf, Ok, Err};
 ghost use Rattle.petal_rules.specs.Jobs.{ticks};
 ghost use Rattle.petal_rules.specs.Store as stores;
 ghost use Rattle.petal_rules.specs.World.{greatest_u64};
 ghost use Rattle.petal_rules.specs.declared.job.Job.TheVariants as job;
 ghost use Rattle.kept_chains.specs.Kept.{kept_of};
 ghost use Rattle.write_pair.specs.declared.error.WorkError.TheVariants as error;
-ghost use Rattle.write_pair.specs.Desk.{HasFault, HasTicketsAt, HasVersions};
+ghost use Rattle.write_pair.specs.Desk.{HasFault, HasTicketsAt, HasVersions, HoldsAt};
 ghost use Rattle.server_core.specs.Core.{IsWork, acted, desk_of, here_in, is_spent, server_of};
 
 use crate::Worked;
@@ -125,11 +125,12 @@ impl ServerCore {
         either(self.next == u64::MAX, store.top() == u64::MAX)
     }
 
-    /// Does the first job of the queue, with at most one commit.
+    /// Does the first job of the queue, with at most one commit; `Idle` exactly where there is none. Where the device showed the
+    /// store, now and after any crash, it shows the store after the job.
     ///
     /// # Errors
     /// `Failed` where the device failed, `JournalFull` only where the store's journal had all its records: the entries are as
-    /// they were, and the server is to be stopped. `NoMemory`: nothing happened.
+    /// they were, and the server is to be stopped. `NoMemory`: nothing happened, and the device shows the store as before.
     pub fn work<D: Disk>(
         &mut self,
         alloc: Global,
@@ -137,9 +138,12 @@ impl ServerCore {
     ) -> Result<Worked, WorkError>
         requires goes_on { is_spent self.old (kept_of store.old) ≡ false }
         requires tickets { HasTicketsAt (desk_of self.old store.old) }
+        ensures idle { (result ≡ Ok Worked.Idle) ↔ (self.old.queue ≡ []) }
         ensures work { IfOk result (λ worked. D.told → IsWork self.old (kept_of store.old) self.new (kept_of store.new) worked) }
         ensures place { here_in self.new ≡ here_in self.old }
         ensures keeps { OnOk result (HasTicketsAt (desk_of self.new store.new)) }
+        ensures holds { D.told → HoldsAt D.seen D.may_leave store.old → OnOk result (HoldsAt D.seen D.may_leave store.new) }
+        ensures still { result ≡ Err error.NoMemory → D.told → HoldsAt D.seen D.may_leave store.old → HoldsAt D.seen D.may_leave store.new }
         ensures same { result ≡ Err error.NoMemory → (self.new ≡ self.old) × (store.new ≡ record store.old { disk = store.new.disk }) }
         ensures kept { OnErr result (D.told → store.new.entries ≡ store.old.entries) }
         ensures full { IsErrOf result error.JournalFull → store.old.log.region.count ≡ 65536 }

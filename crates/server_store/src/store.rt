@@ -88,6 +88,7 @@ impl<D: Disk> Store<D> {
         requires { slot_start slots ≤ D.size disk }
         ensures ok { IfOk result (λ store. store ≡ record { entries = []; tickets = []; marks = []; slots = slots; fresh = fresh; log = record { fresh = fresh; records = []; region = store.log.region }; disk = store.disk }) }
         ensures holds { IfOk result (λ store. D.told → Holds store (D.seen store.disk) (D.may_leave store.disk)) }
+        ensures size { IfOk result (λ store. D.size store.disk ≡ D.size disk) }
         ensures errors { IfErr result (λ e. IsFormatError e.1) }
         ensures failed { IfErr result (λ e. e.1 ≡ StoreError.Failed → D.faults disk < D.faults e.0) }
         ensures any_moment { IfOk result (λ store. D.told → LeavesOnly D.moment D.left_since disk store.disk (LeftByFormat (D.may_leave disk) (D.size disk) slots fresh)) }

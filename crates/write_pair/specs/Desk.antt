@@ -11,6 +11,7 @@ use Rattle.petal_rules.specs.Server.{Half, Here, Done, sender, letters_of}
 use Rattle.petal_rules.specs.declared.job.Job.{Job}
 use Rattle.petal_rules.specs.declared.job.Job.TheVariants as job
 use Rattle.server_store.specs.Holdings.{Holdings, listed}
+use Rattle.server_store.specs.Shown.{Holds}
 use Rattle.kept_chains.specs.Kept.{kept_of}
 use Rattle.write_pair.specs.declared.error.WorkError.{WorkError}
 use Rattle.write_pair.specs.declared.error.WorkError.TheVariants.{Failed, JournalFull, NoMemory}
@@ -68,6 +69,10 @@ desk pending books store = record { pending = pending; books = books; store = st
 abbrev pub HasTicketsAt : {D : Type 0} → Desk D → Type 0
 HasTicketsAt at = HasTickets at.pending at.books at.store.tickets
 
+-- the device shows the store, now and after any crash
+abbrev pub HoldsAt : {D : Type 0} → (D → List ℕ) → (D → List ℕ → Type 0) → Holdings D → Type 0
+HoldsAt seen may_leave store = Holds store (seen store.disk) (may_leave store.disk)
+
 -- a job without a call of the device is the rule's, and the tickets still stand where they are needed; one that was refused,
 -- for memory alone, left all as it was
 pub record IsSaid {D : Type 0} (here : Here) (next : ℕ) (old new : Desk D) (result : Result Outcome WorkError) (rule : Done) : Type 0 where
@@ -76,12 +81,13 @@ pub record IsSaid {D : Type 0} (here : Here) (next : ℕ) (old new : Desk D) (re
   pub err : IfErr result (λ e. (e ≡ NoMemory) × (new ≡ old))
   pub store : new.store ≡ record old.store { tickets = new.store.tickets }
 
--- a job is the rule's where the device tells its bytes, and the tickets still stand where they are needed; one that was refused
--- for memory left all as it was, and any other refusal the entries. `JournalFull` comes only where the store's journal had all
--- its records
-pub record IsDone {D : Type 0} (told : Type 0) (faults : D → ℕ) (came_to : D → D → Type 0) (here : Here) (next : ℕ) (old new : Desk D) (result : Result Outcome WorkError) (rule : Done) : Type 0 where
+-- a job is the rule's where the device tells its bytes, and the tickets still stand where they are needed; a device that showed
+-- the store shows it after the job too. A job that was refused for memory left all as it was, and any other refusal the entries.
+-- `JournalFull` comes only where the store's journal had all its records
+pub record IsDone {D : Type 0} (told : Type 0) (seen : D → List ℕ) (may_leave : D → List ℕ → Type 0) (faults : D → ℕ) (came_to : D → D → Type 0) (here : Here) (next : ℕ) (old new : Desk D) (result : Result Outcome WorkError) (rule : Done) : Type 0 where
   pub done : IfOk result (λ out. told → left_with next new out ≡ left_by here rule)
   pub keeps : OnOk result (HasTicketsAt new)
+  pub holds : told → HoldsAt seen may_leave old.store → OnOk result (HoldsAt seen may_leave new.store)
   pub same : result ≡ Err NoMemory → new ≡ old
   pub kept : OnErr result (told → new.store.entries ≡ old.store.entries)
   pub full : result ≡ Err JournalFull → old.store.log.region.count ≡ 65536

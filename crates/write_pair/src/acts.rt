@@ -50,7 +50,8 @@ pub fn acts<D: Disk>(
     requires tickets { HasTicketsAt (desk locks.old tables.old store.old) }
     requires versions { HasVersions store.old }
     requires moved { IsMoved locks.old op.now }
-    ensures { IsDone D.told D.faults D.came_to (place here.now) here.now.next (desk locks.old tables.old store.old) (desk locks.new tables.new store.new) result
+    ensures { IsDone D.told D.seen D.may_leave D.faults D.came_to (place here.now) here.now.next
+        (desk locks.old tables.old store.old) (desk locks.new tables.new store.new) result
         (writes.acts (place here.now) (writes.with_pending (half_at here.now.next (desk locks.old tables.old store.old)) op.now) op.now (writes.next_stage here.now.state.now here.now.me op.now)) }
 {
     match next_stage(here.state, here.me, op) {
@@ -78,7 +79,8 @@ pub fn goes_on<D: Disk>(
 ) -> Result<Outcome, WorkError>
     requires tickets { HasTicketsAt (desk locks.old tables.old store.old) }
     requires versions { HasVersions store.old }
-    ensures { IsDone D.told D.faults D.came_to (place here.now) here.now.next (desk locks.old tables.old store.old) (desk locks.new tables.new store.new) result
+    ensures { IsDone D.told D.seen D.may_leave D.faults D.came_to (place here.now) here.now.next
+        (desk locks.old tables.old store.old) (desk locks.new tables.new store.new) result
         (writes.goes_on (place here.now) (half_at here.now.next (desk locks.old tables.old store.old)) cell) }
 {
     match found(locks, cell)? {

@@ -42,7 +42,8 @@ pub fn on_letter<D: Disk>(
     requires letter { is_pair_letter letter.now.body ≡ true }
     requires tickets { HasTicketsAt (desk locks.old tables.old store.old) }
     requires versions { HasVersions store.old }
-    ensures job { IsDone D.told D.faults D.came_to (record { state = state.now; me = me; inc = inc }) op (desk locks.old tables.old store.old) (desk locks.new tables.new store.new) result
+    ensures job { IsDone D.told D.seen D.may_leave D.faults D.came_to (record { state = state.now; me = me; inc = inc }) op
+        (desk locks.old tables.old store.old) (desk locks.new tables.new store.new) result
         (handles (record { state = state.now; me = me; inc = inc }) (half_at op (desk locks.old tables.old store.old)) letter.now.body) }
 {
     let here = &Here {
@@ -107,7 +108,8 @@ pub fn on_stage<D: Disk>(
 ) -> Result<Outcome, WorkError>
     requires tickets { HasTicketsAt (desk locks.old tables.old store.old) }
     requires versions { HasVersions store.old }
-    ensures job { IsDone D.told D.faults D.came_to (record { state = state.now; me = me; inc = inc }) op (desk locks.old tables.old store.old) (desk locks.new tables.new store.new) result
+    ensures job { IsDone D.told D.seen D.may_leave D.faults D.came_to (record { state = state.now; me = me; inc = inc }) op
+        (desk locks.old tables.old store.old) (desk locks.new tables.new store.new) result
         (writes.goes_on (record { state = state.now; me = me; inc = inc }) (half_at op (desk locks.old tables.old store.old)) cell) }
 {
     let here = &Here {

@@ -46,7 +46,8 @@ pub fn on_reserved<D: Disk>(
 ) -> Result<Outcome, WorkError>
     requires tickets { HasTicketsAt (desk locks.old tables.old store.old) }
     requires versions { HasVersions store.old }
-    ensures { IsDone D.told D.faults D.came_to (place here.now) here.now.next (desk locks.old tables.old store.old) (desk locks.new tables.new store.new) result
+    ensures { IsDone D.told D.seen D.may_leave D.faults D.came_to (place here.now) here.now.next
+        (desk locks.old tables.old store.old) (desk locks.new tables.new store.new) result
         (writes.on_reserved (place here.now) (half_at here.now.next (desk locks.old tables.old store.old)) op cell) }
 {
     match found(locks, cell)? {
@@ -111,7 +112,8 @@ pub fn on_replicated<D: Disk>(
 ) -> Result<Outcome, WorkError>
     requires tickets { HasTicketsAt (desk locks.old tables.old store.old) }
     requires versions { HasVersions store.old }
-    ensures { IsDone D.told D.faults D.came_to (place here.now) here.now.next (desk locks.old tables.old store.old) (desk locks.new tables.new store.new) result
+    ensures { IsDone D.told D.seen D.may_leave D.faults D.came_to (place here.now) here.now.next
+        (desk locks.old tables.old store.old) (desk locks.new tables.new store.new) result
         (writes.on_replicated (place here.now) (half_at here.now.next (desk locks.old tables.old store.old)) op cell) }
 {
     match found(locks, cell)? {

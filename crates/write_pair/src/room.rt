@@ -8,7 +8,7 @@ ghost use Rattle.petal_rules.specs.Store.{cell_cmp, free_of, with_entry};
 ghost use Rattle.server_store.specs.Tickets as lists;
 ghost use Rattle.kept_chains.specs.Kept.{kept_of};
 ghost use Rattle.write_pair.specs.declared.error.WorkError.TheVariants as error;
-ghost use Rattle.write_pair.specs.Desk.{HasFault};
+ghost use Rattle.write_pair.specs.Desk.{HasFault, HoldsAt};
 ghost use Rattle.write_pair.specs.Slots.{IsKept, IsStop, IsOutAt};
 
 use crate::WorkError;
@@ -57,6 +57,7 @@ pub fn spend<D: Disk>(
     ensures tickets { (slot : ℕ) → at cell_cmp table.old cell ≡ Some slot → store.new.tickets ≡ lists.without store.old.tickets slot }
     ensures sorted { IsStrictlySortedBy cell_cmp (keys_of table.old) }
     ensures kept { OnErr result (D.told → store.new.entries ≡ store.old.entries) }
+    ensures holds { D.told → HoldsAt D.seen D.may_leave store.old → OnOk result (HoldsAt D.seen D.may_leave store.new) }
     ensures errors { IfErr result IsStop }
     ensures full { IsErrOf result error.JournalFull → store.old.log.region.count ≡ 65536 }
     ensures cause { HasFault (D.faults store.old.disk) (D.faults store.new.disk) result }

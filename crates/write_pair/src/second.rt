@@ -196,7 +196,8 @@ fn follows<D: Disk>(
     requires tickets { HasTicketsAt (desk locks.now tables.old store.old) }
     requires versions { HasVersions store.old }
     requires has { needs_apart (at cell_cmp tables.old.last (cell_of key)) ≡ true }
-    ensures { IsDone D.told D.faults D.came_to (place here.now) here.now.next (desk locks.now tables.old store.old) (desk locks.now tables.new store.new) result
+    ensures { IsDone D.told D.seen D.may_leave D.faults D.came_to (place here.now) here.now.next
+        (desk locks.now tables.old store.old) (desk locks.now tables.new store.new) result
         (writes.follows (place here.now) (half_at here.now.next (desk locks.now tables.old store.old)) op key bytes.now) }
 {
     let cell = key.cell();
@@ -225,7 +226,8 @@ pub fn on_replicate<D: Disk>(
 ) -> Result<Outcome, WorkError>
     requires tickets { HasTicketsAt (desk locks.now tables.old store.old) }
     requires versions { HasVersions store.old }
-    ensures { IsDone D.told D.faults D.came_to (place here.now) here.now.next (desk locks.now tables.old store.old) (desk locks.now tables.new store.new) result
+    ensures { IsDone D.told D.seen D.may_leave D.faults D.came_to (place here.now) here.now.next
+        (desk locks.now tables.old store.old) (desk locks.now tables.new store.new) result
         (writes.on_replicate (place here.now) (half_at here.now.next (desk locks.now tables.old store.old)) op key bytes.now) }
 {
     let cell = key.cell();

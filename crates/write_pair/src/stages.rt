@@ -126,7 +126,8 @@ pub fn puts<D: Disk>(
     requires moved { IsMoved locks.old op.now }
     requires put { op.now.stage.put ≡ false }
     requires reserved { op.now.stage.reserved ≡ true }
-    ensures { IsDone D.told D.faults D.came_to (place here.now) here.now.next (desk locks.old tables.old store.old) (desk locks.new tables.new store.new) result
+    ensures { IsDone D.told D.seen D.may_leave D.faults D.came_to (place here.now) here.now.next
+        (desk locks.old tables.old store.old) (desk locks.new tables.new store.new) result
         (writes.acts (place here.now) (writes.with_pending (half_at here.now.next (desk locks.old tables.old store.old)) op.now) op.now action.Put) }
 {
     let version = next_version(store, op.cell);

@@ -6,5 +6,5 @@ use Rattle.memory_server.proofs.cast.members.Goals as goal
 pub started-requires : goal.started-requires
 started-requires c = rw c.requires (state_rev c.args.script.now.servers c.args.script.now.lines)
 
-pub returns : goal.returns
-returns c = cast_is c.args.script.now c.args.state.now (map site_of c.in_ok-members.members) c.requires c.in_ok-members.ensures
+pub returns-clause-sites : goal.returns-clause-sites
+returns-clause-sites c = cast_is c.args.script.now c.args.state.now (map site_of c.in_ok-members.members) c.requires c.in_ok-members.ensures.sites

@@ -1,8 +1,10 @@
-use Rattle.std.proofs.Common.{◌≡◌, map}
+use Rattle.std.proofs.Common.{◌≡◌, map, length}
+use Rattle.std.specs.Prelude.{All}
 use Rattle.std.specs.List.{range_with_len}
+use Rattle.server_store.specs.Slots.{slot_start}
 use Rattle.memory_server.specs.Server.{site_of}
 use Rattle.memory_server.specs.Members.{first_site}
 use Rattle.memory_server.proofs.cast.started.Given as goal
 
 abbrev pub invariant-loop-me : goal.invariant-loop-me
-invariant-loop-me l = map site_of l.members ≡ map (first_site l.state l.slots) (range_with_len 0 l.me)
+invariant-loop-me l = (map site_of l.members ≡ map (first_site l.state l.slots) (range_with_len 0 l.me)) × All (λ server. length server.store.disk.now.items ≡ slot_start l.slots) l.members

@@ -13,9 +13,9 @@ returns-in-Ok g c =
     let old = desk c.args.locks.now c.args.tables.now c.args.store.now in
     let new = desk c.args.locks.now c.args.tables.now c.answer_read.new.store in
     let may : readable here.state here.me c.args.cell ≡ true = sym c.readable.ensures ∙ c.if-not-readable.false in
-    behind_read g.D.Disk.told g.D.Disk.faults g.D.Disk.came_to here next old new c.says.result _ _
+    behind_read g.D.Disk.told g.D.Disk.seen g.D.Disk.may_leave g.D.Disk.faults g.D.Disk.came_to here next old new c.says.result _ _
     (ap (λ store. desk c.args.locks.now c.args.tables.now store) c.answer_read.ensures.same)
-    c.answer_read.ensures.cause.later c.answer_read.ensures.run
+    c.answer_read.ensures.holds c.answer_read.ensures.cause.later c.answer_read.ensures.run
     (λ told. told_is here (half_at next new) (half_at next old) c.args.client c.args.seq c.args.cell c.args.epoch c.in-Ok.reply c.said.result
     (ap (λ store. half_at next (desk c.args.locks.now c.args.tables.now store)) c.answer_read.ensures.same)
     may (c.in-Ok.ensures.reply told c.args.here.now.inc (half_at next old).pairs refl) c.said.ensures)

@@ -22,4 +22,4 @@ returns-in-None g c =
     let is = sym c.in_ok-op.ensures.value ∙ c.in-None.is in
     let half = half_at c.args.here.now.next (desk c.args.locks.now c.args.tables.now c.args.store.now) in
     let law = (g.met.D.Disk g.world.𝓛 g.world.𝓜 g.world.𝓡 ((λ s x. x), (λ x. x), (λ x. x), λ x. x)).stays in
-    rw (← (goes_none (place c.args.here.now) half c.args.cell is)) (said_done g.D.Disk.told g.D.Disk.faults g.D.Disk.came_to law (place c.args.here.now) c.args.here.now.next _ _ c.silent.result _ c.silent.ensures)
+    rw (← (goes_none (place c.args.here.now) half c.args.cell is)) (said_done g.D.Disk.told g.D.Disk.seen g.D.Disk.may_leave g.D.Disk.faults g.D.Disk.came_to law (place c.args.here.now) c.args.here.now.next _ _ c.silent.result _ c.silent.ensures)

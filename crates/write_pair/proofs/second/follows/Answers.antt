@@ -27,13 +27,14 @@ returns g c =
     let new = desk c.args.locks.now (record books { last = c.replace.new.self; apart = c.spend.new.table }) c.spend.new.store in
     let said = ap (λ (to : Option ℕ). letters_of (sender here) 0 (post_to to (body.Replicated c.args.op c.cell-cell.result))) c.first.ensures in
     rw (← c.tables.view_is)
-    (subst (λ (cell : Cell). IsDone g.D.Disk.told g.D.Disk.faults g.D.Disk.came_to here c.args.here.now.next old new (Ok c.only.result) (follows_in here (half_at c.args.here.now.next old) c.args.op c.args.key c.args.bytes.now cell)) c.cell-cell.ensures
+    (subst (λ (cell : Cell). IsDone g.D.Disk.told g.D.Disk.seen g.D.Disk.may_leave g.D.Disk.faults g.D.Disk.came_to here c.args.here.now.next old new (Ok c.only.result) (follows_in here (half_at c.args.here.now.next old) c.args.op c.args.key c.args.bytes.now cell)) c.cell-cell.ensures
     (record {
       done = λ told.
           follows_done here c.args.here.now.next c.args.locks.now books c.args.store.now c.cell-cell.result c.args.op h c.args.key c.args.bytes.now c.replace.new.self c.spend.new.table c.spend.new.store c.next_version-version.result c.only.result
           c.replace.ensures c.next_version-version.ensures (c.in_ok-spend.ensures.ok told) (c.only.ensures ∙ ap only (c.in_ok-letters.ensures ∙ said));
       keeps = follows_keeps here c.args.here.now.next c.args.locks.now books c.args.store.now c.cell-cell.result c.args.op h c.replace.new.self c.spend.new.table own.0 c.spend.new.store.tickets
           c.replace.ensures c.in_ok-spend.ensures.sorted own.1 c.in_ok-spend.ensures.table (c.in_ok-spend.ensures.tickets own.0 own.1);
+      holds = c.in_ok-spend.ensures.holds;
       same = λ no. absurd (cc);
       kept = tt;
       full = λ no. absurd (cc);

@@ -26,6 +26,7 @@ returns g c =
       keeps =
           puts_keeps here c.args.here.now.next c.args.locks.now _ c.args.store.now c.args.op.now h c.requires.moved c.set_put.new.self c.spend.new.table own.0 c.next_version-version.result c.spend.new.store.tickets
           table c.in_ok-spend.ensures.sorted own.1 c.in_ok-spend.ensures.table (c.in_ok-spend.ensures.tickets own.0 own.1) c.requires.reserved;
+      holds = c.in_ok-spend.ensures.holds;
       same = λ no. absurd (cc);
       kept = tt;
       full = λ no. absurd (cc);
