@@ -1,9 +1,9 @@
 -- What holds of phases that have ended: they answer exactly the first lines.
-use Rattle.std.proofs.Common.{◌≡◌, ◌≤◌, ◌<◌, ℕ, suc, ◌+◌, true, false, cond, List, [], ◌∷◌, ◌++◌, length, take, drop, Some, is_some, refl, sym, ap, ◌∙◌, subst, ◌⊎◌, inl, inr, arith, length-drop}
+use Rattle.std.proofs.Common.{◌≡◌, ◌≤◌, ◌<◌, ℕ, zero, suc, ◌+◌, true, false, cond, List, [], ◌∷◌, ◌++◌, length, take, drop, Some, is_some, refl, sym, ap, ◌∙◌, subst, ◌⊎◌, inl, inr, arith, length-drop}
 use Rattle.std.proofs.lemmas.List.{take-append-drop, map-append, drop_all, drop-drop}
 use Rattle.std.proofs.lemmas.Bool.Decides.{nat_tests}
 use Rattle.std.proofs.Math.Seq.{take-length, take-add}
-use Rattle.std.specs.Prelude.{◌==◌, nat_lt}
+use Rattle.std.specs.Prelude.{◌==◌, nat_lt, slice_get}
 use Rattle.std.specs.Cmp.{nat_cmp_total, tied_itself}
 use Rattle.std.specs.Ordering.{nat_cmp, is_eq}
 use Rattle.std.specs.BTreeMap.{is_at}
@@ -179,6 +179,16 @@ in_behind line (first ∷ front) back h = inr (in_behind line front back h)
 rising_behind : (front back : List Line) → AreRising (front ++ back) → AreRising back
 rising_behind [] back rising = rising
 rising_behind (first ∷ front) back rising = rising_behind front back rising.1
+
+in_rest : (lines : List Line) (place : ℕ) (line : Line) → slice_get lines place ≡ Some line → In line (drop place lines)
+unfolding In
+in_rest [] place line is = absurd (cc)
+in_rest (first ∷ lines) zero line is = inl (cc)
+in_rest (first ∷ lines) (suc place) line is = in_rest lines place line is
+
+-- the line that is played next is of no earlier phase
+pub line_to_play : (script : Script) (records : List Record) (told place phases : ℕ) → KeepsPlaces script records told place phases → (line : Line) → slice_get script.lines place ≡ Some line → phases ≤ line.phase
+line_to_play script records told place phases k line is = k.to_play line (in_rest script.lines place line is)
 
 -- the phase that is played next
 record PlaysNext (lines : List Line) (place phases count : ℕ) : Type 0 where
