@@ -13,7 +13,7 @@ use Rattle.petal_script.specs.declared.answer.Answer.{Answer}
 use Rattle.petal_script.specs.declared.request.Line.{Line}
 use Rattle.petal_script.specs.declared.script.Script.{Script}
 use Rattle.petal_rules.specs.Lists.{In}
-use Rattle.petal_rules.proofs.ListLemmas.{in-append}
+use Rattle.petal_rules.proofs.ListLemmas.{in-append, in_later}
 use Rattle.petal_history.specs.Legal.{IsLegal}
 use Rattle.petal_history.specs.Text.{answers_of}
 use Rattle.petal_history.specs.declared.record.Record.{Record}
@@ -171,11 +171,6 @@ run_behind phase (first ∷ lines) rising ordered from line h =
           ]
     ] refl h
 
-in_behind : (line : Line) (front back : List Line) → In line back → In line (front ++ back)
-unfolding In
-in_behind line [] back h = h
-in_behind line (first ∷ front) back h = inr (in_behind line front back h)
-
 rising_behind : (front back : List Line) → AreRising (front ++ back) → AreRising back
 rising_behind [] back rising = rising
 rising_behind (first ∷ front) back rising = rising_behind front back rising.1
@@ -202,7 +197,7 @@ plays_next lines place phases rising ordered played to_play =
     let count = phase_run phases back in
     let split : take place lines ++ back ≡ lines = take-append-drop place lines in
     let rises : AreRising back = rising_behind (take place lines) back (subst AreRising (sym split) rising) in
-    let lies : (line : Line) → In line back → In line lines = λ line h. subst (In line) split (in_behind line (take place lines) back h) in
+    let lies : (line : Line) → In line back → In line lines = λ line h. subst (In line) split (in_later line (take place lines) back h) in
     record {
       played = λ line h. elim (in-append line (take place lines) (take count back) (subst (In line) (take-add place count lines) h)) [
         | inl early ↦ (let lt = played line early in omega arith)
