@@ -1,9 +1,10 @@
 //! The program: `petal run` reads a script from standard input and prints its answers to standard output, over disks in
-//! memory. It ends with the status of the top call, of which it adds nothing.
+//! memory. It ends with the status of the top call, or with 3 where there is no memory for its words.
 #![tactic(auto)]
 
 use petal_disk::{MemShelf, StdSink, StdSource};
-use petal_run::petal;
+use petal_run::{NO_MEMORY, petal};
+use std::io::ErrorKind;
 use std::process::ExitCode;
 use std::{env, io};
 
@@ -14,7 +15,11 @@ fn words(rt: &HostRuntime) -> io::Result<Vec<String>> {
 
 fn main(rt: HostRuntime) -> ExitCode {
     // Words that are no text are no form that is built, just as no words are none.
-    let words = words(&rt).unwrap_or(Vec::new(rt.alloc()));
+    let words = match words(&rt) {
+        Ok(words) => words,
+        Err(error) if error.kind() == ErrorKind::OutOfMemory => return ExitCode::from(NO_MEMORY),
+        Err(_) => Vec::new(rt.alloc()),
+    };
     let mut source = StdSource::new(rt.reader());
     let mut sink = StdSink::new(io::writer(&rt));
     let mut shelf = MemShelf::new();

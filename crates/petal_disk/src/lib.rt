@@ -24,6 +24,6 @@ pub use memory_shelf::MemShelf;
 pub use memory_stream::{MemSink, MemSource};
 pub use planned::{CallKind, Plan, Planned};
 pub use shelf::{Shelf, Which};
-pub use standard::{StdSink, StdSource};
+pub use standard::{StdSink, StdSource, slices_and_vectors_tell};
 pub use stream::{Sink, Source, read_full, write_all};
 pub use write::write_kept;

@@ -1,6 +1,10 @@
-//! The library's readers and writers as a source and a sink. They tell no bytes.
+//! The library's readers and writers as a source and a sink.
+//!
+//! Where every reader or writer of a type tells its bytes, as slices and vectors do, the adapter tells the same bytes. The
+//! standard streams of a process tell none.
 
-ghost use Rattle.std.specs.Prelude.{◌≡◌, ◌≤◌, ◌<◌, ◌+◌, [], length, IfOk};
+ghost use Rattle.std.specs.Prelude.{◌≡◌, ◌≤◌, ◌<◌, ◌+◌, IfOk};
+ghost use Rattle.petal_disk.specs.Streams.{AreKnown, known};
 
 use crate::count::Count;
 use crate::{Failed, Sink, Source};
@@ -19,7 +23,8 @@ pub struct StdSource<R: Drop> {
 impl<R: Read + Drop> StdSource<R> {
     /// The source that reads from this reader.
     pub fn new(reader: R) -> StdSource<R>
-        ensures { ⟦<StdSource<R> as Source>⟧.faults result ≡ 0 }
+        ensures left { ⟦<StdSource<R> as Source>⟧.left result ≡ known (R.remaining reader) }
+        ensures faults { ⟦<StdSource<R> as Source>⟧.faults result ≡ 0 }
     {
         StdSource {
             reader,
@@ -29,9 +34,9 @@ impl<R: Read + Drop> StdSource<R> {
 }
 
 impl<R: Read + Drop> Source for StdSource<R> {
-    ghost told = { ⊥ };
+    ghost told = { AreKnown R.remaining };
 
-    ghost left = { λ _. [] };
+    ghost left = { λ source. known (R.remaining source.reader) };
 
     ghost faults = { λ source. source.faults.times };
 
@@ -48,37 +53,44 @@ impl<R: Read + Drop> Source for StdSource<R> {
     }
 }
 
-/// A writer as a sink. It flushes after each write, so that a failure is told by the call that meets it; a writer that
-/// takes none of the bytes has failed.
+/// A writer as a sink. A call that a signal interrupts is tried again, up to a thousand times; a writer that takes none of the
+/// bytes has failed.
 #[derive(Drop)]
 pub struct StdSink<W: Drop> {
     writer: W,
+    unflushed: Count,
     faults: Count,
 }
 
 impl<W: Write + Drop> StdSink<W> {
     /// The sink that writes to this writer.
     pub fn new(writer: W) -> StdSink<W>
-        ensures { ⟦<StdSink<W> as Sink>⟧.faults result ≡ 0 }
+        ensures taken { ⟦<StdSink<W> as Sink>⟧.taken result ≡ known (W.contents writer) }
+        ensures unflushed { ⟦<StdSink<W> as Sink>⟧.unflushed result ≡ 0 }
+        ensures faults { ⟦<StdSink<W> as Sink>⟧.faults result ≡ 0 }
     {
         StdSink {
             writer,
+            unflushed: Count::new(),
             faults: Count::new(),
         }
     }
 }
 
 impl<W: Write + Drop> Sink for StdSink<W> {
-    ghost told = { ⊥ };
+    ghost told = { AreKnown W.contents };
 
-    ghost taken = { λ _. [] };
+    ghost taken = { λ sink. known (W.contents sink.writer) };
+
+    ghost unflushed = { λ sink. sink.unflushed.times };
 
     ghost faults = { λ sink. sink.faults.times };
 
     fn write(&mut self, bytes: &[u8]) -> Result<usize, Failed> {
         for _ in 0..TRIES {
             match self.writer.write(bytes) {
-                Ok(count) if (count > 0 || bytes.is_empty()) && self.writer.flush().is_ok() => {
+                Ok(count) if count > 0 || bytes.is_empty() => {
+                    self.unflushed.rise();
                     return Ok(count);
                 }
                 Err(error) if error.kind() == ErrorKind::Interrupted => {}
@@ -88,4 +100,25 @@ impl<W: Write + Drop> Sink for StdSink<W> {
         self.faults.rise();
         Err(Failed)
     }
+
+    fn flush(&mut self) -> Result<(), Failed> {
+        for _ in 0..TRIES {
+            match self.writer.flush() {
+                Ok(()) => {
+                    self.unflushed = Count::new();
+                    return Ok(());
+                }
+                Err(error) if error.kind() == ErrorKind::Interrupted => {}
+                Err(_) => break,
+            }
+        }
+        self.faults.rise();
+        Err(Failed)
+    }
 }
+
+/// The adapters over the library's slices and vectors tell their bytes.
+pub fn slices_and_vectors_tell<'a>()
+    ensures source { ⟦<StdSource<&'a [u8]> as Source>⟧.told }
+    ensures sink { ⟦<StdSink<Vec<u8>> as Sink>⟧.told }
+{}

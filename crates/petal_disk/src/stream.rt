@@ -17,8 +17,8 @@ pub trait Source {
     /// How often the source has failed.
     ghost faults: { Self → ℕ };
 
-    /// Takes some of the bytes left into the front of `into`, and answers how many. It answers 0 for a buffer that is not
-    /// empty only at the end of input. A call that fails takes nothing.
+    /// Takes some of the bytes left into the front of `into`, and answers how many; the rest of `into` may be written over.
+    /// It answers 0 for a buffer that is not empty only at the end of input. A call that fails takes nothing.
     fn read(&mut self, into: &mut [u8]) -> Result<usize, Failed>
         ensures fits { IfOk result (λ n. n ≤ length into.old) }
         ensures takes { IfOk result (λ n. told → Takes (left self.old) (left self.new) into.old into.new n) }
@@ -34,6 +34,9 @@ pub trait Sink {
     /// The bytes that it has taken.
     ghost taken: { Self → List ℕ };
 
+    /// How many writes came since the last flush.
+    ghost unflushed: { Self → ℕ };
+
     /// How often the sink has failed.
     ghost faults: { Self → ℕ };
 
@@ -44,6 +47,12 @@ pub trait Sink {
         ensures moves { IfOk result (λ n. 0 < length bytes.now → 0 < n) }
         ensures takes { IfOk result (λ n. told → taken self.new ≡ taken self.old ++ take n bytes.now) }
         ensures keeps { OnErr result (told → taken self.new ≡ taken self.old) }
+        ensures cause { HasCause (faults self.old) (faults self.new) result };
+
+    /// Sends on the bytes that it has taken. These stay the same, also where the call fails.
+    fn flush(&mut self) -> Result<(), Failed>
+        ensures keeps { told → taken self.new ≡ taken self.old }
+        ensures flushed { OnOk result (unflushed self.new ≡ 0) }
         ensures cause { HasCause (faults self.old) (faults self.new) result };
 }
 
@@ -67,9 +76,10 @@ pub fn read_full<S: Source>(source: &mut S, into: &mut [u8]) -> Result<usize, Fa
     Ok(done)
 }
 
-/// Writes all the bytes. Where a call fails, a front of them has been written.
+/// Writes all the bytes and flushes. Where a call fails, a front of them has been written: all of them where the flush fails.
 pub fn write_all<S: Sink>(sink: &mut S, bytes: &[u8]) -> Result<(), Failed>
     ensures all { OnOk result (S.told → S.taken sink.new ≡ S.taken sink.old ++ bytes.now) }
+    ensures flushed { OnOk result (S.unflushed sink.new ≡ 0) }
     ensures front { S.told → Adds (S.taken sink.old) bytes.now (S.taken sink.new) }
     ensures cause { HasCause (S.faults sink.old) (S.faults sink.new) result }
 {
@@ -77,5 +87,5 @@ pub fn write_all<S: Sink>(sink: &mut S, bytes: &[u8]) -> Result<(), Failed>
     while done < bytes.len() {
         done += sink.write(&bytes[done..])?;
     }
-    Ok(())
+    sink.flush()
 }

@@ -1,8 +1,12 @@
 -- What is written at the end of a phase.
-use Rattle.std.proofs.Common.{◌≡◌, ℕ, ◌+◌, true, false, List, [], ◌∷◌, ◌++◌, length, take, is_some, refl, sym, ap, ◌∙◌, subst, append_assoc, Option, Some, None, Result, Ok, Err}
+use Rattle.std.proofs.Common.{◌≡◌, ◌≤◌, ℕ, ◌+◌, true, false, List, [], ◌∷◌, ◌++◌, length, take, is_some, refl, sym, ap, ◌∙◌, subst, append_assoc, arith, Option, Some, None, Result, Ok, Err}
+use Rattle.std.proofs.lemmas.Bool.Decides.{nat_tests}
+use Rattle.std.specs.Prelude.{nat_lt}
 use Rattle.std.proofs.Math.Seq.{take-append_seam, take-append-add, take-length}
 use Rattle.std.specs.Ordering.{nat_cmp}
-use Rattle.law_answers.specs.Order.{AreRising, AnsweredComeFirst}
+use Rattle.law_answers.specs.Order.{AreRising, AnsweredComeFirst, is_answered}
+use Rattle.petal_world.specs.Playable.{AreOrdered}
+use Rattle.petal_script.specs.declared.request.Line.{Line}
 use Rattle.petal_disk.specs.Streams.{Adds}
 use Rattle.petal_table.specs.Table.{Table}
 use Rattle.petal_table.proofs.Rows.{at-empty}
@@ -13,11 +17,11 @@ use Rattle.petal_history.specs.Claims.{Keeps}
 use Rattle.petal_history.specs.Legal.{IsLegal}
 use Rattle.petal_history.specs.Text.{answers_of, text_of}
 use Rattle.petal_history.specs.declared.record.Record.{Record}
-use Rattle.plain_schedule.specs.Phases.{Progress, GoesByPhases, Ends, records_of}
+use Rattle.plain_schedule.specs.Phases.{Progress, AnswersPhases, GoesByPhases, Ends, records_of}
 use Rattle.petal_run.specs.Asked.{Play, by_built, by_text}
 use Rattle.petal_run.specs.Built.{first_not_built}
 use Rattle.plain_schedule.specs.Whole.{all_answered}
-use Rattle.petal_run.specs.Said.{Done, DoneInPart, WrittenByPhases, WrotePhases}
+use Rattle.petal_run.specs.Said.{Done, DoneInPart, EndsWithPhase, WrittenByPhases, WrotePhases, WroteInPhase}
 use Rattle.petal_run.specs.Written.{Wrote, text_of_answers}
 
 append_nil : {A : Type 0} (xs : List A) → xs ++ [] ≡ xs
@@ -26,6 +30,14 @@ append_nil (x ∷ xs) = ap (λ more. x ∷ more) (append_nil xs)
 
 abbrev pub JoinsText : Script → Type 0
 JoinsText script = (front back : List Record) → AreRising script.lines → IsLegal script (front ++ back) → AnsweredComeFirst script.lines front → text_of (front ++ back) ≡ text_of front ++ text_of back
+
+-- where the lines that are answered are those of the first phases, they come first
+pub come_first : (phases : ℕ) (lines : List Line) (records : List Record) → AreOrdered lines → AnswersPhases phases lines records → AnsweredComeFirst lines records
+come_first phases lines records ordered exactly one other h k given none =
+    let low : nat_lt one.phase phases ≡ true = sym (exactly one h) ∙ given in
+    let high : nat_lt other.phase phases ≡ false = sym (exactly other k) ∙ none in
+    let up : other.number ≤ one.number → other.phase ≤ one.phase = ordered other one k h in
+    grind (arith, nat_tests, low, high, up)
 
 -- the text of the phases that have ended grows by that of the phase that ends
 pub ended_text : (old new : Progress) (answers : Table ℕ Answer) → JoinsText old.script → AreRising old.script.lines → new.script ≡ old.script → GoesByPhases old → GoesByPhases new → Ends old new answers → text_of new.ended ≡ text_of old.ended ++ text_of_answers answers
@@ -48,23 +60,46 @@ added_on base front more whole old new is stood a = record {
 pub wrote_before : (old new : Progress) (answers : Table ℕ Answer) → new.script ≡ old.script → GoesByPhases old → Ends old new answers → (base taken : List ℕ) → Wrote base old.ended taken → WrotePhases new.script (records_of new) base taken
 wrote_before old new answers same before e base taken w = record {
   ended = old.ended;
+  phases = old.phases;
   front = record { behind = e.phase ++ new.since; is = ap (λ r. r ++ new.since) e.ended ∙ append_assoc old.ended e.phase new.since };
-  first = subst (λ (s : Script). AnsweredComeFirst s.lines old.ended) (sym same) before.first;
+  exactly = subst (λ (s : Script). AnswersPhases old.phases s.lines old.ended) (sym same) before.exactly;
   text = w;
 }
 
 pub wrote_so_far : (new : Progress) → GoesByPhases new → (base taken : List ℕ) → Wrote base new.ended taken → WrotePhases new.script (records_of new) base taken
-wrote_so_far new after base taken w = record { ended = new.ended; front = record { behind = new.since; is = refl }; first = after.first; text = w }
+wrote_so_far new after base taken w = record { phases = new.phases; ended = new.ended; front = record { behind = new.since; is = refl }; exactly = after.exactly; text = w }
+
+-- what stands written where the text of the phase that ended is written in part
+pub wrote_last : (old new : Progress) (answers : Table ℕ Answer) → new.script ≡ old.script → GoesByPhases old → GoesByPhases new → Ends old new answers → (base stood taken : List ℕ) → Wrote base old.ended stood → Adds stood (text_of_answers answers) taken
+    → WroteInPhase new.script (records_of new) base taken
+wrote_last old new answers same before after e base stood taken wrote adds =
+    let all : records_of new ≡ new.ended = ap (λ r. new.ended ++ r) e.since ∙ append_nil new.ended in
+    record {
+      phase = old.phases;
+      ended = old.ended;
+      last = e.phase;
+      history_is = all ∙ e.ended;
+      before = subst (λ (s : Script). AnswersPhases old.phases s.lines old.ended) (sym same) before.exactly;
+      whole = subst (λ (n : ℕ). AnswersPhases n new.script.lines (records_of new)) e.phases (subst (AnswersPhases new.phases new.script.lines) (sym all) after.exactly);
+      text = subst (λ (t : List ℕ). Adds t (text_of e.phase) taken) wrote (subst (λ (rows : Table ℕ Answer). Adds stood (text_of_answers rows) taken) e.gave adds);
+    }
 
 -- ### The whole run
 
-pub adds_phases : (script : Script) (history : List Record) (old new : List ℕ) → JoinsText script → AreRising script.lines → IsLegal script history → WrotePhases script history old new → Adds old (text_of history) new
-adds_phases script history old new joins rising legal w =
-    let is : text_of history ≡ text_of w.ended ++ text_of w.front.behind = ap text_of w.front.is ∙ joins w.ended w.front.behind rising (subst (IsLegal script) w.front.is legal) w.first in
+pub adds_phases : (script : Script) (history : List Record) (old new : List ℕ) → JoinsText script → AreRising script.lines → AreOrdered script.lines → IsLegal script history → WrotePhases script history old new → Adds old (text_of history) new
+adds_phases script history old new joins rising ordered legal w =
+    let first = come_first w.phases script.lines w.ended ordered w.exactly in
+    let is : text_of history ≡ text_of w.ended ++ text_of w.front.behind = ap text_of w.front.is ∙ joins w.ended w.front.behind rising (subst (IsLegal script) w.front.is legal) first in
     record {
       count = length (text_of w.ended);
       new_is = w.text ∙ ap (λ t. old ++ t) (sym (take-append_seam (text_of w.ended) (text_of w.front.behind)) ∙ ap (take (length (text_of w.ended))) (sym is));
     }
+
+pub adds_last : (script : Script) (history : List Record) (old new : List ℕ) → JoinsText script → AreRising script.lines → AreOrdered script.lines → IsLegal script history → WroteInPhase script history old new → Adds old (text_of history) new
+adds_last script history old new joins rising ordered legal w =
+    let first = come_first w.phase script.lines w.ended ordered w.before in
+    let is : text_of history ≡ text_of w.ended ++ text_of w.last = ap text_of w.history_is ∙ joins w.ended w.last rising (subst (IsLegal script) w.history_is legal) first in
+    added_on old (text_of w.ended) (text_of w.last) (text_of history) (old ++ text_of w.ended) new is refl w.text
 
 pub adds_all : (old bytes new : List ℕ) → new ≡ old ++ bytes → Adds old bytes new
 adds_all old bytes new is = record {
@@ -79,14 +114,15 @@ none_added old bytes = record { count = 0; new_is = sym (append_nil old) }
 
 pub none_wrote : (script : Script) (old : List ℕ) → WrotePhases script [] old old
 none_wrote script old = record {
+  phases = 0;
   ended = [];
   front = record { behind = []; is = refl };
-  first = λ one other h k given none. never (sym given ∙ ap is_some (at-empty nat_cmp one.number));
+  exactly = λ line h. ap is_some (at-empty nat_cmp line.number) ∙ sym (none_below line.phase);
   text = sym (append_nil old);
 }
   where
-    never : {B : Type 0} → true ≡ false → B
-    never e = absurd (cc)
+    none_below : (phase : ℕ) → nat_lt phase 0 ≡ false
+    none_below phase = grind (arith, nat_tests)
 
 abbrev pub KeepsLaw : Type 0
 KeepsLaw = (text : List ℕ) (script : Script) (records : List Record) → script_of text ≡ Ok script → IsLegal script records → Keeps script records
@@ -133,3 +169,9 @@ play_legal script p history same is legal = subst (IsLegal script) (sym is) (sub
 
 pub play_wrote : (script : Script) (p : Progress) (history : List Record) (old new : List ℕ) → p.script ≡ script → history ≡ records_of p → WrotePhases p.script (records_of p) old new → WrotePhases script history old new
 play_wrote script p history old new same is w = subst (λ (r : List Record). WrotePhases script r old new) (sym is) (subst (λ (s : Script). WrotePhases s (records_of p) old new) same w)
+
+pub play_last : (script : Script) (p : Progress) (history : List Record) (old new : List ℕ) → p.script ≡ script → history ≡ records_of p → WroteInPhase p.script (records_of p) old new → WroteInPhase script history old new
+play_last script p history old new same is w = subst (λ (r : List Record). WroteInPhase script r old new) (sym is) (subst (λ (s : Script). WroteInPhase s (records_of p) old new) same w)
+
+pub play_ends : (script : Script) (p : Progress) (history : List Record) → p.script ≡ script → history ≡ p.ended → GoesByPhases p → EndsWithPhase (Play script) history
+play_ends script p history same is g = (p.phases, subst (λ (r : List Record). AnswersPhases p.phases script.lines r) (sym is) (subst (λ (s : Script). AnswersPhases p.phases s.lines p.ended) same g.exactly))

@@ -1,13 +1,12 @@
 -- What a call of the program has done when it ends.
-use Rattle.std.specs.Prelude.{◌≡◌, ℕ, true, List, [], ◌++◌}
+use Rattle.std.specs.Prelude.{◌≡◌, ℕ, ◌+◌, true, List, [], ◌++◌}
 use Rattle.petal_disk.specs.Streams.{Adds}
 use Rattle.script_lines.specs.declared.script.Script.{Script}
 use Rattle.petal_history.specs.declared.record.Record.{Record}
 use Rattle.petal_history.specs.Claims.{Keeps}
 use Rattle.petal_history.specs.Legal.{IsLegal}
 use Rattle.petal_history.specs.Text.{answers_of, text_of}
-use Rattle.law_answers.specs.Order.{AnsweredComeFirst}
-use Rattle.plain_schedule.specs.Phases.{IsFront}
+use Rattle.plain_schedule.specs.Phases.{AnswersPhases, IsFront}
 use Rattle.plain_schedule.specs.Whole.{all_answered}
 use Rattle.petal_run.specs.Asked.{Asked, Refuse, Play}
 
@@ -30,19 +29,35 @@ abbrev pub DoneInPart : Asked → List Record → (old new : List ℕ) → Type 
 DoneInPart (Refuse of bytes) history old new = (history ≡ []) × Adds old bytes new
 DoneInPart (Play script) history old new = IsLegal script history × Keeps script history × Adds old (text_of history) new
 
--- the history of a script that was played ends with a phase
+-- the history of a script that was played answers the lines of the first so many phases, and no others
 abbrev pub EndsWithPhase : Asked → List Record → Type 0
 EndsWithPhase (Refuse of bytes) history = Unit {0}
-EndsWithPhase (Play script) history = AnsweredComeFirst script.lines history
+EndsWithPhase (Play script) history = (phases : ℕ) × AnswersPhases phases script.lines history
 
--- the history begins with phases that have ended, and what is written is their text
+-- the history begins with the records of the first so many phases, and what is written is their text
 pub record WrotePhases (script : Script) (history : List Record) (old new : List ℕ) : Type 0 where
+  pub phases : ℕ
   pub ended : List Record
   pub front : IsFront ended history
-  pub first : AnsweredComeFirst script.lines ended
+  pub exactly : AnswersPhases phases script.lines ended
   pub text : new ≡ old ++ text_of ended
 
--- nothing is written by halves: none of a refusal, and of the text of a history that of phases that have ended
+-- nothing is written by halves: none of a refusal, and of the text of a history that of whole phases
 abbrev pub WrittenByPhases : Asked → List Record → (old new : List ℕ) → Type 0
 WrittenByPhases (Refuse of bytes) history old new = new ≡ old
 WrittenByPhases (Play script) history old new = WrotePhases script history old new
+
+-- the history ends with this phase; the text of the phases before it is written, and then some of its own
+pub record WroteInPhase (script : Script) (history : List Record) (old new : List ℕ) : Type 0 where
+  pub phase : ℕ
+  pub ended : List Record
+  pub last : List Record
+  pub history_is : history ≡ ended ++ last
+  pub before : AnswersPhases phase script.lines ended
+  pub whole : AnswersPhases (phase + 1) script.lines history
+  pub text : Adds (old ++ text_of ended) (text_of last) new
+
+-- all that was written before is whole: some of a refusal is written, or some of the text of the last phase
+abbrev pub WrittenInPhase : Asked → List Record → (old new : List ℕ) → Type 0
+WrittenInPhase (Refuse of bytes) history old new = Adds old bytes new
+WrittenInPhase (Play script) history old new = WroteInPhase script history old new

@@ -17,4 +17,4 @@ mod words;
 
 pub use built::not_built;
 pub use laws::{lines_rise, nothing_is_a_part, phases_rise};
-pub use outcome::{Outcome, petal};
+pub use outcome::{NO_MEMORY, Outcome, petal};

@@ -3,7 +3,7 @@
 ghost use Rattle.std.specs.Prelude.{◌≡◌, ◌≤◌, ◌<◌, ◌⊎◌, [], false, map, take};
 ghost use Rattle.std.specs.String.{string_bytes};
 ghost use Rattle.petal_run.specs.Asked.{asked};
-ghost use Rattle.petal_run.specs.Said.{Done, DoneInPart, EndsWithPhase, WrittenByPhases};
+ghost use Rattle.petal_run.specs.Said.{Done, DoneInPart, EndsWithPhase, WrittenByPhases, WrittenInPhase};
 ghost use Rattle.petal_run.specs.Words.{is_run};
 
 use crate::error::RunError;
@@ -20,7 +20,7 @@ use std::sync::Wait;
 #[derive(Drop)]
 pub struct Outcome {
     /// 0: the run ended, and all answers were written. 1: the words are no form. 2: a line of the script is refused.
-    /// 3: want of memory. 4: the source failed. 5: the sink failed.
+    /// 3: out of memory. 4: the source failed. 5: the sink failed.
     pub status: u8,
     /// The steps of the run. At 5 they end with the phase whose answers were not written whole; at 3 they are those so far.
     pub history: History,
@@ -32,7 +32,8 @@ pub(crate) const NO_FORM: u8 = 1;
 
 pub(crate) const REFUSED: u8 = 2;
 
-pub(crate) const NO_MEMORY: u8 = 3;
+/// The status of a call that is out of memory.
+pub const NO_MEMORY: u8 = 3;
 
 pub(crate) const SOURCE_FAILED: u8 = 4;
 
@@ -41,10 +42,11 @@ pub(crate) const SINK_FAILED: u8 = 5;
 const USAGE: &str = "usage: petal run [FOLDER] | petal drill SEED COUNT\n";
 
 /// Does what the words ask for. The words `run` alone read a script from the source, play it on one thread with servers and
-/// stores of its own, and write the answers of each phase to the sink at that phase's end. It waits for as long as that takes.
+/// stores of its own, and write the answers of each phase to the sink at that phase's end. It waits for as long as that takes,
+/// and nothing promises that it returns: its clauses say what holds where it does.
 ///
-/// Statuses 0 to 2 come exactly where the words and the script say so, unless memory is wanting or a count of faults rose. The
-/// first failure of the sink ends the run.
+/// Statuses 0 to 2 come exactly where the words and the script say so, unless it is out of memory or a count of faults rose.
+/// The first failure of the sink ends the run.
 pub fn petal<T: Wait, R: Source, W: Sink, S: Shelf>(
     rt: &T,
     alloc: Global,
@@ -68,6 +70,9 @@ pub fn petal<T: Wait, R: Source, W: Sink, S: Shelf>(
     ensures by_phases { R.told → W.told → result.status ≡ 3
         → WrittenByPhases (asked (map string_bytes words.now) (take 1048577 (R.left source.old))) result.history.records
         (W.taken sink.old) (W.taken sink.new) }
+    ensures last_phase { R.told → W.told → result.status ≡ 5
+        → WrittenInPhase (asked (map string_bytes words.now) (take 1048577 (R.left source.old))) result.history.records
+        (W.taken sink.old) (W.taken sink.new) }
     ensures nothing { result.status ≡ 4 → sink.new ≡ sink.old }
     ensures empty { result.status ≡ 4 → result.history.records ≡ [] }
 
@@ -76,6 +81,7 @@ pub fn petal<T: Wait, R: Source, W: Sink, S: Shelf>(
     ensures sink_failed { result.status ≡ 5 → W.faults sink.old < W.faults sink.new }
     ensures source_later { R.faults source.old ≤ R.faults source.new }
     ensures sink_later { W.faults sink.old ≤ W.faults sink.new }
+    ensures unasked { is_run (map string_bytes words.now) ≡ false → source.new ≡ source.old }
     ensures shelf { shelf.new ≡ shelf.old }
 {
     if !is_run(words) {

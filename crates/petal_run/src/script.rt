@@ -1,7 +1,7 @@
 //! A script that was read: refused at a line that is not built, or played, with the answers of each phase written at its end.
 
 ghost use Rattle.std.specs.Prelude.{◌≡◌, ◌≤◌, ◌<◌, ◌⊎◌, ◌++◌, ℕ, List, [], length, true, IfOk, OnOk, IsErrOf, IfSome, Some, None};
-ghost use Rattle.law_answers.specs.Order.{AnsweredComeFirst, AreRising};
+ghost use Rattle.law_answers.specs.Order.{AreRising};
 ghost use Rattle.petal_disk.specs.Streams.{Adds};
 ghost use Rattle.script_lines.specs.Printed.{refusal_line};
 ghost use Rattle.petal_script.specs.Script.{script_of};
@@ -12,7 +12,7 @@ ghost use Rattle.plain_schedule.specs.Whole.{all_answered};
 ghost use Rattle.petal_run.specs.Asked.{Play, by_built, by_text};
 ghost use Rattle.petal_run.specs.Built.{first_not_built};
 ghost use Rattle.petal_world.specs.Playable.{AreOrdered};
-ghost use Rattle.petal_run.specs.Said.{Done, DoneInPart, EndsWithPhase, WrittenByPhases, WrotePhases};
+ghost use Rattle.petal_run.specs.Said.{Done, DoneInPart, EndsWithPhase, WrittenByPhases, WrittenInPhase, WroteInPhase, WrotePhases};
 ghost use Rattle.petal_run.specs.Written.{Wrote, text_of_answers};
 ghost use Rattle.petal_run.specs.declared.error.RunError.TheVariants as error;
 
@@ -114,7 +114,7 @@ fn play_and_tell<R: Wait, W: Sink>(
     ensures goes_on { W.told → (base : List ℕ) → result ≡ None → Wrote base playing.old.ended (W.taken sink.old) → Wrote base playing.new.ended (W.taken sink.new) }
     ensures all { W.told → (base : List ℕ) → result ≡ Some 0 → Wrote base playing.old.ended (W.taken sink.old) → Wrote base playing.new.ended (W.taken sink.new) }
     ensures phases { W.told → (base : List ℕ) → result ≡ Some 3 → Wrote base playing.old.ended (W.taken sink.old) → WrotePhases playing.new.script (records_of playing.new) base (W.taken sink.new) }
-    ensures front { W.told → (base : List ℕ) → result ≡ Some 5 → Wrote base playing.old.ended (W.taken sink.old) → Adds base (text_of playing.new.ended) (W.taken sink.new) }
+    ensures last { W.told → (base : List ℕ) → result ≡ Some 5 → Wrote base playing.old.ended (W.taken sink.old) → WroteInPhase playing.new.script (records_of playing.new) base (W.taken sink.new) }
     ensures failed { result ≡ Some 5 → W.faults sink.old < W.faults sink.new }
     ensures later { W.faults sink.old ≤ W.faults sink.new }
 {
@@ -142,7 +142,7 @@ fn play_phases<R: Wait, W: Sink>(rt: &R, alloc: Global, playing: &mut Playing, s
     ensures whole { result ≡ 0 → all_answered (answers_of playing.new.ended) playing.new.script.lines ≡ true }
     ensures all { W.told → result ≡ 0 → Wrote (W.taken sink.old) playing.new.ended (W.taken sink.new) }
     ensures phases { W.told → result ≡ 3 → WrotePhases playing.new.script (records_of playing.new) (W.taken sink.old) (W.taken sink.new) }
-    ensures front { W.told → result ≡ 5 → Adds (W.taken sink.old) (text_of playing.new.ended) (W.taken sink.new) }
+    ensures last { W.told → result ≡ 5 → WroteInPhase playing.new.script (records_of playing.new) (W.taken sink.old) (W.taken sink.new) }
     ensures failed { result ≡ 5 → W.faults sink.old < W.faults sink.new }
     ensures later { W.faults sink.old ≤ W.faults sink.new }
 {
@@ -165,8 +165,9 @@ fn play<R: Wait, W: Sink>(rt: &R, alloc: Global, script: Script, sink: &mut W) -
     ensures known { (result.status ≡ 0) ⊎ (result.status ≡ 3) ⊎ (result.status ≡ 5) }
     ensures done { W.told → result.status ≡ 0 → Done (Play script) result.status result.history.records [] (W.taken sink.old) (W.taken sink.new) }
     ensures in_part { W.told → (result.status ≡ 3) ⊎ (result.status ≡ 5) → DoneInPart (Play script) result.history.records (W.taken sink.old) (W.taken sink.new) }
-    ensures whole_phase { result.status ≡ 5 → AnsweredComeFirst script.lines result.history.records }
+    ensures whole_phase { result.status ≡ 5 → EndsWithPhase (Play script) result.history.records }
     ensures by_phases { W.told → result.status ≡ 3 → WrotePhases script result.history.records (W.taken sink.old) (W.taken sink.new) }
+    ensures last_phase { W.told → result.status ≡ 5 → WroteInPhase script result.history.records (W.taken sink.old) (W.taken sink.new) }
     ensures failed { result.status ≡ 5 → W.faults sink.old < W.faults sink.new }
     ensures later { W.faults sink.old ≤ W.faults sink.new }
 {
@@ -200,6 +201,8 @@ fn run_script<R: Wait, W: Sink>(rt: &R, alloc: Global, script: Script, sink: &mu
     ensures whole_phase { result.status ≡ 5 → EndsWithPhase (by_built script (first_not_built [] script.lines)) result.history.records }
     ensures by_phases { W.told → result.status ≡ 3
         → WrittenByPhases (by_built script (first_not_built [] script.lines)) result.history.records (W.taken sink.old) (W.taken sink.new) }
+    ensures last_phase { W.told → result.status ≡ 5
+        → WrittenInPhase (by_built script (first_not_built [] script.lines)) result.history.records (W.taken sink.old) (W.taken sink.new) }
     ensures failed { result.status ≡ 5 → W.faults sink.old < W.faults sink.new }
     ensures later { W.faults sink.old ≤ W.faults sink.new }
 {
@@ -224,6 +227,8 @@ pub(crate) fn run_text<R: Wait, W: Sink>(
     ensures whole_phase { result.status ≡ 5 → EndsWithPhase (by_text (script_of text.now)) result.history.records }
     ensures by_phases { W.told → result.status ≡ 3
         → WrittenByPhases (by_text (script_of text.now)) result.history.records (W.taken sink.old) (W.taken sink.new) }
+    ensures last_phase { W.told → result.status ≡ 5
+        → WrittenInPhase (by_text (script_of text.now)) result.history.records (W.taken sink.old) (W.taken sink.new) }
     ensures short { result.status ≡ 0 → length text.now ≤ 1048576 }
     ensures failed { result.status ≡ 5 → W.faults sink.old < W.faults sink.new }
     ensures later { W.faults sink.old ≤ W.faults sink.new }

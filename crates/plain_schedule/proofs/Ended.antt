@@ -1,8 +1,9 @@
 -- What holds of phases that have ended: they answer exactly the first lines.
-use Rattle.std.proofs.Common.{◌≡◌, ◌≤◌, ◌<◌, ℕ, ◌+◌, true, false, cond, List, [], ◌∷◌, ◌++◌, length, take, drop, Some, is_some, refl, sym, ap, ◌∙◌, subst, ◌⊎◌, inl, inr, arith}
-use Rattle.std.proofs.lemmas.List.{take-append-drop, map-append, drop_all}
+use Rattle.std.proofs.Common.{◌≡◌, ◌≤◌, ◌<◌, ℕ, zero, suc, ◌+◌, true, false, cond, List, [], ◌∷◌, ◌++◌, length, take, drop, Some, is_some, refl, sym, ap, ◌∙◌, subst, ◌⊎◌, inl, inr, arith, length-drop}
+use Rattle.std.proofs.lemmas.List.{take-append-drop, map-append, drop_all, drop-drop}
 use Rattle.std.proofs.lemmas.Bool.Decides.{nat_tests}
 use Rattle.std.proofs.Math.Seq.{take-length, take-add}
+use Rattle.std.specs.Prelude.{◌==◌, nat_lt, slice_get}
 use Rattle.std.specs.Cmp.{nat_cmp_total, tied_itself}
 use Rattle.std.specs.Ordering.{nat_cmp, is_eq}
 use Rattle.std.specs.BTreeMap.{is_at}
@@ -12,13 +13,15 @@ use Rattle.script_lines.specs.declared.answer.Answer.{Answer}
 use Rattle.script_lines.specs.declared.request.Line.{Line}
 use Rattle.script_lines.specs.declared.script.Script.{Script}
 use Rattle.petal_rules.specs.Lists.{In}
-use Rattle.petal_rules.proofs.ListLemmas.{in-append}
+use Rattle.petal_rules.proofs.ListLemmas.{in-append, in_later}
 use Rattle.petal_history.specs.Legal.{IsLegal}
 use Rattle.petal_history.specs.Text.{answers_of}
 use Rattle.petal_history.specs.declared.record.Record.{Record}
+use Rattle.law_steps.proofs.Tests.{by_bool, same_numbers}
+use Rattle.petal_world.specs.Playable.{AreOrdered}
 use Rattle.law_answers.specs.Order.{AreRising, AnsweredComeFirst, is_answered}
-use Rattle.plain_schedule.specs.Phases.{Progress, GoesByPhases, Ends, IsFront, records_of}
-use Rattle.plain_schedule.specs.Places.{numbers, progress_of, KeepsPlaces, GoesOn}
+use Rattle.plain_schedule.specs.Phases.{Progress, GoesByPhases, AnswersPhases, Ends, IsFront, records_of}
+use Rattle.plain_schedule.specs.Places.{numbers, phase_run, progress_of, KeepsPlaces, GoesOn}
 use Rattle.plain_schedule.specs.Whole.{all_answered}
 use Rattle.plain_schedule.proofs.Fronts.{still, goes_front}
 
@@ -100,8 +103,113 @@ all_found table (line ∷ lines) h =
     let rest = all_found table lines (λ other i. h other (inr i)) in
     rw one rest
 
-pub all_lines : (script : Script) (records : List Record) (told place : ℕ) → KeepsPlaces script records told place → length script.lines ≤ place → all_answered (answers_of (take told records)) script.lines ≡ true
-all_lines script records told place k le =
+-- ### Phases
+
+lt_true : (a b : ℕ) → a < b → nat_lt a b ≡ true
+lt_true a b lt = grind (arith, nat_tests)
+
+lt_false : (a b : ℕ) → b ≤ a → nat_lt a b ≡ false
+lt_false a b le = grind (arith, nat_tests)
+
+above : (a b : ℕ) → (a == b) ≡ false → b ≤ a → b < a
+above a b ne le = grind (arith, nat_tests)
+
+-- what answers exactly the first lines answers exactly the phases of these
+answers_phases : (lines : List Line) (records : List Record) (place phases : ℕ) → AreRising lines → keys_of (answers_of records) ≡ numbers (take place lines)
+    → ((line : Line) → In line (take place lines) → line.phase < phases) → ((line : Line) → In line (drop place lines) → phases ≤ line.phase) → AnswersPhases phases lines records
+answers_phases lines records place phases rising is played to_play line h =
+    let split : take place lines ++ drop place lines ≡ lines = take-append-drop place lines in
+    elim (in-append line (take place lines) (drop place lines) (subst (In line) (sym split) h)) [
+      | inl early ↦ (
+          let found : is_answered records line.number ≡ true = key_found (answers_of records) line.number (subst (In line.number) (sym is) (number_in (take place lines) line early)) in
+          found ∙ sym (lt_true line.phase phases (played line early)))
+      | inr late ↦ by_bool (is_answered records line.number)
+          (λ yes.
+              let own = in_numbers (take place lines) line.number (subst (In line.number) is (found_key (answers_of records) line.number yes)) in
+              let lt = front_below (take place lines) (drop place lines) (subst AreRising (sym split) rising) own.0 line own.1 late in
+              let same = own.2 in
+              absurd (omega arith))
+          (λ no. no ∙ sym (lt_false line.phase phases (to_play line late)))
+    ]
+
+run_within : (phase : ℕ) (lines : List Line) → phase_run phase lines ≤ length lines
+run_within phase [] = omega arith
+run_within phase (first ∷ lines) =
+    let le = run_within phase lines in
+    elim (first.phase == phase) as (λ b. cond b (suc (phase_run phase lines)) 0 ≤ suc (length lines)) [
+      | true ↦ omega arith
+      | false ↦ omega arith
+    ]
+
+run_phase : (phase : ℕ) (lines : List Line) (line : Line) → In line (take (phase_run phase lines) lines) → line.phase ≡ phase
+unfolding In
+run_phase phase [] line h = absurd h
+run_phase phase (first ∷ lines) line h =
+    elim (first.phase == phase) as (λ b. (first.phase == phase) ≡ b → In line (take (cond b (suc (phase_run phase lines)) 0) (first ∷ lines)) → line.phase ≡ phase) [
+      | true ↦ λ is i. elim i [
+        | inl e ↦ ap (λ (l : Line). l.phase) e ∙ same_numbers first.phase phase is
+        | inr j ↦ run_phase phase lines line j
+      ]
+      | false ↦ λ is i. absurd i
+    ] refl h
+
+-- the lines behind those of a phase are of later phases
+run_behind : (phase : ℕ) (lines : List Line) → AreRising lines → AreOrdered lines → ((line : Line) → In line lines → phase ≤ line.phase) → (line : Line) → In line (drop (phase_run phase lines) lines) → phase < line.phase
+unfolding In
+run_behind phase [] rising ordered from line h = absurd h
+run_behind phase (first ∷ lines) rising ordered from line h =
+    elim (first.phase == phase) as (λ b. (first.phase == phase) ≡ b → In line (drop (cond b (suc (phase_run phase lines)) 0) (first ∷ lines)) → phase < line.phase) [
+      | true ↦ λ is i. run_behind phase lines rising.1 (λ one other j k. ordered one other (inr j) (inr k)) (λ other j. from other (inr j)) line i
+      | false ↦ λ is i.
+          let lt : phase < first.phase = above first.phase phase is (from first (inl refl)) in
+          elim i [
+            | inl e ↦ subst (λ (l : Line). phase < l.phase) (sym e) lt
+            | inr j ↦ (
+                let below = rising.0 line j in
+                let up : first.phase ≤ line.phase = ordered first line (inl refl) (inr j) (omega arith) in
+                omega arith)
+          ]
+    ] refl h
+
+rising_behind : (front back : List Line) → AreRising (front ++ back) → AreRising back
+rising_behind [] back rising = rising
+rising_behind (first ∷ front) back rising = rising_behind front back rising.1
+
+in_rest : (lines : List Line) (place : ℕ) (line : Line) → slice_get lines place ≡ Some line → In line (drop place lines)
+unfolding In
+in_rest [] place line is = absurd (cc)
+in_rest (first ∷ lines) zero line is = inl (cc)
+in_rest (first ∷ lines) (suc place) line is = in_rest lines place line is
+
+-- the line that is played next is of no earlier phase
+pub line_to_play : (script : Script) (records : List Record) (told place phases : ℕ) → KeepsPlaces script records told place phases → (line : Line) → slice_get script.lines place ≡ Some line → phases ≤ line.phase
+line_to_play script records told place phases k line is = k.to_play line (in_rest script.lines place line is)
+
+-- the phase that is played next
+record PlaysNext (lines : List Line) (place phases count : ℕ) : Type 0 where
+  played : (line : Line) → In line (take (place + count) lines) → line.phase < phases + 1
+  to_play : (line : Line) → In line (drop (place + count) lines) → phases + 1 ≤ line.phase
+
+plays_next : (lines : List Line) (place phases : ℕ) → AreRising lines → AreOrdered lines → ((line : Line) → In line (take place lines) → line.phase < phases) → ((line : Line) → In line (drop place lines) → phases ≤ line.phase)
+    → PlaysNext lines place phases (phase_run phases (drop place lines))
+plays_next lines place phases rising ordered played to_play =
+    let back = drop place lines in
+    let count = phase_run phases back in
+    let split : take place lines ++ back ≡ lines = take-append-drop place lines in
+    let rises : AreRising back = rising_behind (take place lines) back (subst AreRising (sym split) rising) in
+    let lies : (line : Line) → In line back → In line lines = λ line h. subst (In line) split (in_later line (take place lines) back h) in
+    record {
+      played = λ line h. elim (in-append line (take place lines) (take count back) (subst (In line) (take-add place count lines) h)) [
+        | inl early ↦ (let lt = played line early in omega arith)
+        | inr now ↦ (let e = run_phase phases back line now in omega arith)
+      ];
+      to_play = λ line h.
+          let lt = run_behind phases back rises (λ one other j k. ordered one other (lies one j) (lies other k)) to_play line (subst (In line) (sym (drop-drop count place lines)) h) in
+          omega arith;
+    }
+
+pub all_lines : (script : Script) (records : List Record) (told place phases : ℕ) → KeepsPlaces script records told place phases → length script.lines ≤ place → all_answered (answers_of (take told records)) script.lines ≡ true
+all_lines script records told place phases k le =
     let within = k.place_is in
     let same : place ≡ length script.lines = omega arith in
     let whole : take place script.lines ≡ script.lines = ap (λ n. take n script.lines) same ∙ take-length script.lines in
@@ -109,23 +217,45 @@ all_lines script records told place k le =
 
 -- ### Progress
 
-pub goes_by_phases : (script : Script) (records : List Record) (told place : ℕ) → KeepsPlaces script records told place → GoesByPhases (progress_of script records told)
-goes_by_phases script records told place k = record {
+pub goes_by_phases : (script : Script) (records : List Record) (told place phases : ℕ) → KeepsPlaces script records told place phases → GoesByPhases (progress_of script records told phases)
+goes_by_phases script records told place phases k = record {
   legal = subst (IsLegal script) (sym (take-append-drop told records)) k.legal;
+  exactly = answers_phases script.lines (take told records) place phases k.rising k.answered k.played k.to_play;
   first = first_lines script.lines (take told records) place k.rising k.answered;
 }
 
-pub start_places : (script after : Script) (records : List Record) → after ≡ script → records ≡ [] → AreRising script.lines → KeepsPlaces after records 0 0
-start_places script after records same none rising = rw (same, none) (record { legal = tt; rising = rising; told_is = omega arith; place_is = omega arith; answered = refl })
+pub start_places : (script after : Script) (records : List Record) → after ≡ script → records ≡ [] → AreRising script.lines → AreOrdered script.lines → KeepsPlaces after records 0 0 0
+unfolding In
+start_places script after records same none rising ordered = rw (same, none) (record {
+  legal = tt;
+  rising = rising;
+  ordered = ordered;
+  told_is = omega arith;
+  place_is = omega arith;
+  answered = refl;
+  played = λ line h. absurd h;
+  to_play = λ line h. omega arith;
+  small = omega arith;
+})
 
 -- records more change nothing of the phases that have ended
-places_still : (script : Script) (old new : List Record) (told place : ℕ) → KeepsPlaces script old told place → GoesOn old new → IsLegal script new → KeepsPlaces script new told place
-places_still script old new told place k on legal =
+places_still : (script : Script) (old new : List Record) (told place phases : ℕ) → KeepsPlaces script old told place phases → GoesOn old new → IsLegal script new → KeepsPlaces script new told place phases
+places_still script old new told place phases k on legal =
     let s = still told old new k.told_is on in
-    record { legal = legal; rising = k.rising; told_is = s.within; place_is = k.place_is; answered = ap (λ r. keys_of (answers_of r)) s.same ∙ k.answered }
+    record {
+      legal = legal;
+      rising = k.rising;
+      ordered = k.ordered;
+      told_is = s.within;
+      place_is = k.place_is;
+      answered = ap (λ r. keys_of (answers_of r)) s.same ∙ k.answered;
+      played = k.played;
+      to_play = k.to_play;
+      small = k.small;
+    }
 
-grown : (script after : Script) (old new : List Record) (told more : ℕ) → GoesOn old new → IsFront (records_of (progress_of script old told)) (records_of (progress_of after new more))
-grown script after old new told more on =
+grown : (script after : Script) (old new : List Record) (told more n m : ℕ) → GoesOn old new → IsFront (records_of (progress_of script old told n)) (records_of (progress_of after new more m))
+grown script after old new told more n m on =
     let f = goes_front old new on in
     record { behind = f.behind; is = take-append-drop more new ∙ f.is ∙ ap (λ r. r ++ f.behind) (sym (take-append-drop told old)) }
 
@@ -133,27 +263,33 @@ abbrev pub JoinsAnswers : Script → Type 0
 JoinsAnswers script = (front back : List Record) → AreRising script.lines → IsLegal script (front ++ back) → AnsweredComeFirst script.lines front → answers_of (front ++ back) ≡ answers_of front ++ answers_of back
 
 -- the phase that ends answers the next lines
-places_more : (script : Script) (old new : List Record) (told place count : ℕ) → JoinsAnswers script → KeepsPlaces script old told place → GoesOn old new → IsLegal script new
-    → place + count ≤ length script.lines → keys_of (answers_of (drop told new)) ≡ numbers (take count (drop place script.lines)) → KeepsPlaces script new (length new) (place + count)
-places_more script old new told place count joins k on legal within exactly =
-    let now = places_still script old new told place k on legal in
-    let g = goes_by_phases script new told place now in
+places_more : (script : Script) (old new : List Record) (told place phases count : ℕ) → JoinsAnswers script → KeepsPlaces script old told place phases → GoesOn old new → IsLegal script new
+    → phases < 4294967296 → count ≡ phase_run phases (drop place script.lines) → keys_of (answers_of (drop told new)) ≡ numbers (take count (drop place script.lines)) → KeepsPlaces script new (length new) (place + count) (phases + 1)
+places_more script old new told place phases count joins k on legal room run exactly =
+    let now = places_still script old new told place phases k on legal in
+    let g = goes_by_phases script new told place phases now in
+    let next : PlaysNext script.lines place phases count = subst (PlaysNext script.lines place phases) (sym run) (plays_next script.lines place phases k.rising k.ordered k.played k.to_play) in
     let split : new ≡ take told new ++ drop told new = sym (take-append-drop told new) in
     let joined : answers_of new ≡ answers_of (take told new) ++ answers_of (drop told new) = ap answers_of split ∙ joins (take told new) (drop told new) now.rising g.legal g.first in
     record {
       legal = legal;
       rising = now.rising;
+      ordered = now.ordered;
       told_is = omega arith;
-      place_is = within;
+      place_is = omega (arith, k.place_is, run, run_within phases (drop place script.lines), length-drop place script.lines);
       answered = ap (λ r. keys_of (answers_of r)) (take-length new) ∙ ap keys_of joined ∙ map-append (λ (row : ℕ × Answer). row.0) (answers_of (take told new)) (answers_of (drop told new))
           ∙ (rw (now.answered, exactly) (sym (ap numbers (take-add place count script.lines) ∙ map-append (λ (line : Line). line.number) (take place script.lines) (take count (drop place script.lines)))));
+      played = next.played;
+      to_play = next.to_play;
+      small = omega (arith, room);
     }
 
-ends : (script after : Script) (old new : List Record) (told : ℕ) (answers : Table ℕ Answer) → told ≤ length old → GoesOn old new → answers ≡ answers_of (drop told new) → Ends (progress_of script old told) (progress_of after new (length new)) answers
-ends script after old new told answers le on gave =
+ends : (script after : Script) (old new : List Record) (told phases : ℕ) (answers : Table ℕ Answer) → told ≤ length old → GoesOn old new → answers ≡ answers_of (drop told new) → Ends (progress_of script old told phases) (progress_of after new (length new) (phases + 1)) answers
+ends script after old new told phases answers le on gave =
     let s = still told old new le on in
     record {
       phase = drop told new;
+      phases = refl;
       ended = take-length new ∙ sym (take-append-drop told new) ∙ ap (λ r. r ++ drop told new) s.same;
       since = drop_all (length new) new (omega arith);
       gave = gave;
@@ -173,26 +309,26 @@ went_on script between after old mid new same stood kept on legal = record { sam
 pub stood_still : (script after : Script) (old new : List Record) → after ≡ script → new ≡ old → IsLegal script old → WentOn script after old new
 stood_still script after old new same stood legal = rw (same, stood) (record { same = refl; on = λ front f. f; legal = legal })
 
-module _ (script after : Script) (old new : List Record) (told place : ℕ) (k : KeepsPlaces script old told place) (w : WentOn script after old new) where
+module _ (script after : Script) (old new : List Record) (told place phases : ℕ) (k : KeepsPlaces script old told place phases) (w : WentOn script after old new) where
   still_legal : IsLegal script new
   still_legal = subst (λ (s : Script). IsLegal s new) w.same w.legal
 
-  pub kept : KeepsPlaces after new told place
-  kept = subst (λ (s : Script). KeepsPlaces s new told place) (sym w.same) (places_still script old new told place k w.on still_legal)
+  pub kept : KeepsPlaces after new told place phases
+  kept = subst (λ (s : Script). KeepsPlaces s new told place phases) (sym w.same) (places_still script old new told place phases k w.on still_legal)
 
-  pub kept_next : (n count : ℕ) → n ≡ length new → JoinsAnswers script → place + count ≤ length script.lines → keys_of (answers_of (drop told new)) ≡ numbers (take count (drop place script.lines)) → KeepsPlaces after new n (place + count)
-  kept_next n count all joins within exactly =
-      subst (λ (s : Script). KeepsPlaces s new n (place + count)) (sym w.same)
-      (subst (λ (m : ℕ). KeepsPlaces script new m (place + count)) (sym all) (places_more script old new told place count joins k w.on still_legal within exactly))
+  pub kept_next : (n count : ℕ) → n ≡ length new → JoinsAnswers script → phases < 4294967296 → count ≡ phase_run phases (drop place script.lines) → keys_of (answers_of (drop told new)) ≡ numbers (take count (drop place script.lines)) → KeepsPlaces after new n (place + count) (phases + 1)
+  kept_next n count all joins room run exactly =
+      subst (λ (s : Script). KeepsPlaces s new n (place + count) (phases + 1)) (sym w.same)
+      (subst (λ (m : ℕ). KeepsPlaces script new m (place + count) (phases + 1)) (sym all) (places_more script old new told place phases count joins k w.on still_legal room run exactly))
 
-  module _ (before : Progress) (view : progress_of script old told ≡ before) where
-    pub grows : (n : ℕ) → IsFront (records_of before) (records_of (progress_of after new n))
-    grows n = subst (λ (p : Progress). IsFront (records_of p) (records_of (progress_of after new n))) view (grown script after old new told n w.on)
+  module _ (before : Progress) (view : progress_of script old told phases ≡ before) where
+    pub grows : (n m : ℕ) → IsFront (records_of before) (records_of (progress_of after new n m))
+    grows n m = subst (λ (p : Progress). IsFront (records_of p) (records_of (progress_of after new n m))) view (grown script after old new told n phases m w.on)
 
     pub told_stays : take told new ≡ before.ended
     told_stays = (still told old new k.told_is w.on).same ∙ ap (λ (p : Progress). p.ended) view
 
-    pub ends_next : (n : ℕ) (answers : Table ℕ Answer) → n ≡ length new → answers ≡ answers_of (drop told new) → Ends before (progress_of after new n) answers
+    pub ends_next : (n : ℕ) (answers : Table ℕ Answer) → n ≡ length new → answers ≡ answers_of (drop told new) → Ends before (progress_of after new n (phases + 1)) answers
     ends_next n answers all gave =
-        subst (λ (p : Progress). Ends p (progress_of after new n) answers) view
-        (subst (λ (m : ℕ). Ends (progress_of script old told) (progress_of after new m) answers) (sym all) (ends script after old new told answers k.told_is w.on gave))
+        subst (λ (p : Progress). Ends p (progress_of after new n (phases + 1)) answers) view
+        (subst (λ (m : ℕ). Ends (progress_of script old told phases) (progress_of after new m (phases + 1)) answers) (sym all) (ends script after old new told phases answers k.told_is w.on gave))

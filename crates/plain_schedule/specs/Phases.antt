@@ -1,16 +1,23 @@
 -- A script that is played phase by phase.
-use Rattle.std.specs.Prelude.{◌≡◌, ℕ, List, [], ◌++◌}
+use Rattle.std.specs.Prelude.{◌≡◌, ℕ, ◌+◌, nat_lt, List, [], ◌++◌}
 use Rattle.petal_table.specs.Table.{Table}
-use Rattle.script_lines.specs.declared.answer.Answer.{Answer}
-use Rattle.script_lines.specs.declared.script.Script.{Script}
+use Rattle.petal_script.specs.declared.answer.Answer.{Answer}
+use Rattle.petal_script.specs.declared.request.Line.{Line}
+use Rattle.petal_script.specs.declared.script.Script.{Script}
+use Rattle.petal_rules.specs.Lists.{In}
 use Rattle.petal_history.specs.Legal.{IsLegal}
 use Rattle.petal_history.specs.Text.{answers_of}
 use Rattle.petal_history.specs.declared.record.Record.{Record}
-use Rattle.law_answers.specs.Order.{AnsweredComeFirst}
+use Rattle.law_answers.specs.Order.{AnsweredComeFirst, is_answered}
 
--- the script, the records of the phases that have ended, and the records since
+-- the records answer each line of the first so many phases, and no line of a later one
+abbrev pub AnswersPhases : ℕ → List Line → List Record → Type 0
+AnswersPhases phases lines records = (line : Line) → In line lines → is_answered records line.number ≡ nat_lt line.phase phases
+
+-- the script, how many of its phases have ended, their records, and the records since
 pub record Progress : Type 0 where
   pub script : Script
+  pub phases : ℕ
   pub ended : List Record
   pub since : List Record
 
@@ -18,9 +25,11 @@ pub record Progress : Type 0 where
 abbrev pub records_of : Progress → List Record
 records_of p = p.ended ++ p.since
 
--- the records are a legal history, and what the ended phases answer comes before what they do not
+-- the records are a legal history; those of the phases that have ended answer exactly the lines of these phases, which come
+-- before the other lines
 pub record GoesByPhases (p : Progress) : Type 0 where
   pub legal : IsLegal p.script (records_of p)
+  pub exactly : AnswersPhases p.phases p.script.lines p.ended
   pub first : AnsweredComeFirst p.script.lines p.ended
 
 -- these records stand at the front
@@ -31,6 +40,7 @@ pub record IsFront (front whole : List Record) : Type 0 where
 -- a phase more has ended, which gave these answers
 pub record Ends (old new : Progress) (answers : Table ℕ Answer) : Type 0 where
   pub phase : List Record
+  pub phases : new.phases ≡ old.phases + 1
   pub ended : new.ended ≡ old.ended ++ phase
   pub since : new.since ≡ []
   pub gave : answers ≡ answers_of phase

@@ -1,6 +1,6 @@
 //! A script that is played phase by phase.
 
-ghost use Rattle.std.specs.Prelude.{◌≡◌, ◌+◌, ◌≤◌, [], true, length, take, drop, IfOk, OnErr, IfSome, IfNone};
+ghost use Rattle.std.specs.Prelude.{◌≡◌, ◌+◌, ◌≤◌, ◌<◌, [], true, false, length, take, drop, IfOk, OnErr, IfSome, IfNone};
 ghost use Rattle.std.specs.Map.{keys_of};
 ghost use Rattle.law_answers.specs.Order.{AreRising};
 ghost use Rattle.petal_history.specs.Legal.{IsLegal};
@@ -8,7 +8,7 @@ ghost use Rattle.petal_history.specs.Sound.{IsSound};
 ghost use Rattle.petal_history.specs.Text.{answers_of};
 ghost use Rattle.petal_world.specs.Playable.{AreOrdered};
 ghost use Rattle.plain_schedule.specs.Phases.{Ends, GoesByPhases, IsFront, records_of};
-ghost use Rattle.plain_schedule.specs.Places.{GoesOn, numbers, progress_of, KeepsPlaces};
+ghost use Rattle.plain_schedule.specs.Places.{GoesOn, numbers, phase_run, progress_of, KeepsPlaces};
 ghost use Rattle.plain_schedule.specs.Whole.{all_answered, begins_with_disk};
 
 use crate::answers::Answers;
@@ -21,16 +21,16 @@ use std::alloc::Global;
 use std::marker::Model;
 use std::sync::Wait;
 
-/// A script in play. Contracts see the script, the records of the phases that have ended, and the records since.
+/// A script in play. Contracts see the script, how many of its phases have ended, their records, and the records since.
 #[derive(Drop)]
 pub struct Playing {
     schedule: Schedule,
     // How many records are of ended phases, and how many lines these answer.
     told: usize,
     place: usize,
-    // The phase that comes next.
-    phase: u32,
-    // Memory was wanting, so that no step follows.
+    // How many phases have ended. The next one has this number; it has room for one more than any line's.
+    phase: u64,
+    // It is out of memory, so that no step follows.
     stopped: bool,
 }
 
@@ -40,19 +40,24 @@ impl Model for Playing {
 
     ghost Value = { Progress };
 
-    ghost view = { λ p. progress_of p.schedule.world.script p.schedule.world.records p.told };
+    ghost view = { λ p. progress_of p.schedule.world.script p.schedule.world.records p.told p.phase };
 
-    ghost invariant = { λ p. KeepsPlaces p.schedule.world.script p.schedule.world.records p.told p.place };
+    ghost invariant = { λ p. KeepsPlaces p.schedule.world.script p.schedule.world.records p.told p.place p.phase };
 }
 
 /// How many of the first of these lines are of the phase.
-fn lines_of_phase(lines: &[Line], phase: u32) -> usize
-    ensures { result ≤ length lines.now }
+fn lines_of_phase(lines: &[Line], phase: u64) -> usize
+    ensures within { result ≤ length lines.now }
+    ensures run { result ≡ phase_run phase lines.now }
 {
-    match lines.iter().position(|line| line.phase != phase) {
-        Some(count) => count,
-        None => lines.len(),
+    let mut count = 0;
+    for line in lines {
+        if u64::from(line.phase) != phase {
+            break;
+        }
+        count += 1;
     }
+    count
 }
 
 /// The answers of the records from this place on, where they are exactly those of the next lines.
@@ -113,7 +118,7 @@ impl Playing {
         requires sound { IsSound script }
         requires ordered { AreOrdered script.lines }
         requires rising { AreRising script.lines }
-        ensures start { IfOk result (λ playing. playing ≡ record { script = script; ended = []; since = [] }) }
+        ensures start { IfOk result (λ playing. playing ≡ record { script = script; phases = 0; ended = []; since = [] }) }
         ensures by_phases { IfOk result (λ playing. GoesByPhases playing) }
     {
         Ok(Playing {
@@ -127,20 +132,22 @@ impl Playing {
 
     // Whether no phase is left, and no line.
     fn is_over(&self) -> bool
-        ensures { result ≡ true → all_answered (answers_of self.now.ended) self.now.script.lines ≡ true }
+        ensures over { result ≡ true → all_answered (answers_of self.now.ended) self.now.script.lines ≡ true }
+        ensures next { result ≡ false → self.now.phases < 4294967296 }
     {
         let script = self.schedule.world.script();
-        if self.phase < script.phases {
+        if self.phase < u64::from(script.phases) {
             return false;
         }
-        if self.place < script.lines.len() {
-            return false;
+        match script.lines.as_slice().get(self.place) {
+            Some(line) => self.phase > u64::from(line.phase),
+            None => true,
         }
-        true
     }
 
     // The next phase is played.
     fn play_next<R: Wait>(&mut self, rt: &R, alloc: Global) -> Result<Answers, NoMemory>
+        requires next { self.old.phases < 4294967296 }
         ensures script { self.new.script ≡ self.old.script }
         ensures by_phases { GoesByPhases self.new }
         ensures grows { IsFront (records_of self.old) (records_of self.new) }
@@ -150,14 +157,14 @@ impl Playing {
         phases_come_one_after_the_other();
         let lines = self.schedule.world.script().lines.as_slice();
         let count = lines_of_phase(&lines[self.place..], self.phase);
-        self.schedule.begin(self.phase, count)?;
+        self.schedule.begin(self.phase as u32, count)?;
         let played = play_lines(rt, alloc, &mut self.schedule, self.told, self.place, count);
         let told = self.schedule.world.records().len();
         match played {
             Ok(answers) => {
                 self.told = told;
                 self.place += count;
-                self.phase = self.phase.saturating_add(1);
+                self.phase += 1;
                 Ok(answers)
             }
             Err(NoMemory) => Err(NoMemory),
@@ -165,8 +172,9 @@ impl Playing {
     }
 
     /// Plays the next phase until each of its lines is answered, and gives the answers of the records since the phase before.
-    /// None comes where no phase is left and each line is answered. It waits for as long as that takes. A phase ends with the
-    /// round in which its last line is answered. After want of memory no step follows, and want of memory is told again.
+    /// None comes where no phase is left and each line is answered. It waits for as long as that takes, and nothing promises
+    /// that it returns; its clauses say what holds where it does. A phase ends with the round in which its last line is
+    /// answered. Once it is out of memory no step follows, and that is told again.
     pub fn play_phase<R: Wait>(
         &mut self,
         rt: &R,

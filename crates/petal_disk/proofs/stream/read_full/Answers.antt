@@ -8,7 +8,7 @@ loop-done-preserved g c =
     record {
       within = search rules;
       same_length = search rules;
-      so_far = λ told. more_taken _ _ _ _ _ _ _ _ _ inv.within refl (inv.so_far told) (c.in_ok-count.ensures.takes told);
+      so_far = λ told. more_taken _ _ _ _ _ _ _ _ inv.within (search rules) (inv.so_far told) (c.in_ok-count.ensures.takes told);
       later = omega (arith, inv.later, c.read.ensures.cause.later);
     }
 

@@ -1,5 +1,12 @@
 use Rattle.std.proofs.Common.{◌≡◌, length}
+use Rattle.petal_disk.specs.Streams.{AreKnown, known}
 use Rattle.petal_disk.proofs.standard.StdSourceSource.read.Given as goal
 
 abbrev pub invariant-loop : goal.invariant-loop
-invariant-loop g l = record { faults : l.self.faults.times ≡ l.fn.self.faults.times; size : length l.into ≡ length l.fn.into }
+invariant-loop g l =
+    let left = g.R.Read.remaining in
+    record {
+      faults : l.self.faults.times ≡ l.fn.self.faults.times;
+      size : length l.into ≡ length l.fn.into;
+      same : AreKnown left → known (left l.self.reader) ≡ known (left l.fn.self.reader);
+    }

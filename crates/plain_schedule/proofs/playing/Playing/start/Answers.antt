@@ -4,4 +4,4 @@ use Rattle.plain_schedule.proofs.playing.Playing.start.Goals as goal
 pub returns-clause-by_phases : goal.returns-clause-by_phases
 returns-clause-by_phases c =
     let world = c.in_ok-new.field-0.world in
-    goes_by_phases world.script world.records 0 0 (start_places c.args.script world.script world.records c.in_ok-new.ensures.script c.in_ok-new.ensures.records c.requires.rising)
+    goes_by_phases world.script world.records 0 0 0 (start_places c.args.script world.script world.records c.in_ok-new.ensures.script c.in_ok-new.ensures.records c.requires.rising c.requires.ordered)
