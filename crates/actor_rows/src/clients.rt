@@ -4,7 +4,7 @@ use client_core::{ClientCore, Reaction};
 use global_state::GlobalState;
 use petal_base::{Block, Name, SharedBlock, Tuple};
 use petal_msg::{Actor, Body, Letter};
-use petal_script::{Answer, Pattern, Request};
+use script_lines::{Answer, Pattern, Request};
 use std::alloc::Global;
 use std::process::Abort;
 use std::test::Fail;

@@ -1,9 +1,9 @@
 -- A script that is played phase by phase.
 use Rattle.std.specs.Prelude.{◌≡◌, ℕ, ◌+◌, nat_lt, List, [], ◌++◌}
 use Rattle.petal_table.specs.Table.{Table}
-use Rattle.petal_script.specs.declared.answer.Answer.{Answer}
-use Rattle.petal_script.specs.declared.request.Line.{Line}
-use Rattle.petal_script.specs.declared.script.Script.{Script}
+use Rattle.script_lines.specs.declared.answer.Answer.{Answer}
+use Rattle.script_lines.specs.declared.request.Line.{Line}
+use Rattle.script_lines.specs.declared.script.Script.{Script}
 use Rattle.petal_rules.specs.Lists.{In}
 use Rattle.petal_history.specs.Legal.{IsLegal}
 use Rattle.petal_history.specs.Text.{answers_of}
