@@ -8,12 +8,12 @@ use Rattle.petal_rules.specs.World.{Setting, World, MayStep, step, clock_of}
 use Rattle.petal_rules.specs.declared.step.Step.{Step}
 use Rattle.petal_world.specs.declared.seat.Seat.{Seat}
 use Rattle.petal_world.specs.declared.stepped.Stepped.{Stepped}
-use Rattle.petal_world.specs.Desks.{Desk, desk_of}
+use Rattle.world_desks.specs.Desks.{Desk, desk_of}
 use Rattle.petal_world.specs.Play.{IsSteady, Leaves, LeavesIn}
 use Rattle.petal_world.specs.Seats.{seat_of, reacted_at}
 use Rattle.petal_world.specs.Stage.{Kept, Shows, client_letters, server_letters, with_client, with_server}
 use Rattle.petal_world.proofs.Allowed.{no_client, no_server, seat_is, desk_is}
-use Rattle.petal_world.proofs.Ranges.{get_range}
+use Rattle.world_desks.proofs.Ranges.{get_range}
 use Rattle.petal_world.proofs.Stepping.{client_shows, client_gives, server_shows, server_gives}
 
 -- ### Clocks

@@ -8,14 +8,14 @@ use Rattle.petal_rules.specs.World.{Setting, World, MayCall, MayClient, MayServe
 use Rattle.petal_rules.specs.declared.step.Step.{Step}
 use Rattle.client_core.specs.Core as client
 use Rattle.petal_world.specs.declared.seat.Seat.{Seat}
-use Rattle.petal_world.specs.Desks.{Desk, desk_of}
-use Rattle.petal_world.specs.Desks as server
-use Rattle.petal_world.specs.Playable.{AreOrdered}
+use Rattle.world_desks.specs.Desks.{Desk, desk_of}
+use Rattle.world_desks.specs.Desks as server
+use Rattle.world_desks.specs.Playable.{AreOrdered}
 use Rattle.petal_world.specs.Seats.{seat_of}
-use Rattle.petal_world.specs.Waiting.{AreBehind, AreRising}
+use Rattle.world_desks.specs.Waiting.{AreBehind, AreRising}
 use Rattle.petal_world.specs.Stage.{Kept, Shows}
-use Rattle.petal_world.proofs.Awaiting.{waiting_rise, before_from_behind, behind_from_before}
-use Rattle.petal_world.proofs.Ranges.{IsAt, at_range, get_range}
+use Rattle.world_desks.proofs.Awaiting.{waiting_rise, before_from_behind, behind_from_before}
+use Rattle.world_desks.proofs.Ranges.{IsAt, at_range, get_range}
 
 never : {X : Type 0} (o : Option X) (x : X) → o ≡ None → o ≡ Some x → ⊥
 never o x none some = cc

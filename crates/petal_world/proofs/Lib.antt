@@ -1,11 +1,5 @@
-pub mod Same
-pub mod Names
-pub mod Letters
-pub mod Awaiting
-pub mod Ranges
 pub mod Stepping
 pub mod Allowed
 pub mod Acting
 pub mod Playing
 pub mod Starting
-pub mod Ordering

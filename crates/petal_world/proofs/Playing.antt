@@ -13,11 +13,11 @@ use Rattle.petal_history.specs.declared.record.Record.{Record}
 use Rattle.client_core.specs.Core.{is_spent}
 use Rattle.petal_world.specs.declared.seat.Seat.{Seat}
 use Rattle.petal_world.specs.declared.stepped.Stepped.{Stepped}
-use Rattle.petal_world.specs.Desks.{desk_of}
+use Rattle.world_desks.specs.Desks.{desk_of}
 use Rattle.petal_world.specs.Play.{Play, IsKept, LeavesIn, Can, world_of, stamp_of, phase_of, phase_for, record_of, played, told_by}
 use Rattle.petal_world.specs.Seats.{CanTake, seat_of}
 use Rattle.petal_world.specs.Stage.{Kept, Shows}
-use Rattle.petal_world.proofs.Ranges.{get_range}
+use Rattle.world_desks.proofs.Ranges.{get_range}
 
 -- ### What is kept can take an allowed step
 

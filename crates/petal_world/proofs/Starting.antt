@@ -18,15 +18,15 @@ use Rattle.petal_rules.specs.Lists.{In}
 use Rattle.petal_rules.specs.State.{State, fixed, servers_of}
 use Rattle.petal_rules.specs.World.{Setting, World, start, setting_of, state_of, state_by, clock_of}
 use Rattle.petal_world.specs.declared.seat.Seat.{Seat}
-use Rattle.petal_world.specs.Desks.{Site, Desk, desk_of, desks_of, first_desk, first_sites}
+use Rattle.world_desks.specs.Desks.{Site, Desk, desk_of, desks_of, first_desk, first_sites}
 use Rattle.petal_world.specs.Play.{IsKept, rev_of}
-use Rattle.petal_world.specs.Playable.{AreOrdered}
+use Rattle.world_desks.specs.Playable.{AreOrdered}
 use Rattle.petal_world.specs.Seats.{seat_of, seats_of}
-use Rattle.petal_world.specs.Sent.{Lists}
+use Rattle.world_desks.specs.Sent.{Lists}
 use Rattle.petal_world.specs.Stage.{Kept, Shows}
-use Rattle.petal_world.specs.Waiting.{Await}
-use Rattle.petal_world.proofs.Letters.{none_sent}
-use Rattle.petal_world.proofs.Ranges.{get_range, at_range}
+use Rattle.world_desks.specs.Waiting.{Await}
+use Rattle.world_desks.proofs.Letters.{none_sent}
+use Rattle.world_desks.proofs.Ranges.{get_range, at_range}
 
 -- ### The state of a script
 

@@ -19,17 +19,17 @@ use Rattle.petal_rules.specs.declared.step.Step.{Step}
 use Rattle.petal_rules.specs.declared.step.Step.TheVariants.{Call, Deliver, Tick, Work}
 use Rattle.petal_rules.specs.declared.step.WorkEnd.TheVariants as work_end
 use Rattle.petal_rules.proofs.ListLemmas.{in-append, put_same, put_apart}
-use Rattle.petal_world.specs.declared.name.LetterName.{LetterName}
+use Rattle.world_desks.specs.declared.name.LetterName.{LetterName}
 use Rattle.petal_world.specs.declared.seat.Seat.{Seat}
-use Rattle.petal_world.specs.Desks.{Desk, desk_of, acted_at}
+use Rattle.world_desks.specs.Desks.{Desk, desk_of, acted_at}
 use Rattle.petal_world.specs.Seats.{seat_of, reacted_at}
-use Rattle.petal_world.specs.Sent.{Lists, with_letters}
-use Rattle.petal_world.specs.Waiting.{Await}
+use Rattle.world_desks.specs.Sent.{Lists, with_letters}
+use Rattle.world_desks.specs.Waiting.{Await}
 use Rattle.petal_world.specs.Stage.{Kept, Shows, without_answered, client_letters, with_client, server_letters, with_server}
 use Rattle.petal_world.specs.Play.{IsSteady}
-use Rattle.petal_world.proofs.Ranges.{set_range, same_range}
-use Rattle.petal_world.proofs.Letters.{IsPast, lists_all, step_letters_new, of_step}
-use Rattle.petal_world.proofs.Awaiting.{one_answered}
+use Rattle.world_desks.proofs.Ranges.{set_range, same_range}
+use Rattle.world_desks.proofs.Letters.{IsPast, lists_all, step_letters_new, of_step}
+use Rattle.world_desks.proofs.Awaiting.{one_answered}
 
 -- an answer ends its line's waiting
 pub answer_kept : (lines : List Line) (given : List (ℕ × Answer)) (rows : Table ℕ ℕ) (answer : Option (ℕ × Answer)) → Await lines given rows → Await lines (with_answer answer given) (without_answered rows answer)

@@ -1,7 +1,5 @@
-pub mod Sent
-pub mod Playable
-pub mod Waiting
+pub use Rattle.world_desks.specs.Desks
+pub use Rattle.world_desks.specs.Playable
 pub mod Seats
-pub mod Desks
 pub mod Stage
 pub mod Play

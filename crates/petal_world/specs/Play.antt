@@ -13,7 +13,7 @@ use Rattle.petal_history.specs.Legal.{IsLegal, world_after}
 use Rattle.petal_history.specs.declared.record.Record.{Record}
 use Rattle.client_core.specs.Core.{is_spent}
 use Rattle.petal_world.specs.declared.stepped.Stepped.{Stepped}
-use Rattle.petal_world.specs.Playable.{AreOrdered}
+use Rattle.world_desks.specs.Playable.{AreOrdered}
 use Rattle.petal_world.specs.Seats.{CanTake}
 use Rattle.petal_world.specs.Stage.{Kept, Shows}
 

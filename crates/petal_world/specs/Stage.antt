@@ -7,12 +7,12 @@ use Rattle.script_lines.specs.declared.answer.Answer.{Answer}
 use Rattle.petal_rules.specs.Lists.{In}
 use Rattle.petal_rules.specs.World.{Setting, World, clock_of, stamped}
 use Rattle.petal_rules.specs.declared.step.Step.{Step}
-use Rattle.petal_world.specs.declared.name.LetterName.{LetterName}
+use Rattle.world_desks.specs.declared.name.LetterName.{LetterName}
 use Rattle.petal_world.specs.declared.seat.Seat.{Seat}
-use Rattle.petal_world.specs.Desks.{Desk, desks_of, acted_at}
+use Rattle.world_desks.specs.Desks.{Desk, desks_of, acted_at}
 use Rattle.petal_world.specs.Seats.{seats_of, reacted_at}
-use Rattle.petal_world.specs.Sent.{Lists, with_letters}
-use Rattle.petal_world.specs.Waiting.{Await}
+use Rattle.world_desks.specs.Sent.{Lists, with_letters}
+use Rattle.world_desks.specs.Waiting.{Await}
 
 -- the clients, the servers, the letters ever sent, and the lines without an answer
 pub record Kept : Type 0 where

@@ -4,19 +4,19 @@ ghost use Rattle.std.specs.Prelude.{◌≡◌, ◌↔◌, ℕ, Some, IsTrue, sli
 ghost use Rattle.petal_msg.specs.declared.letter.Actor.TheVariants as actor;
 ghost use Rattle.petal_rules.specs.World.{Setting, World, MayCall, MayClient, MayServer, MayStep, received};
 ghost use Rattle.petal_table.specs.Table.{at};
-ghost use Rattle.petal_world.specs.Playable.{AreOrdered};
+ghost use Rattle.world_desks.specs.Playable.{AreOrdered};
 ghost use Rattle.petal_world.specs.Seats.{seat_of};
-ghost use Rattle.petal_world.specs.Desks.{desk_of};
-ghost use Rattle.petal_world.specs.Sent.{name_of, name_cmp};
+ghost use Rattle.world_desks.specs.Desks.{desk_of};
+ghost use Rattle.world_desks.specs.Sent.{name_of, name_cmp};
 ghost use Rattle.petal_world.specs.Stage.{Shows};
 
-use crate::Host;
-use crate::desks::Place;
 use crate::seat::Seat;
 use crate::stage::Stage;
 use petal_base::{ClientId, ServerId, Stamp};
 use petal_msg::{Actor, Letter};
 use petal_rules::{Step, WorkEnd};
+use world_desks::Host;
+use world_desks::desks::Place;
 
 /// The greatest stamp: no step comes after it.
 const LAST: Stamp = Stamp::MAX;

@@ -5,27 +5,20 @@
 //! server keeps its blocks.
 #![tactic(auto)]
 
-mod copies;
 mod deciding;
-mod desks;
 mod error;
-mod host;
-mod name;
 mod script;
 mod seat;
 mod seats;
-mod sent;
 mod stage;
-mod stamping;
 mod stepped;
 mod taking;
-mod waiting;
 mod world;
 
 pub use error::WorldError;
-pub use host::Host;
 pub use petal_history::{History, Record};
 pub use petal_rules::{Step, WorkEnd};
-pub use script::{are_in_order, fixed_state};
+pub use script::fixed_state;
 pub use stepped::Stepped;
 pub use world::World;
+pub use world_desks::{Host, are_in_order};

@@ -1,37 +1,15 @@
 //! What a world asks of a script.
 
-ghost use Rattle.std.specs.Prelude.{◌≡◌, false, None, Some, IfOk, IfSome, IfNone, IsTrue, MatchOption};
+ghost use Rattle.std.specs.Prelude.{◌≡◌, false, None, Some, IfOk, IfSome, IfNone, MatchOption};
 ghost use Rattle.petal_base.specs.Tuple.{is_tuple};
 ghost use Rattle.petal_rules.specs.World.{state_of};
 ghost use Rattle.petal_rules.specs.State.{fixed};
-ghost use Rattle.petal_world.specs.Playable.{AreNumbered, AreOrdered, IsWithoutDisk, climb, disk_of};
+ghost use Rattle.world_desks.specs.Playable.{IsWithoutDisk, disk_of};
 
 use global_state::GlobalState;
 use petal_base::{Name, NoMemory, Tuple};
 use script_lines::{Line, Request};
 use std::alloc::Global;
-
-/// Whether the lines' numbers rise from 1 and their phases do not fall, as in every script that is read. Then lines of one
-/// number are one line, and phases rise with numbers.
-pub fn are_in_order(lines: &[Line]) -> bool
-    ensures exactly { result ≡ climb 0 0 lines.now }
-    ensures numbered { IsTrue result → AreNumbered lines.now }
-    ensures ordered { IsTrue result → AreOrdered lines.now }
-{
-    let mut number = 0;
-    let mut phase = 0;
-    for line in lines {
-        if line.number <= number {
-            return false;
-        }
-        if line.phase < phase {
-            return false;
-        }
-        number = line.number;
-        phase = line.phase;
-    }
-    true
-}
 
 /// The disk that a line makes.
 fn disk_of(line: &Line) -> Option<(&Name, &Tuple)>

@@ -5,12 +5,12 @@ ghost use Rattle.client_core.specs.Core.{given, is_spent};
 ghost use Rattle.petal_rules.specs.World.{calls};
 ghost use Rattle.petal_world.specs.Seats.{CanTake, reacted_at};
 
-use crate::copies::request_again;
 use client_core::{ClientCore, Reaction};
 use petal_base::{NoMemory, Sequence, Stamp};
 use petal_rules::Step;
 use script_lines::Line;
 use std::alloc::Global;
+use world_desks::copies::request_again;
 
 /// A client, the stamp of its last step, and its lines in order.
 #[derive(Drop)]

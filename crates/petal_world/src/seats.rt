@@ -8,7 +8,6 @@ ghost use Rattle.petal_rules.specs.World.{lines_of, setting_of, start, state_of}
 ghost use Rattle.petal_world.specs.Seats.{CanTake, reacted_at, seat_of, seats_of};
 ghost use Rattle.petal_world.specs.declared.seat.Seat.{Seat};
 
-use crate::copies::line_again;
 use crate::seat::Seat;
 use client_core::{ClientCore, Reaction};
 use global_state::GlobalState;
@@ -17,6 +16,7 @@ use petal_rules::Step;
 use script_lines::{Line, Script};
 use std::alloc::Global;
 use std::marker::Model;
+use world_desks::copies::line_again;
 
 /// All clients, by number.
 #[derive(Drop)]

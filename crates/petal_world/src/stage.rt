@@ -2,22 +2,22 @@
 
 ghost use Rattle.std.specs.Prelude.{◌≡◌, ◌<◌, false, None, Some, length, slice_get, IfOk, IfSome};
 ghost use Rattle.client_core.specs.Core.{is_spent};
-ghost use Rattle.petal_world.specs.Desks.{Desk};
+ghost use Rattle.world_desks.specs.Desks.{Desk};
 ghost use Rattle.petal_world.specs.Seats.{CanTake, reacted_at};
 ghost use Rattle.petal_world.specs.Stage.{client_letters, server_letters, with_client, with_server};
 ghost use Rattle.petal_world.specs.declared.seat.Seat.{Seat};
 
-use crate::Host;
-use crate::desks::Desks;
 use crate::seats::Seats;
-use crate::sent::Sent;
-use crate::stamping::stamped;
 use crate::stepped::Stepped;
-use crate::waiting::Waiting;
 use petal_base::{ClientId, NoMemory, ServerId, Stamp};
 use petal_rules::Step;
 use std::alloc::Global;
 use std::marker::Model;
+use world_desks::Host;
+use world_desks::desks::Desks;
+use world_desks::sent::Sent;
+use world_desks::stamping::stamped;
+use world_desks::waiting::Waiting;
 
 /// All clients and servers, the letters ever sent, and the lines without an answer.
 #[derive(Drop)]

@@ -6,7 +6,6 @@ ghost use Rattle.petal_rules.specs.declared.step.Step.{Step};
 ghost use Rattle.petal_world.specs.Play.{Can, LeavesIn, phase_for, phase_of, rev_of, stamp_of};
 ghost use Rattle.petal_world.specs.Stage.{Shows};
 
-use crate::Host;
 use crate::deciding::received;
 use crate::stage::Stage;
 use crate::stepped::Stepped;
@@ -14,6 +13,7 @@ use petal_base::{ClientId, NoMemory, Rev, Stamp};
 use petal_msg::Actor;
 use petal_rules::Step;
 use std::alloc::Global;
+use world_desks::Host;
 
 /// One more than the greatest of two stamps, while there is one.
 fn next(clock: Stamp, received: Stamp) -> Stamp

@@ -4,17 +4,13 @@ ghost use Rattle.std.specs.Prelude.{◌≡◌, ◌+◌, ◌++◌, ◌∷◌, [],
 ghost use Rattle.petal_history.specs.Legal.{IsLegal};
 ghost use Rattle.petal_rules.specs.World.{MayStep, greatest_u64, setting_of, state_of};
 ghost use Rattle.petal_world.specs.Play.{Can, LeavesIn, entered, played, rev_of, told_by, world_of};
-ghost use Rattle.petal_world.specs.Desks.{first_sites};
-ghost use Rattle.petal_world.specs.Playable.{AreNumbered, AreOrdered};
+ghost use Rattle.world_desks.specs.Desks.{first_sites};
+ghost use Rattle.world_desks.specs.Playable.{AreNumbered, AreOrdered};
 ghost use Rattle.petal_world.specs.declared.error.WorldError.TheVariants as error;
 
-use crate::copies::{answer_again, step_again};
-use crate::desks::Desks;
 use crate::seats::Seats;
-use crate::sent::Sent;
 use crate::stage::Stage;
-use crate::waiting::Waiting;
-use crate::{Host, Stepped, WorldError};
+use crate::{Stepped, WorldError};
 use global_state::GlobalState;
 use petal_base::{NoMemory, Rev, Sequence, Stamp};
 use petal_history::{History, Record};
@@ -23,6 +19,11 @@ use petal_rules::Step;
 use script_lines::{Answer, Script};
 use std::alloc::Global;
 use std::marker::Model;
+use world_desks::Host;
+use world_desks::copies::{answer_again, step_again};
+use world_desks::desks::Desks;
+use world_desks::sent::Sent;
+use world_desks::waiting::Waiting;
 
 /// All servers and clients of a script's run, and the records of their steps. Contracts see the script, the records, the
 /// phase, and the least stamp of a client's next step. The records are a legal history of the script.

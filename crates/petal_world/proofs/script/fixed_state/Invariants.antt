@@ -1,7 +1,7 @@
 -- No line so far makes a disk.
 use Rattle.std.proofs.Common.{◌≡◌, drop}
 use Rattle.petal_rules.specs.World.{state_of}
-use Rattle.petal_world.specs.Playable.{first_disk}
+use Rattle.world_desks.specs.Playable.{first_disk}
 use Rattle.petal_world.proofs.script.fixed_state.Given as goal
 
 abbrev pub invariant-loop-line : goal.invariant-loop-line

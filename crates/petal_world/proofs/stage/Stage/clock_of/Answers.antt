@@ -1,7 +1,7 @@
 -- The clock is that of the world, where the actor may take a step.
 use Rattle.std.proofs.Common.{sym, ap, ◌∙◌}
 use Rattle.std.specs.Prelude.{slice_get}
-use Rattle.petal_world.specs.Desks.{Desk}
+use Rattle.world_desks.specs.Desks.{Desk}
 use Rattle.petal_world.specs.Stage.{Kept}
 use Rattle.petal_world.proofs.Acting.{server_clock_missing, server_clock_is, client_clock_is}
 use Rattle.petal_world.proofs.stage.Stage.clock_of.Goals as goal

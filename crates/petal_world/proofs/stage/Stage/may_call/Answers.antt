@@ -2,7 +2,7 @@
 use Rattle.std.proofs.Common.{sym, subst, IsTrue}
 use Rattle.std.specs.Prelude.{◌↔◌}
 use Rattle.petal_world.specs.Stage.{Kept}
-use Rattle.petal_world.specs.Waiting.{AreBehind, AreRising}
+use Rattle.world_desks.specs.Waiting.{AreBehind, AreRising}
 use Rattle.petal_world.proofs.Allowed.{call_exact}
 use Rattle.petal_world.proofs.stage.Stage.may_call.Goals as goal
 

@@ -3,7 +3,7 @@ use Rattle.std.proofs.Common.{◌<◌, ◌≤◌, sym, ap, ◌∙◌, subst}
 use Rattle.std.specs.Prelude.{slice_get}
 use Rattle.petal_rules.specs.World.{greatest_u64}
 use Rattle.petal_world.specs.Stage.{Kept}
-use Rattle.petal_world.specs.Desks.{Desk, is_spent}
+use Rattle.world_desks.specs.Desks.{Desk, is_spent}
 use Rattle.petal_world.proofs.Allowed.{hindered, no_server, server_exact, server_spent, server_late, desk_is}
 use Rattle.petal_world.proofs.stage.Stage.may_server.Goals as goal
 

@@ -1,7 +1,7 @@
 -- The revision is that of the world.
 use Rattle.std.proofs.Common.{Some, None, sym, ap, ◌∙◌}
 use Rattle.std.specs.Prelude.{slice_get, if◌then◌else◌}
-use Rattle.petal_world.specs.Desks.{Desk}
+use Rattle.world_desks.specs.Desks.{Desk}
 use Rattle.petal_world.specs.Stage.{Kept}
 use Rattle.petal_world.proofs.Starting.{server_rev, server_no_rev, client_rev}
 use Rattle.petal_world.proofs.stage.Stage.rev.Goals as goal

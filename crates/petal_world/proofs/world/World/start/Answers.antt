@@ -5,7 +5,7 @@ use Rattle.petal_rules.specs.State.{State, servers_of}
 use Rattle.petal_history.specs.declared.record.Record.{Record}
 use Rattle.petal_world.specs.Play.{IsKept}
 use Rattle.petal_world.specs.Stage.{Kept}
-use Rattle.petal_world.specs.Waiting.{Await}
+use Rattle.world_desks.specs.Waiting.{Await}
 use Rattle.petal_world.proofs.Starting.{state_servers, start_kept}
 use Rattle.petal_world.proofs.world.World.start.Goals as goal
 

@@ -1,7 +1,0 @@
--- Two letters that compare as equal are equal.
-use Rattle.std.proofs.Common.{sym, ◌∙◌}
-use Rattle.petal_world.proofs.Same.{same_letter}
-use Rattle.petal_world.proofs.sent.is_same.Goals as goal
-
-pub returns-clause-same : goal.returns-clause-same
-returns-clause-same c is = same_letter _ _ (sym c.eq.ensures ∙ is)

@@ -1,0 +1,6 @@
+pub mod Same
+pub mod Names
+pub mod Letters
+pub mod Awaiting
+pub mod Ranges
+pub mod Ordering

@@ -1,0 +1,4 @@
+pub mod Sent
+pub mod Playable
+pub mod Waiting
+pub mod Desks

@@ -1,0 +1,35 @@
+//! One server of a world.
+
+ghost use Rattle.std.specs.Prelude.{◌≡◌, ◌↔◌, [], IfOk, IsTrue};
+ghost use Rattle.world_desks.specs.Desks.{Site, acted_at, is_spent};
+
+use petal_base::{NoMemory, Rev, Sequence};
+use petal_msg::Letter;
+use petal_rules::Step;
+use std::alloc::Global;
+
+/// A server with its store, as a world steps it.
+pub trait Host: Drop {
+    /// Its number, the global state at its revision, and what the rules know of it.
+    ghost seen: { Self → Site };
+
+    /// Takes a step. The letters have no stamp yet. After want of memory nothing is said of the server.
+    fn step(&mut self, alloc: Global, step: &Step) -> Result<Sequence<Letter>, NoMemory>
+        ensures { IfOk result (λ letters. record { site = seen self.new; letters = letters } ≡ acted_at (seen self.old) step.now) };
+
+    /// Whether it runs.
+    fn is_running(&self) -> bool
+        ensures { result ≡ (seen self.now).server.life.running };
+
+    /// Whether no job waits.
+    fn is_idle(&self) -> bool
+        ensures { IsTrue result ↔ ((seen self.now).server.queue ≡ []) };
+
+    /// Whether a number of the server is the greatest of its type, so that it can take no more steps.
+    fn is_spent(&self) -> bool
+        ensures { result ≡ is_spent (seen self.now).server };
+
+    /// Its revision of the global state.
+    fn rev(&self) -> Rev
+        ensures { result ≡ (seen self.now).server.life.rev };
+}
