@@ -55,8 +55,11 @@ fn to(reaction: &Reaction) -> Option<Actor> {
 
 // Where the request is sent.
 fn call(alloc: Global, client: &mut ClientCore, request: Request) -> Result<Option<Actor>, Fail> {
-    if client.spent() || !client.is_free() {
-        return Err("the client is not free".into());
+    if client.spent() {
+        return Err("the client is spent".into());
+    }
+    if !client.is_free() {
+        return Err("the client waits for an answer".into());
     }
     Ok(to(&client.call(alloc, 5, request)?))
 }

@@ -3,6 +3,7 @@
 use petal_base::{Block, Name, SharedBlock};
 use petal_machine::{Event, EventError, Machine, Write, WriteEnd};
 use std::alloc::Global;
+use std::process::Abort;
 use std::test::Fail;
 
 fn vol() -> Result<Name, Fail> {
@@ -40,10 +41,7 @@ fn one_disk(alloc: Global) -> Result<Machine, Fail> {
     Ok(machine)
 }
 
-#[test]
-fn a_block_of_sevens(rt: HostRuntime) -> Result<(), Fail> {
-    let alloc = rt.alloc();
-    let mut machine = one_disk(alloc)?;
+fn write_sevens(rt: &impl Abort, alloc: Global, machine: &mut Machine) -> Result<(), Fail> {
     machine.apply(alloc, look(alloc, None, 0)?)?;
     machine.apply(alloc, Event::Begin(write(alloc, 0, 7)?))?;
     let early = machine.apply(alloc, Event::End(write(alloc, 0, 7)?, WriteEnd::Ok));
@@ -55,9 +53,12 @@ fn a_block_of_sevens(rt: HostRuntime) -> Result<(), Fail> {
 }
 
 #[test]
-fn two_clients_write_one_block(rt: HostRuntime) -> Result<(), Fail> {
-    let alloc = rt.alloc();
-    let mut machine = one_disk(alloc)?;
+fn a_block_of_sevens(rt: HostRuntime) -> Result<(), Fail> {
+    let mut machine = one_disk(rt.alloc())?;
+    write_sevens(&rt, rt.alloc(), &mut machine)
+}
+
+fn write_at_once(alloc: Global, machine: &mut Machine) -> Result<(), Fail> {
     machine.apply(alloc, Event::Begin(write(alloc, 0, 1)?))?;
     machine.apply(alloc, Event::Begin(write(alloc, 1, 2)?))?;
     machine.apply(alloc, Event::Take(write(alloc, 0, 1)?))?;
@@ -69,9 +70,12 @@ fn two_clients_write_one_block(rt: HostRuntime) -> Result<(), Fail> {
 }
 
 #[test]
-fn a_snapshot_keeps_its_content(rt: HostRuntime) -> Result<(), Fail> {
-    let alloc = rt.alloc();
-    let mut machine = one_disk(alloc)?;
+fn two_clients_write_one_block(rt: HostRuntime) -> Result<(), Fail> {
+    let mut machine = one_disk(rt.alloc())?;
+    write_at_once(rt.alloc(), &mut machine)
+}
+
+fn freeze_and_write(alloc: Global, machine: &mut Machine) -> Result<(), Fail> {
     let snap = Name::read(b"s1").ok_or("a name")?;
     let freeze = Event::Freeze {
         disk: vol()?,
@@ -83,4 +87,10 @@ fn a_snapshot_keeps_its_content(rt: HostRuntime) -> Result<(), Fail> {
     machine.apply(alloc, look(alloc, Some(snap), 0)?)?;
     machine.apply(alloc, look(alloc, None, 1)?)?;
     Ok(())
+}
+
+#[test]
+fn a_snapshot_keeps_its_content(rt: HostRuntime) -> Result<(), Fail> {
+    let mut machine = one_disk(rt.alloc())?;
+    freeze_and_write(rt.alloc(), &mut machine)
 }

@@ -1,11 +1,11 @@
 //! Tables: happy paths at concrete keys.
 
+use petal_base::NoMemory;
 use petal_table::Table;
+use std::process::Abort;
 use std::test::Fail;
 
-#[test]
-fn rows_come_and_go(rt: HostRuntime) -> Result<(), Fail> {
-    let mut table: Table<u64, u8> = Table::new(rt.alloc());
+fn put_and_remove(rt: &impl Abort, table: &mut Table<u64, u8>) -> Result<(), NoMemory> {
     table.put(5, 50)?;
     table.put(3, 30)?;
     table.put(5, 51)?;
@@ -14,15 +14,24 @@ fn rows_come_and_go(rt: HostRuntime) -> Result<(), Fail> {
     assert_eq!(rt; table.get(&4).copied(), None);
     assert_eq!(rt; table.remove(&5), Some(51));
     assert_eq!(rt; table.remove(&5), None);
-    assert_eq!(rt; table.insert(5, 52), Ok(()));
-    assert_eq!(rt; table.get(&5).copied(), Some(52));
-    assert_eq!(rt; table.get(&3).copied(), Some(30));
     Ok(())
 }
 
+fn insert(rt: &impl Abort, table: &mut Table<u64, u8>) {
+    assert_eq!(rt; table.insert(5, 52), Ok(()));
+    assert_eq!(rt; table.get(&5).copied(), Some(52));
+    assert_eq!(rt; table.get(&3).copied(), Some(30));
+}
+
 #[test]
-fn a_row_is_replaced(rt: HostRuntime) -> Result<(), Fail> {
+fn rows_come_and_go(rt: HostRuntime) -> Result<(), Fail> {
     let mut table: Table<u64, u8> = Table::new(rt.alloc());
+    put_and_remove(&rt, &mut table)?;
+    insert(&rt, &mut table);
+    Ok(())
+}
+
+fn replace(rt: &impl Abort, table: &mut Table<u64, u8>) -> Result<(), NoMemory> {
     table.put(3, 30)?;
     table.put(5, 50)?;
     if table.get(&5).is_some() {
@@ -35,12 +44,29 @@ fn a_row_is_replaced(rt: HostRuntime) -> Result<(), Fail> {
 }
 
 #[test]
-fn a_copy_stands_alone(rt: HostRuntime) -> Result<(), Fail> {
+fn a_row_is_replaced(rt: HostRuntime) -> Result<(), Fail> {
     let mut table: Table<u64, u8> = Table::new(rt.alloc());
+    replace(&rt, &mut table)?;
+    Ok(())
+}
+
+/// A copy of the table before its row is replaced.
+fn copied(table: &mut Table<u64, u8>) -> Result<Table<u64, u8>, NoMemory> {
     table.put(5, 50)?;
     let copy = table.clone()?;
     table.put(5, 51)?;
+    Ok(copy)
+}
+
+fn look(rt: &impl Abort, copy: &Table<u64, u8>) {
     assert_eq!(rt; copy.get(&5).copied(), Some(50));
     assert_eq!(rt; copy.len(), 1);
+}
+
+#[test]
+fn a_copy_stands_alone(rt: HostRuntime) -> Result<(), Fail> {
+    let mut table: Table<u64, u8> = Table::new(rt.alloc());
+    let copy = copied(&mut table)?;
+    look(&rt, &copy);
     Ok(())
 }

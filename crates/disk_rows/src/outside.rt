@@ -4,20 +4,29 @@ use petal_disk::{
     CallKind, Disk, Failed, MemDisk, MemShelf, MemSink, MemSource, Plan, Planned, Shelf,
     ShelfError, Sink, Source, Which, read_full, write_all, write_kept,
 };
+use std::process::Abort;
 use std::test::Fail;
+
+fn read_in_pieces(rt: &impl Abort, source: &mut MemSource) {
+    let mut buffer = [0; 3];
+    assert_eq!(rt; source.read(&mut buffer), Ok(3));
+    assert_eq!(rt; source.read(&mut buffer), Err(Failed));
+    assert_eq!(rt; read_full(source, &mut buffer), Ok(1));
+    assert_eq!(rt; buffer, [4, 2, 3]);
+}
+
+fn write_twice(rt: &impl Abort, sink: &mut MemSink) {
+    assert_eq!(rt; sink.write(b"lost"), Err(Failed));
+    assert_eq!(rt; write_all(sink, b"kept"), Ok(()));
+}
 
 #[test]
 fn listed_calls_of_streams_fail(rt: HostRuntime) -> Result<(), Fail> {
     let alloc = rt.alloc();
     let mut source = MemSource::new(vec![in alloc; 1, 2, 3, 4]?, vec![in alloc; 2]?);
-    let mut buffer = [0; 3];
-    assert_eq!(rt; source.read(&mut buffer), Ok(3));
-    assert_eq!(rt; source.read(&mut buffer), Err(Failed));
-    assert_eq!(rt; read_full(&mut source, &mut buffer), Ok(1));
-    assert_eq!(rt; buffer, [4, 2, 3]);
+    read_in_pieces(&rt, &mut source);
     let mut sink = MemSink::new(alloc, vec![in alloc; 1]?);
-    assert_eq!(rt; sink.write(b"lost"), Err(Failed));
-    assert_eq!(rt; write_all(&mut sink, b"kept"), Ok(()));
+    write_twice(&rt, &mut sink);
     assert_eq!(rt; sink.into_bytes().as_slice(), b"kept".as_slice());
     Ok(())
 }
