@@ -1,14 +1,20 @@
 -- What an append to the journal leaves of a state device.
-use Rattle.std.proofs.Common.{◌≡◌, ◌⊎◌, inl, inr, ℕ, ◌+◌, ◌*◌, ◌≤◌, ◌<◌, List, [], ◌∷◌, ◌++◌, length, map, take, drop, refl, sym, ◌∙◌, ap, subst, arith}
-use Rattle.std.proofs.lemmas.List.{map-append, length-map}
+use Rattle.std.proofs.Common.{◌≡◌, ◌⊎◌, inl, inr, ℕ, ◌*◌, ◌≤◌, List, [], ◌∷◌, ◌++◌, length, take, refl, sym, ◌∙◌, ap, subst, arith}
+use Rattle.std.proofs.lemmas.List.{map-append, length-map, take-take}
+use Rattle.petal_command.specs.Spelling.{IsWord}
 use Rattle.petal_disk.specs.Disk.{Torn, Only, LeavesOnly, written}
-use Rattle.petal_disk.proofs.Tearing.{torn_front}
-use Rattle.block_journal.specs.Records.{Stands, Stored, LeftByAppend}
+use Rattle.petal_disk.proofs.Moments.{joined, weaker}
+use Rattle.petal_disk.proofs.Tearing.{torn_front, torn_written}
+use Rattle.block_journal.specs.Gate.{IsShut}
+use Rattle.block_journal.specs.Records.{contents, Stands, Stored, Counts, LeftByAppend}
 use Rattle.block_journal.specs.Records as journal
 use Rattle.block_journal.specs.Region.{Region}
+use Rattle.block_journal.proofs.Frame.{stands_outside}
+use Rattle.block_journal.proofs.Gates.{shut_still}
 use Rattle.state_store.specs.declared.record.StateRecord.{StateRecord}
+use Rattle.state_store.specs.declared.record.StateRecord.TheVariants.{Inc}
 use Rattle.state_store.specs.Body.{body_of, HasBody}
-use Rattle.state_store.specs.Device.{header, bodies_of, AreSpelled, StandsFor, WithOrWithout, Holds}
+use Rattle.state_store.specs.Device.{header, bodies_of, AreSpelled, StandsFor, WithOrWithout, Holds, IsBlank, LeftByFormat}
 
 -- the journal of a state device
 pub record IsPlaced (region : Region) : Type 0 where
@@ -63,16 +69,53 @@ appended region region' leave leave' seen seen' records entry body e fits at at'
       left = λ c i. let l = each c i in record { headed = headed_still region l.from c at l.outside (h.left l.from l.from_left).headed; spelled = spelled_more records entry h.now.spelled fits; stands = subst (Stands 128 4096 65536 c) (sym more) (placed region' c _ at' (s.left c i)) };
     }
 
--- the header without its gate, and then the gate
-pub headed : (file : List ℕ) → 0 < length file → take 64 (written (written file 1 (drop 1 header)) 0 (165 ∷ [])) ≡ header
-headed [] h = absurd (omega arith)
-headed (x ∷ xs) h = refl
+-- a device whose gate is closed is blank
+pub shut_blank : (file : List ℕ) → IsShut file → IsBlank file
+shut_blank file shut head = shut (sym (take-take 1 64 file (omega arith)) ∙ ap (take 1) head)
+
+-- the whole header
+pub headed : (file : List ℕ) → take 64 (written file 0 header) ≡ header
+headed file = refl
+
+-- a header over a journal
+pub headed_device : (file c : List ℕ) (inc : ℕ) → IsWord inc → 64 ≤ length file → Stands 128 4096 65536 file (bodies_of (Inc inc ∷ [])) → c ≡ written file 0 header → StandsFor c (Inc inc ∷ [])
+headed_device file c inc word fits stands is =
+    let torn : Torn 0 64 file c = subst (λ f. Torn 0 64 file f) (sym is) (torn_written file 0 header fits) in
+    record {
+      headed = ap (take 64) is ∙ headed file;
+      spelled = (word, tt);
+      stands = stands_outside 128 4096 65536 0 64 file c (bodies_of (Inc inc ∷ [])) (omega arith) (inr (omega arith)) torn stands;
+    }
+
+-- a closed gate, or what was there before, may be left by formatting
+pub left_by_clearing : (before : List ℕ → Type 0) (inc : ℕ) (c : List ℕ) → before c ⊎ IsShut c → LeftByFormat before inc c
+left_by_clearing before inc c (inl was) = inl was
+left_by_clearing before inc c (inr shut) = inr (inl (shut_blank c shut))
+
+-- so may a header over the one record
+pub left_by_header : (before : List ℕ → Type 0) (inc : ℕ) (file c : List ℕ) → IsWord inc → 64 ≤ length file → Stands 128 4096 65536 file (bodies_of (Inc inc ∷ [])) → IsShut c ⊎ (c ≡ written file 0 header) → LeftByFormat before inc c
+left_by_header before inc file c word fits stands (inl shut) = inr (inl (shut_blank c shut))
+left_by_header before inc file c word fits stands (inr is) = inr (inr (headed_device file c inc word fits stands is))
+
+-- at each moment of both
+pub formatting : {D : Type 0} (moment : D → ℕ) (left_since : D → ℕ → List ℕ → Type 0) (d0 d1 d2 : D) (before : List ℕ → Type 0) (inc : ℕ) (file : List ℕ) → IsWord inc → 64 ≤ length file → Stands 128 4096 65536 file (bodies_of (Inc inc ∷ []))
+    → LeavesOnly moment left_since d0 d1 (λ c. before c ⊎ IsShut c) → LeavesOnly moment left_since d1 d2 (λ c. IsShut c ⊎ (c ≡ written file 0 header)) → LeavesOnly moment left_since d0 d2 (LeftByFormat before inc)
+formatting moment left_since d0 d1 d2 before inc file word fits stands first second =
+    joined moment left_since d0 d1 d2 (LeftByFormat before inc) (λ c. IsShut c ⊎ (c ≡ written file 0 header))
+    (weaker moment left_since d0 d1 (λ c. before c ⊎ IsShut c) (LeftByFormat before inc) first (left_by_clearing before inc)) second
+    (λ c left. left_by_header before inc file c word fits stands left)
+
+-- a first record behind a closed gate
+pub first_record : {D : Type 0} (moment : D → ℕ) (left_since : D → ℕ → List ℕ → Type 0) (d0 d1 d2 : D) (before leave1 : List ℕ → Type 0) (file body : List ℕ) (region : Region) → IsPlaced region → Only file leave1 → IsShut file
+    → LeavesOnly moment left_since d0 d1 (λ c. before c ⊎ IsShut c) → LeavesOnly moment left_since d1 d2 (LeftByAppend 128 region leave1 [] body) → LeavesOnly moment left_since d0 d2 (λ c. before c ⊎ IsShut c)
+first_record moment left_since d0 d1 d2 before leave1 file body region at only shut first second =
+    joined moment left_since d0 d1 d2 (λ c. before c ⊎ IsShut c) (LeftByAppend 128 region leave1 [] body) first second
+    (λ c left. inr (shut_still region.base (128 * region.limit) left.from c (let b = at.base in omega arith) left.outside (subst IsShut (sym (only left.from left.from_left)) shut)))
 
 -- what a formatted device stands for
-pub formatted : (region : Region) (seen : List ℕ) (leave : List ℕ → Type 0) → IsPlaced region → region.count ≡ 0 → take 64 seen ≡ header → Stands 128 region.base region.limit seen [] → Only seen leave → Holds region seen leave []
-formatted region seen leave at count head stands only =
-    let now : StandsFor seen [] = record { headed = head; spelled = tt; stands = placed region seen [] at stands } in
-    record { count = count; now = now; left = λ c i. subst (λ f. StandsFor f []) (sym (only c i)) now }
+pub formatted : (region : Region) (seen : List ℕ) (leave : List ℕ → Type 0) (records : List StateRecord) → region.count ≡ length records → StandsFor seen records → Only seen leave → Holds region seen leave records
+formatted region seen leave records count stands only =
+    record { count = count; now = stands; left = λ c i. subst (λ f. StandsFor f records) (sym (only c i)) stands }
 
 -- what an opened device stands for
 pub opened : (region : Region) (seen : List ℕ) (leave : List ℕ → Type 0) (records : List StateRecord) → region.count ≡ length records → take 64 seen ≡ header → AreSpelled records → Stands 128 4096 65536 seen (bodies_of records) → Only seen leave → Holds region seen leave records

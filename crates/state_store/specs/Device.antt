@@ -1,8 +1,9 @@
 -- What a state device stands for: a header of 64 bytes, and behind 4,096 bytes a journal of 65,536 records of 128 bytes.
-use Rattle.std.specs.Prelude.{ℕ, ◌≡◌, ◌⊎◌, List, [], ◌∷◌, ◌++◌, map, length, take, replicate, ⊤}
-use Rattle.block_journal.specs.Records.{Stands}
+use Rattle.std.specs.Prelude.{ℕ, ◌≡◌, ◌≢◌, ◌⊎◌, ◌≤◌, ◌<◌, List, [], ◌∷◌, ◌++◌, map, length, take, replicate, ⊤}
+use Rattle.block_journal.specs.Records.{Stands, IsOpen, body_at}
 use Rattle.block_journal.specs.Region.{Region}
 use Rattle.state_store.specs.declared.record.StateRecord.{StateRecord}
+use Rattle.state_store.specs.declared.record.StateRecord.TheVariants.{Inc}
 use Rattle.state_store.specs.Body.{body_of, HasBody}
 
 -- the gate, PETALSTA, version 1, zeros
@@ -22,6 +23,20 @@ pub record StandsFor (file : List ℕ) (records : List StateRecord) : Type 0 whe
   pub headed : take 64 file ≡ header
   pub spelled : AreSpelled records
   pub stands : Stands 128 4096 65536 file (bodies_of records)
+
+-- no header of a state device stands there
+abbrev pub IsBlank : List ℕ → Type 0
+IsBlank file = take 64 file ≢ header
+
+-- what formatting may leave: what might have been there before, a blank device, or the one record of the incarnation
+abbrev pub LeftByFormat : (List ℕ → Type 0) → ℕ → List ℕ → Type 0
+LeftByFormat before inc file = before file ⊎ IsBlank file ⊎ StandsFor file (Inc inc ∷ [])
+
+-- the record of this index has no spelling, and its gate is open, as all gates before it are
+pub record IsBadOn (file : List ℕ) (index : ℕ) : Type 0 where
+  pub within : index < 65536
+  pub opened : (i : ℕ) → i ≤ index → IsOpen 128 4096 file i
+  pub bad : (r : StateRecord) → HasBody r → body_at 128 4096 file index ≢ body_of r
 
 -- the records, with one more or without it
 abbrev pub WithOrWithout : List ℕ → List StateRecord → StateRecord → Type 0

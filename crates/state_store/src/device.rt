@@ -2,14 +2,16 @@
 
 ghost use Rattle.std.specs.Prelude.{◌≡◌, ◌⊎◌, ◌≤◌, ◌<◌, ◌↔◌, ◌++◌, [], ◌∷◌, ℕ, List, OnOk, IfOk, IfErr, IsErrOf, take, ◌≢◌, Some, None, false};
 ghost use Rattle.petal_disk.specs.Plans.{beneath, plan_state};
-ghost use Rattle.petal_disk.specs.Disk.{LeavesOnly};
-ghost use Rattle.block_journal.specs.Records.{Counts, IsOpen, body_at};
-ghost use Rattle.state_store.specs.Body.{body_of, HasBody};
-ghost use Rattle.state_store.specs.Device.{header, bodies_of, AreSpelled, Holds, WithOrWithout, StandsFor};
+ghost use Rattle.petal_disk.specs.Disk.{LeavesOnly, Only};
+ghost use Rattle.petal_disk.specs.Keeping.{KeepsDevice};
+ghost use Rattle.block_journal.specs.Gate.{IsShut};
+ghost use Rattle.block_journal.specs.Records.{Counts, Stands};
+ghost use Rattle.state_store.specs.Device.{header, bodies_of, AreSpelled, Holds, WithOrWithout, StandsFor, LeftByFormat, IsBadOn};
 ghost use Rattle.state_store.specs.Errors.{IsAppendError};
 ghost use Rattle.state_store.specs.Kept.{row_of, inc_of};
 ghost use Rattle.state_store.specs.Rows.{row_at};
 ghost use Rattle.state_store.specs.declared.record.StateRecord.{StateRecord};
+ghost use Rattle.state_store.specs.declared.record.StateRecord.TheVariants as kind;
 ghost use Rattle.state_store.specs.declared.error.StateError.TheVariants as error;
 
 use crate::error::StateError;
@@ -17,9 +19,9 @@ use crate::history::History;
 use crate::places::Places;
 use crate::record::{StateRecord, body_of};
 use crate::register::{Register, read_records};
-use block_journal::{Journal, JournalError};
+use block_journal::{Journal, JournalError, write_header};
 use petal_base::Inc;
-use petal_disk::{Disk, Plan, Planned, write_kept};
+use petal_disk::{Disk, Plan, Planned};
 use std::alloc::Global;
 use std::marker::Model;
 
@@ -59,23 +61,28 @@ pub struct Kept {
 }
 
 impl<D: Disk> Device<D> {
-    /// A device that stands for no record.
-    pub fn format(alloc: Global, disk: D) -> Result<Device<D>, (D, StateError)>
+    /// A device that stands for the one record of an incarnation.
+    pub fn format(alloc: Global, disk: D, inc: Inc) -> Result<Device<D>, (D, StateError)>
         requires { 8392704 ≤ D.size disk }
-        ensures ok { IfOk result (λ d. (d.records ≡ []) × (d.region.count ≡ 0)) }
+        ensures ok { IfOk result (λ d. (d.records ≡ kind.Inc inc ∷ []) × (d.region.count ≡ 1)) }
         ensures holds { IfOk result (λ d. D.told → Holds d.region (D.seen d.disk) (D.may_leave d.disk) d.records) }
         ensures errors { IfErr result (λ e. (e.1 ≡ error.Failed) ⊎ (e.1 ≡ error.NoMemory)) }
+        ensures any_moment { IfOk result (λ d. D.told → LeavesOnly D.moment D.left_since disk d.disk (LeftByFormat (D.may_leave disk) inc)) }
+        ensures err_any_moment { IfErr result (λ e. D.told → LeavesOnly D.moment D.left_since disk e.0 (LeftByFormat (D.may_leave disk) inc)) }
+        ensures err_either { IfErr result (λ e. D.told → LeftByFormat (λ file. file ≡ D.seen disk) inc (D.seen e.0)) }
+        ensures err_size { IfErr result (λ e. D.size e.0 ≡ D.size disk) }
+        ensures memory { IfErr result (λ e. e.1 ≡ error.NoMemory → e.0 ≡ disk) }
         ensures failed { IfErr result (λ e. e.1 ≡ error.Failed → D.faults disk < D.faults e.0) }
         ensures later { IfOk result (λ d. D.faults disk ≤ D.faults d.disk) }
         ensures run { IfOk result (λ d. D.came_to disk d.disk) }
         ensures err_run { IfErr result (λ e. D.came_to disk e.0) }
     {
         let mut disk = disk;
-        match write_format(alloc, &mut disk) {
+        match write_format(alloc, &mut disk, inc) {
             Ok(journal) => Ok(Device {
                 disk,
                 journal,
-                history: History::new(),
+                history: History::with(&History::new(), &StateRecord::Inc { inc }),
             }),
             Err(error) => Err((disk, error)),
         }
@@ -90,10 +97,12 @@ impl<D: Disk> Device<D> {
         ensures rows { IfOk result (λ o. (place : ℕ) → row_at o.1.places place ≡ row_of o.0.records place) }
         ensures inc { IfOk result (λ o. o.1.inc ≡ inc_of o.0.records) }
         ensures blank { IfErr result (λ e. e.1 ≡ error.Blank → D.told → 8392704 ≤ D.size disk → take 64 (D.seen disk) ≢ header) }
-        ensures bad { (index : ℕ) → IfErr result (λ e. e.1 ≡ error.BadRecord index → D.told → IsOpen 128 4096 (D.seen disk) index × ((r : StateRecord) → HasBody r → body_at 128 4096 (D.seen disk) index ≡ body_of r → ⊥)) }
+        ensures bad { (index : ℕ) → IfErr result (λ e. e.1 ≡ error.BadRecord index → D.told → IsBadOn (D.seen disk) index) }
         ensures failed { IfErr result (λ e. e.1 ≡ error.Failed → D.faults disk < D.faults e.0) }
         ensures bad_headed { (index : ℕ) → IfErr result (λ e. e.1 ≡ error.BadRecord index → (8392704 ≤ D.size disk) × (D.told → take 64 (D.seen disk) ≡ header)) }
         ensures not_full { IfErr result (λ e. e.1 ≢ error.JournalFull) }
+        ensures device { IfOk result (λ o. KeepsDevice D.size D.seen D.may_leave D.moment D.left_since disk o.0.disk) }
+        ensures err_device { IfErr result (λ e. KeepsDevice D.size D.seen D.may_leave D.moment D.left_since disk e.0) }
     {
         let mut disk = disk;
         match read_device(alloc, &mut disk) {
@@ -157,20 +166,43 @@ const HEADER: [u8; 64] = [
     0, 0, 0, 0, 0, 0, 0, 0, 0,
 ];
 
-/// Writes an empty journal, then the header without its gate, then the gate.
-fn write_format<D: Disk>(alloc: Global, disk: &mut D) -> Result<Journal<128>, StateError>
+/// Closes the gate of the device, writes a journal of the one record, writes the header, and opens the gate last.
+fn write_format<D: Disk>(alloc: Global, disk: &mut D, inc: Inc) -> Result<Journal<128>, StateError>
     requires { 8392704 ≤ D.size disk.old }
-    ensures region { IfOk result (λ j. (j.base ≡ 4096) × (j.limit ≡ 65536) × (j.count ≡ 0)) }
-    ensures holds { IfOk result (λ j. D.told → Holds j (D.seen disk.new) (D.may_leave disk.new) []) }
+    ensures region { IfOk result (λ j. (j.base ≡ 4096) × (j.limit ≡ 65536) × (j.count ≡ 1)) }
+    ensures holds { IfOk result (λ j. D.told → Holds j (D.seen disk.new) (D.may_leave disk.new) (kind.Inc inc ∷ [])) }
     ensures errors { IfErr result (λ e. (e ≡ error.Failed) ⊎ (e ≡ error.NoMemory)) }
+    ensures any_moment { D.told → LeavesOnly D.moment D.left_since disk.old disk.new (LeftByFormat (D.may_leave disk.old) inc) }
+    ensures either { D.told → LeftByFormat (λ file. file ≡ D.seen disk.old) inc (D.seen disk.new) }
+    ensures memory { IsErrOf result error.NoMemory → disk.new ≡ disk.old }
     ensures failed { IsErrOf result error.Failed → D.faults disk.old < D.faults disk.new }
     ensures later { D.faults disk.old ≤ D.faults disk.new }
     ensures size { D.size disk.new ≡ D.size disk.old }
     ensures run { D.came_to disk.old disk.new }
 {
-    let journal = Journal::format(alloc, disk, JOURNAL_BASE, JOURNAL_RECORDS)?;
-    write_kept(disk, 1, &HEADER[1..])?;
-    write_kept(disk, 0, &HEADER[..1])?;
+    let journal = write_first(alloc, disk, inc)?;
+    write_header(disk, &HEADER)?;
+    Ok(journal)
+}
+
+/// Closes the gate of the device, and writes a journal of the one record.
+fn write_first<D: Disk>(alloc: Global, disk: &mut D, inc: Inc) -> Result<Journal<128>, StateError>
+    requires { 8392704 ≤ D.size disk.old }
+    ensures region { IfOk result (λ j. (j.base ≡ 4096) × (j.limit ≡ 65536) × (j.count ≡ 1)) }
+    ensures stands { IfOk result (λ j. D.told → Stands 128 4096 65536 (D.seen disk.new) (bodies_of (kind.Inc inc ∷ []))) }
+    ensures durable { OnOk result (D.told → Only (D.seen disk.new) (D.may_leave disk.new)) }
+    ensures shut { OnOk result (D.told → IsShut (D.seen disk.new)) }
+    ensures errors { IfErr result (λ e. (e ≡ error.Failed) ⊎ (e ≡ error.NoMemory)) }
+    ensures any_moment { D.told → LeavesOnly D.moment D.left_since disk.old disk.new (λ c. D.may_leave disk.old c ⊎ IsShut c) }
+    ensures either { D.told → (D.seen disk.new ≡ D.seen disk.old) ⊎ IsShut (D.seen disk.new) }
+    ensures memory { IsErrOf result error.NoMemory → disk.new ≡ disk.old }
+    ensures failed { IsErrOf result error.Failed → D.faults disk.old < D.faults disk.new }
+    ensures later { D.faults disk.old ≤ D.faults disk.new }
+    ensures size { D.size disk.new ≡ D.size disk.old }
+    ensures run { D.came_to disk.old disk.new }
+{
+    let mut journal = Journal::format_behind_gate(alloc, disk, JOURNAL_BASE, JOURNAL_RECORDS)?;
+    journal.append(disk, &body_of(&StateRecord::Inc { inc }))?;
     Ok(journal)
 }
 
@@ -185,10 +217,11 @@ fn read_device<D: Disk>(alloc: Global, disk: &mut D) -> Result<(Journal<128>, Re
     ensures rows { IfOk result (λ o. (place : ℕ) → row_at o.1.places place ≡ row_of o.1.history.records place) }
     ensures inc { IfOk result (λ o. o.1.inc ≡ inc_of o.1.history.records) }
     ensures blank { IsErrOf result error.Blank → D.told → 8392704 ≤ D.size disk.old → take 64 (D.seen disk.old) ≢ header }
-    ensures bad { (index : ℕ) → IfErr result (λ e. e ≡ error.BadRecord index → D.told → IsOpen 128 4096 (D.seen disk.old) index × ((r : StateRecord) → HasBody r → body_at 128 4096 (D.seen disk.old) index ≡ body_of r → ⊥)) }
+    ensures bad { (index : ℕ) → IfErr result (λ e. e ≡ error.BadRecord index → D.told → IsBadOn (D.seen disk.old) index) }
     ensures failed { IsErrOf result error.Failed → D.faults disk.old < D.faults disk.new }
     ensures bad_headed { (index : ℕ) → IfErr result (λ e. e ≡ error.BadRecord index → (8392704 ≤ D.size disk.old) × (D.told → take 64 (D.seen disk.old) ≡ header)) }
     ensures not_full { ¬ IsErrOf result error.JournalFull }
+    ensures device { KeepsDevice D.size D.seen D.may_leave D.moment D.left_since disk.old disk.new }
 {
     if disk.len() < DEVICE_BYTES {
         return Err(StateError::Blank);
@@ -201,8 +234,10 @@ fn read_device<D: Disk>(alloc: Global, disk: &mut D) -> Result<(Journal<128>, Re
     }
     let (journal, bodies) = Journal::open(alloc, disk, JOURNAL_BASE, JOURNAL_RECORDS)?;
     let _count = journal.count();
-    let register = read_records(alloc, &bodies)?;
-    Ok((journal, register))
+    match read_records(alloc, &bodies) {
+        Ok(register) => Ok((journal, register)),
+        Err(error) => Err(error),
+    }
 }
 
 impl<E: Disk> Device<Planned<E>> {

@@ -3,9 +3,9 @@
 ghost use Rattle.std.specs.Prelude.{◌≡◌, ◌≢◌, ◌⊎◌, ◌≤◌, ◌<◌, ◌+◌, ◌==◌, ◌++◌, ◌∷◌, [], ℕ, List, Option, min, if◌then◌else◌, OnOk, OnErr, IfOk, IfErr, IsErrOf, IsOk, take, length, Some, None, false};
 ghost use Rattle.petal_disk.specs.Plans.{beneath, plan_state};
 ghost use Rattle.petal_disk.specs.Disk.{LeavesOnly};
-ghost use Rattle.block_journal.specs.Records.{Counts, IsOpen, body_at};
-ghost use Rattle.state_store.specs.Body.{body_of, HasBody};
-ghost use Rattle.state_store.specs.Device.{header, bodies_of, AreSpelled, StandsFor, Holds, WithOrWithout};
+ghost use Rattle.petal_disk.specs.Keeping.{KeepsDevice};
+ghost use Rattle.block_journal.specs.Records.{Counts};
+ghost use Rattle.state_store.specs.Device.{header, bodies_of, AreSpelled, StandsFor, Holds, WithOrWithout, LeftByFormat, IsBadOn};
 ghost use Rattle.state_store.specs.Errors.{IsAppendError, IsCommitError};
 ghost use Rattle.state_store.specs.declared.record.StateRecord.{StateRecord};
 ghost use Rattle.state_store.specs.Kept.{row_of, row_after, inc_of, inc_after, AddsNothing, Commits};
@@ -46,28 +46,35 @@ impl<D: Disk> Model for StateStore<D> {
 }
 
 impl<D: Disk> StateStore<D> {
-    /// A store with the one record of its incarnation, on a device that the journal fits.
+    /// A store with the one record of its incarnation, on a device that the journal fits. A crash at any moment leaves what
+    /// it might have left before, a blank device, or this store.
     ///
     /// # Errors
-    /// `Failed`, where the device failed, and `NoMemory`. The device is handed back.
+    /// `NoMemory`, before any call of the device, which is handed back as it was; `Failed`, where the device failed. The device
+    /// is handed back.
     pub fn format(alloc: Global, disk: D, inc: Inc) -> Result<StateStore<D>, (D, StateError)>
         requires { 8392704 ≤ D.size disk }
         ensures ok { IfOk result (λ s. s.records ≡ kind.Inc inc ∷ []) }
         ensures count { IfOk result (λ s. D.told → s.region.count ≡ 1) }
         ensures holds { IfOk result (λ s. D.told → Holds s.region (D.seen s.disk) (D.may_leave s.disk) s.records) }
         ensures errors { IfErr result (λ e. (e.1 ≡ error.Failed) ⊎ (e.1 ≡ error.NoMemory)) }
+        ensures any_moment { IfOk result (λ s. D.told → LeavesOnly D.moment D.left_since disk s.disk (LeftByFormat (D.may_leave disk) inc)) }
+        ensures err_any_moment { IfErr result (λ e. D.told → LeavesOnly D.moment D.left_since disk e.0 (LeftByFormat (D.may_leave disk) inc)) }
+        ensures err_either { IfErr result (λ e. D.told → LeftByFormat (λ file. file ≡ D.seen disk) inc (D.seen e.0)) }
+        ensures err_size { IfErr result (λ e. D.size e.0 ≡ D.size disk) }
+        ensures memory { IfErr result (λ e. e.1 ≡ error.NoMemory → e.0 ≡ disk) }
         ensures failed { IfErr result (λ e. e.1 ≡ error.Failed → D.faults disk < D.faults e.0) }
         ensures later { IfOk result (λ s. D.faults disk ≤ D.faults s.disk) }
         ensures run { IfOk result (λ s. D.came_to disk s.disk) }
+        ensures err_run { IfErr result (λ e. D.came_to disk e.0) }
     {
-        let mut device = Device::format(alloc, disk)?;
-        match device.append(&StateRecord::Inc { inc }) {
-            Ok(()) => Ok(StateStore {
+        match Device::format(alloc, disk, inc) {
+            Ok(device) => Ok(StateStore {
                 device,
                 places: Places::new(alloc),
                 inc,
             }),
-            Err(error) => Err((device.into_disk(), error)),
+            Err(refused) => Err(refused),
         }
     }
 
@@ -75,18 +82,20 @@ impl<D: Disk> StateStore<D> {
     ///
     /// # Errors
     /// `Blank` where the device has no header of a state device or is too short for its journal; `BadRecord` where the
-    /// record of this index has an open gate and no spelling; `Failed`, where the device failed, and `NoMemory`. The device
-    /// is handed back.
+    /// record of this index has no spelling, and its gate and all before it are open; `Failed`, where the device failed, and `NoMemory`. The device
+    /// is handed back, and but for a sync it is as it was.
     pub fn open(alloc: Global, disk: D) -> Result<StateStore<D>, (D, StateError)>
         ensures found { IfOk result (λ s. D.told → (take 64 (D.seen disk) ≡ header) × Counts 128 4096 65536 (D.seen disk) (bodies_of s.records)) }
         ensures spelled { IfOk result (λ s. AreSpelled s.records) }
         ensures same { (records : List StateRecord) → IfOk result (λ s. D.told → StandsFor (D.seen disk) records → s.records ≡ records) }
         ensures holds { (records : List StateRecord) → IfOk result (λ s. D.told → StandsFor (D.seen disk) records → Holds s.region (D.seen s.disk) (D.may_leave s.disk) s.records) }
         ensures blank { IfErr result (λ e. e.1 ≡ error.Blank → D.told → 8392704 ≤ D.size disk → take 64 (D.seen disk) ≢ header) }
-        ensures bad { (index : ℕ) → IfErr result (λ e. e.1 ≡ error.BadRecord index → D.told → IsOpen 128 4096 (D.seen disk) index × ((r : StateRecord) → HasBody r → body_at 128 4096 (D.seen disk) index ≡ body_of r → ⊥)) }
+        ensures bad { (index : ℕ) → IfErr result (λ e. e.1 ≡ error.BadRecord index → D.told → IsBadOn (D.seen disk) index) }
         ensures failed { IfErr result (λ e. e.1 ≡ error.Failed → D.faults disk < D.faults e.0) }
         ensures bad_headed { (index : ℕ) → IfErr result (λ e. e.1 ≡ error.BadRecord index → (8392704 ≤ D.size disk) × (D.told → take 64 (D.seen disk) ≡ header)) }
         ensures not_full { IfErr result (λ e. e.1 ≢ error.JournalFull) }
+        ensures device { IfOk result (λ s. KeepsDevice D.size D.seen D.may_leave D.moment D.left_since disk s.disk) }
+        ensures err_device { IfErr result (λ e. KeepsDevice D.size D.seen D.may_leave D.moment D.left_since disk e.0) }
     {
         match Device::open(alloc, disk) {
             Ok((device, kept)) => Ok(StateStore {
@@ -141,6 +150,8 @@ impl<D: Disk> StateStore<D> {
         ensures failed { IsErrOf result error.Failed → D.faults self.old.disk < D.faults self.new.disk }
         ensures holds { D.told → Holds self.old.region (D.seen self.old.disk) (D.may_leave self.old.disk) self.old.records
             → OnOk result (Holds self.new.region (D.seen self.new.disk) (D.may_leave self.new.disk) self.new.records) }
+        ensures either { D.told → Holds self.old.region (D.seen self.old.disk) (D.may_leave self.old.disk) self.old.records
+            → WithOrWithout (D.seen self.new.disk) self.old.records (kind.Inc (inc_of self.old.records + 1)) }
         ensures any_moment { D.told → Holds self.old.region (D.seen self.old.disk) (D.may_leave self.old.disk) self.old.records
             → LeavesOnly D.moment D.left_since self.old.disk self.new.disk (λ c. WithOrWithout c self.old.records (kind.Inc (inc_of self.old.records + 1))) }
         ensures later { D.faults self.old.disk ≤ D.faults self.new.disk }
@@ -171,6 +182,8 @@ impl<D: Disk> StateStore<D> {
         ensures failed { IsErrOf result error.Failed → D.faults self.old.disk < D.faults self.new.disk }
         ensures holds { D.told → Holds self.old.region (D.seen self.old.disk) (D.may_leave self.old.disk) self.old.records
             → OnOk result (Holds self.new.region (D.seen self.new.disk) (D.may_leave self.new.disk) self.new.records) }
+        ensures either { D.told → Holds self.old.region (D.seen self.old.disk) (D.may_leave self.old.disk) self.old.records
+            → WithOrWithout (D.seen self.new.disk) self.old.records (kind.Promise place ballot) }
         ensures any_moment { D.told → Holds self.old.region (D.seen self.old.disk) (D.may_leave self.old.disk) self.old.records
             → LeavesOnly D.moment D.left_since self.old.disk self.new.disk (λ c. WithOrWithout c self.old.records (kind.Promise place ballot)) }
         ensures later { D.faults self.old.disk ≤ D.faults self.new.disk }
@@ -200,6 +213,8 @@ impl<D: Disk> StateStore<D> {
         ensures failed { IsErrOf result error.Failed → D.faults self.old.disk < D.faults self.new.disk }
         ensures holds { D.told → Holds self.old.region (D.seen self.old.disk) (D.may_leave self.old.disk) self.old.records
             → OnOk result (Holds self.new.region (D.seen self.new.disk) (D.may_leave self.new.disk) self.new.records) }
+        ensures either { D.told → Holds self.old.region (D.seen self.old.disk) (D.may_leave self.old.disk) self.old.records
+            → WithOrWithout (D.seen self.new.disk) self.old.records (kind.Accepted place ballot command.now) }
         ensures any_moment { D.told → Holds self.old.region (D.seen self.old.disk) (D.may_leave self.old.disk) self.old.records
             → LeavesOnly D.moment D.left_since self.old.disk self.new.disk (λ c. WithOrWithout c self.old.records (kind.Accepted place ballot command.now)) }
         ensures later { D.faults self.old.disk ≤ D.faults self.new.disk }
@@ -231,6 +246,8 @@ impl<D: Disk> StateStore<D> {
         ensures failed { IsErrOf result error.Failed → D.faults self.old.disk < D.faults self.new.disk }
         ensures holds { D.told → Holds self.old.region (D.seen self.old.disk) (D.may_leave self.old.disk) self.old.records
             → OnOk result (Holds self.new.region (D.seen self.new.disk) (D.may_leave self.new.disk) self.new.records) }
+        ensures either { D.told → Holds self.old.region (D.seen self.old.disk) (D.may_leave self.old.disk) self.old.records
+            → WithOrWithout (D.seen self.new.disk) self.old.records (kind.Chosen place command.now) }
         ensures any_moment { D.told → Holds self.old.region (D.seen self.old.disk) (D.may_leave self.old.disk) self.old.records
             → LeavesOnly D.moment D.left_since self.old.disk self.new.disk (λ c. WithOrWithout c self.old.records (kind.Chosen place command.now)) }
         ensures later { D.faults self.old.disk ≤ D.faults self.new.disk }
@@ -258,6 +275,8 @@ impl<D: Disk> StateStore<D> {
         ensures failed { IsErrOf result error.Failed → D.faults self.old.disk < D.faults self.new.disk }
         ensures holds { D.told → Holds self.old.region (D.seen self.old.disk) (D.may_leave self.old.disk) self.old.records
             → OnOk result (Holds self.new.region (D.seen self.new.disk) (D.may_leave self.new.disk) self.new.records) }
+        ensures either { D.told → Holds self.old.region (D.seen self.old.disk) (D.may_leave self.old.disk) self.old.records
+            → WithOrWithout (D.seen self.new.disk) self.old.records entry.now }
         ensures any_moment { D.told → Holds self.old.region (D.seen self.old.disk) (D.may_leave self.old.disk) self.old.records
             → LeavesOnly D.moment D.left_since self.old.disk self.new.disk (λ c. WithOrWithout c self.old.records entry.now) }
         ensures later { D.faults self.old.disk ≤ D.faults self.new.disk }
@@ -282,6 +301,8 @@ impl<D: Disk> StateStore<D> {
         ensures failed { IsErrOf result error.Failed → D.faults self.old.disk < D.faults self.new.disk }
         ensures holds { D.told → Holds self.old.region (D.seen self.old.disk) (D.may_leave self.old.disk) self.old.records
             → OnOk result (Holds self.new.region (D.seen self.new.disk) (D.may_leave self.new.disk) self.new.records) }
+        ensures either { D.told → Holds self.old.region (D.seen self.old.disk) (D.may_leave self.old.disk) self.old.records
+            → WithOrWithout (D.seen self.new.disk) self.old.records entry.now }
         ensures any_moment { D.told → Holds self.old.region (D.seen self.old.disk) (D.may_leave self.old.disk) self.old.records
             → LeavesOnly D.moment D.left_since self.old.disk self.new.disk (λ c. WithOrWithout c self.old.records entry.now) }
         ensures later { D.faults self.old.disk ≤ D.faults self.new.disk }

@@ -1,23 +1,40 @@
-use Rattle.std.proofs.Common.{◌≡◌, ◌+◌, ◌*◌, ◌<◌, ◌≤◌, inr, length, take, drop, [], ◌∷◌, arith, ap, ◌∙◌, List, ℕ}
-use Rattle.petal_disk.specs.Disk.{written}
-use Rattle.block_journal.proofs.Frame.{stands_outside}
-use Rattle.state_store.specs.Device.{header}
-use Rattle.state_store.proofs.Devices.{IsPlaced, headed, formatted}
+use Rattle.std.proofs.Common.{◌≡◌, ◌≤◌, ℕ, List, length, arith}
+use Rattle.petal_disk.proofs.Moments.{weaker}
+use Rattle.state_store.proofs.Devices.{headed_device, formatted, formatting, left_by_clearing, left_by_header}
 use Rattle.state_store.proofs.device.write_format.Goals as goal
+
+pub returns-in_err-journal-clause-any_moment : goal.returns-in_err-journal-clause-any_moment
+returns-in_err-journal-clause-any_moment g c told = weaker g.D.Disk.moment g.D.Disk.left_since _ _ _ _ (c.write_first.ensures.any_moment told) (left_by_clearing _ c.args.inc)
+
+pub returns-in_err-write_header-clause-any_moment : goal.returns-in_err-write_header-clause-any_moment
+returns-in_err-write_header-clause-any_moment g c told =
+    let whole = (g.met.D.Disk g.world.𝓛 g.world.𝓜 g.world.𝓡 ((λ s x. x), (λ x. x), (λ x. x), λ x. x)).whole c.write_first.new.disk told in
+    let fits : 64 ≤ length (g.D.Disk.seen c.write_first.new.disk) = omega (arith, whole, c.write_first.ensures.size, c.requires) in
+    formatting g.D.Disk.moment g.D.Disk.left_since _ _ _ _ c.args.inc _ c.ranges.inc.fits fits (c.in_ok-journal.ensures.stands told) (c.write_first.ensures.any_moment told)
+    (c.write_header.ensures.any_moment told (c.in_ok-journal.ensures.durable told) (c.in_ok-journal.ensures.shut told))
+
+pub returns-in_err-write_header-clause-either : goal.returns-in_err-write_header-clause-either
+returns-in_err-write_header-clause-either g c told =
+    let whole = (g.met.D.Disk g.world.𝓛 g.world.𝓜 g.world.𝓡 ((λ s x. x), (λ x. x), (λ x. x), λ x. x)).whole c.write_first.new.disk told in
+    let fits : 64 ≤ length (g.D.Disk.seen c.write_first.new.disk) = omega (arith, whole, c.write_first.ensures.size, c.requires) in
+    left_by_header (λ (file : List ℕ). file ≡ g.D.Disk.seen c.args.disk.now) c.args.inc _ _ c.ranges.inc.fits fits (c.in_ok-journal.ensures.stands told) (c.write_header.ensures.either told (c.in_ok-journal.ensures.shut told))
+
+pub returns-clause-any_moment : goal.returns-clause-any_moment
+returns-clause-any_moment g c told =
+    let whole = (g.met.D.Disk g.world.𝓛 g.world.𝓜 g.world.𝓡 ((λ s x. x), (λ x. x), (λ x. x), λ x. x)).whole c.write_first.new.disk told in
+    let fits : 64 ≤ length (g.D.Disk.seen c.write_first.new.disk) = omega (arith, whole, c.write_first.ensures.size, c.requires) in
+    formatting g.D.Disk.moment g.D.Disk.left_since _ _ _ _ c.args.inc _ c.ranges.inc.fits fits (c.in_ok-journal.ensures.stands told) (c.write_first.ensures.any_moment told)
+    (c.write_header.ensures.any_moment told (c.in_ok-journal.ensures.durable told) (c.in_ok-journal.ensures.shut told))
+
+pub returns-clause-either : goal.returns-clause-either
+returns-clause-either g c told =
+    let whole = (g.met.D.Disk g.world.𝓛 g.world.𝓜 g.world.𝓡 ((λ s x. x), (λ x. x), (λ x. x), λ x. x)).whole c.write_first.new.disk told in
+    let fits : 64 ≤ length (g.D.Disk.seen c.write_first.new.disk) = omega (arith, whole, c.write_first.ensures.size, c.requires) in
+    left_by_header (λ (file : List ℕ). file ≡ g.D.Disk.seen c.args.disk.now) c.args.inc _ _ c.ranges.inc.fits fits (c.in_ok-journal.ensures.stands told) (c.write_header.ensures.either told (c.in_ok-journal.ensures.shut told))
 
 pub returns-clause-holds : goal.returns-clause-holds
 returns-clause-holds g c told =
-    let j = c.in_ok-journal.journal in
-    let at : IsPlaced j = record { base = ap (λ r. r.base) c.in_ok-journal.ensures.region; limit = ap (λ r. r.limit) c.in_ok-journal.ensures.region } in
-    let one = c.in_ok-write_kept.ensures.written told in
-    let two = c.in_ok-write_kept-2.ensures.written told in
-    let whole = (g.met.D.Disk g.world.𝓛 g.world.𝓜 g.world.𝓡 ((λ s x. x), (λ x. x), (λ x. x), λ x. x)).whole c.format.new.disk told in
-    let some : 0 < length (g.D.Disk.seen c.format.new.disk) = omega (arith, whole, c.format.ensures.size, c.requires) in
-    let head = headed (g.D.Disk.seen c.format.new.disk) some in
-    let spelled : take 64 (g.D.Disk.seen c.write_kept-2.new.disk) ≡ header = ap (take 64) (two ∙ ap (λ (f : List ℕ). written f 0 (165 ∷ [])) one) ∙ head in
-    let base = at.base in
-    let limit = at.limit in
-    let empty = (c.in_ok-journal.ensures.stored told).now in
-    let after_one = stands_outside 128 j.base j.limit 1 63 _ _ [] (omega arith) (inr (omega arith)) (c.write_kept.ensures.torn told) empty in
-    let after_two = stands_outside 128 j.base j.limit 0 1 _ _ [] (omega arith) (inr (omega arith)) (c.write_kept-2.ensures.torn told) after_one in
-    formatted j _ _ at (ap (λ r. r.count) c.in_ok-journal.ensures.region) spelled after_two (c.in_ok-write_kept-2.ensures.durable told)
+    let whole = (g.met.D.Disk g.world.𝓛 g.world.𝓜 g.world.𝓡 ((λ s x. x), (λ x. x), (λ x. x), λ x. x)).whole c.write_first.new.disk told in
+    let fits : 64 ≤ length (g.D.Disk.seen c.write_first.new.disk) = omega (arith, whole, c.write_first.ensures.size, c.requires) in
+    formatted c.in_ok-journal.journal _ _ _ c.in_ok-journal.ensures.region.2 (headed_device _ _ c.args.inc c.ranges.inc.fits fits (c.in_ok-journal.ensures.stands told) (c.in_ok-write_header.ensures.written told))
+    (c.in_ok-write_header.ensures.durable told)

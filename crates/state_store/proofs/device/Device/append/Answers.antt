@@ -1,6 +1,6 @@
-use Rattle.std.proofs.Common.{◌≡◌, sym, ◌∙◌}
+use Rattle.std.proofs.Common.{◌∙◌}
 use Rattle.petal_disk.proofs.Moments.{weaker}
-use Rattle.state_store.specs.Device.{Holds, WithOrWithout, bodies_of}
+use Rattle.state_store.specs.Device.{bodies_of}
 use Rattle.state_store.proofs.Devices.{IsPlaced, stored, left_by_append, left_by_fault, appended}
 use Rattle.state_store.proofs.device.Device.append.Goals as goal
 

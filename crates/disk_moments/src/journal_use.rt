@@ -1,0 +1,33 @@
+//! An append whose past is not empty.
+
+ghost use Rattle.std.specs.Prelude.{◌≡◌, ◌≤◌, ◌+◌, ◌*◌, ℕ, List, length, OnOk};
+ghost use Rattle.block_journal.specs.Records.{Stored, LeftByAppend};
+ghost use Rattle.disk_moments.specs.Moments.{WasLeft};
+ghost use Rattle.petal_disk.specs.Disk.{LeavesOnly};
+
+use crate::Remembering;
+use block_journal::{Journal, JournalError};
+use petal_disk::Disk;
+
+/// Appends a body of 7 bytes to a journal on a disk that remembers. A crash at an earlier moment would have left the list
+/// without it, and a crash now cannot.
+///
+/// # Errors
+/// As `Journal::append`.
+pub fn append_body(
+    journal: &mut Journal<8>,
+    disk: &mut Remembering,
+    body: &[u8],
+) -> Result<(), JournalError>
+    requires body { length body.now ≡ 7 }
+    requires region { journal.old.base + 8 * journal.old.limit ≤ ⟦<Remembering as Disk>⟧.size disk.old }
+    ensures past { (bodies : List (List ℕ))
+        → Stored 8 journal.old (⟦<Remembering as Disk>⟧.seen disk.old) (⟦<Remembering as Disk>⟧.may_leave disk.old) bodies
+        → OnOk result (WasLeft 8 journal.old bodies (⟦<Remembering as Disk>⟧.left_since disk.new (⟦<Remembering as Disk>⟧.moment disk.old)) (⟦<Remembering as Disk>⟧.may_leave disk.new)) }
+    ensures any_moment { (bodies : List (List ℕ))
+        → Stored 8 journal.old (⟦<Remembering as Disk>⟧.seen disk.old) (⟦<Remembering as Disk>⟧.may_leave disk.old) bodies
+        → LeavesOnly ⟦<Remembering as Disk>⟧.moment ⟦<Remembering as Disk>⟧.left_since disk.old disk.new
+        (LeftByAppend 8 journal.old (⟦<Remembering as Disk>⟧.may_leave disk.old) bodies body.now) }
+{
+    journal.append(disk, body)
+}

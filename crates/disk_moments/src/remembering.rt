@@ -1,0 +1,97 @@
+//! A disk in memory that remembers what it was.
+
+ghost use Rattle.std.specs.Prelude.{◌≡◌, ◌∷◌, replicate, IfOk};
+ghost use Rattle.petal_disk.specs.Disk.{Only};
+
+use crate::past::Past;
+use petal_disk::{Disk, Failed, MemDisk, NoMemory};
+use std::alloc::Global;
+
+/// A disk in memory that remembers, for contracts alone, what it was before each call. Each call is a moment.
+#[derive(Drop)]
+pub struct Remembering {
+    disk: MemDisk,
+    past: Past,
+}
+
+impl Remembering {
+    /// A disk of zeros with no past.
+    pub fn new(alloc: Global, len: u64) -> Result<Self, NoMemory>
+        ensures size { IfOk result (λ disk. ⟦<Remembering as Disk>⟧.size disk ≡ len) }
+        ensures seen { IfOk result (λ disk. ⟦<Remembering as Disk>⟧.seen disk ≡ replicate len 0) }
+        ensures crash { IfOk result (λ disk. Only (replicate len 0) (⟦<Remembering as Disk>⟧.may_leave disk)) }
+        ensures moment { IfOk result (λ disk. ⟦<Remembering as Disk>⟧.moment disk ≡ 0) }
+    {
+        Ok(Remembering {
+            disk: MemDisk::new(alloc, len)?,
+            past: Past::new(),
+        })
+    }
+
+    // One moment more.
+    fn note(&mut self)
+        ensures disk { self.new.disk ≡ self.old.disk }
+        ensures past { self.new.past.disks ≡ self.old.disk ∷ self.old.past.disks }
+    {
+        self.past = Past::with(&self.past, &self.disk);
+    }
+}
+
+impl Disk for Remembering {
+    ghost use Rattle.std.specs.Prelude.{length};
+    ghost use Rattle.std.proofs.Common.{inl, inr, refl};
+    ghost use Rattle.petal_disk.specs.Mixes.{length-Mixes};
+    ghost use Rattle.disk_moments.specs.Moments.{LeftSince, Remembers, only_here, remembers_on};
+
+    ghost size = { λ r. ⟦<MemDisk as Disk>⟧.size r.disk };
+
+    ghost told = { Unit {0} };
+
+    ghost seen = { λ r. ⟦<MemDisk as Disk>⟧.seen r.disk };
+
+    ghost may_leave = { λ r c. ⟦<MemDisk as Disk>⟧.may_leave r.disk c };
+
+    ghost moment = { λ r. length r.past.disks };
+
+    ghost left_since = { λ r t c. LeftSince ⟦<MemDisk as Disk>⟧.may_leave r.past.disks r.disk t c };
+
+    ghost faults = { λ r. 0 };
+
+    ghost came_to = { λ first last. Remembers first.past.disks first.disk last.past.disks last.disk };
+
+    ghost whole = { λ r told. refl };
+
+    ghost left_whole = { λ r c left. length-Mixes r.disk.now.items r.disk.kept.items c left };
+
+    ghost counts_now = { λ r t c le now. inl now };
+
+    ghost only_now = { λ r c left. only_here ⟦<MemDisk as Disk>⟧.may_leave r.past.disks r.disk c left };
+
+    ghost stays = { λ r. inl (refl, refl) };
+
+    ghost goes_on = { λ first mid last a b. remembers_on first.past.disks mid.past.disks last.past.disks first.disk mid.disk last.disk a b };
+
+    fn len(&self) -> u64 {
+        self.disk.len()
+    }
+
+    fn read(&mut self, at: u64, into: &mut [u8]) -> Result<(), Failed> {
+        self.note();
+        self.disk.read(at, into)
+    }
+
+    fn write_at(&mut self, at: u64, bytes: &[u8]) -> Result<(), Failed> {
+        self.note();
+        self.disk.write_at(at, bytes)
+    }
+
+    fn sync(&mut self) -> Result<(), Failed> {
+        self.note();
+        self.disk.sync()
+    }
+
+    fn crash(&mut self) {
+        self.note();
+        self.disk.crash();
+    }
+}
