@@ -9,7 +9,7 @@ use Rattle.script_lines.specs.declared.request.Request.TheVariants as request
 use Rattle.script_lines.specs.declared.script.Script.{Script}
 use Rattle.petal_rules.specs.State.{State}
 use Rattle.petal_rules.specs.World.{start, setting_of, state_by, state_of}
-use Rattle.petal_world.specs.Desks.{Site, desk_of}
+use Rattle.world_desks.specs.Desks.{Site, desk_of}
 use Rattle.memory_server.specs.Members.{first_site}
 
 by_request : (servers : ℕ) (asked : Request) (other : State) → other.rev ≡ 1 → (state_by servers asked other).rev ≡ 1

@@ -2,7 +2,7 @@
 use Rattle.std.specs.Prelude.{ℕ, true}
 use Rattle.petal_rules.specs.State.{State}
 use Rattle.petal_rules.specs.Server.{first_server}
-use Rattle.petal_world.specs.Desks.{Site}
+use Rattle.world_desks.specs.Desks.{Site}
 
 -- a server of a run that begins
 abbrev pub first_site : State → ℕ → ℕ → Site

@@ -1,6 +1,6 @@
 -- A server with its store, as the rules see it.
 use Rattle.kept_chains.specs.Kept.{kept_of}
-use Rattle.petal_world.specs.Desks.{Site}
+use Rattle.world_desks.specs.Desks.{Site}
 use Rattle.server_core.specs.Core.{Core, server_of}
 use Rattle.server_store.specs.Holdings.{Holdings}
 

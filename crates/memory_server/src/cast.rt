@@ -3,7 +3,7 @@
 ghost use Rattle.std.specs.Prelude.{◌≡◌, All, map, IfOk};
 ghost use Rattle.std.specs.List.{range_with_len};
 ghost use Rattle.petal_rules.specs.World.{state_of};
-ghost use Rattle.petal_world.specs.Desks.{first_sites};
+ghost use Rattle.world_desks.specs.Desks.{first_sites};
 ghost use Rattle.server_store.specs.Slots.{slot_start};
 ghost use Rattle.memory_server.specs.Members.{first_site};
 ghost use Rattle.memory_server.specs.Server.{site_of};

@@ -4,7 +4,7 @@ ghost use Rattle.std.specs.Prelude.{◌≡◌, true, IfOk};
 ghost use Rattle.petal_rules.specs.Server.{first_server};
 ghost use Rattle.petal_rules.specs.declared.step.Step.TheVariants.{Work};
 ghost use Rattle.petal_rules.specs.declared.step.WorkEnd.TheVariants.{Done};
-ghost use Rattle.petal_world.specs.Desks.{acted_at};
+ghost use Rattle.world_desks.specs.Desks.{acted_at};
 ghost use Rattle.server_store.specs.Slots.{slot_start};
 ghost use Rattle.memory_server.specs.Server.{Place, site_of};
 
@@ -13,11 +13,11 @@ use petal_base::{NoMemory, Rev, Sequence, ServerId};
 use petal_disk::{Disk, MemDisk};
 use petal_msg::Letter;
 use petal_rules::{Step, WorkEnd};
-use petal_world::Host;
 use server_core::{ServerCore, Worked};
 use server_store::{DATA_START, SLOT_BYTES, Store};
 use std::alloc::Global;
 use std::marker::Model;
+use world_desks::Host;
 
 /// A server and its store. Contracts see the core and what the store holds.
 #[derive(Drop)]

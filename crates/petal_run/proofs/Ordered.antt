@@ -13,7 +13,7 @@ use Rattle.script_lines.specs.declared.script.Script.{Script}
 use Rattle.petal_rules.specs.Lists.{In}
 use Rattle.petal_rules.proofs.ListLemmas.{in-append}
 use Rattle.law_answers.specs.Order.{AreRising}
-use Rattle.petal_world.specs.Playable.{AreOrdered}
+use Rattle.world_desks.specs.Playable.{AreOrdered}
 
 -- the lines that were read up to this number, and how many phases were begun
 record Read (phases : ℕ) (lines : List Line) (n : ℕ) : Type 0 where

@@ -5,7 +5,7 @@ ghost use Rattle.law_answers.specs.Order.{AreRising};
 ghost use Rattle.petal_script.specs.Script.{script_of};
 ghost use Rattle.script_lines.specs.declared.script.Script.{Script};
 ghost use Rattle.petal_run.specs.Asked.{by_text};
-ghost use Rattle.petal_world.specs.Playable.{AreOrdered};
+ghost use Rattle.world_desks.specs.Playable.{AreOrdered};
 ghost use Rattle.petal_run.specs.Said.{DoneInPart, WrittenByPhases};
 
 use law_run::read_scripts_are_sound;

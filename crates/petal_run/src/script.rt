@@ -11,7 +11,7 @@ ghost use Rattle.plain_schedule.specs.Phases.{GoesByPhases, records_of};
 ghost use Rattle.plain_schedule.specs.Whole.{all_answered};
 ghost use Rattle.petal_run.specs.Asked.{Play, by_built, by_text};
 ghost use Rattle.petal_run.specs.Built.{first_not_built};
-ghost use Rattle.petal_world.specs.Playable.{AreOrdered};
+ghost use Rattle.world_desks.specs.Playable.{AreOrdered};
 ghost use Rattle.petal_run.specs.Said.{Done, DoneInPart, EndsWithPhase, WrittenByPhases, WrittenInPhase, WroteInPhase, WrotePhases};
 ghost use Rattle.petal_run.specs.Written.{Wrote, text_of_answers};
 ghost use Rattle.petal_run.specs.declared.error.RunError.TheVariants as error;

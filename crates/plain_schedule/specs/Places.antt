@@ -7,7 +7,7 @@ use Rattle.petal_history.specs.Legal.{IsLegal}
 use Rattle.petal_history.specs.Text.{answers_of}
 use Rattle.petal_history.specs.declared.record.Record.{Record}
 use Rattle.petal_rules.specs.Lists.{In}
-use Rattle.petal_world.specs.Playable.{AreOrdered}
+use Rattle.world_desks.specs.Playable.{AreOrdered}
 use Rattle.law_answers.specs.Order.{AreRising}
 use Rattle.plain_schedule.specs.Phases.{Progress, IsFront}
 

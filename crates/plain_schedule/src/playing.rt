@@ -6,7 +6,7 @@ ghost use Rattle.law_answers.specs.Order.{AreRising};
 ghost use Rattle.petal_history.specs.Legal.{IsLegal};
 ghost use Rattle.petal_history.specs.Sound.{IsSound};
 ghost use Rattle.petal_history.specs.Text.{answers_of};
-ghost use Rattle.petal_world.specs.Playable.{AreOrdered};
+ghost use Rattle.world_desks.specs.Playable.{AreOrdered};
 ghost use Rattle.plain_schedule.specs.Phases.{Ends, GoesByPhases, IsFront, records_of};
 ghost use Rattle.plain_schedule.specs.Places.{GoesOn, numbers, phase_run, progress_of, KeepsPlaces};
 ghost use Rattle.plain_schedule.specs.Whole.{all_answered, begins_with_disk};

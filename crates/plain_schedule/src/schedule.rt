@@ -2,7 +2,7 @@
 
 ghost use Rattle.std.specs.Prelude.{◌≡◌, [], true, IfOk};
 ghost use Rattle.petal_history.specs.Sound.{IsSound};
-ghost use Rattle.petal_world.specs.Playable.{AreOrdered};
+ghost use Rattle.world_desks.specs.Playable.{AreOrdered};
 ghost use Rattle.plain_schedule.specs.Places.{GoesOn};
 ghost use Rattle.plain_schedule.specs.Whole.{begins_with_disk};
 
