@@ -48,7 +48,7 @@ def busy(clients, *nets):
 
 def all_servers():
     """Blocks on all of eight servers, each written by one client and read by two others."""
-    lines = head(8, 16)
+    lines = head(8, 10)
     lines += [f"{CLIENTS[block % 8]} write vol {block} halves {block} {255 - block}" for block in range(32)]
     lines.append("wait")
     for turn in (1, 2):
