@@ -2,6 +2,7 @@
 
 ghost use Rattle.std.specs.Prelude.{◌≡◌, ◌⊎◌, ◌≤◌, ◌<◌, if◌then◌else◌, ℕ, None, OnOk, OnErr, IfOk, IfErr, IsErrOf};
 ghost use Rattle.petal_disk.specs.Disk.{LeavesOnly};
+ghost use Rattle.paxos_core.specs.Needs.{Needs};
 ghost use Rattle.petal_paxos.specs.Member.{put};
 ghost use Rattle.petal_paxos.specs.Acceptor.{is_open, on_prepare, prepare_reply, on_accept, accept_reply};
 ghost use Rattle.state_store.specs.Device.{Holds, WithOrWithout};
@@ -18,7 +19,8 @@ use state_store::{StateError, StateStore};
 /// device, whatever crash comes.
 ///
 /// # Errors
-/// As `StateStore::promise`.
+/// As `StateStore::promise`: `JournalFull` comes only where the journal has all its records and the promise is to be committed,
+/// and there nothing but it or `NoMemory` comes.
 pub fn on_prepare<D: Disk>(
     store: &mut StateStore<D>,
     place: u32,
@@ -31,7 +33,10 @@ pub fn on_prepare<D: Disk>(
         → OnOk result (Holds store.new.region (D.seen store.new.disk) (D.may_leave store.new.disk) store.new.records) }
     ensures any_moment { D.told → Holds store.old.region (D.seen store.old.disk) (D.may_leave store.old.disk) store.old.records
         → LeavesOnly D.moment D.left_since store.old.disk store.new.disk (λ c. WithOrWithout c store.old.records (kind.Promise place ballot)) }
-    ensures full { IsErrOf result error.JournalFull → (store.old.region.count ≡ 65536) × (store.new ≡ store.old) }
+    ensures either { D.told → Holds store.old.region (D.seen store.old.disk) (D.may_leave store.old.disk) store.old.records
+        → WithOrWithout (D.seen store.new.disk) store.old.records (kind.Promise place ballot) }
+    ensures full { IsErrOf result error.JournalFull → (store.old.region.count ≡ 65536) × Needs store.old.records place ballot (kind.Promise place ballot) × (store.new ≡ store.old) }
+    ensures full_comes { store.old.region.count ≡ 65536 → Needs store.old.records place ballot (kind.Promise place ballot) → IsErrOf result error.JournalFull ⊎ IsErrOf result error.NoMemory }
     ensures memory { IsErrOf result error.NoMemory → store.new ≡ store.old }
     ensures only { IfErr result IsCommitError }
     ensures failed { IsErrOf result error.Failed → D.faults store.old.disk < D.faults store.new.disk }
@@ -58,7 +63,8 @@ pub fn on_prepare<D: Disk>(
 /// stands on the device, whatever crash comes.
 ///
 /// # Errors
-/// As `StateStore::accept`.
+/// As `StateStore::accept`: `JournalFull` comes only where the journal has all its records and the acceptance is to be
+/// committed, and there nothing but it or `NoMemory` comes.
 pub fn on_accept<D: Disk>(
     store: &mut StateStore<D>,
     place: u32,
@@ -72,7 +78,10 @@ pub fn on_accept<D: Disk>(
         → OnOk result (Holds store.new.region (D.seen store.new.disk) (D.may_leave store.new.disk) store.new.records) }
     ensures any_moment { D.told → Holds store.old.region (D.seen store.old.disk) (D.may_leave store.old.disk) store.old.records
         → LeavesOnly D.moment D.left_since store.old.disk store.new.disk (λ c. WithOrWithout c store.old.records (kind.Accepted place ballot command.now)) }
-    ensures full { IsErrOf result error.JournalFull → (store.old.region.count ≡ 65536) × (store.new ≡ store.old) }
+    ensures either { D.told → Holds store.old.region (D.seen store.old.disk) (D.may_leave store.old.disk) store.old.records
+        → WithOrWithout (D.seen store.new.disk) store.old.records (kind.Accepted place ballot command.now) }
+    ensures full { IsErrOf result error.JournalFull → (store.old.region.count ≡ 65536) × Needs store.old.records place ballot (kind.Accepted place ballot command.now) × (store.new ≡ store.old) }
+    ensures full_comes { store.old.region.count ≡ 65536 → Needs store.old.records place ballot (kind.Accepted place ballot command.now) → IsErrOf result error.JournalFull ⊎ IsErrOf result error.NoMemory }
     ensures memory { IsErrOf result error.NoMemory → store.new ≡ store.old }
     ensures only { IfErr result IsCommitError }
     ensures failed { IsErrOf result error.Failed → D.faults store.old.disk < D.faults store.new.disk }
