@@ -1,5 +1,5 @@
 -- What a step of a server leaves.
-use Rattle.std.proofs.Common.{◌≡◌, ◌≢◌, ◌<◌, ◌+◌, arith, ℕ, List, [], ◌∷◌, Option, Some, None, Result, Ok, Err, IfOk, refl, ap}
+use Rattle.std.proofs.Common.{◌≡◌, ◌≢◌, ◌<◌, ◌+◌, arith, ℕ, List, [], ◌∷◌, Option, Some, None, Result, Ok, Err, IsErr, IfOk, refl, ap}
 use Rattle.std.specs.Prelude.{slice_get}
 
 -- a list without a first item is empty
@@ -20,3 +20,8 @@ below n known most is fits other = grind arith
 pub has_first : {A : Type 0} (xs : List A) (x : A) → slice_get xs 0 ≡ Some x → xs ≢ []
 has_first [] x is empty = absurd (cc)
 has_first (y ∷ xs) x is empty = absurd (cc)
+
+-- an error is no value
+pub no_value : {T E B : Type 0} (result : Result T E) (value : T) → IsErr result → result ≡ Ok value → B
+no_value (Ok x) value is e = absurd (cc)
+no_value (Err x) value is e = absurd (cc)
