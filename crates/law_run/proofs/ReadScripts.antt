@@ -8,8 +8,8 @@ use Rattle.petal_script.specs.Client.{spread_of, disk_of, move_of, filled_of, ha
 use Rattle.petal_script.specs.Operator.{stop_at, stop_of, fault_of, boot_of, operator_request}
 use Rattle.petal_script.specs.Script.{TextLine, script_of, text_lines, lines_behind, first_line, servers_line, net_line}
 use Rattle.script_words.specs.Text.{pieces, words_of}
-use Rattle.petal_script.specs.Laws.{Does, skipped, nets, waits, asks, Asks, line_at, Follows}
-use Rattle.petal_script.proofs.Doing.{is_accepted}
+use Rattle.law_script.specs.Laws.{Does, skipped, nets, waits, asks, Asks, line_at, Follows}
+use Rattle.law_script.proofs.Doing.{is_accepted}
 use Rattle.script_words.specs.declared.cause.Cause.{Cause}
 use Rattle.script_words.specs.declared.cause.Cause.TheVariants.{BadNumber, BadTuple}
 use Rattle.script_lines.specs.declared.request.Line.{Line}

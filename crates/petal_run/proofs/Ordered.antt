@@ -4,8 +4,8 @@ use Rattle.script_words.specs.Text.{pieces, without_end, words_of}
 use Rattle.script_words.specs.Words.{Word, ◌>>=◌, is_word, two_words, three_words}
 use Rattle.script_words.specs.Fields.{in_limits}
 use Rattle.petal_script.specs.Script.{TextLine, script_of, lines_behind, first_line, servers_line, net_line}
-use Rattle.petal_script.specs.Laws.{Does, skipped, nets, waits, asks, Follows, line_at}
-use Rattle.petal_script.proofs.Doing.{is_accepted}
+use Rattle.law_script.specs.Laws.{Does, skipped, nets, waits, asks, Follows, line_at}
+use Rattle.law_script.proofs.Doing.{is_accepted}
 use Rattle.script_words.specs.declared.cause.Cause.{Cause}
 use Rattle.script_words.specs.declared.cause.Cause.TheVariants.{BadLine, NoServersLine}
 use Rattle.script_lines.specs.declared.request.Line.{Line}

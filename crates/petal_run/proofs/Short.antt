@@ -2,7 +2,7 @@
 use Rattle.std.proofs.Common.{◌≡◌, ◌≤◌, ℕ, ◌+◌, List, [], ◌∷◌, length, Option, None, Result, Ok, Err, refl, ap, arith, length-append}
 use Rattle.std.proofs.lemmas.Bool.Decides.{nat_tests}
 use Rattle.std.specs.List.{concat}
-use Rattle.petal_script.proofs.Firsts.{concat-pieces}
+use Rattle.law_script.proofs.Firsts.{concat-pieces}
 use Rattle.script_words.specs.Text.{pieces, without_end}
 use Rattle.script_words.specs.declared.cause.Cause.{Cause}
 use Rattle.script_lines.specs.declared.script.Script.{Script}

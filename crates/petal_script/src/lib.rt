@@ -9,17 +9,12 @@ mod client;
 mod contents;
 mod draft;
 mod error;
-mod laws;
 mod operator;
 mod print;
 mod reading;
 mod tally;
 
 pub use error::ScriptError;
-pub use laws::{
-    first_fault, first_refused_line, lines_are_the_text, runs_are_the_block, what_a_line_does,
-    what_a_script_is,
-};
 pub use print::{write_answer, write_refusal};
 pub use reading::read_script;
 pub use script_lines::{Answer, Line, Pattern, Request, Script};

@@ -1,4 +1,8 @@
-//! What holds of every text. The functions do nothing: their clauses are the laws.
+//! What holds of every script's text, over every text. The functions do nothing: their clauses are the laws.
+//!
+//! They say in words that stand above the reading line by line what `petal_script` reads and prints: which line is refused
+//! and why, and what each accepted line adds. They stand apart so that the code of the language waits for none of them.
+#![tactic(auto)]
 
 ghost use Rattle.std.specs.Prelude.{slice_get, ◌≡◌, Option, ◌↔◌, ◌⊎◌, ◌<◌, ◌+◌, ℕ, List, None, Some, Ok, Err, length};
 ghost use Rattle.std.specs.List.{concat, find, flat_map};
@@ -6,8 +10,8 @@ ghost use Rattle.script_lines.specs.Contents.{runs, run_bytes, AreLongest};
 ghost use Rattle.script_words.specs.Text.{pieces};
 ghost use Rattle.script_lines.specs.declared.script.Script.{Script};
 ghost use Rattle.petal_script.specs.Script.{TextLine, Refusal, script_of, text_lines, line_verdict};
-ghost use Rattle.petal_script.specs.Faults.{told, has_fault, in_order};
-ghost use Rattle.petal_script.specs.Laws.{Taken, IsFirstRefused, IsWithoutLines, AreLines, Does, IsAccepted};
+ghost use Rattle.law_script.specs.Faults.{told, has_fault, in_order};
+ghost use Rattle.law_script.specs.Laws.{Taken, IsFirstRefused, IsWithoutLines, AreLines, Does, IsAccepted};
 
 /// The lines with their ends are the text, and each ends at its first LF.
 pub fn lines_are_the_text()

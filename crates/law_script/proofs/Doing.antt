@@ -8,8 +8,8 @@ use Rattle.petal_script.specs.Client.{client_request}
 use Rattle.petal_script.specs.Operator.{operator_request}
 use Rattle.script_lines.specs.declared.script.Script.{Script}
 use Rattle.petal_script.specs.Script.{TextLine, script_of, text_lines, first_line, line_verdict, later_line, line_by, adds, client_of, is_skipped, too_many, no_majority}
-use Rattle.petal_script.specs.Laws.{Does, skipped, nets, waits, asks, Asks, line_at, Taken, Follows, IsAccepted}
-use Rattle.petal_script.proofs.Firsts.{is_script}
+use Rattle.law_script.specs.Laws.{Does, skipped, nets, waits, asks, Asks, line_at, Taken, Follows, IsAccepted}
+use Rattle.law_script.proofs.Firsts.{is_script}
 use Rattle.script_words.specs.declared.cause.Cause.{Cause}
 use Rattle.script_words.specs.declared.cause.Cause.TheVariants.{NotAscii, TooLong, BadLine, TooMany, NoMajority}
 use Rattle.script_lines.specs.declared.request.Request.{Request}

@@ -1,5 +1,5 @@
 use Rattle.petal_script.proofs.Runs.{flat_map-runs, runs_are_longest}
-use Rattle.petal_script.proofs.laws.runs_are_the_block.Goals as goal
+use Rattle.law_script.proofs.runs_are_the_block.Goals as goal
 
 pub returns-clause-whole : goal.returns-clause-whole
 returns-clause-whole c = flat_map-runs

@@ -13,7 +13,7 @@ use Rattle.script_words.specs.Fields.{a_name, in_limits, a_server, a_call, numbe
 use Rattle.petal_script.specs.Client.{spread_of, disk_of, move_of, filled_of, halves_of, write_of, read_of, snap_of, client_request}
 use Rattle.petal_script.specs.Operator.{stop_at, stop_of, fault_of, boot_of, operator_request}
 use Rattle.petal_script.specs.Script.{TextLine, is_skipped, is_client, servers_line, net_line, adds, later_line, first_line, counted, line_verdict, too_many, no_majority}
-use Rattle.petal_script.specs.Faults.{Places, place, numbers_only, server_place, servers_places, net_places, bare_places, spread_places, write_places, version_names, read_places, snap_places, client_places, stop_places, boot_places, is_device, is_kind, fault_places, operator_places, line_places, is_good, bad_name, bad_number, is_unfit, bad_tuple, lacks_servers, with_request, lines_with, are_too_many, leave_no_majority, servers_in, has_fault, in_order, told}
+use Rattle.law_script.specs.Faults.{Places, place, numbers_only, server_place, servers_places, net_places, bare_places, spread_places, write_places, version_names, read_places, snap_places, client_places, stop_places, boot_places, is_device, is_kind, fault_places, operator_places, line_places, is_good, bad_name, bad_number, is_unfit, bad_tuple, lacks_servers, with_request, lines_with, are_too_many, leave_no_majority, servers_in, has_fault, in_order, told}
 use Rattle.petal_disk.specs.declared.shelf.Which.{Which}
 use Rattle.petal_disk.specs.declared.shelf.Which.TheVariants as devices
 use Rattle.petal_disk.specs.declared.planned.CallKind.{CallKind}

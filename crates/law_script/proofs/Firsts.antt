@@ -5,7 +5,7 @@ use Rattle.std.specs.List.{concat, onto_first}
 use Rattle.script_words.specs.Text.{pieces, without_end}
 use Rattle.script_lines.specs.declared.script.Script.{Script}
 use Rattle.petal_script.specs.Script.{lines_behind, TextLine, Refusal, line_verdict, script_from, script_of, text_lines, goes_on, ended}
-use Rattle.petal_script.specs.Laws.{Taken, IsFirstRefused, IsWithoutLines, IsPiece, AreLines}
+use Rattle.law_script.specs.Laws.{Taken, IsFirstRefused, IsWithoutLines, IsPiece, AreLines}
 use Rattle.script_words.specs.declared.cause.Cause.{Cause}
 use Rattle.script_words.specs.declared.cause.Cause.TheVariants.{NoServersLine}
 

@@ -1,5 +1,5 @@
-use Rattle.petal_script.proofs.Firsts.{is_script, is_refused}
-use Rattle.petal_script.proofs.laws.first_refused_line.Goals as goal
+use Rattle.law_script.proofs.Firsts.{is_script, is_refused}
+use Rattle.law_script.proofs.first_refused_line.Goals as goal
 
 pub returns-clause-script : goal.returns-clause-script
 returns-clause-script c = is_script

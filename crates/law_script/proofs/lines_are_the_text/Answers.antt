@@ -1,5 +1,5 @@
-use Rattle.petal_script.proofs.Firsts.{concat-pieces, pieces_are, number_at}
-use Rattle.petal_script.proofs.laws.lines_are_the_text.Goals as goal
+use Rattle.law_script.proofs.Firsts.{concat-pieces, pieces_are, number_at}
+use Rattle.law_script.proofs.lines_are_the_text.Goals as goal
 
 pub returns-clause-whole : goal.returns-clause-whole
 returns-clause-whole c = concat-pieces

@@ -1,0 +1,5 @@
+use Rattle.law_script.proofs.Faulting.{first_fault}
+use Rattle.law_script.proofs.first_fault.Goals as goal
+
+pub returns : goal.returns
+returns c = first_fault

@@ -1,0 +1,5 @@
+use Rattle.law_script.proofs.Doing.{taken_does}
+use Rattle.law_script.proofs.what_a_line_does.Goals as goal
+
+pub returns : goal.returns
+returns c = taken_does
