@@ -1,8 +1,6 @@
-use Rattle.std.proofs.Common.{◌≡◌, ◌≤◌, ◌⊎◌, ℕ, List, length, arith, ap, sym, subst}
-use Rattle.petal_disk.specs.Disk.{LeavesOnly, written}
+use Rattle.std.proofs.Common.{◌≡◌, ◌≤◌, ℕ, List, length, arith, ap}
 use Rattle.petal_disk.proofs.Moments.{weaker}
-use Rattle.block_journal.specs.Gate.{IsShut}
-use Rattle.server_store.specs.Device.{header, Log}
+use Rattle.server_store.specs.Device.{Log}
 use Rattle.server_store.proofs.Devices.{IsPlaced, headed_device, formatted_device, formatting, left_by_clearing, left_by_header}
 use Rattle.server_store.proofs.record_log.RecordLog.format.Goals as goal
 
