@@ -18,7 +18,7 @@ def block_of(words):
         return bytes(numbers) * BLOCK
     if kind == "halves":
         return bytes(numbers[:1]) * (BLOCK // 2) + bytes(numbers[1:]) * (BLOCK // 2)
-    return bytes((numbers[0] + i) % 256 for i in range(BLOCK))
+    return (bytes(range(256)) * (BLOCK // 256 + 1))[numbers[0] : numbers[0] + BLOCK]
 
 def contents_of(block):
     """A block as it is printed."""

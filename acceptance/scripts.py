@@ -87,12 +87,12 @@ def requests(count):
     return joined(lines)
 
 def phases(count):
-    """So many phases of a write and a read of what another client wrote in the phase before."""
-    lines = head(3, 64)
+    """So many phases of a write, and of three reads of what another client wrote in the phase before."""
+    lines = head(2, 24)
     for phase in range(int(count)):
-        lines.append(f"{CLIENTS[phase % 8]} write vol {phase % 20} fill {phase % 251}")
+        lines.append(f"{CLIENTS[phase % 8]} write vol {phase % 20} ramp {phase % 251}")
         if phase:
-            lines.append(f"{CLIENTS[(phase + 3) % 8]} read vol {(phase - 1) % 20}")
+            lines += [f"{CLIENTS[(phase + other) % 8]} read vol {(phase - 1) % 20}" for other in (1, 2, 3)]
         lines.append("wait")
     return joined(lines)
 

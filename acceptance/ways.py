@@ -1,6 +1,6 @@
 """How a case runs the program. Each way gets the command, the script and a time limit, and returns the exit status, what was
 printed, and a complaint or None."""
-import fcntl, os, subprocess, tempfile, time
+import fcntl, os, subprocess, tempfile, threading, time
 
 PIPE_BYTES = 4096
 
@@ -57,7 +57,7 @@ def slow_input(command, script, seconds):
     """The input comes a few bytes at a time."""
     ours, theirs = os.pipe()
     with tempfile.TemporaryFile() as out:
-        child = subprocess.Popen(command, stdin=ours, stdout=out, stderr=subprocess.DEVNULL, pass_fds=())
+        child = subprocess.Popen(command, stdin=ours, stdout=out, stderr=subprocess.DEVNULL)
         os.close(ours)
         for at in range(0, len(script), 7):
             os.write(theirs, script[at : at + 7])
@@ -98,32 +98,33 @@ def small_pipe():
     fcntl.fcntl(theirs, fcntl.F_SETPIPE_SZ, PIPE_BYTES)
     return ours, theirs
 
-def started(command, script, theirs, **how):
-    """Starts with the output in a pipe. A pipe that nobody reads is an error of the write, and ends nobody by a signal."""
+def started(command, script, theirs, seconds):
+    """Starts with the output in a pipe, and ends it by force in time. A pipe that nobody reads is an error of the write, and ends
+    nobody by a signal."""
     with file_of(script) as given:
-        child = subprocess.Popen(command, stdin=given, stdout=theirs, stderr=subprocess.DEVNULL, restore_signals=False, **how)
+        child = subprocess.Popen(command, stdin=given, stdout=theirs, stderr=subprocess.DEVNULL, restore_signals=False)
     os.close(theirs)
+    timer = threading.Timer(seconds, child.kill)
+    timer.daemon = True
+    timer.start()
     return child
 
 def slow_reader(command, script, seconds):
     """The output is a small pipe, of which a few bytes are taken at a time."""
     ours, theirs = small_pipe()
-    child = started(command, script, theirs)
-    out, until = b"", time.monotonic() + seconds
-    while time.monotonic() < until:
-        piece = os.read(ours, 41)
-        if not piece:
-            break
+    child = started(command, script, theirs, seconds)
+    out = b""
+    while piece := os.read(ours, 41):
         out += piece
         time.sleep(0.0005)
     os.close(ours)
-    status, why = ended(child, max(0.1, until - time.monotonic()))
+    status, why = ended(child, seconds)
     return status, out, why
 
 def closed_pipe(command, script, seconds):
     """The pipe of the output is closed after its first bytes."""
     ours, theirs = small_pipe()
-    child = started(command, script, theirs)
+    child = started(command, script, theirs, seconds)
     out = os.read(ours, 3)
     os.close(ours)
     status, why = ended(child, seconds)
@@ -133,7 +134,7 @@ def unread_pipe(command, script, seconds):
     """The pipe of the output is closed from the beginning."""
     ours, theirs = small_pipe()
     os.close(ours)
-    child = started(command, script, theirs)
+    child = started(command, script, theirs, seconds)
     status, why = ended(child, seconds)
     return status, b"", why
 
@@ -143,23 +144,28 @@ def little_memory(command, script, seconds):
         return into_file(under("ulimit -v 196608", command), given, seconds)
 
 def processor_seconds(child):
-    with open(f"/proc/{child.pid}/stat") as file:
-        fields = file.read().rpartition(")")[2].split()
-    return (int(fields[11]) + int(fields[12])) / os.sysconf("SC_CLK_TCK")
+    with open(f"/proc/{child.pid}/schedstat") as file:
+        return int(file.read().split()[0]) / 1e9
 
-def early(command, script, seconds):
-    """The first answers come in the first half of the run, by the program's own processor time."""
+def timed(command, script, seconds):
+    """Runs with the output in a pipe. Gives the status, the output, and the program's own processor seconds when the first bytes came
+    and at the end."""
     ours, theirs = os.pipe()
-    child = started(command, script, theirs)
-    first = os.read(ours, 1 << 20)
-    spent = processor_seconds(child)
-    out = [first]
+    child = started(command, script, theirs, seconds)
+    out = [os.read(ours, 1 << 20)]
+    first = processor_seconds(child)
     while out[-1]:
         out.append(os.read(ours, 1 << 20))
     os.close(ours)
     _, status, usage = os.wait4(child.pid, 0)
     child.returncode = os.waitstatus_to_exitcode(status)
-    whole = usage.ru_utime + usage.ru_stime
-    late = spent > whole / 2
-    return child.returncode, b"".join(out), f"its first bytes came after {spent:.2f} of {whole:.2f} processor seconds" if late else None
+    return child.returncode, b"".join(out), first, usage.ru_utime + usage.ru_stime
 
+def early(command, script, seconds):
+    """The first answers come in the first half of the run, by the program's own processor time. What a run of the first two phases
+    alone takes, the making of the servers, is not counted."""
+    front = b"wait\n".join(script.split(b"wait\n")[:2])
+    _, _, _, start = timed(command, front, seconds)
+    status, out, first, whole = timed(command, script, seconds)
+    late = first - start > (whole - start) / 2
+    return status, out, f"its first bytes came after {first:.3f} of {whole:.3f} processor seconds, and its start takes {start:.3f}" if late else None

@@ -1,7 +1,7 @@
 #!/usr/bin/env python3
 """Times petal and the plain C program on one script, in one run: wall time, requests a second, peak memory, ratio.
 
-usage: bench/run.py [REQUESTS [BLOCKS [SEED [CLIENTS]]]]   (petal must be built: ./petal run < examples/sevens.petal)
+usage: bench/run.py [REQUESTS [BLOCKS [SEED [CLIENTS]]]]   (petal must be built: ./petal prove)
 """
 import os, resource, subprocess, sys, tempfile, time
 
