@@ -1,4 +1,4 @@
-//! The gate of a device: its first byte, behind which all that stands there counts.
+//! The gate of a device: its first byte. What stands on the device counts only while it is open.
 
 ghost use Rattle.std.specs.Prelude.{◌≡◌, ◌⊎◌, ◌≤◌, ◌<◌, length, IfOk, OnOk};
 ghost use Rattle.std.specs.Bool.{OnFalse, OnTrue};

@@ -1,6 +1,6 @@
 //! An append whose past is not empty.
 
-ghost use Rattle.std.specs.Prelude.{◌≡◌, ◌≤◌, ◌+◌, ◌*◌, ℕ, List, length, OnOk};
+ghost use Rattle.std.specs.Prelude.{◌≡◌, ◌≤◌, ◌+◌, ◌*◌, ℕ, List, [], length, IfOk, OnOk};
 ghost use Rattle.block_journal.specs.Records.{Stored, LeftByAppend};
 ghost use Rattle.disk_moments.specs.Moments.{WasLeft};
 ghost use Rattle.petal_disk.specs.Disk.{LeavesOnly};
@@ -8,6 +8,7 @@ ghost use Rattle.petal_disk.specs.Disk.{LeavesOnly};
 use crate::Remembering;
 use block_journal::{Journal, JournalError};
 use petal_disk::Disk;
+use std::alloc::Global;
 
 /// Appends a body of 7 bytes to a journal on a disk that remembers. A crash at an earlier moment would have left the list
 /// without it, and a crash now cannot.
@@ -30,4 +31,29 @@ pub fn append_body(
         (LeftByAppend 8 journal.old (⟦<Remembering as Disk>⟧.may_leave disk.old) bodies body.now) }
 {
     journal.append(disk, body)
+}
+
+/// Formats a journal of one record.
+fn begin(alloc: Global, disk: &mut Remembering) -> Result<Journal<8>, JournalError>
+    requires { 8 ≤ ⟦<Remembering as Disk>⟧.size disk.old }
+    ensures region { IfOk result (λ journal. journal ≡ record { base = 0; limit = 1; count = 0 }) }
+    ensures stored { IfOk result (λ journal. Stored 8 (record { base = 0; limit = 1; count = 0 }) (⟦<Remembering as Disk>⟧.seen disk.new) (⟦<Remembering as Disk>⟧.may_leave disk.new) []) }
+    ensures size { ⟦<Remembering as Disk>⟧.size disk.new ≡ ⟦<Remembering as Disk>⟧.size disk.old }
+{
+    Journal::<8>::format(alloc, disk, 0, 1)
+}
+
+/// A disk with a past: a journal of one record is formatted on it, and then has a body.
+///
+/// # Errors
+/// As `Journal::format` and `Journal::append`.
+pub fn with_a_past(alloc: Global) -> Result<Remembering, JournalError>
+    ensures { IfOk result (λ disk. (t : ℕ) × WasLeft 8 (record { base = 0; limit = 1; count = 0 }) [] (⟦<Remembering as Disk>⟧.left_since disk t) (⟦<Remembering as Disk>⟧.may_leave disk)) }
+{
+    let Ok(mut disk) = Remembering::new(alloc, 8) else {
+        return Err(JournalError::NoMemory);
+    };
+    let mut journal = begin(alloc, &mut disk)?;
+    append_body(&mut journal, &mut disk, b"a body.")?;
+    Ok(disk)
 }

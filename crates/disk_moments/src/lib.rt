@@ -9,5 +9,5 @@ mod journal_use;
 mod past;
 mod remembering;
 
-pub use journal_use::append_body;
+pub use journal_use::{append_body, with_a_past};
 pub use remembering::Remembering;
