@@ -23,6 +23,8 @@ mod run;
 #[cfg(test)]
 mod scripts;
 #[cfg(test)]
+mod sharing;
+#[cfg(test)]
 mod simulation;
 #[cfg(test)]
 mod writes;
