@@ -50,6 +50,11 @@ impl SharedBlock {
         self.block.bytes()
     }
 
+    /// How many owners the block has at this moment. No clause can speak of it, and only tests ask.
+    pub fn owners(&self) -> usize {
+        Arc::strong_count(&self.block)
+    }
+
     /// One owner more.
     pub fn share(&self) -> Result<SharedBlock, NoMemory>
         ensures { IfOk result (λ other. other ≡ self.now) }

@@ -25,6 +25,8 @@ mod run;
 #[cfg(test)]
 mod scripts;
 #[cfg(test)]
+mod sharing;
+#[cfg(test)]
 mod simulation;
 #[cfg(test)]
 mod writes;

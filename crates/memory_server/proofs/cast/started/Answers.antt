@@ -12,7 +12,8 @@ fits slots server = length server.store.disk.now.items ≡ slot_start slots
 
 pub loop-me-preserved : goal.loop-me-preserved
 loop-me-preserved c =
-    rw c.in_ok-push.ensures.ok
-    (cast_more site_of c.args.state.now c.args.slots c.loop-me.me c.loop-me.members c.in_ok-start.field-0 c.loop-me.invariant.0
-    (c.in_ok-start.ensures.site ∙ ap (λ state. first_site state c.args.slots c.loop-me.me) c.in_ok-copy.ensures),
-    All-append (fits c.args.slots) c.loop-me.members _ c.loop-me.invariant.1 (All-cons (fits c.args.slots) c.in_ok-start.field-0 [] c.in_ok-start.ensures.device (All-nil (fits c.args.slots))))
+    rw c.in_ok-push.ensures.ok (
+      cast_more site_of c.args.state.now c.args.slots c.loop-me.me c.loop-me.members c.in_ok-start.field-0 c.loop-me.invariant.0
+          (c.in_ok-start.ensures.site ∙ ap (λ state. first_site state c.args.slots c.loop-me.me) c.in_ok-copy.ensures),
+      All-append (fits c.args.slots) c.loop-me.members _ c.loop-me.invariant.1 (All-cons (fits c.args.slots) c.in_ok-start.field-0 [] c.in_ok-start.ensures.device (All-nil (fits c.args.slots))),
+    )
