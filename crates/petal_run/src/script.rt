@@ -114,7 +114,8 @@ fn play_and_tell<R: Wait, W: Sink>(
     ensures goes_on { W.told → (base : List ℕ) → result ≡ None → Wrote base playing.old.ended (W.taken sink.old) → Wrote base playing.new.ended (W.taken sink.new) }
     ensures all { W.told → (base : List ℕ) → result ≡ Some 0 → Wrote base playing.old.ended (W.taken sink.old) → Wrote base playing.new.ended (W.taken sink.new) }
     ensures phases { W.told → (base : List ℕ) → result ≡ Some 3 → Wrote base playing.old.ended (W.taken sink.old) → WrotePhases playing.new.script (records_of playing.new) base (W.taken sink.new) }
-    ensures last { W.told → (base : List ℕ) → result ≡ Some 5 → Wrote base playing.old.ended (W.taken sink.old) → WroteInPhase playing.new.script (records_of playing.new) base (W.taken sink.new) }
+    ensures last { W.told → (base : List ℕ) → result ≡ Some 5 → Wrote base playing.old.ended (W.taken sink.old)
+        → WroteInPhase playing.new.script (records_of playing.new) base (W.taken sink.new) }
     ensures failed { result ≡ Some 5 → W.faults sink.old < W.faults sink.new }
     ensures later { W.faults sink.old ≤ W.faults sink.new }
 {

@@ -125,10 +125,10 @@ answers_phases lines records place phases rising is played to_play line h =
           found ∙ sym (lt_true line.phase phases (played line early)))
       | inr late ↦ by_bool (is_answered records line.number)
           (λ yes.
-              let own = in_numbers (take place lines) line.number (subst (In line.number) is (found_key (answers_of records) line.number yes)) in
-              let lt = front_below (take place lines) (drop place lines) (subst AreRising (sym split) rising) own.0 line own.1 late in
-              let same = own.2 in
-              absurd (omega arith))
+          let own = in_numbers (take place lines) line.number (subst (In line.number) is (found_key (answers_of records) line.number yes)) in
+          let lt = front_below (take place lines) (drop place lines) (subst AreRising (sym split) rising) own.0 line own.1 late in
+          let same = own.2 in
+          absurd (omega arith))
           (λ no. no ∙ sym (lt_false line.phase phases (to_play line late)))
     ]
 
@@ -153,7 +153,7 @@ run_phase phase (first ∷ lines) line h =
       | false ↦ λ is i. absurd i
     ] refl h
 
--- the lines behind those of a phase are of later phases
+-- the lines after those of a phase are of later phases
 run_behind : (phase : ℕ) (lines : List Line) → AreRising lines → AreOrdered lines → ((line : Line) → In line lines → phase ≤ line.phase) → (line : Line) → In line (drop (phase_run phase lines) lines) → phase < line.phase
 unfolding In
 run_behind phase [] rising ordered from line h = absurd h

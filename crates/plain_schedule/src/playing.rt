@@ -60,6 +60,14 @@ fn lines_of_phase(lines: &[Line], phase: u64) -> usize
     count
 }
 
+/// A phase's number, where there is room for one more.
+fn number_of(phase: u32) -> u64
+    ensures value { result ≡ phase }
+    ensures small { result < 4294967296 }
+{
+    u64::from(phase)
+}
+
 /// The answers of the records from this place on, where they are exactly those of the next lines.
 fn phase_answers(
     alloc: Global,
@@ -140,7 +148,7 @@ impl Playing {
             return false;
         }
         match script.lines.as_slice().get(self.place) {
-            Some(line) => self.phase > u64::from(line.phase),
+            Some(line) => self.phase > number_of(line.phase),
             None => true,
         }
     }

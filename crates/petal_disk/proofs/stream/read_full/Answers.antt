@@ -1,4 +1,4 @@
-use Rattle.std.proofs.Common.{◌≡◌, ◌<◌, ◌-◌, [], refl, length, take, drop, ◌∙◌, sym, ap, arith, length-take, length-drop, rules}
+use Rattle.std.proofs.Common.{◌≡◌, ◌<◌, ◌-◌, [], length, take, drop, ◌∙◌, sym, ap, arith, length-take, length-drop, rules}
 use Rattle.petal_disk.proofs.Fronts.{more_taken}
 use Rattle.petal_disk.proofs.stream.read_full.Goals as goal
 

@@ -12,6 +12,11 @@ returns-then-not-is_run-clause-in_part g c = λ reads writes failed.
     let other : is_run (map string_bytes c.args.words.now) ≡ false = sym c.is_run.ensures ∙ c.if-not-is_run.true in
     rw other (c.say.ensures.history, rw c.as_bytes.ensures.value at (c.say.ensures.front writes))
 
+pub returns-then-not-is_run-clause-last_phase : goal.returns-then-not-is_run-clause-last_phase
+returns-then-not-is_run-clause-last_phase g c = λ reads writes failed.
+    let other : is_run (map string_bytes c.args.words.now) ≡ false = sym c.is_run.ensures ∙ c.if-not-is_run.true in
+    rw other (rw c.as_bytes.ensures.value at (c.say.ensures.front writes))
+
 pub returns-clause-done : goal.returns-clause-done
 returns-clause-done g c = λ reads writes ended.
     let known : is_run (map string_bytes c.args.words.now) ≡ true = sym c.is_run.ensures ∙ c.if-not-is_run.false in

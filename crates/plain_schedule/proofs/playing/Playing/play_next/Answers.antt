@@ -1,4 +1,5 @@
-use Rattle.std.proofs.Common.{◌≡◌, ◌<◌, ◌+◌, List, length, take, drop, sym, ap, ◌∙◌, subst}
+use Rattle.std.proofs.Common.{◌≡◌, ◌<◌, ◌+◌, ◌-◌, List, length, take, drop, sym, ap, ◌∙◌, subst, arith, length-drop}
+use Rattle.std.proofs.lemmas.List.{take_all}
 use Rattle.std.specs.Map.{keys_of}
 use Rattle.script_lines.specs.declared.request.Line.{Line}
 use Rattle.script_lines.specs.declared.script.Script.{Script}
@@ -27,7 +28,9 @@ invariant_of-self-in-Ok g c =
     let count = c.lines_of_phase-count.result in
     let all : length c.records-told.result.now ≡ length new.records = ap length c.records-told.ensures.value in
     let lines : c.as_slice-lines.result.now ≡ i.schedule.world.script.lines = c.as_slice-lines.ensures ∙ ap (λ (s : Script). s.lines) c.script.ensures in
-    let run : count ≡ phase_run i.phase (drop i.place i.schedule.world.script.lines) = c.lines_of_phase-count.ensures.run ∙ ap (λ (ls : List Line). phase_run i.phase (drop i.place ls)) lines in
+    let slice = c.as_slice-lines.result.now in
+    let run : count ≡ phase_run i.phase (drop i.place i.schedule.world.script.lines) = c.lines_of_phase-count.ensures.run
+    ∙ ap (phase_run i.phase) (take_all (length slice - i.place) (drop i.place slice) (omega (arith, length-drop i.place slice))) ∙ ap (λ (ls : List Line). phase_run i.phase (drop i.place ls)) lines in
     let room : i.phase < 4294967296 = subst (λ (p : Progress). p.phases < 4294967296) (sym c.self.view_is) c.requires.next in
     let exactly : keys_of (answers_of (drop i.told new.records)) ≡ numbers (take count (drop i.place i.schedule.world.script.lines)) =
     ap keys_of (sym c.in-Ok.ensures.answers) ∙ c.in-Ok.ensures.exactly ∙ ap (λ (s : Script). numbers (take count (drop i.place s.lines))) c.begin.ensures.script in
@@ -56,7 +59,9 @@ returns-in-Ok-clause-by_phases g c =
     let count = c.lines_of_phase-count.result in
     let all : length c.records-told.result.now ≡ length new.records = ap length c.records-told.ensures.value in
     let lines : c.as_slice-lines.result.now ≡ i.schedule.world.script.lines = c.as_slice-lines.ensures ∙ ap (λ (s : Script). s.lines) c.script.ensures in
-    let run : count ≡ phase_run i.phase (drop i.place i.schedule.world.script.lines) = c.lines_of_phase-count.ensures.run ∙ ap (λ (ls : List Line). phase_run i.phase (drop i.place ls)) lines in
+    let slice = c.as_slice-lines.result.now in
+    let run : count ≡ phase_run i.phase (drop i.place i.schedule.world.script.lines) = c.lines_of_phase-count.ensures.run
+    ∙ ap (phase_run i.phase) (take_all (length slice - i.place) (drop i.place slice) (omega (arith, length-drop i.place slice))) ∙ ap (λ (ls : List Line). phase_run i.phase (drop i.place ls)) lines in
     let room : i.phase < 4294967296 = subst (λ (p : Progress). p.phases < 4294967296) (sym c.self.view_is) c.requires.next in
     let exactly : keys_of (answers_of (drop i.told new.records)) ≡ numbers (take count (drop i.place i.schedule.world.script.lines)) =
     ap keys_of (sym c.in-Ok.ensures.answers) ∙ c.in-Ok.ensures.exactly ∙ ap (λ (s : Script). numbers (take count (drop i.place s.lines))) c.begin.ensures.script in
