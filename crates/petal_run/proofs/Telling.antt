@@ -5,8 +5,8 @@ use Rattle.std.specs.Prelude.{nat_lt}
 use Rattle.std.proofs.Math.Seq.{take-append_seam, take-append-add, take-length}
 use Rattle.std.specs.Ordering.{nat_cmp}
 use Rattle.law_answers.specs.Order.{AreRising, AnsweredComeFirst}
-use Rattle.petal_world.specs.Playable.{AreOrdered}
-use Rattle.petal_script.specs.declared.request.Line.{Line}
+use Rattle.world_desks.specs.Playable.{AreOrdered}
+use Rattle.script_lines.specs.declared.request.Line.{Line}
 use Rattle.petal_disk.specs.Streams.{Adds}
 use Rattle.petal_table.specs.Table.{Table}
 use Rattle.petal_table.proofs.Rows.{at-empty}
