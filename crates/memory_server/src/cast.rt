@@ -11,8 +11,8 @@ ghost use Rattle.memory_server.specs.Server.{site_of};
 use crate::MemServer;
 use global_state::GlobalState;
 use petal_base::{NoMemory, Sequence};
-use script_lines::Script;
 use petal_disk::{Disk, MemDisk};
+use script_lines::Script;
 use std::alloc::Global;
 
 fn started(
