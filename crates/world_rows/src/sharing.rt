@@ -5,6 +5,8 @@ use crate::rounds::play;
 use crate::run::Run;
 use petal_base::SharedBlock;
 use petal_msg::{Actor, Body};
+use std::alloc::Global;
+use std::process::Abort;
 use std::test::Fail;
 
 const SCRIPT: &str =
@@ -40,13 +42,7 @@ fn owners_of(run: &Run, at_client: bool) -> usize {
     owners
 }
 
-#[test]
-fn a_write_that_is_sent_again_shares_its_block(rt: HostRuntime) -> Result<(), Fail> {
-    let alloc = rt.alloc();
-    let mut run = Run::start(
-        alloc,
-        "servers 2 slots 4\na disk vol on 0 1\na write vol 0 fill 7\n",
-    )?;
+fn send_again(rt: &impl Abort, alloc: Global, run: &mut Run) -> Result<(), Fail> {
     for _ in 0..2 {
         assert!(rt; run.call(alloc, 0)?);
     }
@@ -54,14 +50,28 @@ fn a_write_that_is_sent_again_shares_its_block(rt: HostRuntime) -> Result<(), Fa
         assert!(rt; run.tick(alloc, Actor::Client(0))?);
     }
     assert_eq!(rt; run.sent.len(), 4);
-    assert!(rt; owners_of(&run, false) >= 4);
+    assert!(rt; owners_of(run, false) >= 4);
+    Ok(())
+}
+
+#[test]
+fn a_write_that_is_sent_again_shares_its_block(rt: HostRuntime) -> Result<(), Fail> {
+    let mut run = Run::start(
+        rt.alloc(),
+        "servers 2 slots 4\na disk vol on 0 1\na write vol 0 fill 7\n",
+    )?;
+    send_again(&rt, rt.alloc(), &mut run)
+}
+
+fn look(rt: &impl Abort, run: &Run) -> Result<(), Fail> {
+    assert!(rt; is_done(run.answer(4)));
+    assert!(rt; owners_of(run, true) >= 8);
     Ok(())
 }
 
 #[test]
 fn reads_of_one_block_share_it(rt: HostRuntime) -> Result<(), Fail> {
-    let run = play(rt.alloc(), SCRIPT)?;
-    assert!(rt; is_done(run.answer(4)));
-    assert!(rt; owners_of(&run, true) >= 8);
-    Ok(())
+    let mut run = Run::start(rt.alloc(), SCRIPT)?;
+    play(rt.alloc(), &mut run)?;
+    look(&rt, &run)
 }
