@@ -153,7 +153,7 @@ impl ClientCore {
         }
     }
 
-    /// The open request goes out anew.
+    /// The open request goes out again.
     fn send_anew(&mut self, alloc: Global) -> Result<Reaction, NoMemory>
         requires { is_spent self.old.client ≡ false }
         ensures ok { IfOk result (λ reaction. record { core = self.new; reaction = reaction }
@@ -175,7 +175,7 @@ impl ClientCore {
         })
     }
 
-    /// Sends the letter of the open request anew.
+    /// Sends the letter of the open request again.
     #[tactic(auto, unfolding(petal_rules::specs::Clients::ticked))]
     pub fn tick(&mut self, alloc: Global) -> Result<Reaction, NoMemory>
         requires { is_spent self.old.client ≡ false }

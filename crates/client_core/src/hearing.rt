@@ -17,7 +17,7 @@ pub enum Heard {
     Nothing,
     /// It ends the request.
     Answered(Answer),
-    /// The request is sent anew.
+    /// The request is sent again.
     Again,
 }
 

@@ -48,7 +48,7 @@ awaiting servers (fence ∷ fences) = record fence { waiting = servers } ∷ fen
 abbrev pub joined : View → ℕ → ℕ → View
 joined view server inc = record view { members = slice_set view.members server (In inc) }
 
--- these members, for whom the head waits anew
+-- these members, for whom the head waits again
 abbrev pub renewed : View → List Member → View
 renewed view members = record view { members = members; queue = awaiting (servers_in members) view.queue }
 
@@ -56,7 +56,7 @@ abbrev pub out_of : Option Member → ℕ
 out_of None = 0
 out_of (Some member) = last_inc member
 
--- a server is Out, and the head waits anew for every server that is In: a report made before a leave may not count, since
+-- a server is Out, and the head waits again for every server that is In: a report made before a leave may not count, since
 -- letters of the server that left can still reach one that has not applied the leave
 abbrev pub left : View → ℕ → View
 left view server = renewed view (slice_set view.members server (Out (out_of (slice_get view.members server))))

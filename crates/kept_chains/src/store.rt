@@ -29,7 +29,7 @@ pub fn next_version<D: Disk>(store: &Store<D>, cell: Cell) -> Version
 /// Sets a slot apart; None exactly where none is free, and then nothing changed.
 ///
 /// # Errors
-/// Want of memory, which changed nothing.
+/// Out of memory, which changed nothing.
 pub fn set_apart<D: Disk>(store: &mut Store<D>) -> Result<Option<Ticket>, NoMemory>
     ensures room { IfOk result (λ found. is_some found ≡ nat_lt 0 (free_of (kept_of store.old))) }
     ensures some { IfOk result (λ found. IfSome found (λ ticket. store.new ≡ record store.old { tickets = store.old.tickets ++ ticket ∷ [] })) }

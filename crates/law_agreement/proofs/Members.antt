@@ -1,4 +1,4 @@
--- What `grind` needs to know of membership and of functions with one value given anew. Both are shut, so that it can match them.
+-- What `grind` needs to know of membership and of functions with one value given again. Both are shut, so that it can match them.
 use Rattle.std.proofs.Common.{ℕ, ◌≡◌, ◌≢◌, ◌⊎◌, inl, inr, Bool, true, false, if◌then◌else◌, List, [], ◌∷◌, ◌==◌, ◌&&◌, Some, slice_get, refl, arith}
 use Rattle.std.proofs.lemmas.Bool.Decides.{nat_tests}
 use Rattle.petal_paxos.specs.Member.{In, put, put_at}

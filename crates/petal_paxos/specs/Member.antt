@@ -1,4 +1,4 @@
--- Members of lists, and tables by number with one entry given anew.
+-- Members of lists, and tables by number with one entry given again.
 use Rattle.std.specs.Prelude.{ℕ, ◌≡◌, ◌⊎◌, if◌then◌else◌, ◌==◌, ◌&&◌, List, [], ◌∷◌}
 
 -- x stands in the list

@@ -157,7 +157,7 @@ abbrev pub answers : Client → Asked → Answer → Reacted
 answers client asked given = record { client = record client { asked = None }; posts = []; answer = Some (asked.line, given) }
 
 -- Data answers only a read, Written and Full only a write. What was refused for a while, or at another revision, is sent
--- anew
+-- again
 abbrev pub hears : State → ℕ → Client → Asked → ℕ → Body → Reacted
 hears state me client asked rev (body.Data seq bytes) = if counts asked rev seq && is_read asked.request then answers client asked (answer.Data bytes) else rests client
 hears state me client asked rev (body.Written seq) = if counts asked rev seq && is_write asked.request then answers client asked answer.Ok else rests client
@@ -188,7 +188,7 @@ abbrev pub asks_anew : State → ℕ → Client → Option Asked → Reacted
 asks_anew state me client None = rests client
 asks_anew state me client (Some asked) = sends state me client asked
 
--- the letter of the open request goes out anew
+-- the letter of the open request goes out again
 unfoldable pub ticked : State → ℕ → Client → Reacted
 ticked state me client = asks_anew state me client client.asked
 

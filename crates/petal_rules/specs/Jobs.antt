@@ -117,7 +117,7 @@ awaited here half op action.Drop = []
 abbrev pub sent_anew : Here → Half → Pending → List Post
 sent_anew here half op = awaited here half op (next_stage here.state here.me op)
 
--- a tick: each letter that is not yet answered goes out anew
+-- a tick: each letter that is not yet answered goes out again
 abbrev pub tick_posts : Here → Server → List Post
 tick_posts here server = flat_map (λ row. sent_anew here (half_of server) row.1) server.pairs.pending
 

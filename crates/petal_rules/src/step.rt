@@ -16,7 +16,7 @@ pub enum Step {
     Call { line: u32 },
     /// A letter that was ever sent is handed over.
     Deliver { letter: SharedLetter },
-    /// A server, or a client, sends anew what is not yet answered.
+    /// A server, or a client, sends again what is not yet answered.
     Tick,
     /// A server does the first job of its queue.
     Work(WorkEnd),

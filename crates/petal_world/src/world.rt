@@ -145,7 +145,7 @@ impl<H: Host> World<H> {
         })
     }
 
-    /// A phase begins: each client's clock is the greatest of all theirs. Want of memory is told again where a step met it.
+    /// A phase begins: each client's clock is the greatest of all theirs. A world that ran out of memory says so again.
     pub fn enter(&mut self, phase: u32) -> Result<(), NoMemory>
         ensures ok { OnOk result (self.new ≡ entered self.old phase) }
         ensures err { OnErr result (self.new ≡ self.old) }
@@ -159,7 +159,7 @@ impl<H: Host> World<H> {
     }
 
     /// The revision of a client or of a running server; None exactly where the world has no such actor, or the server is
-    /// stopped. Nothing is said of it once a step met want of memory.
+    /// stopped. Nothing is said of it once a step ran out of memory.
     pub fn rev(&self, actor: Actor) -> Option<Rev>
         ensures { self.now.over ≡ false → result ≡ rev_of (setting_of self.now.script) (world_of self.now) actor }
     {
@@ -167,7 +167,7 @@ impl<H: Host> World<H> {
     }
 
     /// Takes a step, and tells the letters that it sent and the answer that it gave. `NotAllowed` comes exactly where the
-    /// step is not one of the world's in this state. After want of memory the step did not happen, and none follows.
+    /// step is not one of the world's in this state. After it ran out of memory the step did not happen, and none follows.
     pub fn step(&mut self, alloc: Global, actor: Actor, step: &Step) -> Result<Stepped, WorldError>
         ensures allowed { OnOk result (MayStep (setting_of self.old.script) (world_of self.old) actor step.now) }
         ensures ok { OnOk result (self.new ≡ played self.old actor step.now) }

@@ -86,7 +86,7 @@ impl Schedule {
         }
     }
 
-    // A client has a second box, for the letters at which it sends its request anew.
+    // A client has a second box, for the letters at which it sends its request again.
     fn second_place(&self, client: ClientId) -> usize {
         self.servers as usize + CLIENTS as usize + client as usize
     }
@@ -182,8 +182,8 @@ impl Schedule {
         Ok(())
     }
 
-    // The client gets the letters of its second box, until one of them has it send its request anew. Were all of them handed
-    // over, a request that waits for another's end would be sent anew in ever more copies, where letters come twice.
+    // The client gets the letters of its second box, until one of them has it send its request again. Were all of them handed
+    // over, a request that waits for another's end would be sent again in ever more copies, where letters come twice.
     fn get_second_mail(&mut self, alloc: Global, client: ClientId) -> Result<(), NoMemory>
         ensures script { self.new.world.script ≡ self.old.world.script }
         ensures goes_on { GoesOn self.old.world.records self.new.world.records }
@@ -222,7 +222,7 @@ impl Schedule {
         Ok(())
     }
 
-    // A client with nothing open has nothing to send anew.
+    // A client with nothing open has nothing to send again.
     fn client_ticks(&mut self, client: ClientId) -> u32
         ensures { self.new.world ≡ self.old.world }
     {

@@ -41,7 +41,7 @@ fn is_lead(state: &GlobalState, me: ServerId, cell: Cell) -> bool
 /// and the device keeps it as before.
 ///
 /// # Errors
-/// `Failed` where the device failed, and want of memory.
+/// `Failed` where the device failed, and out of memory.
 pub fn answer_read<D: Disk>(
     alloc: Global,
     state: &GlobalState,

@@ -1,4 +1,4 @@
-//! One server, step by step: it takes letters into a queue, does the first job of the queue, and sends anew what is not yet
+//! One server, step by step: it takes letters into a queue, does the first job of the queue, and sends again what is not yet
 //! answered.
 //!
 //! To the layer above it promises that each of its steps is the rule of `petal_rules`: the server afterwards and the letters.

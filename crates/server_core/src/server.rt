@@ -109,7 +109,7 @@ impl ServerCore {
         self.queue.push(Job::Letter(letter))
     }
 
-    /// A tick: each letter of a pending operation that is not yet answered goes out anew, with the stamp 0. Nothing else
+    /// A tick: each letter of a pending operation that is not yet answered goes out again, with the stamp 0. Nothing else
     /// changes.
     pub fn tick(&self, alloc: Global) -> Result<Sequence<Letter>, NoMemory>
         ensures { IfOk result (λ letters. (store : stores.Store) → acted self.now store letters ≡ ticks (here_in self.now) (server_of self.now store)) }

@@ -8,7 +8,7 @@ use Rattle.store_record.specs.Spelling.{spelling, HasSpelling, byte, word}
 use Rattle.server_store.specs.Accounts.{as_count}
 use Rattle.server_store.specs.Kept.{AllFit, formatted}
 
--- the gate, PETALDAT, version 1, the number of slots, 1 where the store is to be filled anew and else 0, zeros
+-- the gate, PETALDAT, version 1, the number of slots, 1 where the store is to be filled again and else 0, zeros
 abbrev pub header : ℕ → Bool → List ℕ
 header slots fresh = (165 ∷ 80 ∷ 69 ∷ 84 ∷ 65 ∷ 76 ∷ 68 ∷ 65 ∷ 84 ∷ []) ++ word 1 ++ word slots ++ byte (as_count fresh) ++ replicate 46 0
 
@@ -27,7 +27,7 @@ pub record StandsFor (file : List ℕ) (slots : ℕ) (fresh : Bool) (records : L
   pub fit : AllFit slots (formatted fresh) records
   pub stands : Stands 64 4096 65536 file (bodies_of records)
 
--- what was committed: whether the store was formatted to be filled anew, the records since, and the region of their journal
+-- what was committed: whether the store was formatted to be filled again, the records since, and the region of their journal
 pub record Log : Type 0 where
   pub fresh : Bool
   pub records : List StoreRecord

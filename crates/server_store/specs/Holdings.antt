@@ -16,7 +16,7 @@ pub record Held : Type 0 where
   pub content : List ℕ
 
 -- the entries in the order of their keys, the slots of the tickets out, the marks, the number of slots, whether the store was
--- formatted to be filled anew and is not yet so, what was committed, and the device
+-- formatted to be filled again and is not yet so, what was committed, and the device
 pub record Holdings (D : Type 0) : Type 0 where
   pub entries : List Held
   pub tickets : List ℕ

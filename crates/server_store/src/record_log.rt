@@ -22,7 +22,7 @@ pub const JOURNAL_BASE: u64 = 4096;
 /// How many records the journal has.
 pub const JOURNAL_RECORDS: u32 = 65_536;
 
-/// The records since the device was formatted. Contracts see them, whether it was formatted to be filled anew, and the region
+/// The records since the device was formatted. Contracts see them, whether it was formatted to be filled again, and the region
 /// of the journal.
 #[derive(Drop)]
 pub struct RecordLog {

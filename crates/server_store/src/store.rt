@@ -41,7 +41,7 @@ pub const DATA_START: u64 = 4_198_400;
 
 /// The entries of one server with their contents, and its marks. Contracts see the entries in the order of their keys, each
 /// with its content, the slots of the tickets out, the marks, the number of slots, whether the store is still to be filled
-/// anew, and the device.
+/// again, and the device.
 #[derive(Drop)]
 pub struct Store<D: Disk> {
     ledger: Ledger,
@@ -73,7 +73,7 @@ impl<D: Disk> Model for Store<D> {
 }
 
 impl<D: Disk> Store<D> {
-    /// The store without entries on a device in which the slots fit; `fresh` where it is to be filled anew. A crash at any
+    /// The store without entries on a device in which the slots fit; `fresh` where it is to be filled again. A crash at any
     /// moment leaves what it might have left before, a blank device, or this store.
     ///
     /// # Errors
@@ -361,7 +361,7 @@ impl<D: Disk> Store<D> {
         self.ledger.map().slot(key).is_some()
     }
 
-    /// The store has been filled anew. Where it is not `fresh` nothing changes. It takes no memory.
+    /// The store has been filled again. Where it is not `fresh` nothing changes. It takes no memory.
     ///
     /// # Errors
     /// As of `put`. It is as `fresh` as it was.

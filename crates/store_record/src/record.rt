@@ -40,6 +40,6 @@ pub enum StoreRecord {
         kind: MarkKind,
         cell: Cell,
     },
-    /// The store has been filled anew.
+    /// The store has been filled again.
     Settled,
 }

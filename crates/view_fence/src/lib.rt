@@ -93,7 +93,7 @@ impl ViewFence {
         Ok(())
     }
 
-    /// The server is Out with its incarnation, and the head waits anew for every server that is In.
+    /// The server is Out with its incarnation, and the head waits again for every server that is In.
     pub fn leave(&mut self, alloc: Global, server: ServerId) -> Result<(), NoMemory>
         requires { server < length self.old.members }
         ensures ok { OnOk result (self.new ≡ left self.old server) }

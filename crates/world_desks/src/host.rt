@@ -13,7 +13,7 @@ pub trait Host: Drop {
     /// Its number, the global state at its revision, and what the rules know of it.
     ghost seen: { Self → Site };
 
-    /// Takes a step. The letters have no stamp yet. After want of memory nothing is said of the server.
+    /// Takes a step. The letters have no stamp yet. After it ran out of memory nothing is said of the server.
     fn step(&mut self, alloc: Global, step: &Step) -> Result<Sequence<Letter>, NoMemory>
         ensures { IfOk result (λ letters. record { site = seen self.new; letters = letters } ≡ acted_at (seen self.old) step.now) };
 

@@ -56,7 +56,7 @@ impl Sent {
         self.rows.put(name, letter)
     }
 
-    /// The letters of one step. After want of memory some of them may be missing.
+    /// The letters of one step. After it ran out of memory some of them may be missing.
     pub fn add_all(&mut self, letters: &[SharedLetter]) -> Result<(), NoMemory>
         ensures { OnOk result (self.new ≡ with_letters self.old letters.now) }
     {

@@ -1,4 +1,4 @@
-//! What a tick sends anew.
+//! What a tick sends again.
 
 ghost use Rattle.std.specs.Prelude.{◌≡◌, ◌+◌, ◌++◌, length, IfOk};
 ghost use Rattle.std.specs.List.{flat_map};
@@ -87,7 +87,7 @@ fn all_anew(here: &Here, locks: &PairLock) -> Result<Sequence<Letter>, NoMemory>
 /// The letters of all pending operations that wait for an answer.
 ///
 /// # Errors
-/// Want of memory.
+/// Out of memory.
 pub fn letters_anew(
     alloc: Global,
     state: &GlobalState,
