@@ -10,8 +10,8 @@ use Rattle.script_lines.specs.declared.script.Script.{Script}
 use Rattle.petal_rules.specs.Lists.{In}
 use Rattle.petal_rules.specs.State.{State}
 use Rattle.petal_rules.specs.Store.{cell_cmp, chain_in}
-use Rattle.petal_rules.specs.Server.{Half, sender}
-use Rattle.petal_rules.specs.Jobs.{here_of, half_of}
+use Rattle.petal_rules.specs.Server.{Own, sender}
+use Rattle.petal_rules.specs.Jobs.{here_of}
 use Rattle.petal_rules.specs.Clients.{client_sender}
 use Rattle.petal_rules.specs.World.{World, start, setting_of}
 use Rattle.petal_rules.proofs.ListLemmas.{put_same, put_apart, in-append}
@@ -28,7 +28,7 @@ use Rattle.law_steps.proofs.Sending.{is_ask, turned_asks}
 use Rattle.law_steps.proofs.Tests.{true_false}
 use Rattle.law_steps.proofs.Scripts.{script_steady, start_ready}
 use Rattle.law_steps.proofs.Stepping.{kept_after}
-use Rattle.law_copies.specs.Pair.{Pair, pair_of, IsPair, PairOk, Keeps, cell_in, SaidOk, halves_of, Good}
+use Rattle.law_copies.specs.Pair.{Pair, pair_of, IsPair, PairOk, Keeps, cell_in, SaidOk, owns_of, Good}
 use Rattle.law_copies.proofs.Frames.{Changes, known_later, pairs_kept}
 use Rattle.law_copies.proofs.Jobs.{job_keeps}
 use Rattle.law_copies.proofs.Moves.{stays}
@@ -51,7 +51,7 @@ ask_no_cell (body.PairFull number cell) e = true_false e refl
 ask_no_cell (body.Replicate number key version bytes) e = true_false e refl
 ask_no_cell (body.Replicated number cell) e = true_false e refl
 
-no_cell : (state : State) (halves : ℕ → Half) (said : Body) → cell_in said ≡ None → SaidOk state halves said
+no_cell : (state : State) (halves : ℕ → Own) (said : Body) → cell_in said ≡ None → SaidOk state halves said
 no_cell state halves said e cell n m is pair = absurd (let f : None ≡ Some cell = sym e ∙ is in cc)
 
 -- ### Steps
@@ -64,13 +64,13 @@ module _ (state : State) (steady : IsSteady state) (lines : List Line) where
   happens_good w _ ready good (Serves n stamp done queue lt did queued) =
       let v = server_moves state w n stamp done queue in
       let server = served (w.servers n) done queue in
-      let changes : Changes (halves_of w) (halves_of v) n done.half = record { here = ap half_of (put_same w.servers n server); others = λ m ne. ap half_of (put_apart w.servers n server m ne) } in
+      let changes : Changes (owns_of w) (owns_of v) n done.own = record { here = ap (put_same w.servers n server).own; others = λ m ne. ap (put_apart w.servers n server m ne).own } in
       let keeps = job_keeps state steady w ready good n done did in
-      let kept = λ (cell : Cell) (i j : ℕ) (pair : IsPair state cell i j). pairs_kept state steady (halves_of w) (halves_of v) n done.half changes done.posts keeps same cell i j pair (good.pairs cell i j pair) in
+      let kept = λ (cell : Cell) (i j : ℕ) (pair : IsPair state cell i j). pairs_kept state steady (owns_of w) (owns_of v) n done.own changes done.posts keeps same cell i j pair (good.pairs cell i j pair) in
       record {
         pairs = λ cell i j pair. (kept cell i j pair).ok;
         letters = λ letter h. elim (in-append letter _ w.sent h) [
-          | inl new ↦ let s = said (sender (here_of state n (w.servers n))) stamp 0 done.posts letter new in subst (SaidOk state (halves_of v)) (sym s.body) (keeps.says (halves_of v) changes s.post s.there)
+          | inl new ↦ let s = said (sender (here_of state n (w.servers n))) stamp 0 done.posts letter new in subst (SaidOk state (owns_of v)) (sym s.body) (keeps.says (owns_of v) changes s.post s.there)
           | inr old ↦ (λ cell i j is pair. known_later _ _ (kept cell i j pair).grows letter.body (good.letters letter old cell i j is pair))
         ];
       }
@@ -79,12 +79,12 @@ module _ (state : State) (steady : IsSteady state) (lines : List Line) where
     letters = λ letter h. elim (in-append letter _ w.sent h) [
       | inl new ↦
           let s = said (client_sender state c) stamp 0 reacted.posts letter new in
-          no_cell state (halves_of w) letter.body (subst (λ (b : Body). cell_in b ≡ None) (sym s.body) (ask_no_cell s.post.body (turned_asks _ state lines c (w.clients c) in_call reacted turned s.post s.there)))
+          no_cell state (owns_of w) letter.body (subst (λ (b : Body). cell_in b ≡ None) (sym s.body) (ask_no_cell s.post.body (turned_asks _ state lines c (w.clients c) in_call reacted turned s.post s.there)))
       | inr old ↦ good.letters letter old
     ];
   }
 
-empty_ok : (one two : Half) (cell : Cell) → one.store.chains ≡ [] → two.store.chains ≡ [] → one.pairs.pending ≡ [] → one.pairs.next ≡ 1 → two.pairs.last ≡ [] → PairOk (pair_of one two cell)
+empty_ok : (one two : Own) (cell : Cell) → one.store.chains ≡ [] → two.store.chains ≡ [] → one.pairs.pending ≡ [] → one.pairs.next ≡ 1 → two.pairs.last ≡ [] → PairOk (pair_of one two cell)
 empty_ok one two cell first second pending next last =
     subst PairOk (λ i. record { first = chain_in (sym first i) cell; second = chain_in (sym second i) cell; pending = at cell_cmp (sym pending i) cell; next = sym next i; last = at cell_cmp (sym last i) cell })
     (subst PairOk (λ i. record { first = chain_in [] cell; second = chain_in [] cell; pending = sym (at-empty cell_cmp cell) i; next = 1; last = sym (at-empty cell_cmp cell) i })
@@ -96,7 +96,7 @@ pair_copies pair ok = grind arith
 pub start_good : (state : State) (script : Script) → Good state (start (setting_of script))
 unfolding In
 start_good state script = record {
-  pairs = λ cell n m pair. empty_ok (halves_of (start (setting_of script)) n) (halves_of (start (setting_of script)) m) cell refl refl refl refl refl;
+  pairs = λ cell n m pair. empty_ok (owns_of (start (setting_of script)) n) (owns_of (start (setting_of script)) m) cell refl refl refl refl refl;
   letters = λ letter h. absurd h;
 }
 

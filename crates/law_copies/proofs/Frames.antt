@@ -5,7 +5,7 @@ use Rattle.petal_msg.specs.declared.body.Body.{Body}
 use Rattle.petal_msg.specs.declared.body.Body.TheVariants as body
 use Rattle.petal_rules.specs.Lists.{In}
 use Rattle.petal_rules.specs.State.{State}
-use Rattle.petal_rules.specs.Server.{Half, Post}
+use Rattle.petal_rules.specs.Server.{Own, Post}
 use Rattle.law_steps.specs.Steady.{IsSteady}
 use Rattle.law_steps.proofs.Tests.{same_or_apart, same_some}
 use Rattle.law_copies.specs.Pair.{Pair, pair_of, IsPair, PairOk, Grows, Keeps, Known, cell_in, SaidOk}
@@ -30,17 +30,17 @@ known_later old new grows (body.WrongRev seq) h = tt
 known_later old new grows (body.Written seq) h = tt
 known_later old new grows (body.Full seq) h = tt
 
--- one server's half is another
-pub record Changes (halves later : ℕ → Half) (k : ℕ) (new : Half) : Type 0 where
+-- one server's own is another
+pub record Changes (halves later : ℕ → Own) (k : ℕ) (new : Own) : Type 0 where
   pub here : later k ≡ new
   pub others : (n : ℕ) → n ≢ k → later n ≡ halves n
 
 -- What a job has to show: for the cells that its server is the first of, for those that it is the second of, and of what it
 -- sends.
-pub record JobKeeps (state : State) (halves : ℕ → Half) (k : ℕ) (new : Half) (posts : List Post) : Type 0 where
+pub record JobKeeps (state : State) (halves : ℕ → Own) (k : ℕ) (new : Own) (posts : List Post) : Type 0 where
   pub as_first : (cell : Cell) (m : ℕ) → IsPair state cell k m → Keeps (pair_of (halves k) (halves m) cell) (pair_of new (halves m) cell)
   pub as_second : (cell : Cell) (n : ℕ) → IsPair state cell n k → Keeps (pair_of (halves n) (halves k) cell) (pair_of (halves n) new cell)
-  pub says : (later : ℕ → Half) → Changes halves later k new → (post : Post) → In post posts → SaidOk state later post.body
+  pub says : (later : ℕ → Own) → Changes halves later k new → (post : Post) → In post posts → SaidOk state later post.body
 
 module _ (state : State) (steady : IsSteady state) where
   -- the two servers of a cell are two
@@ -56,7 +56,7 @@ module _ (state : State) (steady : IsSteady state) where
   pub same_second : (cell : Cell) (n m i j : ℕ) → IsPair state cell n m → IsPair state cell i j → m ≡ j
   same_second cell n m i j p q = same_some (sym p.follows ∙ q.follows)
 
-  module _ (halves later : ℕ → Half) (k : ℕ) (new : Half) (changes : Changes halves later k new) where
+  module _ (halves later : ℕ → Own) (k : ℕ) (new : Own) (changes : Changes halves later k new) where
     -- the pair of a cell that the server is the first of
     pub now_first : (cell : Cell) (m : ℕ) → IsPair state cell k m → pair_of new (halves m) cell ≡ pair_of (later k) (later m) cell
     now_first cell m pair =

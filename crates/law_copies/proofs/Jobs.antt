@@ -19,7 +19,7 @@ use Rattle.petal_msg.specs.declared.operation.Stage.{Stage}
 use Rattle.petal_rules.specs.Lists.{In}
 use Rattle.petal_rules.specs.State.{State, first, second, is_lead, is_second}
 use Rattle.petal_rules.specs.Store.{Store, Chain, cell_cmp, chain_in, version_of}
-use Rattle.petal_rules.specs.Server.{Half, Here, Post, Done, post_to}
+use Rattle.petal_rules.specs.Server.{Own, Here, Post, Done, post_to}
 use Rattle.petal_rules.specs.Writes.{Wanted, operation, opened, with_reserved, with_paired, ended, tells, puts, with_pending, follows}
 use Rattle.petal_rules.specs.Jobs.{here_of}
 use Rattle.petal_rules.specs.World.{World}
@@ -30,7 +30,7 @@ use Rattle.law_steps.specs.Happens.{Handled}
 use Rattle.law_steps.specs.Ready.{Ready}
 use Rattle.law_steps.proofs.Tests.{same_some, is_the_one}
 use Rattle.law_steps.proofs.Staged.{same_cell_or_apart}
-use Rattle.law_copies.specs.Pair.{Pair, pair_of, IsPair, far, ceiling_of, PairOk, IsPutting, Keeps, Known, SaidOk, halves_of, Good}
+use Rattle.law_copies.specs.Pair.{Pair, pair_of, IsPair, far, ceiling_of, PairOk, IsPutting, Keeps, Known, SaidOk, owns_of, Good}
 use Rattle.law_copies.proofs.Frames.{Changes, JobKeeps, apart, known_first, known_second}
 use Rattle.law_copies.proofs.Moves as moves
 
@@ -75,13 +75,13 @@ module _ (state : State) (steady : IsSteady state) (w : World) (ready : Ready st
   abbrev here : Here
   here = here_of state k (w.servers k)
 
-  abbrev half : Half
-  half = halves_of w k
+  abbrev own : Own
+  own = owns_of w k
 
-  abbrev halves : ℕ → Half
-  halves = halves_of w
+  abbrev halves : ℕ → Own
+  halves = owns_of w
 
-  abbrev J : Half → List Post → Type 0
+  abbrev J : Own → List Post → Type 0
   J new posts = JobKeeps state halves k new posts
 
   -- the pair of a cell that the server leads, or is the second of
@@ -97,10 +97,10 @@ module _ (state : State) (steady : IsSteady state) (w : World) (ready : Ready st
       let one = steady.followed cell k is in
       (one.0, record { leads = one.1; follows = is })
 
-  ok_first : (cell : Cell) (m : ℕ) → IsPair state cell k m → PairOk (pair_of half (halves m) cell)
+  ok_first : (cell : Cell) (m : ℕ) → IsPair state cell k m → PairOk (pair_of own (halves m) cell)
   ok_first cell m pair = good.pairs cell k m pair
 
-  ok_second : (cell : Cell) (n : ℕ) → IsPair state cell n k → PairOk (pair_of (halves n) half cell)
+  ok_second : (cell : Cell) (n : ℕ) → IsPair state cell n k → PairOk (pair_of (halves n) own cell)
   ok_second cell n pair = good.pairs cell n k pair
 
   -- what is known of a letter that was heard
@@ -108,29 +108,29 @@ module _ (state : State) (steady : IsSteady state) (w : World) (ready : Ready st
   heard_known said h = subst (SaidOk state halves) h.is (good.letters h.letter h.sent)
 
   -- a cell that the job of its first server does not touch, and one that the job of its second does not
-  off_first : (new other : Half) (cell : Cell) → PairOk (pair_of half other cell) → chain_in new.store.chains cell ≡ chain_in half.store.chains cell → at cell_cmp new.pairs.pending cell ≡ at cell_cmp half.pairs.pending cell → half.pairs.next ≤ new.pairs.next
-      → Keeps (pair_of half other cell) (pair_of new other cell)
+  off_first : (new other : Own) (cell : Cell) → PairOk (pair_of own other cell) → chain_in new.store.chains cell ≡ chain_in own.store.chains cell → at cell_cmp new.pairs.pending cell ≡ at cell_cmp own.pairs.pending cell → own.pairs.next ≤ new.pairs.next
+      → Keeps (pair_of own other cell) (pair_of new other cell)
   off_first new other cell ok chain pending next =
-      subst (Keeps (pair_of half other cell)) (λ i. record { first = sym chain i; second = chain_in other.store.chains cell; pending = sym pending i; next = new.pairs.next; last = at cell_cmp other.pairs.last cell })
-      (moves.stays (pair_of half other cell) new.pairs.next ok next)
+      subst (Keeps (pair_of own other cell)) (λ i. record { first = sym chain i; second = chain_in other.store.chains cell; pending = sym pending i; next = new.pairs.next; last = at cell_cmp other.pairs.last cell })
+      (moves.stays (pair_of own other cell) new.pairs.next ok next)
 
-  off_second : (new other : Half) (cell : Cell) → PairOk (pair_of other half cell) → chain_in new.store.chains cell ≡ chain_in half.store.chains cell → at cell_cmp new.pairs.last cell ≡ at cell_cmp half.pairs.last cell
-      → Keeps (pair_of other half cell) (pair_of other new cell)
+  off_second : (new other : Own) (cell : Cell) → PairOk (pair_of other own cell) → chain_in new.store.chains cell ≡ chain_in own.store.chains cell → at cell_cmp new.pairs.last cell ≡ at cell_cmp own.pairs.last cell
+      → Keeps (pair_of other own cell) (pair_of other new cell)
   off_second new other cell ok chain last =
-      subst (Keeps (pair_of other half cell)) (λ i. record { first = chain_in other.store.chains cell; second = sym chain i; pending = at cell_cmp other.pairs.pending cell; next = other.pairs.next; last = sym last i })
-      (moves.stays (pair_of other half cell) other.pairs.next ok (omega arith))
+      subst (Keeps (pair_of other own cell)) (λ i. record { first = chain_in other.store.chains cell; second = sym chain i; pending = at cell_cmp other.pairs.pending cell; next = other.pairs.next; last = sym last i })
+      (moves.stays (pair_of other own cell) other.pairs.next ok (omega arith))
 
   -- a job of the first server of a cell, that changes the copy and the operation of that cell
-  first_job : (new : Half) (posts : List Post) (cell : Cell) (m : ℕ) → IsPair state cell k m → ((q : Cell) → q ≢ cell → chain_in new.store.chains q ≡ chain_in half.store.chains q) → ((q : Cell) → q ≢ cell → at cell_cmp new.pairs.pending q ≡ at cell_cmp half.pairs.pending q)
-      → ((q : Cell) → at cell_cmp new.pairs.last q ≡ at cell_cmp half.pairs.last q) → half.pairs.next ≤ new.pairs.next
-      → Keeps (pair_of half (halves m) cell) (pair_of new (halves m) cell)
-      → ((later : ℕ → Half) → Changes halves later k new → (post : Post) → In post posts → SaidOk state later post.body)
+  first_job : (new : Own) (posts : List Post) (cell : Cell) (m : ℕ) → IsPair state cell k m → ((q : Cell) → q ≢ cell → chain_in new.store.chains q ≡ chain_in own.store.chains q) → ((q : Cell) → q ≢ cell → at cell_cmp new.pairs.pending q ≡ at cell_cmp own.pairs.pending q)
+      → ((q : Cell) → at cell_cmp new.pairs.last q ≡ at cell_cmp own.pairs.last q) → own.pairs.next ≤ new.pairs.next
+      → Keeps (pair_of own (halves m) cell) (pair_of new (halves m) cell)
+      → ((later : ℕ → Own) → Changes halves later k new → (post : Post) → In post posts → SaidOk state later post.body)
       → J new posts
   first_job new posts cell m pair chains pending last next keeps says = record {
     as_first = λ q j mine. elim (same_cell_or_apart q cell) [
       | inl e ↦
           let same : m ≡ j = same_some (sym pair.follows ∙ ap (second state) (sym e) ∙ mine.follows) in
-          subst (λ (c : Cell). Keeps (pair_of half (halves j) c) (pair_of new (halves j) c)) (sym e) (subst (λ i. Keeps (pair_of half (halves i) cell) (pair_of new (halves i) cell)) same keeps)
+          subst (λ (c : Cell). Keeps (pair_of own (halves j) c) (pair_of new (halves j) c)) (sym e) (subst (λ i. Keeps (pair_of own (halves i) cell) (pair_of new (halves i) cell)) same keeps)
       | inr ne ↦ off_first new (halves j) q (ok_first q j mine) (chains q ne) (pending q ne) next
     ];
     as_second = λ q n mine. off_second new (halves n) q (ok_second q n mine)
@@ -139,10 +139,10 @@ module _ (state : State) (steady : IsSteady state) (w : World) (ready : Ready st
   }
 
   -- a job of the second server of a cell, that changes the copy and how far it is
-  second_job : (new : Half) (posts : List Post) (cell : Cell) (n : ℕ) → IsPair state cell n k → ((q : Cell) → q ≢ cell → chain_in new.store.chains q ≡ chain_in half.store.chains q) → ((q : Cell) → at cell_cmp new.pairs.pending q ≡ at cell_cmp half.pairs.pending q)
-      → ((q : Cell) → q ≢ cell → at cell_cmp new.pairs.last q ≡ at cell_cmp half.pairs.last q) → half.pairs.next ≤ new.pairs.next
-      → Keeps (pair_of (halves n) half cell) (pair_of (halves n) new cell)
-      → ((later : ℕ → Half) → Changes halves later k new → (post : Post) → In post posts → SaidOk state later post.body)
+  second_job : (new : Own) (posts : List Post) (cell : Cell) (n : ℕ) → IsPair state cell n k → ((q : Cell) → q ≢ cell → chain_in new.store.chains q ≡ chain_in own.store.chains q) → ((q : Cell) → at cell_cmp new.pairs.pending q ≡ at cell_cmp own.pairs.pending q)
+      → ((q : Cell) → q ≢ cell → at cell_cmp new.pairs.last q ≡ at cell_cmp own.pairs.last q) → own.pairs.next ≤ new.pairs.next
+      → Keeps (pair_of (halves n) own cell) (pair_of (halves n) new cell)
+      → ((later : ℕ → Own) → Changes halves later k new → (post : Post) → In post posts → SaidOk state later post.body)
       → J new posts
   second_job new posts cell n pair chains pending last next keeps says = record {
     as_first = λ q j mine. off_first new (halves j) q (ok_first q j mine)
@@ -150,44 +150,44 @@ module _ (state : State) (steady : IsSteady state) (w : World) (ready : Ready st
     as_second = λ q i mine. elim (same_cell_or_apart q cell) [
       | inl e ↦
           let same : n ≡ i = same_some (sym pair.leads ∙ ap (first state) (sym e) ∙ mine.leads) in
-          subst (λ (c : Cell). Keeps (pair_of (halves i) half c) (pair_of (halves i) new c)) (sym e) (subst (λ x. Keeps (pair_of (halves x) half cell) (pair_of (halves x) new cell)) same keeps)
+          subst (λ (c : Cell). Keeps (pair_of (halves i) own c) (pair_of (halves i) new c)) (sym e) (subst (λ x. Keeps (pair_of (halves x) own cell) (pair_of (halves x) new cell)) same keeps)
       | inr ne ↦ off_second new (halves i) q (ok_second q i mine) (chains q ne) (last q ne)
     ];
     says = says;
   }
 
   -- a job that leaves copies and operations as they are
-  talks : (new : Half) (posts : List Post) → ((other : Half) (q : Cell) → pair_of new other q ≡ pair_of half other q) → ((other : Half) (q : Cell) → pair_of other new q ≡ pair_of other half q)
-      → ((later : ℕ → Half) → Changes halves later k new → (post : Post) → In post posts → SaidOk state later post.body)
+  talks : (new : Own) (posts : List Post) → ((other : Own) (q : Cell) → pair_of new other q ≡ pair_of own other q) → ((other : Own) (q : Cell) → pair_of other new q ≡ pair_of other own q)
+      → ((later : ℕ → Own) → Changes halves later k new → (post : Post) → In post posts → SaidOk state later post.body)
       → J new posts
   talks new posts first second says = record {
-    as_first = λ q j mine. subst (Keeps (pair_of half (halves j) q)) (sym (first (halves j) q)) (moves.stays (pair_of half (halves j) q) half.pairs.next (ok_first q j mine) (omega arith));
-    as_second = λ q n mine. subst (Keeps (pair_of (halves n) half q)) (sym (second (halves n) q)) (moves.stays (pair_of (halves n) half q) (halves n).pairs.next (ok_second q n mine) (omega arith));
+    as_first = λ q j mine. subst (Keeps (pair_of own (halves j) q)) (sym (first (halves j) q)) (moves.stays (pair_of own (halves j) q) own.pairs.next (ok_first q j mine) (omega arith));
+    as_second = λ q n mine. subst (Keeps (pair_of (halves n) own q)) (sym (second (halves n) q)) (moves.stays (pair_of (halves n) own q) (halves n).pairs.next (ok_second q n mine) (omega arith));
     says = says;
   }
 
   -- the letter says this, of which nothing need be known
-  says_any : (later : ℕ → Half) (said : Body) (post : Post) → post.body ≡ said → ((pair : Pair) → Known pair said) → SaidOk state later post.body
+  says_any : (later : ℕ → Own) (said : Body) (post : Post) → post.body ≡ said → ((pair : Pair) → Known pair said) → SaidOk state later post.body
   says_any later said post e h cell n m is pair = subst (Known (pair_of (later n) (later m) cell)) (sym e) (h (pair_of (later n) (later m) cell))
 
-  says_so : (later : ℕ → Half) (said : Body) (post : Post) → post.body ≡ said → SaidOk state later said → SaidOk state later post.body
+  says_so : (later : ℕ → Own) (said : Body) (post : Post) → post.body ≡ said → SaidOk state later said → SaidOk state later post.body
   says_so later said post e h = subst (SaidOk state later) (sym e) h
 
-  staged_pair : (op : Pending) → at cell_cmp half.pairs.pending op.cell ≡ Some op → (m : ℕ) × IsPair state op.cell k m
+  staged_pair : (op : Pending) → at cell_cmp own.pairs.pending op.cell ≡ Some op → (m : ℕ) × IsPair state op.cell k m
   staged_pair op is = lead_pair op.cell ((ready.pending k).staged op.cell op is).lead
 
-  asks_known : (later : ℕ → Half) → Changes halves later k half → (post : Post) → Asks here half post → SaidOk state later post.body
+  asks_known : (later : ℕ → Own) → Changes halves later k own → (post : Post) → Asks here own post → SaidOk state later post.body
   asks_known later changes _ (A_slot op to is stage e) =
       let pair = staged_pair op is in
-      let above : ceiling_of (at cell_cmp half.pairs.pending op.cell) half.pairs.next ≡ op.op + 1 = ap (λ o. ceiling_of o half.pairs.next) is in
-      known_first state steady halves later k half changes (body.Reserve op.op op.cell) op.cell pair.0 pair.1 refl (omega arith)
+      let above : ceiling_of (at cell_cmp own.pairs.pending op.cell) own.pairs.next ≡ op.op + 1 = ap (λ o. ceiling_of o own.pairs.next) is in
+      known_first state steady halves later k own changes (body.Reserve op.op op.cell) op.cell pair.0 pair.1 refl (omega arith)
   asks_known later changes _ (A_copy op to is stage e) =
       let pair = staged_pair op is in
       let keyed = ((ready.pending k).staged op.cell op is).keyed in
-      known_first state steady halves later k half changes (body.Replicate op.op op.key op.version op.bytes) op.cell pair.0 pair.1 (ap Some keyed)
+      known_first state steady halves later k own changes (body.Replicate op.op op.key op.version op.bytes) op.cell pair.0 pair.1 (ap Some keyed)
       (inl (record { op = op; is = is; number_is = refl; put = ap (λ (s : Stage). s.put) stage; key_is = refl; bytes_is = refl }))
 
-  tells_known : (later : ℕ → Half) (new : Half) → Changes halves later k new → (cell : Cell) (number : ℕ) (how : Far) (n : ℕ) → IsPair state cell n k → at cell_cmp new.pairs.last cell ≡ Some (record { op = number; far = how }) → (post : Post) → In post (tells here new cell number how).posts → SaidOk state later post.body
+  tells_known : (later : ℕ → Own) (new : Own) → Changes halves later k new → (cell : Cell) (number : ℕ) (how : Far) (n : ℕ) → IsPair state cell n k → at cell_cmp new.pairs.last cell ≡ Some (record { op = number; far = how }) → (post : Post) → In post (tells here new cell number how).posts → SaidOk state later post.body
   tells_known later new changes cell number far_is.Reserved n pair is post i =
       let e : progress (at cell_cmp new.pairs.last cell) ≡ number + number = ap progress is in
       says_so later _ post (posted _ _ post i) (known_second state steady halves later k new changes (body.Reserved number cell) cell n pair refl (omega arith))
@@ -200,30 +200,30 @@ module _ (state : State) (steady : IsSteady state) (w : World) (ready : Ready st
   abbrev hears : Body → Type 0
   hears = Handled w k
 
-  opens_keeps : (want : Wanted) → is_lead state k want.cell ≡ true → at cell_cmp half.pairs.pending want.cell ≡ None → J (opened here half want) (post_to (second state want.cell) (body.Reserve half.pairs.next want.cell))
+  opens_keeps : (want : Wanted) → is_lead state k want.cell ≡ true → at cell_cmp own.pairs.pending want.cell ≡ None → J (opened here own want) (post_to (second state want.cell) (body.Reserve own.pairs.next want.cell))
   opens_keeps want lead none =
       let pair = lead_pair want.cell lead in
-      let op = operation here half.pairs.next want in
-      let new = opened here half want in
-      let there : at cell_cmp new.pairs.pending want.cell ≡ Some op = cell_same half.pairs.pending want.cell op in
-      first_job new _ want.cell pair.0 pair.1 (λ q ne. refl) (λ q ne. cell_apart half.pairs.pending want.cell op q ne) (λ q. refl) (omega arith)
-      (subst (λ o. Keeps (pair_of half (halves pair.0) want.cell) (record (pair_of half (halves pair.0) want.cell) { pending = o; next = half.pairs.next + 1 })) (sym there)
-      (moves.opens (pair_of half (halves pair.0) want.cell) op (ok_first want.cell pair.0 pair.1) none refl refl))
+      let op = operation here own.pairs.next want in
+      let new = opened here own want in
+      let there : at cell_cmp new.pairs.pending want.cell ≡ Some op = cell_same own.pairs.pending want.cell op in
+      first_job new _ want.cell pair.0 pair.1 (λ q ne. refl) (λ q ne. cell_apart own.pairs.pending want.cell op q ne) (λ q. refl) (omega arith)
+      (subst (λ o. Keeps (pair_of own (halves pair.0) want.cell) (record (pair_of own (halves pair.0) want.cell) { pending = o; next = own.pairs.next + 1 })) (sym there)
+      (moves.opens (pair_of own (halves pair.0) want.cell) op (ok_first want.cell pair.0 pair.1) none refl refl))
       (λ later changes post i. says_so later _ post (posted _ _ post i)
-      (known_first state steady halves later k new changes (body.Reserve half.pairs.next want.cell) want.cell pair.0 pair.1 refl
-      (subst (λ o. Known (record (pair_of new (halves pair.0) want.cell) { pending = o }) (body.Reserve half.pairs.next want.cell)) (sym there) (omega arith))))
+      (known_first state steady halves later k new changes (body.Reserve own.pairs.next want.cell) want.cell pair.0 pair.1 refl
+      (subst (λ o. Known (record (pair_of new (halves pair.0) want.cell) { pending = o }) (body.Reserve own.pairs.next want.cell)) (sym there) (omega arith))))
 
-  puts_keeps : (op : Pending) → hears (body.Reserved op.op op.cell) → at cell_cmp half.pairs.pending op.cell ≡ Some op → op.stage ≡ waiting → J (puts (with_pending half (with_reserved op)) (with_reserved op)).half []
+  puts_keeps : (op : Pending) → hears (body.Reserved op.op op.cell) → at cell_cmp own.pairs.pending op.cell ≡ Some op → op.stage ≡ waiting → J (puts (with_pending own (with_reserved op)) (with_reserved op)).own []
   unfolding In
   puts_keeps op h is stage =
       let pair = staged_pair op is in
-      let t = half.pairs.pending in
-      let chains = half.store.chains in
+      let t = own.pairs.pending in
+      let chains = own.store.chains in
       let keyed = ((ready.pending k).staged op.cell op is).keyed in
       let one = with_reserved op in
       let version = version_of (chain_in chains op.cell) + 1 in
       let two : Pending = record one { version = version; stage = record one.stage { put = true } } in
-      let new = (puts (with_pending half one) one).half in
+      let new = (puts (with_pending own one) one).own in
       let chain : Chain = put nat_cmp (chain_in chains (cell_of op.key)) op.key.epoch (record { version = version; bytes = op.bytes }) in
       let begun : op.op + op.op ≤ progress (at cell_cmp (halves pair.0).pairs.last op.cell) = heard_known _ h op.cell k pair.0 refl pair.1 in
       let there : at cell_cmp new.pairs.pending op.cell ≡ Some two = cell_same (put cell_cmp t op.cell one) op.cell two in
@@ -233,51 +233,51 @@ module _ (state : State) (steady : IsSteady state) (w : World) (ready : Ready st
       first_job new _ op.cell pair.0 pair.1
       (λ q ne. chain_apart chains (cell_of op.key) chain q (λ e. ne (e ∙ keyed)))
       (λ q ne. cell_apart (put cell_cmp t op.cell one) op.cell two q ne ∙ cell_apart t op.cell one q ne) (λ q. refl) (omega arith)
-      (subst (Keeps (pair_of half (halves pair.0) op.cell)) (λ i. record (pair_of new (halves pair.0) op.cell) { first = copied i; pending = sym there i })
-      (moves.puts (pair_of half (halves pair.0) op.cell) op two (ok_first op.cell pair.0 pair.1) is (ap (λ (s : Stage). s.put) stage) begun refl refl refl refl))
+      (subst (Keeps (pair_of own (halves pair.0) op.cell)) (λ i. record (pair_of new (halves pair.0) op.cell) { first = copied i; pending = sym there i })
+      (moves.puts (pair_of own (halves pair.0) op.cell) op two (ok_first op.cell pair.0 pair.1) is (ap (λ (s : Stage). s.put) stage) begun refl refl refl refl))
       (λ later changes post i. absurd i)
 
   -- an operation is done with
-  done_keeps : (op : Pending) (new : Half) (posts : List Post) → at cell_cmp half.pairs.pending op.cell ≡ Some op → new.store.chains ≡ half.store.chains → new.pairs.last ≡ half.pairs.last → new.pairs.next ≡ half.pairs.next
-      → at cell_cmp new.pairs.pending op.cell ≡ None → ((q : Cell) → q ≢ op.cell → at cell_cmp new.pairs.pending q ≡ at cell_cmp half.pairs.pending q)
-      → ((m : ℕ) → IsPair state op.cell k m → Keeps (pair_of half (halves m) op.cell) (record (pair_of half (halves m) op.cell) { pending = None }))
-      → ((later : ℕ → Half) → Changes halves later k new → (post : Post) → In post posts → SaidOk state later post.body)
+  done_keeps : (op : Pending) (new : Own) (posts : List Post) → at cell_cmp own.pairs.pending op.cell ≡ Some op → new.store.chains ≡ own.store.chains → new.pairs.last ≡ own.pairs.last → new.pairs.next ≡ own.pairs.next
+      → at cell_cmp new.pairs.pending op.cell ≡ None → ((q : Cell) → q ≢ op.cell → at cell_cmp new.pairs.pending q ≡ at cell_cmp own.pairs.pending q)
+      → ((m : ℕ) → IsPair state op.cell k m → Keeps (pair_of own (halves m) op.cell) (record (pair_of own (halves m) op.cell) { pending = None }))
+      → ((later : ℕ → Own) → Changes halves later k new → (post : Post) → In post posts → SaidOk state later post.body)
       → J new posts
   done_keeps op new posts is chains last next gone others keeps says =
       let pair = staged_pair op is in
       first_job new posts op.cell pair.0 pair.1 (λ q ne. ap (λ c. chain_in c q) chains) others (λ q. ap (λ t. at cell_cmp t q) last) (omega arith)
-      (subst (Keeps (pair_of half (halves pair.0) op.cell)) (λ i. record { first = chain_in (sym chains i) op.cell; second = chain_in (halves pair.0).store.chains op.cell; pending = sym gone i; next = sym next i; last = at cell_cmp (halves pair.0).pairs.last op.cell }) (keeps pair.0 pair.1))
+      (subst (Keeps (pair_of own (halves pair.0) op.cell)) (λ i. record { first = chain_in (sym chains i) op.cell; second = chain_in (halves pair.0).store.chains op.cell; pending = sym gone i; next = sym next i; last = at cell_cmp (halves pair.0).pairs.last op.cell }) (keeps pair.0 pair.1))
       says
 
-  gives_up_keeps : (op : Pending) (new : Half) (posts : List Post) → at cell_cmp half.pairs.pending op.cell ≡ Some op → op.stage ≡ waiting → new.store.chains ≡ half.store.chains → new.pairs.last ≡ half.pairs.last → new.pairs.next ≡ half.pairs.next → new.pairs.pending ≡ without cell_cmp half.pairs.pending op.cell
-      → ((later : ℕ → Half) → Changes halves later k new → (post : Post) → In post posts → SaidOk state later post.body) → J new posts
+  gives_up_keeps : (op : Pending) (new : Own) (posts : List Post) → at cell_cmp own.pairs.pending op.cell ≡ Some op → op.stage ≡ waiting → new.store.chains ≡ own.store.chains → new.pairs.last ≡ own.pairs.last → new.pairs.next ≡ own.pairs.next → new.pairs.pending ≡ without cell_cmp own.pairs.pending op.cell
+      → ((later : ℕ → Own) → Changes halves later k new → (post : Post) → In post posts → SaidOk state later post.body) → J new posts
   gives_up_keeps op new posts is stage chains last next pending says =
-      done_keeps op new posts is chains last next (ap (λ t. at cell_cmp t op.cell) pending ∙ cell_gone half.pairs.pending op.cell) (λ q ne. ap (λ t. at cell_cmp t q) pending ∙ cell_gone_apart half.pairs.pending op.cell q ne)
-      (λ m pair. moves.refuses (pair_of half (halves m) op.cell) op (ok_first op.cell m pair) is (ap (λ (s : Stage). s.put) stage)) says
+      done_keeps op new posts is chains last next (ap (λ t. at cell_cmp t op.cell) pending ∙ cell_gone own.pairs.pending op.cell) (λ q ne. ap (λ t. at cell_cmp t q) pending ∙ cell_gone_apart own.pairs.pending op.cell q ne)
+      (λ m pair. moves.refuses (pair_of own (halves m) op.cell) op (ok_first op.cell m pair) is (ap (λ (s : Stage). s.put) stage)) says
 
-  closes_keeps : (op : Pending) (new : Half) (posts : List Post) → hears (body.Replicated op.op op.cell) → at cell_cmp half.pairs.pending op.cell ≡ Some op → op.stage ≡ copying → new.store.chains ≡ half.store.chains → new.pairs.last ≡ half.pairs.last → new.pairs.next ≡ half.pairs.next
-      → new.pairs.pending ≡ without cell_cmp (put cell_cmp half.pairs.pending op.cell (with_paired op)) op.cell
-      → ((later : ℕ → Half) → Changes halves later k new → (post : Post) → In post posts → SaidOk state later post.body) → J new posts
+  closes_keeps : (op : Pending) (new : Own) (posts : List Post) → hears (body.Replicated op.op op.cell) → at cell_cmp own.pairs.pending op.cell ≡ Some op → op.stage ≡ copying → new.store.chains ≡ own.store.chains → new.pairs.last ≡ own.pairs.last → new.pairs.next ≡ own.pairs.next
+      → new.pairs.pending ≡ without cell_cmp (put cell_cmp own.pairs.pending op.cell (with_paired op)) op.cell
+      → ((later : ℕ → Own) → Changes halves later k new → (post : Post) → In post posts → SaidOk state later post.body) → J new posts
   closes_keeps op new posts h is stage chains last next pending says =
-      let t = half.pairs.pending in
+      let t = own.pairs.pending in
       let u = put cell_cmp t op.cell (with_paired op) in
       done_keeps op new posts is chains last next (ap (λ t. at cell_cmp t op.cell) pending ∙ cell_gone u op.cell)
       (λ q ne. ap (λ t. at cell_cmp t q) pending ∙ cell_gone_apart u op.cell q ne ∙ cell_apart t op.cell (with_paired op) q ne)
-      (λ m pair. moves.closes (pair_of half (halves m) op.cell) op (ok_first op.cell m pair) is (ap (λ (s : Stage). s.put) stage) (heard_known _ h op.cell k m refl pair)) says
+      (λ m pair. moves.closes (pair_of own (halves m) op.cell) op (ok_first op.cell m pair) is (ap (λ (s : Stage). s.put) stage) (heard_known _ h op.cell k m refl pair)) says
 
   -- ### The second server's jobs
 
-  reserves_keeps : (number : ℕ) (cell : Cell) (store : Store) → hears (body.Reserve number cell) → is_second state k cell ≡ true → store.chains ≡ half.store.chains → progress (at cell_cmp half.pairs.last cell) ≤ number + number
-      → (new : Half) → new.store ≡ store → new.pairs.pending ≡ half.pairs.pending → new.pairs.next ≡ half.pairs.next → new.pairs.last ≡ put cell_cmp half.pairs.last cell (record { op = number; far = far_is.Reserved })
+  reserves_keeps : (number : ℕ) (cell : Cell) (store : Store) → hears (body.Reserve number cell) → is_second state k cell ≡ true → store.chains ≡ own.store.chains → progress (at cell_cmp own.pairs.last cell) ≤ number + number
+      → (new : Own) → new.store ≡ store → new.pairs.pending ≡ own.pairs.pending → new.pairs.next ≡ own.pairs.next → new.pairs.last ≡ put cell_cmp own.pairs.last cell (record { op = number; far = far_is.Reserved })
       → J new (tells here new cell number far_is.Reserved).posts
   reserves_keeps number cell store h s same le new store_is pending next last =
       let pair = second_pair cell s in
       let now : LastOp = record { op = number; far = far_is.Reserved } in
-      let there : at cell_cmp new.pairs.last cell ≡ Some now = ap (λ t. at cell_cmp t cell) last ∙ cell_same half.pairs.last cell now in
-      let chains : new.store.chains ≡ half.store.chains = ap (λ (x : Store). x.chains) store_is ∙ same in
-      second_job new _ cell pair.0 pair.1 (λ q ne. ap (λ c. chain_in c q) chains) (λ q. ap (λ t. at cell_cmp t q) pending) (λ q ne. ap (λ t. at cell_cmp t q) last ∙ cell_apart half.pairs.last cell now q ne) (omega arith)
-      (subst (Keeps (pair_of (halves pair.0) half cell)) (λ i. record { first = chain_in (halves pair.0).store.chains cell; second = chain_in (sym chains i) cell; pending = at cell_cmp (halves pair.0).pairs.pending cell; next = (halves pair.0).pairs.next; last = sym there i })
-      (moves.reserves (pair_of (halves pair.0) half cell) number (ok_second cell pair.0 pair.1) le (heard_known _ h cell pair.0 k refl pair.1)))
+      let there : at cell_cmp new.pairs.last cell ≡ Some now = ap (λ t. at cell_cmp t cell) last ∙ cell_same own.pairs.last cell now in
+      let chains : new.store.chains ≡ own.store.chains = ap (λ (x : Store). x.chains) store_is ∙ same in
+      second_job new _ cell pair.0 pair.1 (λ q ne. ap (λ c. chain_in c q) chains) (λ q. ap (λ t. at cell_cmp t q) pending) (λ q ne. ap (λ t. at cell_cmp t q) last ∙ cell_apart own.pairs.last cell now q ne) (omega arith)
+      (subst (Keeps (pair_of (halves pair.0) own cell)) (λ i. record { first = chain_in (halves pair.0).store.chains cell; second = chain_in (sym chains i) cell; pending = at cell_cmp (halves pair.0).pairs.pending cell; next = (halves pair.0).pairs.next; last = sym there i })
+      (moves.reserves (pair_of (halves pair.0) own cell) number (ok_second cell pair.0 pair.1) le (heard_known _ h cell pair.0 k refl pair.1)))
       (λ later changes post i. tells_known later new changes cell number far_is.Reserved pair.0 pair.1 there post i)
 
   -- a second server that has not followed was asked to by an operation that is pending
@@ -285,41 +285,41 @@ module _ (state : State) (steady : IsSteady state) (w : World) (ready : Ready st
   asked number key bytes pair last (inl putting) = putting
   asked number key bytes pair last (inr past) = let e : far pair ≡ number + number = ap progress last in absurd (omega arith)
 
-  follows_keeps : (number : ℕ) (key : Key) (version : ℕ) (bytes : List ℕ) → hears (body.Replicate number key version bytes) → is_second state k (cell_of key) ≡ true → at cell_cmp half.pairs.last (cell_of key) ≡ Some (record { op = number; far = far_is.Reserved })
-      → J (follows here half number key bytes).half (follows here half number key bytes).posts
+  follows_keeps : (number : ℕ) (key : Key) (version : ℕ) (bytes : List ℕ) → hears (body.Replicate number key version bytes) → is_second state k (cell_of key) ≡ true → at cell_cmp own.pairs.last (cell_of key) ≡ Some (record { op = number; far = far_is.Reserved })
+      → J (follows here own number key bytes).own (follows here own number key bytes).posts
   follows_keeps number key version bytes h s is =
       let cell = cell_of key in
       let pair = second_pair cell s in
-      let chains = half.store.chains in
-      let new = (follows here half number key bytes).half in
+      let chains = own.store.chains in
+      let new = (follows here own number key bytes).own in
       let now : LastOp = record { op = number; far = far_is.Replicated } in
-      let there : at cell_cmp new.pairs.last cell ≡ Some now = cell_same half.pairs.last cell now in
+      let there : at cell_cmp new.pairs.last cell ≡ Some now = cell_same own.pairs.last cell now in
       let chain : Chain = put nat_cmp (chain_in chains cell) key.epoch (record { version = version_of (chain_in chains cell) + 1; bytes = bytes }) in
-      let putting = asked number key bytes (pair_of (halves pair.0) half cell) is (heard_known _ h cell pair.0 k refl pair.1) in
-      second_job new _ cell pair.0 pair.1 (λ q ne. chain_apart chains cell chain q ne) (λ q. refl) (λ q ne. cell_apart half.pairs.last cell now q ne) (omega arith)
-      (subst (Keeps (pair_of (halves pair.0) half cell)) (λ i. record { first = chain_in (halves pair.0).store.chains cell; second = sym (chain_put chains cell chain) i; pending = at cell_cmp (halves pair.0).pairs.pending cell; next = (halves pair.0).pairs.next; last = sym there i })
-      (moves.follows (pair_of (halves pair.0) half cell) number key bytes (ok_second cell pair.0 pair.1) is putting))
+      let putting = asked number key bytes (pair_of (halves pair.0) own cell) is (heard_known _ h cell pair.0 k refl pair.1) in
+      second_job new _ cell pair.0 pair.1 (λ q ne. chain_apart chains cell chain q ne) (λ q. refl) (λ q ne. cell_apart own.pairs.last cell now q ne) (omega arith)
+      (subst (Keeps (pair_of (halves pair.0) own cell)) (λ i. record { first = chain_in (halves pair.0).store.chains cell; second = sym (chain_put chains cell chain) i; pending = at cell_cmp (halves pair.0).pairs.pending cell; next = (halves pair.0).pairs.next; last = sym there i })
+      (moves.follows (pair_of (halves pair.0) own cell) number key bytes (ok_second cell pair.0 pair.1) is putting))
       (λ later changes post i. tells_known later new changes cell number far_is.Replicated pair.0 pair.1 there post i)
 
-  promises_keeps : (number : ℕ) (cell : Cell) (how : Far) → is_second state k cell ≡ true → at cell_cmp half.pairs.last cell ≡ Some (record { op = number; far = how }) → J (tells here half cell number how).half (tells here half cell number how).posts
+  promises_keeps : (number : ℕ) (cell : Cell) (how : Far) → is_second state k cell ≡ true → at cell_cmp own.pairs.last cell ≡ Some (record { op = number; far = how }) → J (tells here own cell number how).own (tells here own cell number how).posts
   promises_keeps number cell how s is =
       let pair = second_pair cell s in
-      subst (λ new. J new (tells here half cell number how).posts) (told how)
-      (talks half _ (λ other q. refl) (λ other q. refl) (λ later changes post i. tells_known later half changes cell number how pair.0 pair.1 is post i))
+      subst (λ new. J new (tells here own cell number how).posts) (told how)
+      (talks own _ (λ other q. refl) (λ other q. refl) (λ later changes post i. tells_known later own changes cell number how pair.0 pair.1 is post i))
     where
-      told : (how : Far) → half ≡ (tells here half cell number how).half
+      told : (how : Far) → own ≡ (tells here own cell number how).own
       told far_is.Reserved = refl
       told far_is.Replicated = refl
 
   -- ### Each kind of job
 
-  pub job_keeps : (done : Done) → Did hears here half done → J done.half done.posts
+  pub job_keeps : (done : Done) → Did hears here own done → J done.own done.posts
   unfolding In
-  job_keeps _ Ignores = talks half [] (λ other q. refl) (λ other q. refl) (λ later changes post i. absurd i)
-  job_keeps _ (Refuses to said is why) = talks half _ (λ other q. refl) (λ other q. refl) (λ later changes post i. says_any later said post (one_post to said post i) (λ pair. refusal_known pair said is))
-  job_keeps _ (Asks_for posts h) = talks half posts (λ other q. refl) (λ other q. refl) (λ later changes post i. asks_known later changes post (h post i))
-  job_keeps _ (Shows client seq cell epoch h r none) = talks half _ (λ other q. refl) (λ other q. refl) (λ later changes post i. says_any later _ post (one_post _ _ post i) (λ pair. tt))
-  job_keeps _ (Repeats want last h lead is e) = talks half _ (λ other q. refl) (λ other q. refl) (λ later changes post i. says_any later _ post (one_post _ _ post i) (λ pair. ended_known pair want.seq last.ending))
+  job_keeps _ Ignores = talks own [] (λ other q. refl) (λ other q. refl) (λ later changes post i. absurd i)
+  job_keeps _ (Refuses to said is why) = talks own _ (λ other q. refl) (λ other q. refl) (λ later changes post i. says_any later said post (one_post to said post i) (λ pair. refusal_known pair said is))
+  job_keeps _ (Asks_for posts h) = talks own posts (λ other q. refl) (λ other q. refl) (λ later changes post i. asks_known later changes post (h post i))
+  job_keeps _ (Shows client seq cell epoch h r none) = talks own _ (λ other q. refl) (λ other q. refl) (λ later changes post i. says_any later _ post (one_post _ _ post i) (λ pair. tt))
+  job_keeps _ (Repeats want last h lead is e) = talks own _ (λ other q. refl) (λ other q. refl) (λ later changes post i. says_any later _ post (one_post _ _ post i) (λ pair. ended_known pair want.seq last.ending))
   job_keeps _ (Is_full want h lead new none no_room) = talks _ _ (λ other q. refl) (λ other q. refl) (λ later changes post i. says_any later _ post (one_post _ _ post i) (λ pair. tt))
   job_keeps _ (Opens want h lead new none) = opens_keeps want lead none
   job_keeps _ (Puts op h is stage) = puts_keeps op h is stage
@@ -327,5 +327,5 @@ module _ (state : State) (steady : IsSteady state) (w : World) (ready : Ready st
   job_keeps _ (Closes op h is stage) = closes_keeps op _ _ h is stage refl refl refl refl (λ later changes post i. says_any later _ post (one_post _ _ post i) (λ pair. tt))
   job_keeps _ (Sets_apart number cell store h s e le) = reserves_keeps number cell store h s e le _ refl refl refl refl
   job_keeps _ (Promises number cell how s is) = promises_keeps number cell how s is
-  job_keeps _ (Declines number cell h s no_room) = talks half _ (λ other q. refl) (λ other q. refl) (λ later changes post i. says_any later _ post (posted _ _ post i) (λ pair. tt))
+  job_keeps _ (Declines number cell h s no_room) = talks own _ (λ other q. refl) (λ other q. refl) (λ later changes post i. says_any later _ post (posted _ _ post i) (λ pair. tt))
   job_keeps _ (Follows number key version bytes h s is) = follows_keeps number key version bytes h s is

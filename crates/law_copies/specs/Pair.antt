@@ -12,8 +12,7 @@ use Rattle.petal_msg.specs.declared.operation.Pending.{Pending}
 use Rattle.petal_rules.specs.Lists.{In}
 use Rattle.petal_rules.specs.State.{State, first, second}
 use Rattle.petal_rules.specs.Store.{Chain, cell_cmp, chain_in}
-use Rattle.petal_rules.specs.Server.{Half}
-use Rattle.petal_rules.specs.Jobs.{half_of}
+use Rattle.petal_rules.specs.Server.{Own}
 use Rattle.petal_rules.specs.World.{World}
 use Rattle.petal_history.specs.Claims.{one_put_ahead}
 use Rattle.law_steps.specs.Did.{progress}
@@ -27,7 +26,7 @@ pub record Pair : Type 0 where
   pub next : ℕ
   pub last : Option LastOp
 
-abbrev pub pair_of : Half → Half → Cell → Pair
+abbrev pub pair_of : Own → Own → Cell → Pair
 pair_of lead other cell = record {
   first = chain_in lead.store.chains cell;
   second = chain_in other.store.chains cell;
@@ -125,13 +124,13 @@ cell_in (body.WrongRev seq) = None
 cell_in (body.Written seq) = None
 cell_in (body.Full seq) = None
 
-abbrev pub SaidOk : State → (ℕ → Half) → Body → Type 0
+abbrev pub SaidOk : State → (ℕ → Own) → Body → Type 0
 SaidOk state halves said = (cell : Cell) (n m : ℕ) → cell_in said ≡ Some cell → IsPair state cell n m → Known (pair_of (halves n) (halves m) cell) said
 
-abbrev pub halves_of : World → ℕ → Half
-halves_of w n = half_of (w.servers n)
+abbrev pub owns_of : World → ℕ → Own
+owns_of w n = (w.servers n).own
 
 -- the pair of each cell, and the letters that were ever sent
 pub record Good (state : State) (w : World) : Type 0 where
-  pub pairs : (cell : Cell) (n m : ℕ) → IsPair state cell n m → PairOk (pair_of (halves_of w n) (halves_of w m) cell)
-  pub letters : (letter : Letter) → In letter w.sent → SaidOk state (halves_of w) letter.body
+  pub pairs : (cell : Cell) (n m : ℕ) → IsPair state cell n m → PairOk (pair_of (owns_of w n) (owns_of w m) cell)
+  pub letters : (letter : Letter) → In letter w.sent → SaidOk state (owns_of w) letter.body

@@ -19,9 +19,9 @@ use Rattle.petal_msg.specs.declared.operation.Pending.{Pending}
 use Rattle.petal_rules.specs.Lists.{In}
 use Rattle.petal_rules.specs.State.{State, first, second, is_second}
 use Rattle.petal_rules.specs.Store.{cell_cmp, chain_in, version_of, entry_at, bytes_of}
-use Rattle.petal_rules.specs.Server.{Half, Here, Post, Done, post_to, sender}
+use Rattle.petal_rules.specs.Server.{Own, Here, Post, Done, post_to, sender}
 use Rattle.petal_rules.specs.Writes.{operation, opened, with_reserved, with_paired, ended, tells}
-use Rattle.petal_rules.specs.Jobs.{here_of, half_of}
+use Rattle.petal_rules.specs.Jobs.{here_of}
 use Rattle.petal_rules.specs.World.{World}
 use Rattle.petal_rules.specs.declared.job.Job.{Job}
 use Rattle.petal_rules.specs.declared.step.Step.TheVariants.{Work}
@@ -35,15 +35,15 @@ use Rattle.law_steps.specs.Ready.{Ready}
 use Rattle.law_steps.proofs.Letters.{said}
 use Rattle.law_steps.proofs.Tests.{same_or_apart, same_some, none_some, true_false}
 use Rattle.law_steps.proofs.Staged.{same_cell_or_apart}
-use Rattle.law_copies.specs.Pair.{IsPair, ceiling_of, halves_of, Good}
+use Rattle.law_copies.specs.Pair.{IsPair, ceiling_of, owns_of, Good}
 use Rattle.law_copies.proofs.Frames.{apart}
 use Rattle.law_copies.proofs.Jobs.{heard_known, lead_pair, second_pair}
 use Rattle.law_refusals.specs.Reasons.{HadNoSlot, At_the_lead, At_the_second, Refusals}
 
 -- the operation was pending, under this number and for this request
-pub record Was (half : Half) (cell : Cell) (op : Pending) : Type 0 where
+pub record Was (own : Own) (cell : Cell) (op : Pending) : Type 0 where
   pub was : Pending
-  pub is : at cell_cmp half.pairs.pending cell ≡ Some was
+  pub is : at cell_cmp own.pairs.pending cell ≡ Some was
   pub number : was.op ≡ op.op
   pub client : was.client ≡ op.client
   pub seq : was.seq ≡ op.seq
@@ -80,9 +80,9 @@ refusal_not_full (body.PairFull number cell) h = absurd h
 refusal_not_full (body.Replicate number key version bytes) h = absurd h
 refusal_not_full (body.Replicated number cell) h = absurd h
 
-asks_not_full : (here : Here) (half : Half) (post : Post) → Asks here half post → is_full post.body ≡ false
-asks_not_full here half _ (A_slot op to is stage e) = refl
-asks_not_full here half _ (A_copy op to is stage e) = refl
+asks_not_full : (here : Here) (own : Own) (post : Post) → Asks here own post → is_full post.body ≡ false
+asks_not_full here own _ (A_slot op to is stage e) = refl
+asks_not_full here own _ (A_copy op to is stage e) = refl
 
 one_post : (to : Actor) (what : Body) (post : Post) → In post (record { to = to; body = what } ∷ []) → (post.to ≡ to) × (post.body ≡ what)
 unfolding In
@@ -95,7 +95,7 @@ posted None what post h = absurd h
 posted (Some to) what post (inl e) = ap (λ (p : Post). p.body) e
 posted (Some to) what post (inr h) = absurd h
 
-tells_not_full : (here : Here) (new : Half) (cell : Cell) (number : ℕ) (how : Far) (post : Post) → In post (tells here new cell number how).posts → is_full post.body ≡ false
+tells_not_full : (here : Here) (new : Own) (cell : Cell) (number : ℕ) (how : Far) (post : Post) → In post (tells here new cell number how).posts → is_full post.body ≡ false
 tells_not_full here new cell number far.Reserved post i = ap is_full (posted _ _ post i)
 tells_not_full here new cell number far.Replicated post i = ap is_full (posted _ _ post i)
 
@@ -106,52 +106,52 @@ full_seq : {seq other : ℕ} → body.Full seq ≡ body.Full other → seq ≡ o
 full_seq e = cc
 
 -- What a job has to show: of what it remembers, of what is pending, and of what it sends.
-pub record JobRefuses (R : ℕ → ℕ → Type 0) (state : State) (w : World) (n : ℕ) (new : Half) (posts : List Post) : Type 0 where
-  pub finished : (c : ℕ) (last : Finished) → at nat_cmp new.pairs.finished c ≡ Some last → last.ending ≡ ending.Full → (at nat_cmp (halves_of w n).pairs.finished c ≡ Some last) ⊎ R c last.seq
-  pub pending : (cell : Cell) (op : Pending) → at cell_cmp new.pairs.pending cell ≡ Some op → Was (halves_of w n) cell op ⊎ (op.op ≡ (halves_of w n).pairs.next)
-  pub next : (halves_of w n).pairs.next ≤ new.pairs.next
+pub record JobRefuses (R : ℕ → ℕ → Type 0) (state : State) (w : World) (n : ℕ) (new : Own) (posts : List Post) : Type 0 where
+  pub finished : (c : ℕ) (last : Finished) → at nat_cmp new.pairs.finished c ≡ Some last → last.ending ≡ ending.Full → (at nat_cmp (owns_of w n).pairs.finished c ≡ Some last) ⊎ R c last.seq
+  pub pending : (cell : Cell) (op : Pending) → at cell_cmp new.pairs.pending cell ≡ Some op → Was (owns_of w n) cell op ⊎ (op.op ≡ (owns_of w n).pairs.next)
+  pub next : (owns_of w n).pairs.next ≤ new.pairs.next
   pub letters : (post : Post) (c seq : ℕ) → In post posts → post.to ≡ actor.Client c → post.body ≡ body.Full seq → R c seq
-  pub numbers : (post : Post) (number p : ℕ) (cell : Cell) → In post posts → post.body ≡ body.PairFull number cell → first state cell ≡ Some p → (p ≢ n) × (number < (halves_of w p).pairs.next)
-  pub declined : (post : Post) (number p : ℕ) (cell : Cell) (op : Pending) → In post posts → post.body ≡ body.PairFull number cell → first state cell ≡ Some p → at cell_cmp (halves_of w p).pairs.pending cell ≡ Some op → op.op ≡ number → R op.client op.seq
+  pub numbers : (post : Post) (number p : ℕ) (cell : Cell) → In post posts → post.body ≡ body.PairFull number cell → first state cell ≡ Some p → (p ≢ n) × (number < (owns_of w p).pairs.next)
+  pub declined : (post : Post) (number p : ℕ) (cell : Cell) (op : Pending) → In post posts → post.body ≡ body.PairFull number cell → first state cell ≡ Some p → at cell_cmp (owns_of w p).pairs.pending cell ≡ Some op → op.op ≡ number → R op.client op.seq
 
-module _ (R S : ℕ → ℕ → Type 0) (state : State) (w : World) (more : (c seq : ℕ) → R c seq → S c seq) (refusals : Refusals R state w) (n stamp : ℕ) (done : Done) (queue : List Job) (job : JobRefuses S state w n done.half done.posts) where
+module _ (R S : ℕ → ℕ → Type 0) (state : State) (w : World) (more : (c seq : ℕ) → R c seq → S c seq) (refusals : Refusals R state w) (n stamp : ℕ) (done : Done) (queue : List Job) (job : JobRefuses S state w n done.own done.posts) where
   abbrev later : World
   later = server_moves state w n stamp done queue
 
-  half_now : halves_of later n ≡ done.half
-  half_now = ap half_of (put_same w.servers n (served (w.servers n) done queue))
+  own_now : owns_of later n ≡ done.own
+  own_now = ap (λ s. s.own) (put_same w.servers n (served (w.servers n) done queue))
 
-  half_other : (i : ℕ) → i ≢ n → halves_of later i ≡ halves_of w i
-  half_other i ne = ap half_of (put_apart w.servers n (served (w.servers n) done queue) i ne)
+  own_other : (i : ℕ) → i ≢ n → owns_of later i ≡ owns_of w i
+  own_other i ne = ap (λ s. s.own) (put_apart w.servers n (served (w.servers n) done queue) i ne)
 
-  finished : (i c : ℕ) (last : Finished) → at nat_cmp (halves_of later i).pairs.finished c ≡ Some last → last.ending ≡ ending.Full → S c last.seq
+  finished : (i c : ℕ) (last : Finished) → at nat_cmp (owns_of later i).pairs.finished c ≡ Some last → last.ending ≡ ending.Full → S c last.seq
   finished i c last is how = elim (same_or_apart i n) [
-    | inl e ↦ elim (job.finished c last (sym (ap (λ h. at nat_cmp h.pairs.finished c) (ap (halves_of later) e ∙ half_now)) ∙ is) how) [
+    | inl e ↦ elim (job.finished c last (sym (ap (λ h. at nat_cmp h.pairs.finished c) (ap (owns_of later) e ∙ own_now)) ∙ is) how) [
       | inl was ↦ more c last.seq (refusals.finished n c last was how)
       | inr now ↦ now
     ]
-    | inr ne ↦ more c last.seq (refusals.finished i c last (sym (ap (λ h. at nat_cmp h.pairs.finished c) (half_other i ne)) ∙ is) how)
+    | inr ne ↦ more c last.seq (refusals.finished i c last (sym (ap (λ h. at nat_cmp h.pairs.finished c) (own_other i ne)) ∙ is) how)
   ]
 
-  next_later : (i number : ℕ) → number < (halves_of w i).pairs.next → number < (halves_of later i).pairs.next
+  next_later : (i number : ℕ) → number < (owns_of w i).pairs.next → number < (owns_of later i).pairs.next
   next_later i number lt = elim (same_or_apart i n) [
     | inl e ↦
         let up = job.next in
-        let was : number < (halves_of w n).pairs.next = subst (λ k. number < (halves_of w k).pairs.next) e lt in
-        subst (λ h. number < h.pairs.next) (sym (ap (halves_of later) e ∙ half_now)) (omega arith)
-    | inr ne ↦ subst (λ h. number < h.pairs.next) (sym (half_other i ne)) lt
+        let was : number < (owns_of w n).pairs.next = subst (λ k. number < (owns_of w k).pairs.next) e lt in
+        subst (λ h. number < h.pairs.next) (sym (ap (owns_of later) e ∙ own_now)) (omega arith)
+    | inr ne ↦ subst (λ h. number < h.pairs.next) (sym (own_other i ne)) lt
   ]
 
   -- what was declined is the operation that it was
-  old_declined : (letter : Letter) (number p : ℕ) (cell : Cell) (op : Pending) → In letter w.sent → letter.body ≡ body.PairFull number cell → first state cell ≡ Some p → at cell_cmp (halves_of later p).pairs.pending cell ≡ Some op → op.op ≡ number → S op.client op.seq
+  old_declined : (letter : Letter) (number p : ℕ) (cell : Cell) (op : Pending) → In letter w.sent → letter.body ≡ body.PairFull number cell → first state cell ≡ Some p → at cell_cmp (owns_of later p).pairs.pending cell ≡ Some op → op.op ≡ number → S op.client op.seq
   old_declined letter number p cell op h says leads is same = elim (same_or_apart p n) [
-    | inl e ↦ elim (job.pending cell op (sym (ap (λ h. at cell_cmp h.pairs.pending cell) (ap (halves_of later) e ∙ half_now)) ∙ is)) [
+    | inl e ↦ elim (job.pending cell op (sym (ap (λ h. at cell_cmp h.pairs.pending cell) (ap (owns_of later) e ∙ own_now)) ∙ is)) [
       | inl was ↦
           subst (S op.client) was.seq (subst (λ c. S c was.was.seq) was.client
           (more was.was.client was.was.seq (refusals.declined letter number n cell was.was h says (leads ∙ ap Some e) was.is (was.number ∙ same))))
       | inr fresh ↦ let lt = refusals.numbers letter number n cell h says (leads ∙ ap Some e) in absurd (omega arith)
     ]
-    | inr ne ↦ more op.client op.seq (refusals.declined letter number p cell op h says leads (sym (ap (λ h. at cell_cmp h.pairs.pending cell) (half_other p ne)) ∙ is) same)
+    | inr ne ↦ more op.client op.seq (refusals.declined letter number p cell op h says leads (sym (ap (λ h. at cell_cmp h.pairs.pending cell) (own_other p ne)) ∙ is) same)
   ]
 
   pub job_refusals : Refusals S state later
@@ -171,7 +171,7 @@ module _ (R S : ℕ → ℕ → Type 0) (state : State) (w : World) (more : (c s
       | inl new ↦
           let s = said (sender (here_of state n (w.servers n))) stamp 0 done.posts letter new in
           let ne = (job.numbers s.post number p cell s.there (sym s.body ∙ says) leads).0 in
-          job.declined s.post number p cell op s.there (sym s.body ∙ says) leads (sym (ap (λ h. at cell_cmp h.pairs.pending cell) (half_other p ne)) ∙ is) same
+          job.declined s.post number p cell op s.there (sym s.body ∙ says) leads (sym (ap (λ h. at cell_cmp h.pairs.pending cell) (own_other p ne)) ∙ is) same
       | inr old ↦ old_declined letter number p cell op old says leads is same
     ];
   }
@@ -182,24 +182,24 @@ module _ (R S : ℕ → ℕ → Type 0) (state : State) (steady : IsSteady state
   abbrev here : Here
   here = here_of state n (w.servers n)
 
-  abbrev half : Half
-  half = halves_of w n
+  abbrev own : Own
+  own = owns_of w n
 
-  abbrev J : Half → List Post → Type 0
+  abbrev J : Own → List Post → Type 0
   J new posts = JobRefuses S state w n new posts
 
   abbrev hears : Body → Type 0
   hears = Handled w n
 
-  was_same : (cell : Cell) (op : Pending) → at cell_cmp half.pairs.pending cell ≡ Some op → Was half cell op
+  was_same : (cell : Cell) (op : Pending) → at cell_cmp own.pairs.pending cell ≡ Some op → Was own cell op
   was_same cell op is = record { was = op; is = is; number = refl; client = refl; seq = refl }
 
   abbrev Says : List Post → Type 0
   Says posts = (post : Post) (c seq : ℕ) → In post posts → post.to ≡ actor.Client c → post.body ≡ body.Full seq → S c seq
 
   -- a job that tells nobody of a want of slots
-  quiet : (new : Half) (posts : List Post) → ((c : ℕ) (last : Finished) → at nat_cmp new.pairs.finished c ≡ Some last → last.ending ≡ ending.Full → (at nat_cmp half.pairs.finished c ≡ Some last) ⊎ S c last.seq)
-      → ((cell : Cell) (op : Pending) → at cell_cmp new.pairs.pending cell ≡ Some op → Was half cell op ⊎ (op.op ≡ half.pairs.next)) → half.pairs.next ≤ new.pairs.next → ((post : Post) → In post posts → is_full post.body ≡ false) → J new posts
+  quiet : (new : Own) (posts : List Post) → ((c : ℕ) (last : Finished) → at nat_cmp new.pairs.finished c ≡ Some last → last.ending ≡ ending.Full → (at nat_cmp own.pairs.finished c ≡ Some last) ⊎ S c last.seq)
+      → ((cell : Cell) (op : Pending) → at cell_cmp new.pairs.pending cell ≡ Some op → Was own cell op ⊎ (op.op ≡ own.pairs.next)) → own.pairs.next ≤ new.pairs.next → ((post : Post) → In post posts → is_full post.body ≡ false) → J new posts
   quiet new posts finished pending next unsaid = record {
     finished = finished;
     pending = pending;
@@ -210,7 +210,7 @@ module _ (R S : ℕ → ℕ → Type 0) (state : State) (steady : IsSteady state
   }
 
   -- and leaves what is pending and finished
-  still : (posts : List Post) (new : Half) → new.pairs.finished ≡ half.pairs.finished → new.pairs.pending ≡ half.pairs.pending → new.pairs.next ≡ half.pairs.next → ((post : Post) → In post posts → is_full post.body ≡ false) → J new posts
+  still : (posts : List Post) (new : Own) → new.pairs.finished ≡ own.pairs.finished → new.pairs.pending ≡ own.pairs.pending → new.pairs.next ≡ own.pairs.next → ((post : Post) → In post posts → is_full post.body ≡ false) → J new posts
   still posts new finished pending next unsaid = quiet new posts
       (λ c last is how. inl (ap (λ t. at nat_cmp t c) (sym finished) ∙ is)) (λ cell op is. inl (was_same cell op (ap (λ t. at cell_cmp t cell) (sym pending) ∙ is))) (omega arith) unsaid
 
@@ -231,10 +231,10 @@ module _ (R S : ℕ → ℕ → Type 0) (state : State) (steady : IsSteady state
   ]
 
   -- the server finishes a request for want of a slot
-  fills : (client seq : ℕ) (new : Half) → S client seq → new.pairs.finished ≡ put nat_cmp half.pairs.finished client (record { seq = seq; ending = ending.Full }) → half.pairs.next ≤ new.pairs.next
-      → ((cell : Cell) (op : Pending) → at cell_cmp new.pairs.pending cell ≡ Some op → Was half cell op ⊎ (op.op ≡ half.pairs.next)) → J new (record { to = actor.Client client; body = body.Full seq } ∷ [])
+  fills : (client seq : ℕ) (new : Own) → S client seq → new.pairs.finished ≡ put nat_cmp own.pairs.finished client (record { seq = seq; ending = ending.Full }) → own.pairs.next ≤ new.pairs.next
+      → ((cell : Cell) (op : Pending) → at cell_cmp new.pairs.pending cell ≡ Some op → Was own cell op ⊎ (op.op ≡ own.pairs.next)) → J new (record { to = actor.Client client; body = body.Full seq } ∷ [])
   fills client seq new s finished next pending = record {
-    finished = λ c last is how. full_is half.pairs.finished client seq s c last (ap (λ t. at nat_cmp t c) (sym finished) ∙ is);
+    finished = λ c last is how. full_is own.pairs.finished client seq s c last (ap (λ t. at nat_cmp t c) (sym finished) ∙ is);
     pending = pending;
     next = next;
     letters = one_full client seq s;
@@ -245,19 +245,19 @@ module _ (R S : ℕ → ℕ → Type 0) (state : State) (steady : IsSteady state
       not_pair : {B : Type 0} {what : Body} {seq number : ℕ} {cell : Cell} → what ≡ body.Full seq → what ≡ body.PairFull number cell → B
       not_pair e f = absurd (let g : body.Full _ ≡ body.PairFull _ _ = sym e ∙ f in cc)
 
-  gone : (op : Pending) (t : Table Cell Pending) → at cell_cmp t op.cell ≡ None → ((q : Cell) → q ≢ op.cell → at cell_cmp t q ≡ at cell_cmp half.pairs.pending q) → (cell : Cell) (o : Pending) → at cell_cmp t cell ≡ Some o → Was half cell o ⊎ (o.op ≡ half.pairs.next)
+  gone : (op : Pending) (t : Table Cell Pending) → at cell_cmp t op.cell ≡ None → ((q : Cell) → q ≢ op.cell → at cell_cmp t q ≡ at cell_cmp own.pairs.pending q) → (cell : Cell) (o : Pending) → at cell_cmp t cell ≡ Some o → Was own cell o ⊎ (o.op ≡ own.pairs.next)
   gone op t none others cell o is = elim (same_cell_or_apart cell op.cell) [
     | inl e ↦ none_some none (subst (λ (x : Cell). at cell_cmp t x ≡ Some o) e is)
     | inr ne ↦ inl (was_same cell o (sym (others cell ne) ∙ is))
   ]
 
   -- an operation that the second server has no slot for
-  declined_op : (op : Pending) → hears (body.PairFull op.op op.cell) → at cell_cmp half.pairs.pending op.cell ≡ Some op → S op.client op.seq
+  declined_op : (op : Pending) → hears (body.PairFull op.op op.cell) → at cell_cmp own.pairs.pending op.cell ≡ Some op → S op.client op.seq
   declined_op op h is =
       let pair = lead_pair state steady w ready good n op.cell ((ready.pending n).staged op.cell op is).lead in
       more op.client op.seq (refusals.declined h.letter op.op n op.cell op h.sent h.is pair.1.leads is refl)
 
-  declines : (number : ℕ) (cell : Cell) → hears (body.Reserve number cell) → is_second state n cell ≡ true → FoundNoSlot half cell number → J half (post_to (first state cell) (body.PairFull number cell))
+  declines : (number : ℕ) (cell : Cell) → hears (body.Reserve number cell) → is_second state n cell ≡ true → FoundNoSlot own cell number → J own (post_to (first state cell) (body.PairFull number cell))
   declines number cell h s no_room =
       let pair = second_pair state steady w ready good n cell s in
       record {
@@ -272,28 +272,28 @@ module _ (R S : ℕ → ℕ → Type 0) (state : State) (steady : IsSteady state
             let mine : IsPair state cell p n = subst (λ j. IsPair state cell j n) one pair.1 in
             let ok = good.pairs cell p n mine in
             let fresh = ok.fresh in
-            let known : number < ceiling_of (at cell_cmp (halves_of w p).pairs.pending cell) (halves_of w p).pairs.next = heard_known state steady w ready good n _ h cell p n refl mine in
+            let known : number < ceiling_of (at cell_cmp (owns_of w p).pairs.pending cell) (owns_of w p).pairs.next = heard_known state steady w ready good n _ h cell p n refl mine in
             let number_is = same.0 in
             (apart state steady cell p n mine, omega arith);
         declined = λ post k p q op i says leads is numbered.
             let same = full_cell (sym (posted _ _ post i) ∙ says) in
-            let there : at cell_cmp (halves_of w p).pairs.pending cell ≡ Some op = ap (at cell_cmp (halves_of w p).pairs.pending) same.1 ∙ is in
-            now op.client op.seq (At_the_second p n cell op refl refl (ap (first state) same.1 ∙ leads) pair.1.follows there refl refl (subst (λ j. hears (body.Reserve j cell)) (same.0 ∙ sym numbered) h) (subst (FoundNoSlot half cell) (same.0 ∙ sym numbered) no_room));
+            let there : at cell_cmp (owns_of w p).pairs.pending cell ≡ Some op = ap (at cell_cmp (owns_of w p).pairs.pending) same.1 ∙ is in
+            now op.client op.seq (At_the_second p n cell op refl refl (ap (first state) same.1 ∙ leads) pair.1.follows there refl refl (subst (λ j. hears (body.Reserve j cell)) (same.0 ∙ sym numbered) h) (subst (FoundNoSlot own cell) (same.0 ∙ sym numbered) no_room));
       }
     where
       full_cell : {a b : ℕ} {c d : Cell} → body.PairFull a c ≡ body.PairFull b d → (a ≡ b) × (c ≡ d)
       full_cell {a} {b} {c} {d} e = (cc, cc)
 
-  pub job_refuses : (done : Done) → Did hears here half done → J done.half done.posts
+  pub job_refuses : (done : Done) → Did hears here own done → J done.own done.posts
   unfolding In
-  job_refuses _ Ignores = still [] half refl refl refl (λ post i. absurd i)
-  job_refuses _ (Refuses to what is why) = still _ half refl refl refl (λ post i. ap is_full (one_post to what post i).1 ∙ refusal_not_full what is)
-  job_refuses _ (Asks_for posts h) = still posts half refl refl refl (λ post i. asks_not_full here half post (h post i))
-  job_refuses _ (Shows client seq cell epoch h r none) = still (record { to = actor.Client client; body = body.Data seq (bytes_of (entry_at (chain_in half.store.chains cell) epoch)) } ∷ []) half refl refl refl (λ post i. ap is_full (one_post (actor.Client client) (body.Data seq (bytes_of (entry_at (chain_in half.store.chains cell) epoch))) post i).1)
+  job_refuses _ Ignores = still [] own refl refl refl (λ post i. absurd i)
+  job_refuses _ (Refuses to what is why) = still _ own refl refl refl (λ post i. ap is_full (one_post to what post i).1 ∙ refusal_not_full what is)
+  job_refuses _ (Asks_for posts h) = still posts own refl refl refl (λ post i. asks_not_full here own post (h post i))
+  job_refuses _ (Shows client seq cell epoch h r none) = still (record { to = actor.Client client; body = body.Data seq (bytes_of (entry_at (chain_in own.store.chains cell) epoch)) } ∷ []) own refl refl refl (λ post i. ap is_full (one_post (actor.Client client) (body.Data seq (bytes_of (entry_at (chain_in own.store.chains cell) epoch))) post i).1)
   job_refuses _ (Repeats want last h lead is e) = repeats last.ending refl
     where
-      repeats : (how : Ending) → last.ending ≡ how → J half (record { to = actor.Client want.client; body = ended want.seq how } ∷ [])
-      repeats ending.Written f = still (record { to = actor.Client want.client; body = body.Written want.seq } ∷ []) half refl refl refl (λ post i. ap is_full (one_post (actor.Client want.client) (body.Written want.seq) post i).1)
+      repeats : (how : Ending) → last.ending ≡ how → J own (record { to = actor.Client want.client; body = ended want.seq how } ∷ [])
+      repeats ending.Written f = still (record { to = actor.Client want.client; body = body.Written want.seq } ∷ []) own refl refl refl (λ post i. ap is_full (one_post (actor.Client want.client) (body.Written want.seq) post i).1)
       repeats ending.Full f = record {
         finished = λ c l there how. inl there;
         pending = λ cell op there. inl (was_same cell op there);
@@ -304,16 +304,16 @@ module _ (R S : ℕ → ℕ → Type 0) (state : State) (steady : IsSteady state
       }
   job_refuses _ (Is_full want h lead new none no_room) = fills want.client want.seq _ (now want.client want.seq (At_the_lead n want.cell want.epoch want.bytes refl refl lead h new none no_room)) refl (omega arith) (λ cell op is. inl (was_same cell op is))
   job_refuses _ (Opens want h lead new none) =
-      let op = operation here half.pairs.next want in
-      quiet (opened here half want) (post_to (second state want.cell) (body.Reserve half.pairs.next want.cell)) (λ c last is how. inl is)
+      let op = operation here own.pairs.next want in
+      quiet (opened here own want) (post_to (second state want.cell) (body.Reserve own.pairs.next want.cell)) (λ c last is how. inl is)
       (λ cell o is. elim (same_cell_or_apart cell want.cell) [
-        | inl e ↦ inr (ap (λ (x : Pending). x.op) (sym (same_some {x = op} (sym (cell_same half.pairs.pending want.cell op) ∙ subst (λ (q : Cell). at cell_cmp (put cell_cmp half.pairs.pending want.cell op) q ≡ Some o) e is))))
-        | inr ne ↦ inl (was_same cell o (sym (cell_apart half.pairs.pending want.cell op cell ne) ∙ is))
-      ]) (omega arith) (λ post i. ap is_full (posted (second state want.cell) (body.Reserve half.pairs.next want.cell) post i))
+        | inl e ↦ inr (ap (λ (x : Pending). x.op) (sym (same_some {x = op} (sym (cell_same own.pairs.pending want.cell op) ∙ subst (λ (q : Cell). at cell_cmp (put cell_cmp own.pairs.pending want.cell op) q ≡ Some o) e is))))
+        | inr ne ↦ inl (was_same cell o (sym (cell_apart own.pairs.pending want.cell op cell ne) ∙ is))
+      ]) (omega arith) (λ post i. ap is_full (posted (second state want.cell) (body.Reserve own.pairs.next want.cell) post i))
   job_refuses _ (Puts op h is stage) =
-      let t = half.pairs.pending in
+      let t = own.pairs.pending in
       let one = with_reserved op in
-      let two : Pending = record one { version = version_of (chain_in half.store.chains op.cell) + 1; stage = record one.stage { put = true } } in
+      let two : Pending = record one { version = version_of (chain_in own.store.chains op.cell) + 1; stage = record one.stage { put = true } } in
       quiet _ [] (λ c last is how. inl is)
       (λ cell o there. elim (same_cell_or_apart cell op.cell) [
         | inl e ↦
@@ -321,35 +321,35 @@ module _ (R S : ℕ → ℕ → Type 0) (state : State) (steady : IsSteady state
             inl (record { was = op; is = subst (λ (x : Cell). at cell_cmp t x ≡ Some op) (sym e) is; number = ap (λ (x : Pending). x.op) same; client = ap (λ (x : Pending). x.client) same; seq = ap (λ (x : Pending). x.seq) same })
         | inr ne ↦ inl (was_same cell o (sym (cell_apart (put cell_cmp t op.cell one) op.cell two cell ne ∙ cell_apart t op.cell one cell ne) ∙ there))
       ]) (omega arith) (λ post i. absurd i)
-  job_refuses _ (Gives_up op h is stage) = fills op.client op.seq _ (declined_op op h is) refl (omega arith) (gone op (without cell_cmp half.pairs.pending op.cell) (cell_gone half.pairs.pending op.cell) (λ q ne. cell_gone_apart half.pairs.pending op.cell q ne))
+  job_refuses _ (Gives_up op h is stage) = fills op.client op.seq _ (declined_op op h is) refl (omega arith) (gone op (without cell_cmp own.pairs.pending op.cell) (cell_gone own.pairs.pending op.cell) (λ q ne. cell_gone_apart own.pairs.pending op.cell q ne))
   job_refuses _ (Closes op h is stage) =
-      let u = put cell_cmp half.pairs.pending op.cell (with_paired op) in
+      let u = put cell_cmp own.pairs.pending op.cell (with_paired op) in
       quiet _ (record { to = actor.Client op.client; body = body.Written op.seq } ∷ [])
       (λ c last there how. elim (same_or_apart c op.client) [
         | inl e ↦
             let now_last : Finished = record { seq = op.seq; ending = ending.Written } in
-            let same : now_last ≡ last = same_some (sym (at_same half.pairs.finished op.client now_last) ∙ subst (λ i. at nat_cmp (put nat_cmp half.pairs.finished op.client now_last) i ≡ Some last) e there) in
+            let same : now_last ≡ last = same_some (sym (at_same own.pairs.finished op.client now_last) ∙ subst (λ i. at nat_cmp (put nat_cmp own.pairs.finished op.client now_last) i ≡ Some last) e there) in
             absurd (let f : ending.Written ≡ ending.Full = ap (λ (x : Finished). x.ending) same ∙ how in cc)
-        | inr ne ↦ inl (sym (at_apart half.pairs.finished op.client _ c ne) ∙ there)
+        | inr ne ↦ inl (sym (at_apart own.pairs.finished op.client _ c ne) ∙ there)
       ])
-      (gone op (without cell_cmp u op.cell) (cell_gone u op.cell) (λ q ne. cell_gone_apart u op.cell q ne ∙ cell_apart half.pairs.pending op.cell (with_paired op) q ne)) (omega arith)
+      (gone op (without cell_cmp u op.cell) (cell_gone u op.cell) (λ q ne. cell_gone_apart u op.cell q ne ∙ cell_apart own.pairs.pending op.cell (with_paired op) q ne)) (omega arith)
       (λ post i. ap is_full (one_post (actor.Client op.client) (body.Written op.seq) post i).1)
   job_refuses _ (Sets_apart number cell store h s e le) = still (post_to (first state cell) (body.Reserved number cell)) _ refl refl refl (λ post i. ap is_full (posted (first state cell) (body.Reserved number cell) post i))
   job_refuses _ (Promises number cell how s is) = promised how
     where
-      promised : (how : Far) → J (tells here half cell number how).half (tells here half cell number how).posts
-      promised far.Reserved = still (post_to (first state cell) (body.Reserved number cell)) half refl refl refl (λ post i. ap is_full (posted (first state cell) (body.Reserved number cell) post i))
-      promised far.Replicated = still (post_to (first state cell) (body.Replicated number cell)) half refl refl refl (λ post i. ap is_full (posted (first state cell) (body.Replicated number cell) post i))
+      promised : (how : Far) → J (tells here own cell number how).own (tells here own cell number how).posts
+      promised far.Reserved = still (post_to (first state cell) (body.Reserved number cell)) own refl refl refl (λ post i. ap is_full (posted (first state cell) (body.Reserved number cell) post i))
+      promised far.Replicated = still (post_to (first state cell) (body.Replicated number cell)) own refl refl refl (λ post i. ap is_full (posted (first state cell) (body.Replicated number cell) post i))
   job_refuses _ (Declines number cell h s no_room) = declines number cell h s no_room
   job_refuses _ (Follows number key version bytes h s is) = still (post_to (first state (cell_of key)) (body.Replicated number (cell_of key))) _ refl refl refl (λ post i. ap is_full (posted (first state (cell_of key)) (body.Replicated number (cell_of key)) post i))
 
 -- a step that does nothing but ask once more
-pub idle_refuses : (S : ℕ → ℕ → Type 0) (state : State) (w : World) (n : ℕ) (done : Done) → IsIdle (here_of state n (w.servers n)) (halves_of w n) done → JobRefuses S state w n done.half done.posts
-idle_refuses S state w n done idle = subst (λ (h : Half). JobRefuses S state w n h done.posts) (sym idle.same) (record {
+pub idle_refuses : (S : ℕ → ℕ → Type 0) (state : State) (w : World) (n : ℕ) (done : Done) → IsIdle (here_of state n (w.servers n)) (owns_of w n) done → JobRefuses S state w n done.own done.posts
+idle_refuses S state w n done idle = subst (λ (h : Own). JobRefuses S state w n h done.posts) (sym idle.same) (record {
   finished = λ c last is how. inl is;
   pending = λ cell op is. inl (record { was = op; is = is; number = refl; client = refl; seq = refl });
   next = omega arith;
-  letters = λ post c seq i to says. true_false (ap is_full says) (asks_not_full (here_of state n (w.servers n)) (halves_of w n) post (idle.asks post i));
-  numbers = λ post number p cell i says leads. true_false (ap is_full says) (asks_not_full (here_of state n (w.servers n)) (halves_of w n) post (idle.asks post i));
-  declined = λ post number p cell op i says leads is same. true_false (ap is_full says) (asks_not_full (here_of state n (w.servers n)) (halves_of w n) post (idle.asks post i));
+  letters = λ post c seq i to says. true_false (ap is_full says) (asks_not_full (here_of state n (w.servers n)) (owns_of w n) post (idle.asks post i));
+  numbers = λ post number p cell i says leads. true_false (ap is_full says) (asks_not_full (here_of state n (w.servers n)) (owns_of w n) post (idle.asks post i));
+  declined = λ post number p cell op i says leads is same. true_false (ap is_full says) (asks_not_full (here_of state n (w.servers n)) (owns_of w n) post (idle.asks post i));
 })

@@ -20,9 +20,9 @@ use Rattle.script_lines.specs.declared.script.Script.{Script}
 use Rattle.petal_rules.specs.Lists.{In}
 use Rattle.petal_rules.specs.State.{State, first, second}
 use Rattle.petal_rules.specs.Store.{chain_in, entry_at, bytes_of}
-use Rattle.petal_rules.specs.Server.{Half, Here, Post, Done, post_to, sender, letters_of}
+use Rattle.petal_rules.specs.Server.{Own, Here, Post, Done, post_to, sender, letters_of}
 use Rattle.petal_rules.specs.Writes.{ended, tells}
-use Rattle.petal_rules.specs.Jobs.{Acted, here_of, half_of}
+use Rattle.petal_rules.specs.Jobs.{Acted, here_of}
 use Rattle.petal_rules.specs.Clients.{Asked, Reacted, client_sender}
 use Rattle.petal_rules.specs.World.{Setting, World, acts, reacts, step, stamped, start, setting_of, client_step, next_line, MayActor}
 use Rattle.petal_rules.specs.declared.step.Step.{Step}
@@ -74,34 +74,34 @@ to_says None what post h = absurd h
 to_says (Some to) what post (inl e) = ap (λ (p : Post). p.body) (sym e)
 to_says (Some to) what post (inr h) = absurd h
 
-asks_quiet : (here : Here) (half : Half) (post : Post) → Asks here half post → is_busy post.body ≡ false
-asks_quiet here half _ (A_slot op to is stage e) = refl
-asks_quiet here half _ (A_copy op to is stage e) = refl
+asks_quiet : (here : Here) (own : Own) (post : Post) → Asks here own post → is_busy post.body ≡ false
+asks_quiet here own _ (A_slot op to is stage e) = refl
+asks_quiet here own _ (A_copy op to is stage e) = refl
 
 ended_quiet : (seq : ℕ) (how : Ending) → is_busy (ended seq how) ≡ false
 ended_quiet seq ending.Written = refl
 ended_quiet seq ending.Full = refl
 
-far_quiet : (here : Here) (half : Half) (cell : Cell) (number : ℕ) (how : Far) (post : Post) → In post (tells here half cell number how).posts → is_busy post.body ≡ false
-far_quiet here half cell number far.Reserved post i = ap is_busy (sym (to_says _ _ post i))
-far_quiet here half cell number far.Replicated post i = ap is_busy (sym (to_says _ _ post i))
+far_quiet : (here : Here) (own : Own) (cell : Cell) (number : ℕ) (how : Far) (post : Post) → In post (tells here own cell number how).posts → is_busy post.body ≡ false
+far_quiet here own cell number far.Reserved post i = ap is_busy (sym (to_says _ _ post i))
+far_quiet here own cell number far.Replicated post i = ap is_busy (sym (to_says _ _ post i))
 
-did_busy : (heard : Body → Type 0) (here : Here) (half : Half) (done : Done) → Did heard here half done → (post : Post) (seq : ℕ) → In post done.posts → post.body ≡ body.BlockBusy seq → IsBusy heard here half seq
+did_busy : (heard : Body → Type 0) (here : Here) (own : Own) (done : Done) → Did heard here own done → (post : Post) (seq : ℕ) → In post done.posts → post.body ≡ body.BlockBusy seq → IsBusy heard here own seq
 unfolding In
-did_busy heard here half _ Ignores post seq i e = absurd i
-did_busy heard here half _ (Refuses to what is why) post seq i e = why seq (one_says to what post i ∙ e)
-did_busy heard here half _ (Asks_for posts h) post seq i e = true_false (ap is_busy e) (asks_quiet here half post (h post i))
-did_busy heard here half _ (Shows client s cell epoch h r none) post seq i e = true_false (ap is_busy e) (ap is_busy (sym (one_says (actor.Client client) (body.Data s (bytes_of (entry_at (chain_in half.store.chains cell) epoch))) post i)))
-did_busy heard here half _ (Repeats want last h lead is f) post seq i e = true_false (ap is_busy e) (ap is_busy (sym (one_says (actor.Client want.client) (ended want.seq last.ending) post i)) ∙ ended_quiet want.seq last.ending)
-did_busy heard here half _ (Is_full want h lead new none no_room) post seq i e = true_false (ap is_busy e) (ap is_busy (sym (one_says (actor.Client want.client) (body.Full want.seq) post i)))
-did_busy heard here half _ (Opens want h lead new none) post seq i e = true_false (ap is_busy e) (ap is_busy (sym (to_says (second here.state want.cell) (body.Reserve half.pairs.next want.cell) post i)))
-did_busy heard here half _ (Puts op h is stage) post seq i e = absurd i
-did_busy heard here half _ (Gives_up op h is stage) post seq i e = true_false (ap is_busy e) (ap is_busy (sym (one_says (actor.Client op.client) (body.Full op.seq) post i)))
-did_busy heard here half _ (Closes op h is stage) post seq i e = true_false (ap is_busy e) (ap is_busy (sym (one_says (actor.Client op.client) (body.Written op.seq) post i)))
-did_busy heard here half _ (Sets_apart number cell store h s same le) post seq i e = true_false (ap is_busy e) (ap is_busy (sym (to_says (first here.state cell) (body.Reserved number cell) post i)))
-did_busy heard here half _ (Promises number cell how s is) post seq i e = true_false (ap is_busy e) (far_quiet here half cell number how post i)
-did_busy heard here half _ (Declines number cell h s no_room) post seq i e = true_false (ap is_busy e) (ap is_busy (sym (to_says (first here.state cell) (body.PairFull number cell) post i)))
-did_busy heard here half _ (Follows_up number key version bytes h s is) post seq i e = true_false (ap is_busy e) (ap is_busy (sym (to_says (first here.state (cell_of key)) (body.Replicated number (cell_of key)) post i)))
+did_busy heard here own _ Ignores post seq i e = absurd i
+did_busy heard here own _ (Refuses to what is why) post seq i e = why seq (one_says to what post i ∙ e)
+did_busy heard here own _ (Asks_for posts h) post seq i e = true_false (ap is_busy e) (asks_quiet here own post (h post i))
+did_busy heard here own _ (Shows client s cell epoch h r none) post seq i e = true_false (ap is_busy e) (ap is_busy (sym (one_says (actor.Client client) (body.Data s (bytes_of (entry_at (chain_in own.store.chains cell) epoch))) post i)))
+did_busy heard here own _ (Repeats want last h lead is f) post seq i e = true_false (ap is_busy e) (ap is_busy (sym (one_says (actor.Client want.client) (ended want.seq last.ending) post i)) ∙ ended_quiet want.seq last.ending)
+did_busy heard here own _ (Is_full want h lead new none no_room) post seq i e = true_false (ap is_busy e) (ap is_busy (sym (one_says (actor.Client want.client) (body.Full want.seq) post i)))
+did_busy heard here own _ (Opens want h lead new none) post seq i e = true_false (ap is_busy e) (ap is_busy (sym (to_says (second here.state want.cell) (body.Reserve own.pairs.next want.cell) post i)))
+did_busy heard here own _ (Puts op h is stage) post seq i e = absurd i
+did_busy heard here own _ (Gives_up op h is stage) post seq i e = true_false (ap is_busy e) (ap is_busy (sym (one_says (actor.Client op.client) (body.Full op.seq) post i)))
+did_busy heard here own _ (Closes op h is stage) post seq i e = true_false (ap is_busy e) (ap is_busy (sym (one_says (actor.Client op.client) (body.Written op.seq) post i)))
+did_busy heard here own _ (Sets_apart number cell store h s same le) post seq i e = true_false (ap is_busy e) (ap is_busy (sym (to_says (first here.state cell) (body.Reserved number cell) post i)))
+did_busy heard here own _ (Promises number cell how s is) post seq i e = true_false (ap is_busy e) (far_quiet here own cell number how post i)
+did_busy heard here own _ (Declines number cell h s no_room) post seq i e = true_false (ap is_busy e) (ap is_busy (sym (to_says (first here.state cell) (body.PairFull number cell) post i)))
+did_busy heard here own _ (Follows_up number key version bytes h s is) post seq i e = true_false (ap is_busy e) (ap is_busy (sym (to_says (first here.state (cell_of key)) (body.Replicated number (cell_of key)) post i)))
 
 -- ### Steps
 
@@ -248,7 +248,7 @@ module _ (servers slots : ℕ) (lines : List Line) (state : State) (steady : IsS
   busy_step w ready (actor.Server n) what stamp may letter seq h says =
       let s = server_serves state steady lines w ready n what may.1 in
       let sent = said (sender (here_of state n (w.servers n))) stamp 0 s.done.posts letter (subst (λ (x : Acted). In letter (stamped stamp x.letters)) s.is h) in
-      record { server = n; is = refl; busy = did_busy (Handled w n) (here_of state n (w.servers n)) (half_of (w.servers n)) s.done s.did sent.post seq sent.there (sym sent.body ∙ says) }
+      record { server = n; is = refl; busy = did_busy (Handled w n) (here_of state n (w.servers n)) (w.servers n).own s.done s.did sent.post seq sent.there (sym sent.body ∙ says) }
   busy_step w ready (actor.Client c) what stamp may letter seq h says =
       let reacted = client_step what state c (w.clients c) (next_line lines c (w.clients c)) in
       let s = said (client_sender state c) stamp 0 reacted.posts letter h in

@@ -11,8 +11,8 @@ use Rattle.script_lines.specs.declared.request.Line.{Line}
 use Rattle.petal_rules.specs.Lists.{In}
 use Rattle.petal_rules.specs.State.{State, first}
 use Rattle.petal_rules.specs.Store.{cell_cmp}
-use Rattle.petal_rules.specs.Server.{Half, Post, Done, sender}
-use Rattle.petal_rules.specs.Jobs.{here_of, half_of}
+use Rattle.petal_rules.specs.Server.{Own, Post, Done, sender}
+use Rattle.petal_rules.specs.Jobs.{here_of}
 use Rattle.petal_rules.specs.Clients.{Client, Asked, Reacted, client_sender}
 use Rattle.petal_rules.specs.World.{World, reacts}
 use Rattle.petal_rules.specs.declared.job.Job.{Job}
@@ -29,28 +29,28 @@ use Rattle.law_requests.proofs.Later.{Later, known_later, one_cell, one_open}
 -- ### What a job shows
 
 -- the server finishes the client's open write, which is then pending no more
-pub record Ends (state : State) (lines : List Line) (w : World) (n : ℕ) (new : Half) (c : ℕ) : Type 0 where
+pub record Ends (state : State) (lines : List Line) (w : World) (n : ℕ) (new : Own) (c : ℕ) : Type 0 where
   pub seq : ℕ
   pub cell : Cell
   pub epoch : ℕ
   pub bytes : List ℕ
   pub write : IsWrite state lines c seq cell epoch bytes
   pub still : IsOpen (w.clients c) seq
-  pub before : done_by (half_of (w.servers n)) c ≤ seq
+  pub before : done_by (w.servers n).own c ≤ seq
   pub after : done_by new c ≡ seq + 1
   pub gone : at cell_cmp new.pairs.pending cell ≡ None
 
 -- the operation was pending
 pub record Stays (state : State) (w : World) (n : ℕ) (cell : Cell) (op : Pending) : Type 0 where
   pub was : Pending
-  pub is : at cell_cmp (half_of (w.servers n)).pairs.pending cell ≡ Some was
+  pub is : at cell_cmp (w.servers n).own.pairs.pending cell ≡ Some was
   pub client : was.client ≡ op.client
   pub seq : was.seq ≡ op.seq
   pub key : was.key ≡ op.key
   pub bytes : was.bytes ≡ op.bytes
 
 -- a reply that ends a write tells of one that this server is past
-pub record Tells (state : State) (lines : List Line) (w : World) (n : ℕ) (new : Half) (client seq : ℕ) : Type 0 where
+pub record Tells (state : State) (lines : List Line) (w : World) (n : ℕ) (new : Own) (client seq : ℕ) : Type 0 where
   pub cell : Cell
   pub epoch : ℕ
   pub bytes : List ℕ
@@ -59,11 +59,11 @@ pub record Tells (state : State) (lines : List Line) (w : World) (n : ℕ) (new 
   pub old : seq ≤ (w.clients client).seq
   pub past : seq < done_by new client
 
-abbrev pub TellsAt : State → List Line → World → ℕ → Half → ℕ → Actor → Type 0
+abbrev pub TellsAt : State → List Line → World → ℕ → Own → ℕ → Actor → Type 0
 TellsAt state lines w n new seq (actor.Client c) = Tells state lines w n new c seq
 TellsAt state lines w n new seq (actor.Server m) = ⊥
 
-abbrev pub SaysOk : State → List Line → World → ℕ → Half → Actor → Body → Type 0
+abbrev pub SaysOk : State → List Line → World → ℕ → Own → Actor → Body → Type 0
 SaysOk state lines w n new to (body.Written seq) = TellsAt state lines w n new seq to
 SaysOk state lines w n new to (body.Full seq) = TellsAt state lines w n new seq to
 SaysOk state lines w n new to (body.Write client seq cell epoch bytes) = ⊥
@@ -79,32 +79,32 @@ SaysOk state lines w n new to (body.PairFull number cell) = Unit {0}
 SaysOk state lines w n new to (body.Replicate number key version bytes) = Unit {0}
 SaysOk state lines w n new to (body.Replicated number cell) = Unit {0}
 
-pub record JobTells (state : State) (lines : List Line) (w : World) (n : ℕ) (new : Half) (posts : List Post) : Type 0 where
-  pub finished : (c : ℕ) → (done_by new c ≡ done_by (half_of (w.servers n)) c) ⊎ Ends state lines w n new c
-  pub pending : (cell : Cell) (op : Pending) → at cell_cmp new.pairs.pending cell ≡ Some op → Stays state w n cell op ⊎ PendingFor state lines (w.clients op.client) (done_by (half_of (w.servers n)) op.client) cell op
+pub record JobTells (state : State) (lines : List Line) (w : World) (n : ℕ) (new : Own) (posts : List Post) : Type 0 where
+  pub finished : (c : ℕ) → (done_by new c ≡ done_by (w.servers n).own c) ⊎ Ends state lines w n new c
+  pub pending : (cell : Cell) (op : Pending) → at cell_cmp new.pairs.pending cell ≡ Some op → Stays state w n cell op ⊎ PendingFor state lines (w.clients op.client) (done_by (w.servers n).own op.client) cell op
   pub says : (post : Post) → In post posts → SaysOk state lines w n new post.to post.body
 
-module _ (state : State) (lines : List Line) (w : World) (asking : Asking state lines w) (n stamp : ℕ) (done : Done) (queue : List Job) (tells : JobTells state lines w n done.half done.posts) where
+module _ (state : State) (lines : List Line) (w : World) (asking : Asking state lines w) (n stamp : ℕ) (done : Done) (queue : List Job) (tells : JobTells state lines w n done.own done.posts) where
   abbrev later : World
   later = server_moves state w n stamp done queue
 
-  abbrev old : Half
-  old = half_of (w.servers n)
+  abbrev old : Own
+  old = (w.servers n).own
 
-  half_now : half_of (later.servers n) ≡ done.half
-  half_now = ap half_of (put_same w.servers n (served (w.servers n) done queue))
+  own_now : (later.servers n).own ≡ done.own
+  own_now = ap (λ s. s.own) (put_same w.servers n (served (w.servers n) done queue))
 
-  half_other : (m : ℕ) → m ≢ n → half_of (later.servers m) ≡ half_of (w.servers m)
-  half_other m ne = ap half_of (put_apart w.servers n (served (w.servers n) done queue) m ne)
+  own_other : (m : ℕ) → m ≢ n → (later.servers m).own ≡ (w.servers m).own
+  own_other m ne = ap (λ s. s.own) (put_apart w.servers n (served (w.servers n) done queue) m ne)
 
   -- numbers rise, and stay below the client's next
-  rises : (c : ℕ) → done_by old c ≤ done_by done.half c
+  rises : (c : ℕ) → done_by old c ≤ done_by done.own c
   rises c = elim (tells.finished c) [ inl e ↦ omega arith | inr ends ↦ let b = ends.before in let a = ends.after in omega arith ]
 
-  dones : (m c : ℕ) → done_by (half_of (w.servers m)) c ≤ done_by (half_of (later.servers m)) c
+  dones : (m c : ℕ) → done_by (w.servers m).own c ≤ done_by (later.servers m).own c
   dones m c = elim (same_or_apart m n) [
-    | inl e ↦ subst (λ i. done_by (half_of (w.servers i)) c ≤ done_by (half_of (later.servers i)) c) (sym e) (subst (λ h. done_by old c ≤ done_by h c) (sym half_now) (rises c))
-    | inr ne ↦ let same : done_by (half_of (later.servers m)) c ≡ done_by (half_of (w.servers m)) c = ap (λ h. done_by h c) (half_other m ne) in omega arith
+    | inl e ↦ subst (λ i. done_by (w.servers i).own c ≤ done_by (later.servers i).own c) (sym e) (subst (λ h. done_by old c ≤ done_by h c) (sym own_now) (rises c))
+    | inr ne ↦ let same : done_by (later.servers m).own c ≡ done_by (w.servers m).own c = ap (λ h. done_by h c) (own_other m ne) in omega arith
   ]
 
   goes_on : Later state lines (seen w) (seen later)
@@ -113,14 +113,14 @@ module _ (state : State) (lines : List Line) (w : World) (asking : Asking state 
   open_below : (c seq : ℕ) → IsOpen (w.clients c) seq → seq ≤ (w.clients c).seq
   open_below c seq h = let a = asking.asked c h.asked h.is in let last = a.last in let same = h.same in omega arith
 
-  bound : (m c : ℕ) → done_by (half_of (later.servers m)) c ≤ (w.clients c).seq + 1
+  bound : (m c : ℕ) → done_by (later.servers m).own c ≤ (w.clients c).seq + 1
   bound m c = elim (same_or_apart m n) [
-    | inl e ↦ subst (λ i. done_by (half_of (later.servers i)) c ≤ (w.clients c).seq + 1) (sym e) (subst (λ h. done_by h c ≤ (w.clients c).seq + 1) (sym half_now)
+    | inl e ↦ subst (λ i. done_by (later.servers i).own c ≤ (w.clients c).seq + 1) (sym e) (subst (λ h. done_by h c ≤ (w.clients c).seq + 1) (sym own_now)
         (elim (tells.finished c) [
           | inl same ↦ let b = asking.finished n c in omega arith
           | inr ends ↦ let b = open_below c ends.seq ends.still in let a = ends.after in omega arith
         ]))
-    | inr ne ↦ let same : done_by (half_of (later.servers m)) c ≡ done_by (half_of (w.servers m)) c = ap (λ h. done_by h c) (half_other m ne) in let b = asking.finished m c in omega arith
+    | inr ne ↦ let same : done_by (later.servers m).own c ≡ done_by (w.servers m).own c = ap (λ h. done_by h c) (own_other m ne) in let b = asking.finished m c in omega arith
   ]
 
   -- the operation was pending, or is its client's open write
@@ -135,32 +135,32 @@ module _ (state : State) (lines : List Line) (w : World) (asking : Asking state 
       }
 
   -- and no other that was just finished
-  not_past : (cell : Cell) (op : Pending) → at cell_cmp done.half.pairs.pending cell ≡ Some op → PendingFor state lines (w.clients op.client) (done_by old op.client) cell op → done_by done.half op.client ≤ op.seq
+  not_past : (cell : Cell) (op : Pending) → at cell_cmp done.own.pairs.pending cell ≡ Some op → PendingFor state lines (w.clients op.client) (done_by old op.client) cell op → done_by done.own op.client ≤ op.seq
   not_past cell op is p = elim (tells.finished op.client) [
     | inl same ↦ let u = p.unfinished in omega arith
     | inr ends ↦
         let seq : op.seq ≡ ends.seq = one_open (w.clients op.client) op.seq ends.seq p.still ends.still in
         let write : IsWrite state lines op.client op.seq ends.cell ends.epoch ends.bytes = subst (λ i. IsWrite state lines op.client i ends.cell ends.epoch ends.bytes) (sym seq) ends.write in
         let same : cell ≡ ends.cell = one_cell state lines op.client op.seq cell ends.cell op.key.epoch ends.epoch op.bytes ends.bytes p.write write in
-        none_some ends.gone (subst (λ (q : Cell). at cell_cmp done.half.pairs.pending q ≡ Some op) same is)
+        none_some ends.gone (subst (λ (q : Cell). at cell_cmp done.own.pairs.pending q ≡ Some op) same is)
   ]
 
-  pending_now : (cell : Cell) (op : Pending) → at cell_cmp done.half.pairs.pending cell ≡ Some op → PendingFor state lines (w.clients op.client) (done_by done.half op.client) cell op
+  pending_now : (cell : Cell) (op : Pending) → at cell_cmp done.own.pairs.pending cell ≡ Some op → PendingFor state lines (w.clients op.client) (done_by done.own op.client) cell op
   pending_now cell op is =
       let p = was_pending cell op (tells.pending cell op is) in
       record { write = p.write; still = p.still; unfinished = not_past cell op is p }
 
-  pending : (m : ℕ) (cell : Cell) (op : Pending) → at cell_cmp (half_of (later.servers m)).pairs.pending cell ≡ Some op → PendingFor state lines (w.clients op.client) (done_by (half_of (later.servers m)) op.client) cell op
+  pending : (m : ℕ) (cell : Cell) (op : Pending) → at cell_cmp (later.servers m).own.pairs.pending cell ≡ Some op → PendingFor state lines (w.clients op.client) (done_by (later.servers m).own op.client) cell op
   pending m cell op is = elim (same_or_apart m n) [
     | inl e ↦
-        let there : at cell_cmp done.half.pairs.pending cell ≡ Some op = sym (ap (λ h. at cell_cmp h.pairs.pending cell) (ap (λ i. half_of (later.servers i)) e ∙ half_now)) ∙ is in
-        subst (λ h. PendingFor state lines (w.clients op.client) (done_by h op.client) cell op) (sym (ap (λ i. half_of (later.servers i)) e ∙ half_now)) (pending_now cell op there)
+        let there : at cell_cmp done.own.pairs.pending cell ≡ Some op = sym (ap (λ h. at cell_cmp h.pairs.pending cell) (ap (λ i. (later.servers i).own) e ∙ own_now)) ∙ is in
+        subst (λ h. PendingFor state lines (w.clients op.client) (done_by h op.client) cell op) (sym (ap (λ i. (later.servers i).own) e ∙ own_now)) (pending_now cell op there)
     | inr ne ↦
-        let there : at cell_cmp (half_of (w.servers m)).pairs.pending cell ≡ Some op = sym (ap (λ h. at cell_cmp h.pairs.pending cell) (half_other m ne)) ∙ is in
-        subst (λ h. PendingFor state lines (w.clients op.client) (done_by h op.client) cell op) (sym (half_other m ne)) (asking.pending m cell op there)
+        let there : at cell_cmp (w.servers m).own.pairs.pending cell ≡ Some op = sym (ap (λ h. at cell_cmp h.pairs.pending cell) (own_other m ne)) ∙ is in
+        subst (λ h. PendingFor state lines (w.clients op.client) (done_by h op.client) cell op) (sym (own_other m ne)) (asking.pending m cell op there)
   ]
 
-  told : (seq : ℕ) (to : Actor) → TellsAt state lines w n done.half seq to → EndKnownAt state lines (seen later) seq to
+  told : (seq : ℕ) (to : Actor) → TellsAt state lines w n done.own seq to → EndKnownAt state lines (seen later) seq to
   told seq (actor.Server m) t = t
   told seq (actor.Client c) t = record {
     cell = t.cell;
@@ -170,10 +170,10 @@ module _ (state : State) (lines : List Line) (w : World) (asking : Asking state 
     old = t.old;
     past = λ m leads.
         let same : n ≡ m = same_some (sym t.leads ∙ leads) in
-        subst (λ i. seq < done_by (half_of (later.servers i)) c) same (subst (λ h. seq < done_by h c) (sym half_now) t.past);
+        subst (λ i. seq < done_by (later.servers i).own c) same (subst (λ h. seq < done_by h c) (sym own_now) t.past);
   }
 
-  says : (to : Actor) (what : Body) → SaysOk state lines w n done.half to what → Known state lines (seen later) to what
+  says : (to : Actor) (what : Body) → SaysOk state lines w n done.own to what → Known state lines (seen later) to what
   says to (body.Written seq) h = told seq to h
   says to (body.Full seq) h = told seq to h
   says to (body.Write client seq cell epoch bytes) h = absurd h
@@ -223,7 +223,7 @@ module _ (state : State) (steady : IsSteady state) (lines : List Line) (w : Worl
   }
 
   -- a pending write is open still, since its lead is not past it
-  pending_open : (n : ℕ) (cell : Cell) (op : Pending) → at cell_cmp (half_of (w.servers n)).pairs.pending cell ≡ Some op → IsOpen (after.clients op.client) op.seq
+  pending_open : (n : ℕ) (cell : Cell) (op : Pending) → at cell_cmp (w.servers n).own.pairs.pending cell ≡ Some op → IsOpen (after.clients op.client) op.seq
   pending_open n cell op is =
       let p = asking.pending n cell op is in
       let s = (ready.pending n).staged cell op is in

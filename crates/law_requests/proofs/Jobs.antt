@@ -18,9 +18,9 @@ use Rattle.script_lines.specs.declared.request.Line.{Line}
 use Rattle.petal_rules.specs.Lists.{In}
 use Rattle.petal_rules.specs.State.{State, first, second, is_lead}
 use Rattle.petal_rules.specs.Store.{cell_cmp, chain_in, version_of}
-use Rattle.petal_rules.specs.Server.{Half, Here, Post, Done, post_to}
+use Rattle.petal_rules.specs.Server.{Own, Here, Post, Done, post_to}
 use Rattle.petal_rules.specs.Writes.{Wanted, operation, opened, puts, with_pending, with_reserved, with_paired, ended, tells}
-use Rattle.petal_rules.specs.Jobs.{here_of, half_of}
+use Rattle.petal_rules.specs.Jobs.{here_of}
 use Rattle.petal_rules.specs.World.{World}
 use Rattle.petal_rules.proofs.CellTables.{cell_same, cell_apart, cell_gone, cell_gone_apart}
 use Rattle.law_steps.specs.Steady.{IsSteady}
@@ -52,10 +52,10 @@ module _ (state : State) (steady : IsSteady state) (lines : List Line) (w : Worl
   abbrev here : Here
   here = here_of state n (w.servers n)
 
-  abbrev half : Half
-  half = half_of (w.servers n)
+  abbrev own : Own
+  own = (w.servers n).own
 
-  abbrev J : Half → List Post → Type 0
+  abbrev J : Own → List Post → Type 0
   J new posts = JobTells state lines w n new posts
 
   abbrev hears : Body → Type 0
@@ -67,20 +67,20 @@ module _ (state : State) (steady : IsSteady state) (lines : List Line) (w : Worl
   pub known_of : (said : Body) → hears said → Known state lines (seen w) (actor.Server n) said
   known_of said h = subst (λ (b : Body). Known state lines (seen w) (actor.Server n) b) h.is (subst (λ (a : Actor). Known state lines (seen w) a h.letter.body) h.own (asking.letters h.letter h.sent))
 
-  stays : (cell : Cell) (op : Pending) → at cell_cmp half.pairs.pending cell ≡ Some op → Stays state w n cell op
+  stays : (cell : Cell) (op : Pending) → at cell_cmp own.pairs.pending cell ≡ Some op → Stays state w n cell op
   stays cell op is = record { was = op; is = is; client = refl; seq = refl; key = refl; bytes = refl }
 
-  says_as : (new : Half) (to : Actor) (said : Body) (post : Post) → Says to said post → SaysOk state lines w n new to said → SaysOk state lines w n new post.to post.body
+  says_as : (new : Own) (to : Actor) (said : Body) (post : Post) → Says to said post → SaysOk state lines w n new to said → SaysOk state lines w n new post.to post.body
   says_as new to said post e h = subst (λ (b : Body). SaysOk state lines w n new post.to b) (sym e.1) (subst (λ (a : Actor). SaysOk state lines w n new a said) (sym e.0) h)
 
-  says_any : (new : Half) (said : Body) (post : Post) → post.body ≡ said → ((to : Actor) → SaysOk state lines w n new to said) → SaysOk state lines w n new post.to post.body
+  says_any : (new : Own) (said : Body) (post : Post) → post.body ≡ said → ((to : Actor) → SaysOk state lines w n new to said) → SaysOk state lines w n new post.to post.body
   says_any new said post e h = subst (λ (b : Body). SaysOk state lines w n new post.to b) (sym e) (h post.to)
 
   -- a job that ends no request and opens none
-  calm : (new : Half) (posts : List Post) → ((c : ℕ) → done_by new c ≡ done_by half c) → ((cell : Cell) (op : Pending) → at cell_cmp new.pairs.pending cell ≡ Some op → Stays state w n cell op) → ((post : Post) → In post posts → SaysOk state lines w n new post.to post.body) → J new posts
+  calm : (new : Own) (posts : List Post) → ((c : ℕ) → done_by new c ≡ done_by own c) → ((cell : Cell) (op : Pending) → at cell_cmp new.pairs.pending cell ≡ Some op → Stays state w n cell op) → ((post : Post) → In post posts → SaysOk state lines w n new post.to post.body) → J new posts
   calm new posts same pending says = record { finished = λ c. inl (same c); pending = λ cell op is. inl (pending cell op is); says = says }
 
-  refusal_says : (new : Half) (to : Actor) (said : Body) → IsRefusal said → SaysOk state lines w n new to said
+  refusal_says : (new : Own) (to : Actor) (said : Body) → IsRefusal said → SaysOk state lines w n new to said
   refusal_says new to (body.NotHere seq) h = tt
   refusal_says new to (body.BlockBusy seq) h = tt
   refusal_says new to (body.Held seq) h = tt
@@ -96,63 +96,63 @@ module _ (state : State) (steady : IsSteady state) (lines : List Line) (w : Worl
   refusal_says new to (body.Replicate number key version bytes) h = tt
   refusal_says new to (body.Replicated number cell) h = tt
 
-  asks_says : (post : Post) → Asks here half post → SaysOk state lines w n half post.to post.body
+  asks_says : (post : Post) → Asks here own post → SaysOk state lines w n own post.to post.body
   asks_says _ (A_slot op to is stage e) = tt
   asks_says _ (A_copy op to is stage e) = tt
 
-  tells_says : (new : Half) (cell : Cell) (number : ℕ) (how : Far) (post : Post) → In post (tells here new cell number how).posts → SaysOk state lines w n new post.to post.body
+  tells_says : (new : Own) (cell : Cell) (number : ℕ) (how : Far) (post : Post) → In post (tells here new cell number how).posts → SaysOk state lines w n new post.to post.body
   tells_says new cell number far.Reserved post i = says_any new _ post (posted _ _ post i) (λ to. tt)
   tells_says new cell number far.Replicated post i = says_any new _ post (posted _ _ post i) (λ to. tt)
 
-  ended_says : (new : Half) (c seq : ℕ) (how : Ending) → Tells state lines w n new c seq → SaysOk state lines w n new (actor.Client c) (ended seq how)
+  ended_says : (new : Own) (c seq : ℕ) (how : Ending) → Tells state lines w n new c seq → SaysOk state lines w n new (actor.Client c) (ended seq how)
   ended_says new c seq ending.Written t = t
   ended_says new c seq ending.Full t = t
 
   -- a write that is not finished is open still
-  still_open : (want : Wanted) → hears (body.Write want.client want.seq want.cell want.epoch want.bytes) → is_lead state n want.cell ≡ true → done_by half want.client ≤ want.seq → IsOpen (w.clients want.client) want.seq
+  still_open : (want : Wanted) → hears (body.Write want.client want.seq want.cell want.epoch want.bytes) → is_lead state n want.cell ≡ true → done_by own want.client ≤ want.seq → IsOpen (w.clients want.client) want.seq
   still_open want h lead new = elim (known_of _ h).still [ inl still ↦ still | inr past ↦ let lt = past n (first_of want.cell lead) in absurd (omega arith) ]
 
   -- the server finishes a request
-  finish_tells : (new : Half) (c seq : ℕ) (cell : Cell) (epoch : ℕ) (bytes : List ℕ) (how : Ending) → new.pairs.finished ≡ put nat_cmp half.pairs.finished c (record { seq = seq; ending = how }) → first state cell ≡ Some n → IsWrite state lines c seq cell epoch bytes → IsOpen (w.clients c) seq
-      → done_by half c ≤ seq → at cell_cmp new.pairs.pending cell ≡ None → ((q : Cell) (op : Pending) → at cell_cmp new.pairs.pending q ≡ Some op → at cell_cmp half.pairs.pending q ≡ Some op) → J new (record { to = actor.Client c; body = ended seq how } ∷ [])
+  finish_tells : (new : Own) (c seq : ℕ) (cell : Cell) (epoch : ℕ) (bytes : List ℕ) (how : Ending) → new.pairs.finished ≡ put nat_cmp own.pairs.finished c (record { seq = seq; ending = how }) → first state cell ≡ Some n → IsWrite state lines c seq cell epoch bytes → IsOpen (w.clients c) seq
+      → done_by own c ≤ seq → at cell_cmp new.pairs.pending cell ≡ None → ((q : Cell) (op : Pending) → at cell_cmp new.pairs.pending q ≡ Some op → at cell_cmp own.pairs.pending q ≡ Some op) → J new (record { to = actor.Client c; body = ended seq how } ∷ [])
   finish_tells new c seq cell epoch bytes how finished leads write still before gone pending =
       let last : Finished = record { seq = seq; ending = how } in
-      let after : done_by new c ≡ seq + 1 = ap (λ t. done_to (at nat_cmp t c)) finished ∙ ap done_to (at_same half.pairs.finished c last) in
+      let after : done_by new c ≡ seq + 1 = ap (λ t. done_to (at nat_cmp t c)) finished ∙ ap done_to (at_same own.pairs.finished c last) in
       let a = asking.asked c still.asked still.is in
       let number = still.same in
       let top = a.last in
       record {
         finished = λ j. elim (same_or_apart j c) [
           | inl e ↦ inr (subst (λ i. Ends state lines w n new i) (sym e) (record { seq = seq; cell = cell; epoch = epoch; bytes = bytes; write = write; still = still; before = before; after = after; gone = gone }))
-          | inr ne ↦ inl (ap (λ t. done_to (at nat_cmp t j)) finished ∙ ap done_to (at_apart half.pairs.finished c last j ne))
+          | inr ne ↦ inl (ap (λ t. done_to (at nat_cmp t j)) finished ∙ ap done_to (at_apart own.pairs.finished c last j ne))
         ];
         pending = λ q op is. inl (stays q op (pending q op is));
         says = λ post i. says_as new _ _ post (one_post _ _ post i) (ended_says new c seq how (record { cell = cell; epoch = epoch; bytes = bytes; write = write; leads = leads; old = omega arith; past = omega arith }));
       }
 
-  opens_tells : (want : Wanted) → hears (body.Write want.client want.seq want.cell want.epoch want.bytes) → is_lead state n want.cell ≡ true → done_by half want.client ≤ want.seq → J (opened here half want) (post_to (second state want.cell) (body.Reserve half.pairs.next want.cell))
+  opens_tells : (want : Wanted) → hears (body.Write want.client want.seq want.cell want.epoch want.bytes) → is_lead state n want.cell ≡ true → done_by own want.client ≤ want.seq → J (opened here own want) (post_to (second state want.cell) (body.Reserve own.pairs.next want.cell))
   opens_tells want h lead new =
-      let op = operation here half.pairs.next want in
-      let t = half.pairs.pending in
+      let op = operation here own.pairs.next want in
+      let t = own.pairs.pending in
       let k = known_of _ h in
       record {
         finished = λ c. inl refl;
         pending = λ cell o is. elim (same_cell_or_apart cell want.cell) [
           | inl e ↦
               let same : op ≡ o = same_some (sym (cell_same t want.cell op) ∙ subst (λ (q : Cell). at cell_cmp (put cell_cmp t want.cell op) q ≡ Some o) e is) in
-              inr (subst (λ (q : Cell). PendingFor state lines (w.clients o.client) (done_by half o.client) q o) (sym e)
-              (subst (λ (x : Pending). PendingFor state lines (w.clients x.client) (done_by half x.client) want.cell x) same (record { write = k.write; still = still_open want h lead new; unfinished = new })))
+              inr (subst (λ (q : Cell). PendingFor state lines (w.clients o.client) (done_by own o.client) q o) (sym e)
+              (subst (λ (x : Pending). PendingFor state lines (w.clients x.client) (done_by own x.client) want.cell x) same (record { write = k.write; still = still_open want h lead new; unfinished = new })))
           | inr ne ↦ inl (stays cell o (sym (cell_apart t want.cell op cell ne) ∙ is))
         ];
         says = λ post i. says_any _ _ post (posted _ _ post i) (λ to. tt);
       }
 
-  puts_tells : (op : Pending) → at cell_cmp half.pairs.pending op.cell ≡ Some op → J (puts (with_pending half (with_reserved op)) (with_reserved op)).half []
+  puts_tells : (op : Pending) → at cell_cmp own.pairs.pending op.cell ≡ Some op → J (puts (with_pending own (with_reserved op)) (with_reserved op)).own []
   unfolding In
   puts_tells op is =
-      let t = half.pairs.pending in
+      let t = own.pairs.pending in
       let one = with_reserved op in
-      let two : Pending = record one { version = version_of (chain_in half.store.chains op.cell) + 1; stage = record one.stage { put = true } } in
+      let two : Pending = record one { version = version_of (chain_in own.store.chains op.cell) + 1; stage = record one.stage { put = true } } in
       calm _ [] (λ c. refl)
       (λ cell o there. elim (same_cell_or_apart cell op.cell) [
         | inl e ↦
@@ -163,8 +163,8 @@ module _ (state : State) (steady : IsSteady state) (lines : List Line) (w : Worl
       (λ post i. absurd i)
 
   -- the operation is done with
-  done_tells : (op : Pending) (new : Half) (how : Ending) → at cell_cmp half.pairs.pending op.cell ≡ Some op → new.pairs.finished ≡ put nat_cmp half.pairs.finished op.client (record { seq = op.seq; ending = how }) → at cell_cmp new.pairs.pending op.cell ≡ None
-      → ((q : Cell) → q ≢ op.cell → at cell_cmp new.pairs.pending q ≡ at cell_cmp half.pairs.pending q) → J new (record { to = actor.Client op.client; body = ended op.seq how } ∷ [])
+  done_tells : (op : Pending) (new : Own) (how : Ending) → at cell_cmp own.pairs.pending op.cell ≡ Some op → new.pairs.finished ≡ put nat_cmp own.pairs.finished op.client (record { seq = op.seq; ending = how }) → at cell_cmp new.pairs.pending op.cell ≡ None
+      → ((q : Cell) → q ≢ op.cell → at cell_cmp new.pairs.pending q ≡ at cell_cmp own.pairs.pending q) → J new (record { to = actor.Client op.client; body = ended op.seq how } ∷ [])
   done_tells op new how is finished gone others =
       let p = asking.pending n op.cell op is in
       let lead = ((ready.pending n).staged op.cell op is).lead in
@@ -175,17 +175,17 @@ module _ (state : State) (steady : IsSteady state) (lines : List Line) (w : Worl
       ])
 
   -- each kind of job
-  pub job_tells : (done : Done) → Did hears here half done → J done.half done.posts
+  pub job_tells : (done : Done) → Did hears here own done → J done.own done.posts
   unfolding In
-  job_tells _ Ignores = calm half [] (λ c. refl) stays (λ post i. absurd i)
-  job_tells _ (Refuses to said is why) = calm half _ (λ c. refl) stays (λ post i. says_as half to said post (one_post to said post i) (refusal_says half to said is))
-  job_tells _ (Asks_for posts h) = calm half posts (λ c. refl) stays (λ post i. asks_says post (h post i))
-  job_tells _ (Shows client seq cell epoch h r none) = calm half _ (λ c. refl) stays (λ post i. says_as half _ _ post (one_post _ _ post i) tt)
+  job_tells _ Ignores = calm own [] (λ c. refl) stays (λ post i. absurd i)
+  job_tells _ (Refuses to said is why) = calm own _ (λ c. refl) stays (λ post i. says_as own to said post (one_post to said post i) (refusal_says own to said is))
+  job_tells _ (Asks_for posts h) = calm own posts (λ c. refl) stays (λ post i. asks_says post (h post i))
+  job_tells _ (Shows client seq cell epoch h r none) = calm own _ (λ c. refl) stays (λ post i. says_as own _ _ post (one_post _ _ post i) tt)
   job_tells _ (Repeats want last h lead is e) =
       let k = known_of _ h in
       let number = e in
-      let above : done_by half want.client ≡ last.seq + 1 = ap done_to is in
-      calm half _ (λ c. refl) stays (λ post i. says_as half _ _ post (one_post _ _ post i) (ended_says half want.client want.seq last.ending (record {
+      let above : done_by own want.client ≡ last.seq + 1 = ap done_to is in
+      calm own _ (λ c. refl) stays (λ post i. says_as own _ _ post (one_post _ _ post i) (ended_says own want.client want.seq last.ending (record {
         cell = want.cell;
         epoch = want.epoch;
         bytes = want.bytes;
@@ -197,15 +197,15 @@ module _ (state : State) (steady : IsSteady state) (lines : List Line) (w : Worl
   job_tells _ (Is_full want h lead new none no_room) = let k = known_of _ h in finish_tells _ want.client want.seq want.cell want.epoch want.bytes ending.Full refl (first_of want.cell lead) k.write (still_open want h lead new) new none (λ q op is. is)
   job_tells _ (Opens want h lead new none) = opens_tells want h lead new
   job_tells _ (Puts op h is stage) = puts_tells op is
-  job_tells _ (Gives_up op h is stage) = done_tells op _ ending.Full is refl (cell_gone half.pairs.pending op.cell) (λ q ne. cell_gone_apart half.pairs.pending op.cell q ne)
+  job_tells _ (Gives_up op h is stage) = done_tells op _ ending.Full is refl (cell_gone own.pairs.pending op.cell) (λ q ne. cell_gone_apart own.pairs.pending op.cell q ne)
   job_tells _ (Closes op h is stage) =
-      let u = put cell_cmp half.pairs.pending op.cell (with_paired op) in
-      done_tells op _ ending.Written is refl (cell_gone u op.cell) (λ q ne. cell_gone_apart u op.cell q ne ∙ cell_apart half.pairs.pending op.cell (with_paired op) q ne)
+      let u = put cell_cmp own.pairs.pending op.cell (with_paired op) in
+      done_tells op _ ending.Written is refl (cell_gone u op.cell) (λ q ne. cell_gone_apart u op.cell q ne ∙ cell_apart own.pairs.pending op.cell (with_paired op) q ne)
   job_tells _ (Sets_apart number cell store h s e le) = calm _ _ (λ c. refl) stays (λ post i. tells_says _ cell number far.Reserved post i)
   job_tells _ (Promises number cell how s is) = promised how
     where
-      promised : (how : Far) → J (tells here half cell number how).half (tells here half cell number how).posts
-      promised far.Reserved = calm half _ (λ c. refl) stays (λ post i. tells_says half cell number far.Reserved post i)
-      promised far.Replicated = calm half _ (λ c. refl) stays (λ post i. tells_says half cell number far.Replicated post i)
-  job_tells _ (Declines number cell h s no_room) = calm half _ (λ c. refl) stays (λ post i. says_any half _ post (posted _ _ post i) (λ to. tt))
+      promised : (how : Far) → J (tells here own cell number how).own (tells here own cell number how).posts
+      promised far.Reserved = calm own _ (λ c. refl) stays (λ post i. tells_says own cell number far.Reserved post i)
+      promised far.Replicated = calm own _ (λ c. refl) stays (λ post i. tells_says own cell number far.Replicated post i)
+  job_tells _ (Declines number cell h s no_room) = calm own _ (λ c. refl) stays (λ post i. says_any own _ post (posted _ _ post i) (λ to. tt))
   job_tells _ (Follows number key version bytes h s is) = calm _ _ (λ c. refl) stays (λ post i. tells_says _ _ number far.Replicated post i)

@@ -23,7 +23,6 @@ use Rattle.petal_rules.specs.State.{State, find, is_lead}
 use Rattle.petal_rules.specs.Server.{Post, post_to}
 use Rattle.petal_rules.specs.Writes.{ended}
 use Rattle.petal_rules.specs.Store.{cell_cmp}
-use Rattle.petal_rules.specs.Jobs.{half_of}
 use Rattle.petal_rules.specs.Clients.{Client, Asked, Reacted, posts_for, write_posts, read_posts, read_posts_at, epoch_for, cell_on, is_read}
 use Rattle.petal_rules.specs.World.{World, lines_of, start, setting_of}
 use Rattle.petal_history.specs.Claims.{Requests, IsOver, IsLateAt, HasFinished}
@@ -200,7 +199,7 @@ start_asking state script = record {
   asked = λ c asked e. none_some refl e;
   letters = λ letter h. absurd h;
   pending = λ n cell op is. none_some (at-empty cell_cmp cell) is;
-  finished = λ n c. let none : done_by (half_of ((start (setting_of script)).servers n)) c ≡ 0 = ap done_to (at-empty nat_cmp c) in omega arith;
+  finished = λ n c. let none : done_by ((start (setting_of script)).servers n).own c ≡ 0 = ap done_to (at-empty nat_cmp c) in omega arith;
 }
 
 pub asking_after : (script : Script) (records : List Record) → IsSound script → IsLegal script records → Asking (chosen_state (setting_of script)) script.lines (world_after (setting_of script) (start (setting_of script)) records)

@@ -13,9 +13,8 @@ use Rattle.script_lines.specs.declared.request.Line.{Line}
 use Rattle.petal_rules.specs.Lists.{In}
 use Rattle.petal_rules.specs.State.{State, first}
 use Rattle.petal_rules.specs.Store.{cell_cmp}
-use Rattle.petal_rules.specs.Server.{Half}
+use Rattle.petal_rules.specs.Server.{Own}
 use Rattle.petal_rules.specs.Clients.{Client, Asked}
-use Rattle.petal_rules.specs.Jobs.{half_of}
 use Rattle.petal_rules.specs.World.{World}
 use Rattle.law_steps.specs.Did.{done_to}
 use Rattle.law_requests.specs.Asked.{IsWrite, IsRead, IsAsked, IsOpen}
@@ -25,12 +24,12 @@ pub record Seen : Type 0 where
   pub clients : ℕ → Client
   pub done : (server client : ℕ) → ℕ
 
--- above the last request that this half has finished for the client
-abbrev pub done_by : Half → ℕ → ℕ
-done_by half c = done_to (at nat_cmp half.pairs.finished c)
+-- above the last request that this own has finished for the client
+abbrev pub done_by : Own → ℕ → ℕ
+done_by own c = done_to (at nat_cmp own.pairs.finished c)
 
 abbrev pub seen : World → Seen
-seen w = record { clients = w.clients; done = λ n c. done_by (half_of (w.servers n)) c }
+seen w = record { clients = w.clients; done = λ n c. done_by (w.servers n).own c }
 
 -- the lead of the cell is past this request
 abbrev pub IsPast : State → Seen → Cell → (client seq : ℕ) → Type 0
@@ -81,5 +80,5 @@ pub record PendingFor (state : State) (lines : List Line) (client : Client) (don
 pub record Asking (state : State) (lines : List Line) (w : World) : Type 0 where
   pub asked : (c : ℕ) (asked : Asked) → (w.clients c).asked ≡ Some asked → IsAsked lines c (w.clients c) asked
   pub letters : (letter : Letter) → In letter w.sent → Known state lines (seen w) letter.to letter.body
-  pub pending : (n : ℕ) (cell : Cell) (op : Pending) → at cell_cmp (half_of (w.servers n)).pairs.pending cell ≡ Some op → PendingFor state lines (w.clients op.client) (done_by (half_of (w.servers n)) op.client) cell op
-  pub finished : (n c : ℕ) → done_by (half_of (w.servers n)) c ≤ (w.clients c).seq + 1
+  pub pending : (n : ℕ) (cell : Cell) (op : Pending) → at cell_cmp (w.servers n).own.pairs.pending cell ≡ Some op → PendingFor state lines (w.clients op.client) (done_by (w.servers n).own op.client) cell op
+  pub finished : (n c : ℕ) → done_by (w.servers n).own c ≤ (w.clients c).seq + 1

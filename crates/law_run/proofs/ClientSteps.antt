@@ -40,7 +40,7 @@ use Rattle.law_steps.proofs.Letters.{said}
 use Rattle.law_steps.proofs.Sending.{is_ask, turned_asks}
 use Rattle.law_steps.proofs.Stepping.{fixed_setting}
 use Rattle.law_steps.proofs.Tests.{same_or_apart, same_some, none_some, true_false, all_put_apart}
-use Rattle.law_copies.specs.Pair.{IsPair, halves_of}
+use Rattle.law_copies.specs.Pair.{IsPair, owns_of}
 use Rattle.law_requests.specs.Asked.{IsOpen}
 use Rattle.law_requests.specs.Known.{Known, seen, Asking}
 use Rattle.law_run.specs.Onward.{IsMindful, held_in, is_held, Seat}
@@ -138,10 +138,10 @@ module _ (servers slots : ℕ) (lines : List Line) (state : State) (steady : IsS
     written_old : (letter : Letter) (seq : ℕ) → In letter w.sent → letter.to ≡ actor.Client c → letter.body ≡ body.Written seq → seq ≤ client.seq
     written_old letter seq h to says = (subst (λ (b : Body). Known state lines (seen w) (actor.Client c) b) says (subst (λ (a : Actor). Known state lines (seen w) a letter.body) to (ground.asking.letters letter h))).old
 
-    finished_old : (n : ℕ) (last : Finished) → at nat_cmp (halves_of w n).pairs.finished c ≡ Some last → last.seq ≤ client.seq
+    finished_old : (n : ℕ) (last : Finished) → at nat_cmp (owns_of w n).pairs.finished c ≡ Some last → last.seq ≤ client.seq
     finished_old n last is =
         let bound = ground.asking.finished n c in
-        let top : done_to (at nat_cmp (halves_of w n).pairs.finished c) ≡ last.seq + 1 = ap done_to is in
+        let top : done_to (at nat_cmp (owns_of w n).pairs.finished c) ≡ last.seq + 1 = ap done_to is in
         omega arith
 
     module _ (k : Plain) (reacted : Reacted) (turn : TurnFollow w m k c reacted.client) where
@@ -154,12 +154,12 @@ module _ (servers slots : ℕ) (lines : List Line) (state : State) (steady : IsS
           (λ i ne to still. ap held_in (turn.others i ne) ∙ follow.letters letter i seq h to says still)
           (λ to still. held_still seq (written_old letter seq h to says) still (follow.letters letter c seq h to says)) j to
 
-      finished : (n j : ℕ) (last : Finished) → at nat_cmp (halves_of w n).pairs.finished j ≡ Some last → last.ending ≡ ending.Written → IsOpen ((after_turn reacted).clients j) last.seq → is_held k j ≡ true
-      finished n j last is how = all_put_apart w.clients c reacted.client (λ i x. at nat_cmp (halves_of w n).pairs.finished i ≡ Some last → IsOpen x last.seq → is_held k i ≡ true)
+      finished : (n j : ℕ) (last : Finished) → at nat_cmp (owns_of w n).pairs.finished j ≡ Some last → last.ending ≡ ending.Written → IsOpen ((after_turn reacted).clients j) last.seq → is_held k j ≡ true
+      finished n j last is how = all_put_apart w.clients c reacted.client (λ i x. at nat_cmp (owns_of w n).pairs.finished i ≡ Some last → IsOpen x last.seq → is_held k i ≡ true)
           (λ i ne is still. ap held_in (turn.others i ne) ∙ follow.finished n i last is how still)
           (λ is still. held_still last.seq (finished_old n last is) still (follow.finished n c last is how)) j is
 
-      pending : Asking state lines (after_turn reacted) → (cell : Cell) (p q : ℕ) (op : Pending) → IsPair state cell p q → at cell_cmp (halves_of w p).pairs.pending cell ≡ Some op → op.op + op.op + 1 ≤ progress (at cell_cmp (halves_of w q).pairs.last cell) → is_held k op.client ≡ true
+      pending : Asking state lines (after_turn reacted) → (cell : Cell) (p q : ℕ) (op : Pending) → IsPair state cell p q → at cell_cmp (owns_of w p).pairs.pending cell ≡ Some op → op.op + op.op + 1 ≤ progress (at cell_cmp (owns_of w q).pairs.last cell) → is_held k op.client ≡ true
       pending next cell p q op pair is past = elim (same_or_apart op.client c) [
         | inr ne ↦ ap held_in (turn.others op.client ne) ∙ follow.pending cell p q op pair is past
         | inl e ↦

@@ -15,9 +15,9 @@ use Rattle.script_lines.specs.declared.request.Line.{Line}
 use Rattle.script_lines.specs.declared.script.Script.{Script}
 use Rattle.petal_rules.specs.State.{State, is_second}
 use Rattle.petal_rules.specs.Store.{Chain, Stored, cell_cmp, chain_in}
-use Rattle.petal_rules.specs.Server.{Half, Here, Done}
+use Rattle.petal_rules.specs.Server.{Own, Here, Done}
 use Rattle.petal_rules.specs.Writes.{tells}
-use Rattle.petal_rules.specs.Jobs.{here_of, half_of}
+use Rattle.petal_rules.specs.Jobs.{here_of}
 use Rattle.petal_rules.specs.World.{World, start, setting_of}
 use Rattle.law_steps.specs.Steady.{IsSteady}
 use Rattle.law_steps.specs.Did.{Did, Ignores, Refuses, Asks_for, Shows, Repeats, Is_full, Opens, Puts, Gives_up, Closes, Sets_apart, Promises, Declines, Follows}
@@ -27,7 +27,7 @@ use Rattle.law_steps.proofs.Scripts.{start_ready}
 use Rattle.law_steps.proofs.Stepping.{happens_ready}
 use Rattle.law_steps.proofs.Staged.{same_cell_or_apart}
 use Rattle.law_steps.proofs.Tests.{all_put}
-use Rattle.law_copies.specs.Pair.{pair_of, IsPair, IsPutting, halves_of, Good}
+use Rattle.law_copies.specs.Pair.{pair_of, IsPair, IsPutting, owns_of, Good}
 use Rattle.law_copies.proofs.Jobs.{chain_put, chain_apart, asked, heard_known, second_pair}
 use Rattle.law_copies.proofs.Copying.{happens_good, start_good}
 use Rattle.law_requests.specs.Asked.{IsWrite}
@@ -49,8 +49,8 @@ module _ (state : State) (steady : IsSteady state) (lines : List Line) where
     abbrev here : Here
     here = here_of state n (w.servers n)
 
-    abbrev half : Half
-    half = halves_of w n
+    abbrev own : Own
+    own = owns_of w n
 
     abbrev hears : Body → Type 0
     hears = Handled w n
@@ -59,12 +59,12 @@ module _ (state : State) (steady : IsSteady state) (lines : List Line) where
     pub record Followed (number : ℕ) (key : Key) (bytes : List ℕ) : Type 0 where
       pub p : ℕ
       pub pair : IsPair state (cell_of key) p n
-      pub putting : IsPutting (at cell_cmp (halves_of w p).pairs.pending (cell_of key)) number key bytes
+      pub putting : IsPutting (at cell_cmp (owns_of w p).pairs.pending (cell_of key)) number key bytes
 
-    pub followed : (number : ℕ) (key : Key) (version : ℕ) (bytes : List ℕ) → hears (body.Replicate number key version bytes) → is_second state n (cell_of key) ≡ true → at cell_cmp half.pairs.last (cell_of key) ≡ Some (record { op = number; far = far.Reserved }) → Followed number key bytes
+    pub followed : (number : ℕ) (key : Key) (version : ℕ) (bytes : List ℕ) → hears (body.Replicate number key version bytes) → is_second state n (cell_of key) ≡ true → at cell_cmp own.pairs.last (cell_of key) ≡ Some (record { op = number; far = far.Reserved }) → Followed number key bytes
     followed number key version bytes h s is =
         let pair = second_pair state steady w ready good n (cell_of key) s in
-        record { p = pair.0; pair = pair.1; putting = asked state steady w ready good n number key bytes (pair_of (halves_of w pair.0) half (cell_of key)) is (heard_known state steady w ready good n _ h (cell_of key) pair.0 n refl pair.1) }
+        record { p = pair.0; pair = pair.1; putting = asked state steady w ready good n number key bytes (pair_of (owns_of w pair.0) own (cell_of key)) is (heard_known state steady w ready good n _ h (cell_of key) pair.0 n refl pair.1) }
 
     pub key_epoch : (number : ℕ) (key : Key) (bytes : List ℕ) → Followed number key bytes → key.epoch ≡ 0
     key_epoch number key bytes f =
@@ -78,7 +78,7 @@ module _ (state : State) (steady : IsSteady state) (lines : List Line) where
       | inr ne ↦ subst IsShort (sym (chain_apart chains cell chain q ne)) old
     ]
 
-    did_short : ((cell : Cell) → IsShort (chain_in half.store.chains cell)) → (done : Done) → Did hears here half done → (cell : Cell) → IsShort (chain_in done.half.store.chains cell)
+    did_short : ((cell : Cell) → IsShort (chain_in own.store.chains cell)) → (done : Done) → Did hears here own done → (cell : Cell) → IsShort (chain_in done.own.store.chains cell)
     did_short short _ Ignores cell = short cell
     did_short short _ (Refuses to said is why) cell = short cell
     did_short short _ (Asks_for posts h) cell = short cell
@@ -88,22 +88,22 @@ module _ (state : State) (steady : IsSteady state) (lines : List Line) where
     did_short short _ (Opens want h lead new none) cell = short cell
     did_short short _ (Puts op h is stage) cell =
         let p = asking.pending n op.cell op is in
-        short_at half.store.chains (cell_of op.key) cell _ (short_put (chain_in half.store.chains (cell_of op.key)) op.key.epoch _ (write_epoch state steady lines op.client op.seq op.cell op.key.epoch op.bytes p.write) (short (cell_of op.key))) (short cell)
+        short_at own.store.chains (cell_of op.key) cell _ (short_put (chain_in own.store.chains (cell_of op.key)) op.key.epoch _ (write_epoch state steady lines op.client op.seq op.cell op.key.epoch op.bytes p.write) (short (cell_of op.key))) (short cell)
     did_short short _ (Gives_up op h is stage) cell = short cell
     did_short short _ (Closes op h is stage) cell = short cell
     did_short short _ (Sets_apart number c store h s e le) cell = subst (λ t. IsShort (chain_in t cell)) (sym e) (short cell)
     did_short short _ (Promises number c how s is) cell = promised how
       where
-        promised : (how : Far) → IsShort (chain_in (tells here half c number how).half.store.chains cell)
+        promised : (how : Far) → IsShort (chain_in (tells here own c number how).own.store.chains cell)
         promised far.Reserved = short cell
         promised far.Replicated = short cell
     did_short short _ (Declines number c h s no_room) cell = short cell
     did_short short _ (Follows number key version bytes h s is) cell =
-        short_at half.store.chains (cell_of key) cell _ (short_put (chain_in half.store.chains (cell_of key)) key.epoch _ (key_epoch number key bytes (followed number key version bytes h s is)) (short (cell_of key))) (short cell)
+        short_at own.store.chains (cell_of key) cell _ (short_put (chain_in own.store.chains (cell_of key)) key.epoch _ (key_epoch number key bytes (followed number key version bytes h s is)) (short (cell_of key))) (short cell)
 
-  short_later : (w v : World) → Ground state lines w → Happens state lines w v → (n : ℕ) (cell : Cell) → IsShort (chain_in (halves_of v n).store.chains cell)
+  short_later : (w v : World) → Ground state lines w → Happens state lines w v → (n : ℕ) (cell : Cell) → IsShort (chain_in (owns_of v n).store.chains cell)
   short_later w _ ground (Serves n stamp done queue lt did queued) =
-      all_put w.servers n (served (w.servers n) done queue) (λ k server. (cell : Cell) → IsShort (chain_in (half_of server).store.chains cell)) ground.short (did_short w ground.ready ground.good ground.asking n (ground.short n) done did)
+      all_put w.servers n (served (w.servers n) done queue) (λ k server. (cell : Cell) → IsShort (chain_in server.own.store.chains cell)) ground.short (did_short w ground.ready ground.good ground.asking n (ground.short n) done did)
   short_later w _ ground (Turns c stamp in_call reacted lt within turned) = ground.short
 
   pub happens_ground : (servers slots : ℕ) (w v : World) → Ground state lines w → Happens state lines w v → Ground state lines v

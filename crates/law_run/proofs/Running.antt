@@ -118,7 +118,7 @@ module _ (servers slots : ℕ) (lines : List Line) (state : State) (steady : IsS
 
 -- ### The beginning
 
-zero : (w : World) → ((n : ℕ) → (w.servers n).store.chains ≡ []) → (o : Option ℕ) (cell : Cell) → content_by w cell 0 o ≡ zero_block
+zero : (w : World) → ((n : ℕ) → (w.servers n).own.store.chains ≡ []) → (o : Option ℕ) (cell : Cell) → content_by w cell 0 o ≡ zero_block
 zero w empty None cell = refl
 zero w empty (Some n) cell =
     ap (λ chains. bytes_of (entry_at (chain_in chains cell) 0)) (empty n)

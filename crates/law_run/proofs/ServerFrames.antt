@@ -12,8 +12,8 @@ use Rattle.petal_msg.specs.declared.operation.Pending.{Pending}
 use Rattle.petal_rules.specs.Lists.{In}
 use Rattle.petal_rules.specs.State.{State, second}
 use Rattle.petal_rules.specs.Store.{cell_cmp}
-use Rattle.petal_rules.specs.Server.{Half, Post, Done, sender}
-use Rattle.petal_rules.specs.Jobs.{here_of, half_of}
+use Rattle.petal_rules.specs.Server.{Own, Post, Done, sender}
+use Rattle.petal_rules.specs.Jobs.{here_of}
 use Rattle.petal_rules.specs.World.{World}
 use Rattle.petal_rules.specs.declared.job.Job.{Job}
 use Rattle.petal_rules.proofs.ListLemmas.{put_same, put_apart, in-append}
@@ -24,7 +24,7 @@ use Rattle.law_steps.specs.Did.{progress}
 use Rattle.law_steps.specs.Happens.{server_moves, served}
 use Rattle.law_steps.proofs.Letters.{said}
 use Rattle.law_steps.proofs.Tests.{same_or_apart}
-use Rattle.law_copies.specs.Pair.{IsPair, halves_of}
+use Rattle.law_copies.specs.Pair.{IsPair, owns_of}
 use Rattle.law_copies.proofs.Frames.{apart}
 use Rattle.law_requests.specs.Asked.{IsOpen}
 use Rattle.law_run.specs.Onward.{HasOnly, IsMindful, is_held, Onward}
@@ -32,18 +32,18 @@ use Rattle.law_run.specs.Follow.{Follow}
 use Rattle.law_run.proofs.Machine.{seat_onward, held_onward}
 
 -- the operation was pending, under this number and for this client
-pub record Was (half : Half) (cell : Cell) (op : Pending) : Type 0 where
+pub record Was (own : Own) (cell : Cell) (op : Pending) : Type 0 where
   pub was : Pending
-  pub is : at cell_cmp half.pairs.pending cell ≡ Some was
+  pub is : at cell_cmp own.pairs.pending cell ≡ Some was
   pub number : was.op ≡ op.op
   pub client : was.client ≡ op.client
 
 -- what a job of this server shows, where the machine goes on to k
-pub record JobFollow (state : State) (w : World) (k : Plain) (n : ℕ) (new : Half) (posts : List Post) : Type 0 where
-  pub finished : (c : ℕ) (last : Finished) → at nat_cmp new.pairs.finished c ≡ Some last → last.ending ≡ ending.Written → IsOpen (w.clients c) last.seq → (at nat_cmp (halves_of w n).pairs.finished c ≡ Some last) ⊎ (is_held k c ≡ true)
-  pub as_first : (cell : Cell) (q : ℕ) (op : Pending) → IsPair state cell n q → at cell_cmp new.pairs.pending cell ≡ Some op → Was (halves_of w n) cell op ⊎ (progress (at cell_cmp (halves_of w q).pairs.last cell) < op.op + op.op + 1)
-  pub as_second : (cell : Cell) (p : ℕ) (op : Pending) → IsPair state cell p n → at cell_cmp (halves_of w p).pairs.pending cell ≡ Some op → op.op + op.op + 1 ≤ progress (at cell_cmp new.pairs.last cell)
-      → (op.op + op.op + 1 ≤ progress (at cell_cmp (halves_of w n).pairs.last cell)) ⊎ (is_held k op.client ≡ true)
+pub record JobFollow (state : State) (w : World) (k : Plain) (n : ℕ) (new : Own) (posts : List Post) : Type 0 where
+  pub finished : (c : ℕ) (last : Finished) → at nat_cmp new.pairs.finished c ≡ Some last → last.ending ≡ ending.Written → IsOpen (w.clients c) last.seq → (at nat_cmp (owns_of w n).pairs.finished c ≡ Some last) ⊎ (is_held k c ≡ true)
+  pub as_first : (cell : Cell) (q : ℕ) (op : Pending) → IsPair state cell n q → at cell_cmp new.pairs.pending cell ≡ Some op → Was (owns_of w n) cell op ⊎ (progress (at cell_cmp (owns_of w q).pairs.last cell) < op.op + op.op + 1)
+  pub as_second : (cell : Cell) (p : ℕ) (op : Pending) → IsPair state cell p n → at cell_cmp (owns_of w p).pairs.pending cell ≡ Some op → op.op + op.op + 1 ≤ progress (at cell_cmp new.pairs.last cell)
+      → (op.op + op.op + 1 ≤ progress (at cell_cmp (owns_of w n).pairs.last cell)) ⊎ (is_held k op.client ≡ true)
   pub says : (post : Post) (c seq : ℕ) → In post posts → post.to ≡ actor.Client c → post.body ≡ body.Written seq → IsOpen (w.clients c) seq → is_held k c ≡ true
 
 -- the machine's disk has the contents of this world
@@ -53,26 +53,26 @@ pub record Stores (state : State) (name : List ℕ) (w : World) (k : Plain) : Ty
   pub now : (block : ℕ) → content blocks block ≡ content_by w (cell_of_block block) 0 (second state (cell_of_block block))
   pub mindful : IsMindful k
 
-module _ (state : State) (steady : IsSteady state) (name : List ℕ) (w : World) (m k : Plain) (n stamp : ℕ) (done : Done) (queue : List Job) (follow : Follow state name w m) (onward : Onward m k) (job : JobFollow state w k n done.half done.posts) where
+module _ (state : State) (steady : IsSteady state) (name : List ℕ) (w : World) (m k : Plain) (n stamp : ℕ) (done : Done) (queue : List Job) (follow : Follow state name w m) (onward : Onward m k) (job : JobFollow state w k n done.own done.posts) where
   abbrev later : World
   later = server_moves state w n stamp done queue
 
-  half_now : halves_of later n ≡ done.half
-  half_now = ap half_of (put_same w.servers n (served (w.servers n) done queue))
+  own_now : owns_of later n ≡ done.own
+  own_now = ap (λ s. s.own) (put_same w.servers n (served (w.servers n) done queue))
 
-  half_other : (i : ℕ) → i ≢ n → halves_of later i ≡ halves_of w i
-  half_other i ne = ap half_of (put_apart w.servers n (served (w.servers n) done queue) i ne)
+  own_other : (i : ℕ) → i ≢ n → owns_of later i ≡ owns_of w i
+  own_other i ne = ap (λ s. s.own) (put_apart w.servers n (served (w.servers n) done queue) i ne)
 
-  finished : (i c : ℕ) (last : Finished) → at nat_cmp (halves_of later i).pairs.finished c ≡ Some last → last.ending ≡ ending.Written → IsOpen (w.clients c) last.seq → is_held k c ≡ true
+  finished : (i c : ℕ) (last : Finished) → at nat_cmp (owns_of later i).pairs.finished c ≡ Some last → last.ending ≡ ending.Written → IsOpen (w.clients c) last.seq → is_held k c ≡ true
   finished i c last is how still = elim (same_or_apart i n) [
     | inl e ↦
-        let there : at nat_cmp done.half.pairs.finished c ≡ Some last = sym (ap (λ h. at nat_cmp h.pairs.finished c) (ap (halves_of later) e ∙ half_now)) ∙ is in
+        let there : at nat_cmp done.own.pairs.finished c ≡ Some last = sym (ap (λ h. at nat_cmp h.pairs.finished c) (ap (owns_of later) e ∙ own_now)) ∙ is in
         elim (job.finished c last there how still) [ inl was ↦ held_onward m k c onward (follow.finished n c last was how still) | inr held ↦ held ]
-    | inr ne ↦ held_onward m k c onward (follow.finished i c last (sym (ap (λ h. at nat_cmp h.pairs.finished c) (half_other i ne)) ∙ is) how still)
+    | inr ne ↦ held_onward m k c onward (follow.finished i c last (sym (ap (λ h. at nat_cmp h.pairs.finished c) (own_other i ne)) ∙ is) how still)
   ]
 
   -- the operation of a cell that this server is the first of
-  first_held : (cell : Cell) (q : ℕ) (op : Pending) → IsPair state cell n q → at cell_cmp done.half.pairs.pending cell ≡ Some op → op.op + op.op + 1 ≤ progress (at cell_cmp (halves_of w q).pairs.last cell) → is_held k op.client ≡ true
+  first_held : (cell : Cell) (q : ℕ) (op : Pending) → IsPair state cell n q → at cell_cmp done.own.pairs.pending cell ≡ Some op → op.op + op.op + 1 ≤ progress (at cell_cmp (owns_of w q).pairs.last cell) → is_held k op.client ≡ true
   first_held cell q op pair is past = elim (job.as_first cell q op pair is) [
     | inl was ↦
         let number = was.number in
@@ -80,24 +80,24 @@ module _ (state : State) (steady : IsSteady state) (name : List ℕ) (w : World)
     | inr early ↦ absurd (omega arith)
   ]
 
-  second_held : (cell : Cell) (p : ℕ) (op : Pending) → IsPair state cell p n → at cell_cmp (halves_of w p).pairs.pending cell ≡ Some op → op.op + op.op + 1 ≤ progress (at cell_cmp done.half.pairs.last cell) → is_held k op.client ≡ true
+  second_held : (cell : Cell) (p : ℕ) (op : Pending) → IsPair state cell p n → at cell_cmp (owns_of w p).pairs.pending cell ≡ Some op → op.op + op.op + 1 ≤ progress (at cell_cmp done.own.pairs.last cell) → is_held k op.client ≡ true
   second_held cell p op pair is past = elim (job.as_second cell p op pair is past) [
     | inl was ↦ held_onward m k op.client onward (follow.pending cell p n op pair is was)
     | inr held ↦ held
   ]
 
-  pending : (cell : Cell) (p q : ℕ) (op : Pending) → IsPair state cell p q → at cell_cmp (halves_of later p).pairs.pending cell ≡ Some op → op.op + op.op + 1 ≤ progress (at cell_cmp (halves_of later q).pairs.last cell) → is_held k op.client ≡ true
+  pending : (cell : Cell) (p q : ℕ) (op : Pending) → IsPair state cell p q → at cell_cmp (owns_of later p).pairs.pending cell ≡ Some op → op.op + op.op + 1 ≤ progress (at cell_cmp (owns_of later q).pairs.last cell) → is_held k op.client ≡ true
   pending cell p q op pair is past = elim (same_or_apart p n) [
     | inl e ↦
         let mine : IsPair state cell n q = subst (λ i. IsPair state cell i q) e pair in
         let ne : q ≢ n = λ f. apart state steady cell n q mine (sym f) in
-        first_held cell q op mine (sym (ap (λ h. at cell_cmp h.pairs.pending cell) (ap (halves_of later) e ∙ half_now)) ∙ is)
-        (subst (λ h. op.op + op.op + 1 ≤ progress (at cell_cmp h.pairs.last cell)) (half_other q ne) past)
+        first_held cell q op mine (sym (ap (λ h. at cell_cmp h.pairs.pending cell) (ap (owns_of later) e ∙ own_now)) ∙ is)
+        (subst (λ h. op.op + op.op + 1 ≤ progress (at cell_cmp h.pairs.last cell)) (own_other q ne) past)
     | inr ne ↦
-        let there : at cell_cmp (halves_of w p).pairs.pending cell ≡ Some op = sym (ap (λ h. at cell_cmp h.pairs.pending cell) (half_other p ne)) ∙ is in
+        let there : at cell_cmp (owns_of w p).pairs.pending cell ≡ Some op = sym (ap (λ h. at cell_cmp h.pairs.pending cell) (own_other p ne)) ∙ is in
         elim (same_or_apart q n) [
-          | inl e ↦ second_held cell p op (subst (λ i. IsPair state cell p i) e pair) there (subst (λ h. op.op + op.op + 1 ≤ progress (at cell_cmp h.pairs.last cell)) (ap (halves_of later) e ∙ half_now) past)
-          | inr ne' ↦ held_onward m k op.client onward (follow.pending cell p q op pair there (subst (λ h. op.op + op.op + 1 ≤ progress (at cell_cmp h.pairs.last cell)) (half_other q ne') past))
+          | inl e ↦ second_held cell p op (subst (λ i. IsPair state cell p i) e pair) there (subst (λ h. op.op + op.op + 1 ≤ progress (at cell_cmp h.pairs.last cell)) (ap (owns_of later) e ∙ own_now) past)
+          | inr ne' ↦ held_onward m k op.client onward (follow.pending cell p q op pair there (subst (λ h. op.op + op.op + 1 ≤ progress (at cell_cmp h.pairs.last cell)) (own_other q ne') past))
         ]
   ]
 

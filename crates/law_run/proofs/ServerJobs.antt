@@ -19,7 +19,7 @@ use Rattle.petal_msg.specs.declared.operation.Pending.{Pending}
 use Rattle.petal_rules.specs.Lists.{In}
 use Rattle.petal_rules.specs.State.{State, first, second}
 use Rattle.petal_rules.specs.Store.{cell_cmp, chain_in, entry_at, bytes_of, version_of}
-use Rattle.petal_rules.specs.Server.{Half, Here, Post, Done, post_to}
+use Rattle.petal_rules.specs.Server.{Own, Here, Post, Done, post_to}
 use Rattle.petal_rules.specs.Writes.{Wanted, operation, opened, puts, with_pending, with_reserved, with_paired, ended, tells}
 use Rattle.petal_rules.specs.Jobs.{here_of}
 use Rattle.petal_rules.specs.World.{World}
@@ -30,7 +30,7 @@ use Rattle.law_steps.specs.Happens.{Handled}
 use Rattle.law_steps.specs.Ready.{Ready}
 use Rattle.law_steps.proofs.Tests.{same_or_apart, same_some, none_some, true_false}
 use Rattle.law_steps.proofs.Staged.{same_cell_or_apart}
-use Rattle.law_copies.specs.Pair.{IsPair, ceiling_of, halves_of, Good}
+use Rattle.law_copies.specs.Pair.{IsPair, ceiling_of, owns_of, Good}
 use Rattle.law_copies.proofs.Frames.{apart}
 use Rattle.law_copies.proofs.Jobs.{chain_apart, heard_known, lead_pair}
 use Rattle.law_requests.specs.Asked.{IsOpen}
@@ -40,7 +40,7 @@ use Rattle.law_run.proofs.Machine.{held_onward}
 use Rattle.law_run.proofs.ServerFrames.{JobFollow, Was}
 
 -- all kinds of job but one: a second server puts
-abbrev pub IsCalm : {heard : Body → Type 0} {here : Here} {half : Half} {done : Done} → Did heard here half done → Type 0
+abbrev pub IsCalm : {heard : Body → Type 0} {here : Here} {own : Own} {done : Done} → Did heard here own done → Type 0
 IsCalm Ignores = Unit {0}
 IsCalm (Refuses to said is why) = Unit {0}
 IsCalm (Asks_for posts h) = Unit {0}
@@ -100,11 +100,11 @@ posted None said post h = absurd h
 posted (Some to) said post (inl e) = ap (λ (p : Post). p.body) e
 posted (Some to) said post (inr h) = absurd h
 
-asks_unwritten : (here : Here) (half : Half) (post : Post) → Asks here half post → is_written post.body ≡ false
-asks_unwritten here half _ (A_slot op to is stage e) = refl
-asks_unwritten here half _ (A_copy op to is stage e) = refl
+asks_unwritten : (here : Here) (own : Own) (post : Post) → Asks here own post → is_written post.body ≡ false
+asks_unwritten here own _ (A_slot op to is stage e) = refl
+asks_unwritten here own _ (A_copy op to is stage e) = refl
 
-tells_unwritten : (here : Here) (new : Half) (cell : Cell) (number : ℕ) (how : Far) (post : Post) → In post (tells here new cell number how).posts → is_written post.body ≡ false
+tells_unwritten : (here : Here) (new : Own) (cell : Cell) (number : ℕ) (how : Far) (post : Post) → In post (tells here new cell number how).posts → is_written post.body ≡ false
 tells_unwritten here new cell number far.Reserved post i = ap is_written (posted _ _ post i)
 tells_unwritten here new cell number far.Replicated post i = ap is_written (posted _ _ post i)
 
@@ -112,10 +112,10 @@ module _ (state : State) (steady : IsSteady state) (name : List ℕ) (w : World)
   abbrev here : Here
   here = here_of state n (w.servers n)
 
-  abbrev half : Half
-  half = halves_of w n
+  abbrev own : Own
+  own = owns_of w n
 
-  abbrev J : Half → List Post → Type 0
+  abbrev J : Own → List Post → Type 0
   J new posts = JobFollow state w k n new posts
 
   abbrev hears : Body → Type 0
@@ -133,11 +133,11 @@ module _ (state : State) (steady : IsSteady state) (name : List ℕ) (w : World)
   says_to : (to : Option ℕ) (said : Body) → is_written said ≡ false → SaysOk (post_to to said)
   says_to to said e = unwritten (post_to to said) (λ post i. ap is_written (posted to said post i) ∙ e)
 
-  pub says_far : (new : Half) (cell : Cell) (number : ℕ) (how : Far) → SaysOk (tells here new cell number how).posts
+  pub says_far : (new : Own) (cell : Cell) (number : ℕ) (how : Far) → SaysOk (tells here new cell number how).posts
   says_far new cell number how = unwritten (tells here new cell number how).posts (λ post i. tells_unwritten here new cell number how post i)
 
   -- a job that leaves operations as they are
-  same : (new : Half) (posts : List Post) → ((c : ℕ) → at nat_cmp new.pairs.finished c ≡ at nat_cmp half.pairs.finished c) → ((cell : Cell) → at cell_cmp new.pairs.pending cell ≡ at cell_cmp half.pairs.pending cell) → ((cell : Cell) → at cell_cmp new.pairs.last cell ≡ at cell_cmp half.pairs.last cell) → SaysOk posts → J new posts
+  same : (new : Own) (posts : List Post) → ((c : ℕ) → at nat_cmp new.pairs.finished c ≡ at nat_cmp own.pairs.finished c) → ((cell : Cell) → at cell_cmp new.pairs.pending cell ≡ at cell_cmp own.pairs.pending cell) → ((cell : Cell) → at cell_cmp new.pairs.last cell ≡ at cell_cmp own.pairs.last cell) → SaysOk posts → J new posts
   same new posts finished pending last says = record {
     finished = λ c l is how still. inl (sym (finished c) ∙ is);
     as_first = λ cell q op pair is. inl (record { was = op; is = sym (pending cell) ∙ is; number = refl; client = refl });
@@ -145,7 +145,7 @@ module _ (state : State) (steady : IsSteady state) (name : List ℕ) (w : World)
     says = says;
   }
 
-  pub was_same : (cell : Cell) (op : Pending) → at cell_cmp half.pairs.pending cell ≡ Some op → Was half cell op
+  pub was_same : (cell : Cell) (op : Pending) → at cell_cmp own.pairs.pending cell ≡ Some op → Was own cell op
   was_same cell op is = record { was = op; is = is; number = refl; client = refl }
 
   ended_full : (c seq : ℕ) → SaysOk (record { to = actor.Client c; body = ended seq ending.Full } ∷ [])
@@ -162,40 +162,40 @@ module _ (state : State) (steady : IsSteady state) (name : List ℕ) (w : World)
     | inr ne ↦ inl (sym (at_apart t client _ c ne) ∙ is)
   ]
 
-  full_job : (want : Wanted) → J (record half { pairs = record half.pairs { finished = put nat_cmp half.pairs.finished want.client (record { seq = want.seq; ending = ending.Full }) } }) (record { to = actor.Client want.client; body = ended want.seq ending.Full } ∷ [])
+  full_job : (want : Wanted) → J (record own { pairs = record own.pairs { finished = put nat_cmp own.pairs.finished want.client (record { seq = want.seq; ending = ending.Full }) } }) (record { to = actor.Client want.client; body = ended want.seq ending.Full } ∷ [])
   full_job want = record {
-    finished = λ c last is how still. finish_full half.pairs.finished want.client want.seq c last is how;
+    finished = λ c last is how still. finish_full own.pairs.finished want.client want.seq c last is how;
     as_first = λ cell q op pair is. inl (was_same cell op is);
     as_second = λ cell p op pair is past. inl past;
     says = ended_full want.client want.seq;
   }
 
-  opens_job : (want : Wanted) → at cell_cmp half.pairs.pending want.cell ≡ None → J (opened here half want) (post_to (second state want.cell) (body.Reserve half.pairs.next want.cell))
+  opens_job : (want : Wanted) → at cell_cmp own.pairs.pending want.cell ≡ None → J (opened here own want) (post_to (second state want.cell) (body.Reserve own.pairs.next want.cell))
   opens_job want none =
-      let op = operation here half.pairs.next want in
-      let t = half.pairs.pending in
+      let op = operation here own.pairs.next want in
+      let t = own.pairs.pending in
       record {
         finished = λ c last is how still. inl is;
         as_first = λ cell q o pair is. elim (same_cell_or_apart cell want.cell) [
           | inl e ↦
               let same : op ≡ o = same_some (sym (cell_same t want.cell op) ∙ subst (λ (x : Cell). at cell_cmp (put cell_cmp t want.cell op) x ≡ Some o) e is) in
               let ok = good.pairs cell n q pair in
-              let top : ceiling_of (at cell_cmp t cell) half.pairs.next ≡ half.pairs.next = ap (λ x. ceiling_of x half.pairs.next) (ap (at cell_cmp t) e ∙ none) in
+              let top : ceiling_of (at cell_cmp t cell) own.pairs.next ≡ own.pairs.next = ap (λ x. ceiling_of x own.pairs.next) (ap (at cell_cmp t) e ∙ none) in
               let below = ok.below in
-              let number : half.pairs.next ≡ o.op = ap (λ (x : Pending). x.op) same in
+              let number : own.pairs.next ≡ o.op = ap (λ (x : Pending). x.op) same in
               inr (omega arith)
           | inr ne ↦ inl (was_same cell o (sym (cell_apart t want.cell op cell ne) ∙ is))
         ];
         as_second = λ cell p o pair is past. inl past;
-        says = says_to (second state want.cell) (body.Reserve half.pairs.next want.cell) refl;
+        says = says_to (second state want.cell) (body.Reserve own.pairs.next want.cell) refl;
       }
 
-  puts_job : (op : Pending) → at cell_cmp half.pairs.pending op.cell ≡ Some op → J (puts (with_pending half (with_reserved op)) (with_reserved op)).half []
+  puts_job : (op : Pending) → at cell_cmp own.pairs.pending op.cell ≡ Some op → J (puts (with_pending own (with_reserved op)) (with_reserved op)).own []
   unfolding In
   puts_job op is =
-      let t = half.pairs.pending in
+      let t = own.pairs.pending in
       let one = with_reserved op in
-      let two : Pending = record one { version = version_of (chain_in half.store.chains op.cell) + 1; stage = record one.stage { put = true } } in
+      let two : Pending = record one { version = version_of (chain_in own.store.chains op.cell) + 1; stage = record one.stage { put = true } } in
       record {
         finished = λ c last is how still. inl is;
         as_first = λ cell q o pair there. elim (same_cell_or_apart cell op.cell) [
@@ -209,14 +209,14 @@ module _ (state : State) (steady : IsSteady state) (name : List ℕ) (w : World)
       }
 
   -- an operation is pending no more
-  gone_first : (op : Pending) (t : Table Cell Pending) → at cell_cmp t op.cell ≡ None → ((q : Cell) → q ≢ op.cell → at cell_cmp t q ≡ at cell_cmp half.pairs.pending q) → (cell : Cell) (o : Pending) → at cell_cmp t cell ≡ Some o → Was half cell o
+  gone_first : (op : Pending) (t : Table Cell Pending) → at cell_cmp t op.cell ≡ None → ((q : Cell) → q ≢ op.cell → at cell_cmp t q ≡ at cell_cmp own.pairs.pending q) → (cell : Cell) (o : Pending) → at cell_cmp t cell ≡ Some o → Was own cell o
   gone_first op t gone others cell o is = elim (same_cell_or_apart cell op.cell) [
     | inl e ↦ none_some gone (subst (λ (x : Cell). at cell_cmp t x ≡ Some o) e is)
     | inr ne ↦ was_same cell o (sym (others cell ne) ∙ is)
   ]
 
   -- an operation that the second server has put
-  closes_held : (op : Pending) → hears (body.Replicated op.op op.cell) → at cell_cmp half.pairs.pending op.cell ≡ Some op → is_held k op.client ≡ true
+  closes_held : (op : Pending) → hears (body.Replicated op.op op.cell) → at cell_cmp own.pairs.pending op.cell ≡ Some op → is_held k op.client ≡ true
   closes_held op h is =
       let pair = lead_pair state steady w ready good n op.cell ((ready.pending n).staged op.cell op is).lead in
       held_onward m k op.client onward (follow.pending op.cell n pair.0 op pair.1 is (heard_known state steady w ready good n _ h op.cell n pair.0 refl pair.1))
@@ -224,17 +224,17 @@ module _ (state : State) (steady : IsSteady state) (name : List ℕ) (w : World)
   one_client : {c d : ℕ} → actor.Client c ≡ actor.Client d → c ≡ d
   one_client e = cc
 
-  reserves_job : (number : ℕ) (cell : Cell) (new : Half) → hears (body.Reserve number cell) → new.pairs.finished ≡ half.pairs.finished → new.pairs.pending ≡ half.pairs.pending → new.pairs.last ≡ put cell_cmp half.pairs.last cell (record { op = number; far = far.Reserved }) → J new (tells here new cell number far.Reserved).posts
+  reserves_job : (number : ℕ) (cell : Cell) (new : Own) → hears (body.Reserve number cell) → new.pairs.finished ≡ own.pairs.finished → new.pairs.pending ≡ own.pairs.pending → new.pairs.last ≡ put cell_cmp own.pairs.last cell (record { op = number; far = far.Reserved }) → J new (tells here new cell number far.Reserved).posts
   reserves_job number cell new h finished pending last = record {
     finished = λ c l is how still. inl (ap (λ t. at nat_cmp t c) (sym finished) ∙ is);
     as_first = λ q j op pair is. inl (was_same q op (ap (λ t. at cell_cmp t q) (sym pending) ∙ is));
     as_second = λ q p op pair is past. elim (same_cell_or_apart q cell) [
       | inl e ↦
-          let there : progress (at cell_cmp new.pairs.last q) ≡ number + number = ap (λ t. progress (at cell_cmp t q)) last ∙ ap (λ (x : Cell). progress (at cell_cmp (put cell_cmp half.pairs.last cell (record { op = number; far = far.Reserved })) x)) e ∙ ap progress (cell_same half.pairs.last cell (record { op = number; far = far.Reserved })) in
-          let known : number < ceiling_of (at cell_cmp (halves_of w p).pairs.pending q) (halves_of w p).pairs.next = subst (λ (x : Cell). number < ceiling_of (at cell_cmp (halves_of w p).pairs.pending x) (halves_of w p).pairs.next) (sym e) (heard_known state steady w ready good n _ h cell p n refl (subst (λ (x : Cell). IsPair state x p n) e pair)) in
-          let top : ceiling_of (at cell_cmp (halves_of w p).pairs.pending q) (halves_of w p).pairs.next ≡ op.op + 1 = ap (λ o. ceiling_of o (halves_of w p).pairs.next) is in
+          let there : progress (at cell_cmp new.pairs.last q) ≡ number + number = ap (λ t. progress (at cell_cmp t q)) last ∙ ap (λ (x : Cell). progress (at cell_cmp (put cell_cmp own.pairs.last cell (record { op = number; far = far.Reserved })) x)) e ∙ ap progress (cell_same own.pairs.last cell (record { op = number; far = far.Reserved })) in
+          let known : number < ceiling_of (at cell_cmp (owns_of w p).pairs.pending q) (owns_of w p).pairs.next = subst (λ (x : Cell). number < ceiling_of (at cell_cmp (owns_of w p).pairs.pending x) (owns_of w p).pairs.next) (sym e) (heard_known state steady w ready good n _ h cell p n refl (subst (λ (x : Cell). IsPair state x p n) e pair)) in
+          let top : ceiling_of (at cell_cmp (owns_of w p).pairs.pending q) (owns_of w p).pairs.next ≡ op.op + 1 = ap (λ o. ceiling_of o (owns_of w p).pairs.next) is in
           absurd (omega arith)
-      | inr ne ↦ inl (subst (λ o. op.op + op.op + 1 ≤ progress o) (ap (λ t. at cell_cmp t q) last ∙ cell_apart half.pairs.last cell _ q ne) past)
+      | inr ne ↦ inl (subst (λ o. op.op + op.op + 1 ≤ progress o) (ap (λ t. at cell_cmp t q) last ∙ cell_apart own.pairs.last cell _ q ne) past)
     ];
     says = says_far new cell number far.Reserved;
   }
@@ -265,52 +265,52 @@ module _ (state : State) (steady : IsSteady state) (name : List ℕ) (w : World)
   ended_seq seq ending.Full other e = true_false {b = is_written (body.Written other)} refl (ap is_written (sym e))
 
   -- each kind of job but a second server's put
-  pub calm_job : (done : Done) (d : Did hears here half done) → IsCalm d → J done.half done.posts
+  pub calm_job : (done : Done) (d : Did hears here own done) → IsCalm d → J done.own done.posts
   unfolding In
-  calm_job _ Ignores calm = same half [] (λ c. refl) (λ cell. refl) (λ cell. refl) (λ post c seq i to says still. absurd i)
-  calm_job _ (Refuses to said is why) calm = same half _ (λ c. refl) (λ cell. refl) (λ cell. refl) (says_one to said (refusal_unwritten said is))
-  calm_job _ (Asks_for posts h) calm = same half posts (λ c. refl) (λ cell. refl) (λ cell. refl) (unwritten posts (λ post i. asks_unwritten here half post (h post i)))
-  calm_job _ (Shows client seq cell epoch h r none) calm = same half _ (λ c. refl) (λ cell. refl) (λ cell. refl) (says_one (actor.Client client) (body.Data seq (bytes_of (entry_at (chain_in half.store.chains cell) epoch))) refl)
-  calm_job _ (Repeats want last h lead is e) calm = same half _ (λ c. refl) (λ cell. refl) (λ cell. refl)
+  calm_job _ Ignores calm = same own [] (λ c. refl) (λ cell. refl) (λ cell. refl) (λ post c seq i to says still. absurd i)
+  calm_job _ (Refuses to said is why) calm = same own _ (λ c. refl) (λ cell. refl) (λ cell. refl) (says_one to said (refusal_unwritten said is))
+  calm_job _ (Asks_for posts h) calm = same own posts (λ c. refl) (λ cell. refl) (λ cell. refl) (unwritten posts (λ post i. asks_unwritten here own post (h post i)))
+  calm_job _ (Shows client seq cell epoch h r none) calm = same own _ (λ c. refl) (λ cell. refl) (λ cell. refl) (says_one (actor.Client client) (body.Data seq (bytes_of (entry_at (chain_in own.store.chains cell) epoch))) refl)
+  calm_job _ (Repeats want last h lead is e) calm = same own _ (λ c. refl) (λ cell. refl) (λ cell. refl)
       (λ post c seq i to says still.
       let p = one_post _ _ post i in
       let same_client : want.client ≡ c = one_client (sym p.0 ∙ to) in
       let said : ended want.seq last.ending ≡ body.Written seq = sym p.1 ∙ says in
       let how = ended_written want.seq last.ending seq said in
       let number : seq ≡ last.seq = sym (ended_seq want.seq last.ending seq said) ∙ e in
-      held_onward m k c onward (follow.finished n c last (ap (at nat_cmp half.pairs.finished) (sym same_client) ∙ is) how (subst (IsOpen (w.clients c)) number still)))
+      held_onward m k c onward (follow.finished n c last (ap (at nat_cmp own.pairs.finished) (sym same_client) ∙ is) how (subst (IsOpen (w.clients c)) number still)))
   calm_job _ (Is_full want h lead new none no_room) calm = full_job want
   calm_job _ (Opens want h lead new none) calm = opens_job want none
   calm_job _ (Puts op h is stage) calm = puts_job op is
   calm_job _ (Gives_up op h is stage) calm = record {
-    finished = λ c last is how still. finish_full half.pairs.finished op.client op.seq c last is how;
-    as_first = λ cell q o pair there. inl (gone_first op (without cell_cmp half.pairs.pending op.cell) (cell_gone half.pairs.pending op.cell) (λ q ne. cell_gone_apart half.pairs.pending op.cell q ne) cell o there);
+    finished = λ c last is how still. finish_full own.pairs.finished op.client op.seq c last is how;
+    as_first = λ cell q o pair there. inl (gone_first op (without cell_cmp own.pairs.pending op.cell) (cell_gone own.pairs.pending op.cell) (λ q ne. cell_gone_apart own.pairs.pending op.cell q ne) cell o there);
     as_second = λ cell p o pair is past. inl past;
     says = ended_full op.client op.seq;
   }
   calm_job _ (Closes op h is stage) calm =
-      let u = put cell_cmp half.pairs.pending op.cell (with_paired op) in
+      let u = put cell_cmp own.pairs.pending op.cell (with_paired op) in
       let held = closes_held op h is in
       record {
         finished = λ c last there how still. elim (same_or_apart c op.client) [
           | inl e ↦ inr (subst (λ i. is_held k i ≡ true) (sym e) held)
-          | inr ne ↦ inl (sym (at_apart half.pairs.finished op.client _ c ne) ∙ there)
+          | inr ne ↦ inl (sym (at_apart own.pairs.finished op.client _ c ne) ∙ there)
         ];
-        as_first = λ cell q o pair there. inl (gone_first op (without cell_cmp u op.cell) (cell_gone u op.cell) (λ q ne. cell_gone_apart u op.cell q ne ∙ cell_apart half.pairs.pending op.cell (with_paired op) q ne) cell o there);
+        as_first = λ cell q o pair there. inl (gone_first op (without cell_cmp u op.cell) (cell_gone u op.cell) (λ q ne. cell_gone_apart u op.cell q ne ∙ cell_apart own.pairs.pending op.cell (with_paired op) q ne) cell o there);
         as_second = λ cell p o pair is past. inl past;
         says = λ post c seq i to says still. subst (λ i. is_held k i ≡ true) (one_client (sym (one_post _ _ post i).0 ∙ to)) held;
       }
   calm_job _ (Sets_apart number cell store h s e le) calm = reserves_job number cell _ h refl refl refl
   calm_job _ (Promises number cell how s is) calm = promised how
     where
-      promised : (how : Far) → J (tells here half cell number how).half (tells here half cell number how).posts
-      promised far.Reserved = same half _ (λ c. refl) (λ cell. refl) (λ cell. refl) (says_far half cell number far.Reserved)
-      promised far.Replicated = same half _ (λ c. refl) (λ cell. refl) (λ cell. refl) (says_far half cell number far.Replicated)
-  calm_job _ (Declines number cell h s no_room) calm = same half _ (λ c. refl) (λ cell. refl) (λ cell. refl) (says_to (first state cell) (body.PairFull number cell) refl)
+      promised : (how : Far) → J (tells here own cell number how).own (tells here own cell number how).posts
+      promised far.Reserved = same own _ (λ c. refl) (λ cell. refl) (λ cell. refl) (says_far own cell number far.Reserved)
+      promised far.Replicated = same own _ (λ c. refl) (λ cell. refl) (λ cell. refl) (says_far own cell number far.Replicated)
+  calm_job _ (Declines number cell h s no_room) calm = same own _ (λ c. refl) (λ cell. refl) (λ cell. refl) (says_to (first state cell) (body.PairFull number cell) refl)
   calm_job _ (Follows number key version bytes h s is) calm = absurd calm
 
   -- and the copies that count stay as they are
-  pub calm_chains : (done : Done) (d : Did hears here half done) → IsCalm d → (cell : Cell) → second state cell ≡ Some n → chain_in done.half.store.chains cell ≡ chain_in half.store.chains cell
+  pub calm_chains : (done : Done) (d : Did hears here own done) → IsCalm d → (cell : Cell) → second state cell ≡ Some n → chain_in done.own.store.chains cell ≡ chain_in own.store.chains cell
   calm_chains _ Ignores calm cell own = refl
   calm_chains _ (Refuses to said is why) calm cell own = refl
   calm_chains _ (Asks_for posts h) calm cell own = refl
@@ -321,14 +321,14 @@ module _ (state : State) (steady : IsSteady state) (name : List ℕ) (w : World)
   calm_chains _ (Puts op h is stage) calm cell own =
       let s = (ready.pending n).staged op.cell op is in
       let pair = lead_pair state steady w ready good n op.cell s.lead in
-      chain_apart half.store.chains (cell_of op.key) _ cell
+      chain_apart own.store.chains (cell_of op.key) _ cell
       (λ e. apart state steady op.cell n n (record { leads = pair.1.leads; follows = subst (λ (c : Cell). second state c ≡ Some n) (e ∙ s.keyed) own }) refl)
   calm_chains _ (Gives_up op h is stage) calm cell own = refl
   calm_chains _ (Closes op h is stage) calm cell own = refl
   calm_chains _ (Sets_apart number c store h s e le) calm cell own = ap (λ t. chain_in t cell) e
   calm_chains _ (Promises number c how s is) calm cell own = promised how
     where
-      promised : (how : Far) → chain_in (tells here half c number how).half.store.chains cell ≡ chain_in half.store.chains cell
+      promised : (how : Far) → chain_in (tells here own c number how).own.store.chains cell ≡ chain_in own.store.chains cell
       promised far.Reserved = refl
       promised far.Replicated = refl
   calm_chains _ (Declines number c h s no_room) calm cell own = refl

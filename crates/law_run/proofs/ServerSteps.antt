@@ -25,7 +25,7 @@ use Rattle.script_lines.specs.declared.request.Request.TheVariants as request
 use Rattle.petal_rules.specs.Lists.{In}
 use Rattle.petal_rules.specs.State.{State, first, second, is_second, is_lead, readable}
 use Rattle.petal_rules.specs.Store.{Chain, Stored, cell_cmp, chain_in, entry_at, bytes_of, version_of}
-use Rattle.petal_rules.specs.Server.{Server, Half, Here, Post, Done, says, post_to, sender, letters_of}
+use Rattle.petal_rules.specs.Server.{Server, Own, Here, Post, Done, says, post_to, sender, letters_of}
 use Rattle.petal_rules.specs.Writes.{ended, tells, follows}
 use Rattle.petal_rules.specs.Jobs.{Acted, here_of}
 use Rattle.petal_rules.specs.Clients.{epoch_for}
@@ -43,7 +43,7 @@ use Rattle.law_steps.proofs.Letters.{said}
 use Rattle.law_steps.proofs.Stepping.{fixed_setting}
 use Rattle.law_steps.proofs.Tests.{by_bool, is_the_so, same_or_apart, same_some, none_some, nat_lists_same}
 use Rattle.law_steps.proofs.Staged.{same_cell_or_apart}
-use Rattle.law_copies.specs.Pair.{IsPair, AreCopies, halves_of}
+use Rattle.law_copies.specs.Pair.{IsPair, AreCopies, owns_of}
 use Rattle.law_copies.proofs.Frames.{same_first}
 use Rattle.law_copies.proofs.Jobs.{chain_put, chain_apart}
 use Rattle.law_requests.specs.Asked.{IsRead}
@@ -60,7 +60,7 @@ use Rattle.law_run.proofs.Takes.{no_takes, block_there, one_take}
 
 -- ### Jobs that send no data
 
-abbrev IsQuiet : {heard : Body → Type 0} {here : Here} {half : Half} {done : Done} → Did heard here half done → Type 0
+abbrev IsQuiet : {heard : Body → Type 0} {here : Here} {own : Own} {done : Done} → Did heard here own done → Type 0
 IsQuiet Ignores = Unit {0}
 IsQuiet (Refuses to said is why) = Unit {0}
 IsQuiet (Asks_for posts h) = Unit {0}
@@ -103,34 +103,34 @@ refusal_data (body.PairFull number cell) h = refl
 refusal_data (body.Replicate number key version bytes) h = refl
 refusal_data (body.Replicated number cell) h = refl
 
-asks_data : (here : Here) (half : Half) (post : Post) → Asks here half post → is_data post.body ≡ false
-asks_data here half _ (A_slot op to is stage e) = refl
-asks_data here half _ (A_copy op to is stage e) = refl
+asks_data : (here : Here) (own : Own) (post : Post) → Asks here own post → is_data post.body ≡ false
+asks_data here own _ (A_slot op to is stage e) = refl
+asks_data here own _ (A_copy op to is stage e) = refl
 
 ended_data : (seq : ℕ) (how : Ending) → is_data (ended seq how) ≡ false
 ended_data seq ending.Written = refl
 ended_data seq ending.Full = refl
 
-far_data : (here : Here) (new : Half) (cell : Cell) (number : ℕ) (how : Far) (post : Post) → In post (tells here new cell number how).posts → is_data post.body ≡ false
+far_data : (here : Here) (new : Own) (cell : Cell) (number : ℕ) (how : Far) (post : Post) → In post (tells here new cell number how).posts → is_data post.body ≡ false
 far_data here new cell number far.Reserved post i = to_data _ _ post i refl
 far_data here new cell number far.Replicated post i = to_data _ _ post i refl
 
-quiet_data : (heard : Body → Type 0) (here : Here) (half : Half) (done : Done) (d : Did heard here half done) → IsQuiet d → (post : Post) → In post done.posts → is_data post.body ≡ false
+quiet_data : (heard : Body → Type 0) (here : Here) (own : Own) (done : Done) (d : Did heard here own done) → IsQuiet d → (post : Post) → In post done.posts → is_data post.body ≡ false
 unfolding In
-quiet_data heard here half _ Ignores quiet post i = absurd i
-quiet_data heard here half _ (Refuses to said is why) quiet post i = one_data to said post i (refusal_data said is)
-quiet_data heard here half _ (Asks_for posts h) quiet post i = asks_data here half post (h post i)
-quiet_data heard here half _ (Shows client seq cell epoch h r none) quiet post i = absurd quiet
-quiet_data heard here half _ (Repeats want last h lead is e) quiet post i = one_data (actor.Client want.client) (ended want.seq last.ending) post i (ended_data want.seq last.ending)
-quiet_data heard here half _ (Is_full want h lead new none no_room) quiet post i = one_data (actor.Client want.client) (ended want.seq ending.Full) post i refl
-quiet_data heard here half _ (Opens want h lead new none) quiet post i = to_data (second here.state want.cell) (body.Reserve half.pairs.next want.cell) post i refl
-quiet_data heard here half _ (Puts op h is stage) quiet post i = absurd i
-quiet_data heard here half _ (Gives_up op h is stage) quiet post i = one_data (actor.Client op.client) (ended op.seq ending.Full) post i refl
-quiet_data heard here half _ (Closes op h is stage) quiet post i = one_data (actor.Client op.client) (ended op.seq ending.Written) post i refl
-quiet_data heard here half _ (Sets_apart number cell store h s e le) quiet post i = to_data (first here.state cell) (body.Reserved number cell) post i refl
-quiet_data heard here half _ (Promises number cell how s is) quiet post i = far_data here half cell number how post i
-quiet_data heard here half _ (Declines number cell h s no_room) quiet post i = to_data (first here.state cell) (body.PairFull number cell) post i refl
-quiet_data heard here half _ (Follows number key version bytes h s is) quiet post i = to_data (first here.state (cell_of key)) (body.Replicated number (cell_of key)) post i refl
+quiet_data heard here own _ Ignores quiet post i = absurd i
+quiet_data heard here own _ (Refuses to said is why) quiet post i = one_data to said post i (refusal_data said is)
+quiet_data heard here own _ (Asks_for posts h) quiet post i = asks_data here own post (h post i)
+quiet_data heard here own _ (Shows client seq cell epoch h r none) quiet post i = absurd quiet
+quiet_data heard here own _ (Repeats want last h lead is e) quiet post i = one_data (actor.Client want.client) (ended want.seq last.ending) post i (ended_data want.seq last.ending)
+quiet_data heard here own _ (Is_full want h lead new none no_room) quiet post i = one_data (actor.Client want.client) (ended want.seq ending.Full) post i refl
+quiet_data heard here own _ (Opens want h lead new none) quiet post i = to_data (second here.state want.cell) (body.Reserve own.pairs.next want.cell) post i refl
+quiet_data heard here own _ (Puts op h is stage) quiet post i = absurd i
+quiet_data heard here own _ (Gives_up op h is stage) quiet post i = one_data (actor.Client op.client) (ended op.seq ending.Full) post i refl
+quiet_data heard here own _ (Closes op h is stage) quiet post i = one_data (actor.Client op.client) (ended op.seq ending.Written) post i refl
+quiet_data heard here own _ (Sets_apart number cell store h s e le) quiet post i = to_data (first here.state cell) (body.Reserved number cell) post i refl
+quiet_data heard here own _ (Promises number cell how s is) quiet post i = far_data here own cell number how post i
+quiet_data heard here own _ (Declines number cell h s no_room) quiet post i = to_data (first here.state cell) (body.PairFull number cell) post i refl
+quiet_data heard here own _ (Follows number key version bytes h s is) quiet post i = to_data (first here.state (cell_of key)) (body.Replicated number (cell_of key)) post i refl
 
 -- ### Contents
 
@@ -154,8 +154,8 @@ module _ (servers slots : ℕ) (lines : List Line) (state : State) (steady : IsS
     abbrev here : Here
     here = here_of state n (w.servers n)
 
-    abbrev half : Half
-    half = halves_of w n
+    abbrev own : Own
+    own = owns_of w n
 
     abbrev hears : Body → Type 0
     hears = Handled w n
@@ -170,7 +170,7 @@ module _ (servers slots : ℕ) (lines : List Line) (state : State) (steady : IsS
       pub may : Obeys m es
       pub follows : Follow state name (acts w n stamp acted).world (replay m es)
 
-    same_content : (done : Done) (queue : List Job) (cell : Cell) (o : Option ℕ) → (o ≡ Some n → chain_in done.half.store.chains cell ≡ chain_in half.store.chains cell) → content_by w cell 0 o ≡ content_by (server_moves state w n stamp done queue) cell 0 o
+    same_content : (done : Done) (queue : List Job) (cell : Cell) (o : Option ℕ) → (o ≡ Some n → chain_in done.own.store.chains cell ≡ chain_in own.store.chains cell) → content_by w cell 0 o ≡ content_by (server_moves state w n stamp done queue) cell 0 o
     same_content done queue cell None h = refl
     same_content done queue cell (Some s) h = elim (same_or_apart s n) [
       | inl e ↦
@@ -185,18 +185,18 @@ module _ (servers slots : ℕ) (lines : List Line) (state : State) (steady : IsS
 
     -- ### Jobs that change no content
 
-    calm_contents : (done : Done) (queue : List Job) (d : Did hears here half done) → IsCalm d → (b : ℕ) → content_at setting w 0 b ≡ content_at setting (server_moves state w n stamp done queue) 0 b
+    calm_contents : (done : Done) (queue : List Job) (d : Did hears here own done) → IsCalm d → (b : ℕ) → content_at setting w 0 b ≡ content_at setting (server_moves state w n stamp done queue) 0 b
     calm_contents done queue d calm b =
         by_second w b ∙ same_content done queue (cell_of_block b) (second state (cell_of_block b)) (calm_chains state steady name w ground.ready ground.good m m follow (onward_itself m) n done d calm (cell_of_block b))
         ∙ sym (by_second (server_moves state w n stamp done queue) b)
 
-    calm_now : (done : Done) (queue : List Job) (d : Did hears here half done) → IsCalm d → (b : ℕ) → content follow.blocks b ≡ content_by (server_moves state w n stamp done queue) (cell_of_block b) 0 (second state (cell_of_block b))
+    calm_now : (done : Done) (queue : List Job) (d : Did hears here own done) → IsCalm d → (b : ℕ) → content follow.blocks b ≡ content_by (server_moves state w n stamp done queue) (cell_of_block b) 0 (second state (cell_of_block b))
     calm_now done queue d calm b = follow.now b ∙ same_content done queue (cell_of_block b) (second state (cell_of_block b)) (calm_chains state steady name w ground.ready ground.good m m follow (onward_itself m) n done d calm (cell_of_block b))
 
-    calm_told : (done : Done) (queue : List Job) (d : Did hears here half done) → IsCalm d → IsQuiet d → ServerTold (done_as done queue)
+    calm_told : (done : Done) (queue : List Job) (d : Did hears here own done) → IsCalm d → IsQuiet d → ServerTold (done_as done queue)
     calm_told done queue d calm quiet = record {
       es = [];
-      is = (λ i. told_with [] (no_takes setting w (server_moves state w n stamp done queue) (calm_contents done queue d calm) i) (no_looks done (quiet_data hears here half done d quiet) i ++ []));
+      is = (λ i. told_with [] (no_takes setting w (server_moves state w n stamp done queue) (calm_contents done queue d calm) i) (no_looks done (quiet_data hears here own done d quiet) i ++ []));
       may = tt;
       follows = job_follow state steady name w m m n stamp done queue follow (onward_itself m) (calm_job state steady name w ground.ready ground.good m m follow (onward_itself m) n done d calm)
           (record { blocks = follow.blocks; only = follow.only; now = calm_now done queue d calm; mindful = follow.mindful });
@@ -205,7 +205,7 @@ module _ (servers slots : ℕ) (lines : List Line) (state : State) (steady : IsS
     -- ### A read
 
     -- what a server that may read a cell has is what counts
-    read_is : (cell : Cell) (block : ℕ) → cell ≡ cell_of_block block → readable state n cell ≡ true → (is_lead state n cell ≡ true → at cell_cmp half.pairs.pending cell ≡ None) → content follow.blocks block ≡ bytes_of (entry_at (chain_in half.store.chains cell) 0)
+    read_is : (cell : Cell) (block : ℕ) → cell ≡ cell_of_block block → readable state n cell ≡ true → (is_lead state n cell ≡ true → at cell_cmp own.pairs.pending cell ≡ None) → content follow.blocks block ≡ bytes_of (entry_at (chain_in own.store.chains cell) 0)
     read_is cell block is may none =
         follow.now block ∙ ap (λ (c : Cell). content_by w c 0 (second state c)) (sym is) ∙ elim (steady.readers n cell may) [
           | inl leads ↦
@@ -237,19 +237,19 @@ module _ (servers slots : ℕ) (lines : List Line) (state : State) (steady : IsS
               letter_looks lines numbered letter seq client name read.block bytes read.line to read.is (read.asks ∙ λ i. request.Read (sym disk.named i) (e i) read.block) (accepted later letter) accepts,
             )
 
-    show_told : (numbered : (one other : Line) → In one lines → In other lines → one.number ≡ other.number → one ≡ other) (queue : List Job) (client seq : ℕ) (cell : Cell) (epoch : ℕ) (h : hears (body.Read client seq cell epoch)) (r : readable state n cell ≡ true) (none : is_lead state n cell ≡ true → at cell_cmp half.pairs.pending cell ≡ None)
-        → ((letter : Letter) (number : ℕ) → In letter (acts w n stamp (done_as (says half (actor.Client client) (body.Data seq (bytes_of (entry_at (chain_in half.store.chains cell) epoch)))) queue)).world.sent → letter.body ≡ body.Data seq (bytes_of (entry_at (chain_in half.store.chains cell) epoch)) → accepted later letter ≡ Some number → Accepts lines letter seq number)
-        → ServerTold (done_as (says half (actor.Client client) (body.Data seq (bytes_of (entry_at (chain_in half.store.chains cell) epoch)))) queue)
+    show_told : (numbered : (one other : Line) → In one lines → In other lines → one.number ≡ other.number → one ≡ other) (queue : List Job) (client seq : ℕ) (cell : Cell) (epoch : ℕ) (h : hears (body.Read client seq cell epoch)) (r : readable state n cell ≡ true) (none : is_lead state n cell ≡ true → at cell_cmp own.pairs.pending cell ≡ None)
+        → ((letter : Letter) (number : ℕ) → In letter (acts w n stamp (done_as (says own (actor.Client client) (body.Data seq (bytes_of (entry_at (chain_in own.store.chains cell) epoch)))) queue)).world.sent → letter.body ≡ body.Data seq (bytes_of (entry_at (chain_in own.store.chains cell) epoch)) → accepted later letter ≡ Some number → Accepts lines letter seq number)
+        → ServerTold (done_as (says own (actor.Client client) (body.Data seq (bytes_of (entry_at (chain_in own.store.chains cell) epoch)))) queue)
     unfolding In
     show_told numbered queue client seq cell epoch h r none accepts =
-        let bytes = bytes_of (entry_at (chain_in half.store.chains cell) epoch) in
-        let done = says half (actor.Client client) (body.Data seq bytes) in
-        let d : Did hears here half done = Shows client seq cell epoch h r none in
+        let bytes = bytes_of (entry_at (chain_in own.store.chains cell) epoch) in
+        let done = says own (actor.Client client) (body.Data seq bytes) in
+        let d : Did hears here own done = Shows client seq cell epoch h r none in
         let letter : Letter = record { from = actor.Server n; inc = (w.servers n).life.inc; to = actor.Client client; rev = state.rev; stamp = stamp; nth = 0; body = body.Data seq bytes } in
         let read = known_of state steady lines w ground.ready ground.asking n (body.Read client seq cell epoch) h in
         let shown = show_looks numbered client seq cell epoch letter bytes read refl (λ number e. accepts letter number (inl refl) refl e) in
         let es = (look_for lines (accepted later letter) bytes ++ []) ++ [] in
-        let has : content follow.blocks shown.0 ≡ bytes = read_is cell shown.0 shown.1 r none ∙ ap (λ i. bytes_of (entry_at (chain_in half.store.chains cell) i)) (sym shown.2) in
+        let has : content follow.blocks shown.0 ≡ bytes = read_is cell shown.0 shown.1 r none ∙ ap (λ i. bytes_of (entry_at (chain_in own.store.chains cell) i)) (sym shown.2) in
         let all : AllLooks name shown.0 bytes es = λ e i. elim (in-append e (look_for lines (accepted later letter) bytes ++ []) [] i) [
           | inl j ↦ elim (in-append e (look_for lines (accepted later letter) bytes) [] j) [ inl k ↦ shown.3 e k | inr k ↦ absurd k ]
           | inr j ↦ absurd j
@@ -280,7 +280,7 @@ module _ (servers slots : ℕ) (lines : List Line) (state : State) (steady : IsS
       pub at_block : cell ≡ cell_of_block block
       pub writes : Writes op block bytes
 
-    placed : (p : ℕ) (cell : Cell) (op : Pending) → at cell_cmp (halves_of w p).pairs.pending cell ≡ Some op → Placed op cell op.bytes
+    placed : (p : ℕ) (cell : Cell) (op : Pending) → at cell_cmp (owns_of w p).pairs.pending cell ≡ Some op → Placed op cell op.bytes
     placed p cell op is =
         let k = ground.asking.pending p cell op is in
         let a = ground.asking.asked op.client k.still.asked k.still.is in
@@ -302,18 +302,18 @@ module _ (servers slots : ℕ) (lines : List Line) (state : State) (steady : IsS
           };
         }
 
-    module _ (number : ℕ) (key : Key) (version : ℕ) (bytes : List ℕ) (h : hears (body.Replicate number key version bytes)) (s : is_second state n (cell_of key) ≡ true) (last_is : at cell_cmp half.pairs.last (cell_of key) ≡ Some (record { op = number; far = far.Reserved })) (queue : List Job) where
+    module _ (number : ℕ) (key : Key) (version : ℕ) (bytes : List ℕ) (h : hears (body.Replicate number key version bytes)) (s : is_second state n (cell_of key) ≡ true) (last_is : at cell_cmp own.pairs.last (cell_of key) ≡ Some (record { op = number; far = far.Reserved })) (queue : List Job) where
       abbrev put_done : Done
-      put_done = follows here half number key bytes
+      put_done = follows here own number key bytes
 
       abbrev put_world : World
       put_world = server_moves state w n stamp put_done queue
 
       abbrev entry : Stored
-      entry = record { version = version_of (chain_in half.store.chains (cell_of key)) + 1; bytes = bytes }
+      entry = record { version = version_of (chain_in own.store.chains (cell_of key)) + 1; bytes = bytes }
 
       -- the job, where the operation's write has had its bytes
-      put_job : (k : Plain) → Onward m k → (f : Followed state steady lines w ground.ready ground.good ground.asking n number key bytes) → is_held k f.putting.op.client ≡ true → JobFollow state w k n put_done.half put_done.posts
+      put_job : (k : Plain) → Onward m k → (f : Followed state steady lines w ground.ready ground.good ground.asking n number key bytes) → is_held k f.putting.op.client ≡ true → JobFollow state w k n put_done.own put_done.posts
       put_job k onward f held = record {
         finished = λ c last is how still. inl is;
         as_first = λ cell q op pair is. inl (was_same state steady name w ground.ready ground.good m k follow onward n cell op is);
@@ -321,25 +321,25 @@ module _ (servers slots : ℕ) (lines : List Line) (state : State) (steady : IsS
           | inl e ↦
               let pair' : IsPair state (cell_of key) p n = subst (λ (c : Cell). IsPair state c p n) e pair in
               let same : p ≡ f.p = same_first state steady (cell_of key) p n f.p n pair' f.pair in
-              let one : op ≡ f.putting.op = same_some (sym is ∙ (λ i. at cell_cmp (halves_of w (same i)).pairs.pending (e i)) ∙ f.putting.is) in
+              let one : op ≡ f.putting.op = same_some (sym is ∙ (λ i. at cell_cmp (owns_of w (same i)).pairs.pending (e i)) ∙ f.putting.is) in
               inr (ap (λ (o : Pending). is_held k o.client) one ∙ held)
-          | inr ne ↦ inl (subst (λ o. op.op + op.op + 1 ≤ progress o) (cell_apart half.pairs.last (cell_of key) _ cell ne) past)
+          | inr ne ↦ inl (subst (λ o. op.op + op.op + 1 ≤ progress o) (cell_apart own.pairs.last (cell_of key) _ cell ne) past)
         ];
-        says = says_far state steady name w ground.ready ground.good m k follow onward n put_done.half (cell_of key) number far.Replicated;
+        says = says_far state steady name w ground.ready ground.good m k follow onward n put_done.own (cell_of key) number far.Replicated;
       }
 
       -- contents after the put
       put_here : (f : Followed state steady lines w ground.ready ground.good ground.asking n number key bytes) (block : ℕ) → cell_of key ≡ cell_of_block block → content_by put_world (cell_of_block block) 0 (second state (cell_of_block block)) ≡ bytes
       put_here f block is =
-          let chain = chain_in half.store.chains (cell_of key) in
+          let chain = chain_in own.store.chains (cell_of key) in
           ap (λ (c : Cell). content_by put_world c 0 (second state c)) (sym is) ∙ ap (content_by put_world (cell_of key) 0) f.pair.follows
           ∙ ap (λ server. held_at server (cell_of key) 0) (put_same w.servers n (served (w.servers n) put_done queue))
-          ∙ ap (λ c. bytes_of (entry_at c 0)) (chain_put half.store.chains (cell_of key) (put nat_cmp chain key.epoch entry))
+          ∙ ap (λ c. bytes_of (entry_at c 0)) (chain_put own.store.chains (cell_of key) (put nat_cmp chain key.epoch entry))
           ∙ ap bytes_of (put_first chain key.epoch entry (key_epoch state steady lines w ground.ready ground.good ground.asking n number key bytes f) (ground.short n (cell_of key)))
 
       put_others : (block : ℕ) → cell_of key ≡ cell_of_block block → (b : ℕ) → b ≢ block → content_by w (cell_of_block b) 0 (second state (cell_of_block b)) ≡ content_by put_world (cell_of_block b) 0 (second state (cell_of_block b))
       put_others block is b ne = same_content put_done queue (cell_of_block b) (second state (cell_of_block b))
-          (λ own. chain_apart half.store.chains (cell_of key) _ (cell_of_block b) (λ e. ne (ap (λ (c : Cell). c.block) (e ∙ is))))
+          (λ own. chain_apart own.store.chains (cell_of key) _ (cell_of_block b) (λ e. ne (ap (λ (c : Cell). c.block) (e ∙ is))))
 
       -- the block had these bytes before
       put_same_bytes : (f : Followed state steady lines w ground.ready ground.good ground.asking n number key bytes) (block : ℕ) → cell_of key ≡ cell_of_block block → Writes f.putting.op block bytes → content_at setting w 0 block ≡ bytes → ServerTold (done_as put_done queue)
@@ -353,7 +353,7 @@ module _ (servers slots : ℕ) (lines : List Line) (state : State) (steady : IsS
           let held : is_held m f.putting.op.client ≡ true = stands_held m name follow.blocks f.putting.op.client wr follow.only follow.mindful seat writes.disk_is (ap (content follow.blocks) writes.block_is ∙ follow.now block ∙ sym (by_second w block) ∙ had ∙ sym writes.bytes_is) in
           record {
             es = [];
-            is = (λ i. told_with [] (no_takes setting w put_world (λ b. by_second w b ∙ unchanged b ∙ sym (by_second put_world b)) i) (no_looks put_done (quiet_data hears here half put_done (Follows number key version bytes h s last_is) tt) i ++ []));
+            is = (λ i. told_with [] (no_takes setting w put_world (λ b. by_second w b ∙ unchanged b ∙ sym (by_second put_world b)) i) (no_looks put_done (quiet_data hears here own put_done (Follows number key version bytes h s last_is) tt) i ++ []));
             may = tt;
             follows = job_follow state steady name w m m n stamp put_done queue follow (onward_itself m) (put_job m (onward_itself m) f held)
                 (record { blocks = follow.blocks; only = follow.only; now = λ b. follow.now b ∙ unchanged b; mindful = follow.mindful });
@@ -364,9 +364,9 @@ module _ (servers slots : ℕ) (lines : List Line) (state : State) (steady : IsS
       put_new_bytes f block is writes lt new =
           let others = λ (b : ℕ) (ne : b ≢ block). by_second w b ∙ put_others block is b ne ∙ sym (by_second put_world b) in
           let now : content_at setting put_world 0 block ≡ bytes = by_second put_world block ∙ put_here f block is in
-          let chain : Chain = put nat_cmp (chain_in half.store.chains (cell_of key)) key.epoch entry in
-          let stored : at cell_cmp (put_world.servers n).store.chains (cell_of_block block) ≡ Some chain =
-          ap (λ (server : Server). at cell_cmp server.store.chains (cell_of_block block)) (put_same w.servers n (served (w.servers n) put_done queue)) ∙ ap (at cell_cmp put_done.half.store.chains) (sym is) ∙ cell_same half.store.chains (cell_of key) chain in
+          let chain : Chain = put nat_cmp (chain_in own.store.chains (cell_of key)) key.epoch entry in
+          let stored : at cell_cmp (put_world.servers n).own.store.chains (cell_of_block block) ≡ Some chain =
+          ap (λ (server : Server). at cell_cmp server.own.store.chains (cell_of_block block)) (put_same w.servers n (served (w.servers n) put_done queue)) ∙ ap (at cell_cmp put_done.own.store.chains) (sym is) ∙ cell_same own.store.chains (cell_of key) chain in
           let there = block_there setting w put_world n block chain lt stored in
           let c = f.putting.op.client in
           let one = one_take setting w put_world block bytes c writes.write writes.within writes.is writes.disk_is writes.block_is writes.bytes_is others now new there in
@@ -379,7 +379,7 @@ module _ (servers slots : ℕ) (lines : List Line) (state : State) (steady : IsS
           let held : is_held k c ≡ true = stands_held k name taken.later c writes.write taken.only taken.mindful seat writes.disk_is (ap (content taken.later) writes.block_is ∙ has ∙ sym writes.bytes_is) in
           record {
             es = es ++ [];
-            is = (λ i. told_with [] (one.told i) (no_looks put_done (quiet_data hears here half put_done (Follows number key version bytes h s last_is) tt) i ++ []));
+            is = (λ i. told_with [] (one.told i) (no_looks put_done (quiet_data hears here own put_done (Follows number key version bytes h s last_is) tt) i ++ []));
             may = subst (Obeys m) (sym (append_nil es)) taken.may;
             follows = subst (λ xs. Follow state name put_world (replay m xs)) (sym (append_nil es))
                 (job_follow state steady name w m k n stamp put_done queue follow taken.onward (put_job k taken.onward f held)
@@ -409,7 +409,7 @@ module _ (servers slots : ℕ) (lines : List Line) (state : State) (steady : IsS
 
     -- ### Each kind of job
 
-    pub did_told : n < servers → ((one other : Line) → In one lines → In other lines → one.number ≡ other.number → one ≡ other) → (done : Done) (queue : List Job) → Did hears here half done
+    pub did_told : n < servers → ((one other : Line) → In one lines → In other lines → one.number ≡ other.number → one ≡ other) → (done : Done) (queue : List Job) → Did hears here own done
         → ((letter : Letter) (seq : ℕ) (bytes : List ℕ) (number : ℕ) → In letter (server_moves state w n stamp done queue).sent → letter.body ≡ body.Data seq bytes → accepted later letter ≡ Some number → Accepts lines letter seq number)
         → ServerTold (done_as done queue)
     did_told lt numbered _ queue Ignores accepts = calm_told _ queue Ignores tt tt

@@ -54,11 +54,11 @@ module _ (setting : Setting) (w later : World) where
       (none_pass (λ b. not (same_bytes (content_at setting w 0 b) (content_at setting later 0 b))) (blocks_in setting later) (λ b h. unlike _ _ (same b)))
 
   -- a block of which a server has an entry is among those that are looked at
-  pub block_there : (n : ℕ) (block : ℕ) (chain : Chain) → n < setting.servers → at cell_cmp (later.servers n).store.chains (cell_of_block block) ≡ Some chain → In block (blocks_in setting later)
+  pub block_there : (n : ℕ) (block : ℕ) (chain : Chain) → n < setting.servers → at cell_cmp (later.servers n).own.store.chains (cell_of_block block) ≡ Some chain → In block (blocks_in setting later)
   block_there n block chain lt is =
-      let row = row_at cell_cmp (later.servers n).store.chains (cell_of_block block) chain is in
+      let row = row_at cell_cmp (later.servers n).own.store.chains (cell_of_block block) chain is in
       let same : cell_of_block block ≡ row.0.0 = cell_cmp_same (cell_of_block block) row.0.0 row.2 in
-      let there : In block (blocks_of (later.servers n)) = subst (λ i. In i (blocks_of (later.servers n))) (ap (λ (c : Cell). c.block) (sym same)) (into_map (λ row. row.0.block) (later.servers n).store.chains row.0 row.1) in
+      let there : In block (blocks_of (later.servers n)) = subst (λ i. In i (blocks_of (later.servers n))) (ap (λ (c : Cell). c.block) (sym same)) (into_map (λ row. row.0.block) (later.servers n).own.store.chains row.0 row.1) in
       key_at _ block block (put_key _ [] block (into_flat_map (λ k. blocks_of (later.servers k)) (range_with_len 0 setting.servers) n block (into_range 0 setting.servers n (omega arith) (omega arith)) there))
 
   -- what a list of takes is

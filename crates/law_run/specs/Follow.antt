@@ -19,7 +19,7 @@ use Rattle.petal_history.specs.Contents.{cell_of_block, content_by}
 use Rattle.petal_history.specs.Events.{open_write, same_name}
 use Rattle.law_steps.specs.Did.{progress}
 use Rattle.law_steps.specs.Ready.{Ready}
-use Rattle.law_copies.specs.Pair.{IsPair, halves_of, Good}
+use Rattle.law_copies.specs.Pair.{IsPair, owns_of, Good}
 use Rattle.law_requests.specs.Asked.{IsOpen}
 use Rattle.law_requests.specs.Known.{Asking}
 use Rattle.law_run.specs.Onward.{HasOnly, IsMindful, is_held, Seat}
@@ -40,7 +40,7 @@ pub record Ground (state : State) (lines : List Line) (w : World) : Type 0 where
   pub good : Good state w
   pub asking : Asking state lines w
   pub named : Named w
-  pub short : (n : ℕ) (cell : Cell) → IsShort (chain_in (halves_of w n).store.chains cell)
+  pub short : (n : ℕ) (cell : Cell) → IsShort (chain_in (owns_of w n).store.chains cell)
 
 -- ### The machine
 
@@ -53,5 +53,5 @@ pub record Follow (state : State) (name : List ℕ) (w : World) (m : Plain) : Ty
   pub mindful : IsMindful m
   pub seats : (c : ℕ) → Seat (open_write w c) (open_of m.opened c)
   pub letters : (letter : Letter) (c seq : ℕ) → In letter w.sent → letter.to ≡ actor.Client c → letter.body ≡ body.Written seq → IsOpen (w.clients c) seq → is_held m c ≡ true
-  pub pending : (cell : Cell) (p q : ℕ) (op : Pending) → IsPair state cell p q → at cell_cmp (halves_of w p).pairs.pending cell ≡ Some op → op.op + op.op + 1 ≤ progress (at cell_cmp (halves_of w q).pairs.last cell) → is_held m op.client ≡ true
-  pub finished : (n c : ℕ) (last : Finished) → at nat_cmp (halves_of w n).pairs.finished c ≡ Some last → last.ending ≡ ending.Written → IsOpen (w.clients c) last.seq → is_held m c ≡ true
+  pub pending : (cell : Cell) (p q : ℕ) (op : Pending) → IsPair state cell p q → at cell_cmp (owns_of w p).pairs.pending cell ≡ Some op → op.op + op.op + 1 ≤ progress (at cell_cmp (owns_of w q).pairs.last cell) → is_held m op.client ≡ true
+  pub finished : (n c : ℕ) (last : Finished) → at nat_cmp (owns_of w n).pairs.finished c ≡ Some last → last.ending ≡ ending.Written → IsOpen (w.clients c) last.seq → is_held m c ≡ true

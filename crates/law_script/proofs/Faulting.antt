@@ -10,7 +10,7 @@ use Rattle.script_words.specs.Text.{words_of}
 use Rattle.script_words.specs.Number.{is_number, value}
 use Rattle.script_words.specs.Words.{Word, ◌>>=◌, or_else, is_word, no_word, one_word, two_words, three_words, four_words}
 use Rattle.script_words.specs.Fields.{a_name, in_limits, a_server, a_call, numbers_of, a_tuple, version_by, version_of}
-use Rattle.petal_script.specs.Client.{spread_of, disk_of, move_of, filled_of, halves_of, write_of, read_of, snap_of, client_request}
+use Rattle.petal_script.specs.Client.{spread_of, disk_of, move_of, filled_of, owns_of, write_of, read_of, snap_of, client_request}
 use Rattle.petal_script.specs.Operator.{stop_at, stop_of, fault_of, boot_of, operator_request}
 use Rattle.petal_script.specs.Script.{TextLine, is_skipped, is_client, servers_line, net_line, adds, later_line, first_line, counted, line_verdict, too_many, no_majority}
 use Rattle.law_script.specs.Faults.{Places, place, numbers_only, server_place, servers_places, net_places, bare_places, spread_places, write_places, version_names, read_places, snap_places, client_places, stop_places, boot_places, is_device, is_kind, fault_places, operator_places, line_places, is_good, bad_name, bad_number, is_unfit, bad_tuple, lacks_servers, with_request, lines_with, are_too_many, leave_no_majority, servers_in, has_fault, in_order, told}
@@ -145,8 +145,8 @@ unfolding filled_of
 filled_told n disk block x pattern =
     named disk _ false _ (λ name. numbered 0 281474976710655 block _ (not (is_good (place 0 255 x)) || false) None (λ b. numbered 0 255 x _ false None (λ y. refl)))
 
-halves_told : (n : ℕ) (disk block x y : Word) → told (halves_of disk block x y) ≡ places_told n (Some (record { names = disk ∷ []; numbers = place 0 281474976710655 block ∷ place 0 255 x ∷ place 0 255 y ∷ []; tuple = None })) None
-unfolding halves_of
+halves_told : (n : ℕ) (disk block x y : Word) → told (owns_of disk block x y) ≡ places_told n (Some (record { names = disk ∷ []; numbers = place 0 281474976710655 block ∷ place 0 255 x ∷ place 0 255 y ∷ []; tuple = None })) None
+unfolding owns_of
 halves_told n disk block x y =
     named disk _ false _ (λ name. numbered 0 281474976710655 block _ (not (is_good (place 0 255 x)) || (not (is_good (place 0 255 y)) || false)) None (λ b. numbered 0 255 x _ (not (is_good (place 0 255 y)) || false) None (λ c. numbered 0 255 y _ false None (λ d. refl))))
 

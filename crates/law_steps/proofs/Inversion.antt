@@ -23,7 +23,7 @@ use Rattle.petal_msg.specs.declared.operation.Stage.{Stage}
 use Rattle.petal_rules.specs.Lists.{In}
 use Rattle.petal_rules.specs.State.{second, is_in, is_lead, leads_link, is_second, readable}
 use Rattle.petal_rules.specs.Store.{chain_in, entry_at, bytes_of, free_of, with_ticket}
-use Rattle.petal_rules.specs.Server.{Half, Here, Post, Done, says, post_to}
+use Rattle.petal_rules.specs.Server.{Own, Here, Post, Done, says, post_to}
 use Rattle.petal_rules.specs.Writes.{Wanted, Older, Again, Newer, standing, next_stage, both_action, acts, goes_on, goes_on_with, pending_on, with_pending, with_reserved, with_paired, opened, operation, opens, takes, takes_newer, is_pending_for, is_reserving, is_replicating, hears_reserved, hears_pair_full, hears_replicated, hears_reserve, hears_replicate, reserves, follows_once, has_slot, last_on, on_write, on_reserve, on_reserved, on_pair_full, on_replicate, on_replicated}
 use Rattle.petal_rules.specs.Reads.{on_read, said}
 use Rattle.petal_rules.specs.Jobs.{handles, at_other_rev, wrong_rev, is_from_in, does}
@@ -89,47 +89,47 @@ later_op last number e f = by last.far (grind (arith, nat_tests))
     by far.Replicated lt = omega arith
 
 -- the operation before this one on the cell is older, and its slot is left over or not
-record IsPast (half : Half) (cell : Cell) (number : ℕ) (has : Bool) : Type 0 where
-  newer : (last : LastOp) → last_on half cell ≡ Some last → last.op < number
-  slot : (last : LastOp) → last_on half cell ≡ Some last → has_slot last.far ≡ has
+record IsPast (own : Own) (cell : Cell) (number : ℕ) (has : Bool) : Type 0 where
+  newer : (last : LastOp) → last_on own cell ≡ Some last → last.op < number
+  slot : (last : LastOp) → last_on own cell ≡ Some last → has_slot last.far ≡ has
 
-module _ (heard : Body → Type 0) (here : Here) (half : Half) (steady : IsSteady here.state) (staged : (cell : Cell) (op : Pending) → pending_on half cell ≡ Some op → IsStaged here.state here.me cell op) where
+module _ (heard : Body → Type 0) (here : Here) (own : Own) (steady : IsSteady here.state) (staged : (cell : Cell) (op : Pending) → pending_on own cell ≡ Some op → IsStaged here.state here.me cell op) where
   abbrev D : Done → Type 0
-  D done = Did heard here half done
+  D done = Did heard here own done
 
   leads : (cell : Cell) → is_lead here.state here.me cell ≡ true → leads_link here.state here.me cell ≡ true
   leads cell e = steady.goes_on here.me cell ∙ e
 
   -- ### The next stage
 
-  posts_ask : (o : Option ℕ) (said : Body) → ((to : ℕ) → o ≡ Some to → Asks here half (record { to = actor.Server to; body = said })) → (post : Post) → In post (post_to o said) → Asks here half post
+  posts_ask : (o : Option ℕ) (said : Body) → ((to : ℕ) → o ≡ Some to → Asks here own (record { to = actor.Server to; body = said })) → (post : Post) → In post (post_to o said) → Asks here own post
   unfolding In
   posts_ask None said h post i = absurd i
-  posts_ask (Some to) said h post i = only (Asks here half) _ post i (h to refl)
+  posts_ask (Some to) said h post i = only (Asks here own) _ post i (h to refl)
 
   -- what an operation asks of the second server
-  pub asks_slot : (op : Pending) → pending_on half op.cell ≡ Some op → op.stage ≡ waiting → (post : Post) → In post (post_to (second here.state op.cell) (body.Reserve op.op op.cell)) → Asks here half post
+  pub asks_slot : (op : Pending) → pending_on own op.cell ≡ Some op → op.stage ≡ waiting → (post : Post) → In post (post_to (second here.state op.cell) (body.Reserve op.op op.cell)) → Asks here own post
   asks_slot op is stage = posts_ask _ _ (λ to e. A_slot op to is stage e)
 
-  pub asks_copy : (op : Pending) → pending_on half op.cell ≡ Some op → op.stage ≡ copying → (post : Post) → In post (post_to (second here.state op.cell) (body.Replicate op.op op.key op.version op.bytes)) → Asks here half post
+  pub asks_copy : (op : Pending) → pending_on own op.cell ≡ Some op → op.stage ≡ copying → (post : Post) → In post (post_to (second here.state op.cell) (body.Replicate op.op op.key op.version op.bytes)) → Asks here own post
   asks_copy op is stage = posts_ask _ _ (λ to e. A_copy op to is stage e)
 
   -- the next action of an operation at its lead
   pub action_is : (op : Pending) (stage : Stage) → is_lead here.state here.me op.cell ≡ true → op.stage ≡ stage → next_stage here.state here.me op ≡ both_action stage
   action_is op stage lead e = ap (λ b. if b then both_action op.stage else action.Drop) (leads op.cell lead) ∙ ap both_action e
 
-  pub staged_at : (cell : Cell) (op : Pending) → pending_on half cell ≡ Some op → pending_on half op.cell ≡ Some op
-  staged_at cell op is = subst (λ (c : Cell). pending_on half c ≡ Some op) (sym (staged cell op is).own) is
+  pub staged_at : (cell : Cell) (op : Pending) → pending_on own cell ≡ Some op → pending_on own op.cell ≡ Some op
+  staged_at cell op is = subst (λ (c : Cell). pending_on own c ≡ Some op) (sym (staged cell op is).own) is
 
-  did_next : (cell : Cell) (o : Option Pending) → pending_on half cell ≡ o → D (goes_on_with here half o)
+  did_next : (cell : Cell) (o : Option Pending) → pending_on own cell ≡ o → D (goes_on_with here own o)
   did_next cell None e = Ignores
   did_next cell (Some op) e =
       let s = staged cell op e in
       let lead : is_lead here.state here.me op.cell ≡ true = subst (λ (c : Cell). is_lead here.state here.me c ≡ true) (sym s.own) s.lead in
       let is = staged_at cell op e in
       elim s.stage [
-        | inl stage ↦ subst (λ a. D (acts here half op a)) (sym (action_is op waiting lead stage)) (Asks_for _ (asks_slot op is stage))
-        | inr stage ↦ subst (λ a. D (acts here half op a)) (sym (action_is op copying lead stage)) (Asks_for _ (asks_copy op is stage))
+        | inl stage ↦ subst (λ a. D (acts here own op a)) (sym (action_is op waiting lead stage)) (Asks_for _ (asks_slot op is stage))
+        | inr stage ↦ subst (λ a. D (acts here own op a)) (sym (action_is op copying lead stage)) (Asks_for _ (asks_copy op is stage))
       ]
 
   -- ### Writes
@@ -137,40 +137,40 @@ module _ (heard : Body → Type 0) (here : Here) (half : Half) (steady : IsStead
   abbrev by_write : Wanted → Type 0
   by_write want = heard (body.Write want.client want.seq want.cell want.epoch want.bytes)
 
-  did_opens : (want : Wanted) → by_write want → is_lead here.state here.me want.cell ≡ true → done_to (at nat_cmp half.pairs.finished want.client) ≤ want.seq → pending_on half want.cell ≡ None → (room : Bool) → nat_lt 0 (free_of half.store) ≡ room → D (opens here half want room)
+  did_opens : (want : Wanted) → by_write want → is_lead here.state here.me want.cell ≡ true → done_to (at nat_cmp own.pairs.finished want.client) ≤ want.seq → pending_on own want.cell ≡ None → (room : Bool) → nat_lt 0 (free_of own.store) ≡ room → D (opens here own want room)
   unfolding goes_on
-  did_opens want h lead new none false full = Is_full want h lead new none (no_free (free_of half.store) full)
+  did_opens want h lead new none false full = Is_full want h lead new none (no_free (free_of own.store) full)
   did_opens want h lead new none true room =
-      let op = operation here half.pairs.next want in
-      let there : pending_on (opened here half want) want.cell ≡ Some op = cell_same half.pairs.pending want.cell op in
-      subst (λ o. D (goes_on_with here (opened here half want) o)) (sym there)
-      (subst (λ a. D (acts here (opened here half want) op a)) (sym (action_is op waiting lead refl)) (Opens want h lead new none))
+      let op = operation here own.pairs.next want in
+      let there : pending_on (opened here own want) want.cell ≡ Some op = cell_same own.pairs.pending want.cell op in
+      subst (λ o. D (goes_on_with here (opened here own want) o)) (sym there)
+      (subst (λ a. D (acts here (opened here own want) op a)) (sym (action_is op waiting lead refl)) (Opens want h lead new none))
 
-  did_newer : (want : Wanted) → by_write want → is_lead here.state here.me want.cell ≡ true → done_to (at nat_cmp half.pairs.finished want.client) ≤ want.seq → (fenced : Bool) (o : Option Pending) → pending_on half want.cell ≡ o → is_pending_for (pending_on half want.cell) want ≡ false → D (takes_newer here half want fenced o)
+  did_newer : (want : Wanted) → by_write want → is_lead here.state here.me want.cell ≡ true → done_to (at nat_cmp own.pairs.finished want.client) ≤ want.seq → (fenced : Bool) (o : Option Pending) → pending_on own want.cell ≡ o → is_pending_for (pending_on own want.cell) want ≡ false → D (takes_newer here own want fenced o)
   did_newer want h lead new true o e other = Refuses (actor.Client want.client) (body.Held want.seq) tt (λ seq f. not_busy (body.Held want.seq) seq f refl)
   did_newer want h lead new false (Some op) e other = Refuses (actor.Client want.client) (body.BlockBusy want.seq) tt
       (λ seq f. For_a_write want op h (busy_seq f) lead e (ap (λ o. is_pending_for o want) (sym e) ∙ other))
-  did_newer want h lead new false None e other = did_opens want h lead new e (nat_lt 0 (free_of half.store)) refl
+  did_newer want h lead new false None e other = did_opens want h lead new e (nat_lt 0 (free_of own.store)) refl
 
-  did_standing : (want : Wanted) → by_write want → is_lead here.state here.me want.cell ≡ true → (o : Option Finished) → at nat_cmp half.pairs.finished want.client ≡ o → D (takes here half want (standing o want.seq))
+  did_standing : (want : Wanted) → by_write want → is_lead here.state here.me want.cell ≡ true → (o : Option Finished) → at nat_cmp own.pairs.finished want.client ≡ o → D (takes here own want (standing o want.seq))
   did_standing want h lead None e =
-      by_test D (is_pending_for (pending_on half want.cell) want) _ _ (λ t. Ignores) (λ t. did_newer want h lead (subst (λ o. done_to o ≤ want.seq) (sym e) (omega arith)) _ _ refl t)
+      by_test D (is_pending_for (pending_on own want.cell) want) _ _ (λ t. Ignores) (λ t. did_newer want h lead (subst (λ o. done_to o ≤ want.seq) (sym e) (omega arith)) _ _ refl t)
   did_standing want h lead (Some last) e =
       by_bool (nat_lt want.seq last.seq)
-      (λ older. subst (λ b. D (takes here half want (if b then Older else if want.seq == last.seq then Again last.ending else Newer))) (sym older) Ignores)
-      (λ not_older. subst (λ b. D (takes here half want (if b then Older else if want.seq == last.seq then Again last.ending else Newer))) (sym not_older)
+      (λ older. subst (λ b. D (takes here own want (if b then Older else if want.seq == last.seq then Again last.ending else Newer))) (sym older) Ignores)
+      (λ not_older. subst (λ b. D (takes here own want (if b then Older else if want.seq == last.seq then Again last.ending else Newer))) (sym not_older)
       (by_bool (want.seq == last.seq)
-      (λ same. subst (λ b. D (takes here half want (if b then Again last.ending else Newer))) (sym same) (Repeats want last h lead e (same_numbers want.seq last.seq same)))
-      (λ apart. subst (λ b. D (takes here half want (if b then Again last.ending else Newer))) (sym apart)
-      (by_test D (is_pending_for (pending_on half want.cell) want) _ _ (λ t. Ignores) (λ t. did_newer want h lead (subst (λ o. done_to o ≤ want.seq) (sym e) (newer last want.seq not_older apart)) _ _ refl t)))))
+      (λ same. subst (λ b. D (takes here own want (if b then Again last.ending else Newer))) (sym same) (Repeats want last h lead e (same_numbers want.seq last.seq same)))
+      (λ apart. subst (λ b. D (takes here own want (if b then Again last.ending else Newer))) (sym apart)
+      (by_test D (is_pending_for (pending_on own want.cell) want) _ _ (λ t. Ignores) (λ t. did_newer want h lead (subst (λ o. done_to o ≤ want.seq) (sym e) (newer last want.seq not_older apart)) _ _ refl t)))))
 
-  did_write : (want : Wanted) → by_write want → D (on_write here half want)
+  did_write : (want : Wanted) → by_write want → D (on_write here own want)
   unfolding on_write
   did_write want h = by_test D (is_lead here.state here.me want.cell) _ _ (λ lead. did_standing want h lead _ refl) (λ t. Ignores)
 
   -- ### The lead hears of the second server
 
-  did_reserved : (number : ℕ) (cell : Cell) (o : Option Pending) → heard (body.Reserved number cell) → pending_on half cell ≡ o → D (hears_reserved here half number o)
+  did_reserved : (number : ℕ) (cell : Cell) (o : Option Pending) → heard (body.Reserved number cell) → pending_on own cell ≡ o → D (hears_reserved here own number o)
   unfolding goes_on
   did_reserved number cell None h e = Ignores
   did_reserved number cell (Some op) h e = by_test D (is_reserving op number) _ _
@@ -179,14 +179,14 @@ module _ (heard : Body → Type 0) (here : Here) (half : Half) (steady : IsStead
       let s = staged cell op e in
       let stage = is_waiting op.stage s.stage (not_true _ tests.1) in
       let lead : is_lead here.state here.me op.cell ≡ true = subst (λ (c : Cell). is_lead here.state here.me c ≡ true) (sym s.own) s.lead in
-      let there : pending_on (with_pending half (with_reserved op)) op.cell ≡ Some (with_reserved op) = cell_same half.pairs.pending op.cell (with_reserved op) in
+      let there : pending_on (with_pending own (with_reserved op)) op.cell ≡ Some (with_reserved op) = cell_same own.pairs.pending op.cell (with_reserved op) in
       let heard_of : heard (body.Reserved op.op op.cell) = subst (λ k. heard (body.Reserved k op.cell)) (sym (same_numbers op.op number tests.0)) (subst (λ (c : Cell). heard (body.Reserved number c)) (sym s.own) h) in
-      subst (λ o. D (goes_on_with here (with_pending half (with_reserved op)) o)) (sym there)
-      (subst (λ a. D (acts here (with_pending half (with_reserved op)) (with_reserved op) a)) (sym (action_is (with_reserved op) (with_reserved (record op { stage = waiting })).stage lead (ap (λ (x : Stage). (record x { reserved = true })) stage)))
+      subst (λ o. D (goes_on_with here (with_pending own (with_reserved op)) o)) (sym there)
+      (subst (λ a. D (acts here (with_pending own (with_reserved op)) (with_reserved op) a)) (sym (action_is (with_reserved op) (with_reserved (record op { stage = waiting })).stage lead (ap (λ (x : Stage). (record x { reserved = true })) stage)))
       (Puts op heard_of (staged_at cell op e) stage)))
       (λ t. Ignores)
 
-  did_pair_full : (number : ℕ) (cell : Cell) (o : Option Pending) → heard (body.PairFull number cell) → pending_on half cell ≡ o → D (hears_pair_full half number o)
+  did_pair_full : (number : ℕ) (cell : Cell) (o : Option Pending) → heard (body.PairFull number cell) → pending_on own cell ≡ o → D (hears_pair_full own number o)
   did_pair_full number cell None h e = Ignores
   did_pair_full number cell (Some op) h e = by_test D (is_reserving op number) _ _
       (λ t.
@@ -196,7 +196,7 @@ module _ (heard : Body → Type 0) (here : Here) (half : Half) (steady : IsStead
       Gives_up op heard_of (staged_at cell op e) (is_waiting op.stage s.stage (not_true _ tests.1)))
       (λ t. Ignores)
 
-  did_replicated : (number : ℕ) (cell : Cell) (o : Option Pending) → heard (body.Replicated number cell) → pending_on half cell ≡ o → D (hears_replicated here half number o)
+  did_replicated : (number : ℕ) (cell : Cell) (o : Option Pending) → heard (body.Replicated number cell) → pending_on own cell ≡ o → D (hears_replicated here own number o)
   unfolding goes_on
   did_replicated number cell None h e = Ignores
   did_replicated number cell (Some op) h e = by_test D (is_replicating op number) _ _
@@ -206,42 +206,42 @@ module _ (heard : Body → Type 0) (here : Here) (half : Half) (steady : IsStead
       let s = staged cell op e in
       let stage = is_copying op.stage s.stage more.1 in
       let lead : is_lead here.state here.me op.cell ≡ true = subst (λ (c : Cell). is_lead here.state here.me c ≡ true) (sym s.own) s.lead in
-      let there : pending_on (with_pending half (with_paired op)) op.cell ≡ Some (with_paired op) = cell_same half.pairs.pending op.cell (with_paired op) in
+      let there : pending_on (with_pending own (with_paired op)) op.cell ≡ Some (with_paired op) = cell_same own.pairs.pending op.cell (with_paired op) in
       let heard_of : heard (body.Replicated op.op op.cell) = subst (λ k. heard (body.Replicated k op.cell)) (sym (same_numbers op.op number more.0)) (subst (λ (c : Cell). heard (body.Replicated number c)) (sym s.own) h) in
-      subst (λ o. D (goes_on_with here (with_pending half (with_paired op)) o)) (sym there)
-      (subst (λ a. D (acts here (with_pending half (with_paired op)) (with_paired op) a)) (sym (action_is (with_paired op) (with_paired (record op { stage = copying })).stage lead (ap (λ (x : Stage). (record x { paired = true })) stage)))
+      subst (λ o. D (goes_on_with here (with_pending own (with_paired op)) o)) (sym there)
+      (subst (λ a. D (acts here (with_pending own (with_paired op)) (with_paired op) a)) (sym (action_is (with_paired op) (with_paired (record op { stage = copying })).stage lead (ap (λ (x : Stage). (record x { paired = true })) stage)))
       (Closes op heard_of (staged_at cell op e) stage)))
       (λ t. Ignores)
 
   -- ### The second server
 
-  no_past : (cell : Cell) (number : ℕ) → last_on half cell ≡ None → IsPast half cell number false
+  no_past : (cell : Cell) (number : ℕ) → last_on own cell ≡ None → IsPast own cell number false
   no_past cell number e = record { newer = λ last is. none_some e is; slot = λ last is. none_some e is }
 
-  past_is : (cell : Cell) (number : ℕ) (last : LastOp) → last_on half cell ≡ Some last → last.op < number → IsPast half cell number (has_slot last.far)
+  past_is : (cell : Cell) (number : ℕ) (last : LastOp) → last_on own cell ≡ Some last → last.op < number → IsPast own cell number (has_slot last.far)
   past_is cell number last e lt = record {
     newer = λ other is. subst (λ (o : LastOp). o.op < number) (same_some (sym e ∙ is)) lt;
     slot = λ other is. ap (λ (o : LastOp). has_slot o.far) (same_some (sym is ∙ e));
   }
 
-  did_reserves : (number : ℕ) (cell : Cell) (has room : Bool) → heard (body.Reserve number cell) → is_second here.state here.me cell ≡ true → IsPast half cell number has → progress (last_on half cell) ≤ number + number → nat_lt 0 (free_of half.store) ≡ room → D (reserves here half cell number has room)
-  did_reserves number cell true room h s past le e = Sets_apart number cell half.store h s refl le
-  did_reserves number cell false true h s past le e = Sets_apart number cell (with_ticket half.store) h s refl le
+  did_reserves : (number : ℕ) (cell : Cell) (has room : Bool) → heard (body.Reserve number cell) → is_second here.state here.me cell ≡ true → IsPast own cell number has → progress (last_on own cell) ≤ number + number → nat_lt 0 (free_of own.store) ≡ room → D (reserves here own cell number has room)
+  did_reserves number cell true room h s past le e = Sets_apart number cell own.store h s refl le
+  did_reserves number cell false true h s past le e = Sets_apart number cell (with_ticket own.store) h s refl le
   did_reserves number cell false false h s past le e =
-      Declines number cell h s (record { none_free = no_free (free_of half.store) e; newer = past.newer; none_left = λ last is. used_up last.far (past.slot last is) })
+      Declines number cell h s (record { none_free = no_free (free_of own.store) e; newer = past.newer; none_left = λ last is. used_up last.far (past.slot last is) })
 
-  did_reserve : (number : ℕ) (cell : Cell) (o : Option LastOp) → heard (body.Reserve number cell) → is_second here.state here.me cell ≡ true → last_on half cell ≡ o → D (hears_reserve here half cell number o)
-  did_reserve number cell None h s e = did_reserves number cell false (nat_lt 0 (free_of half.store)) h s (no_past cell number e) (subst (λ o. progress o ≤ number + number) (sym e) (omega arith)) refl
+  did_reserve : (number : ℕ) (cell : Cell) (o : Option LastOp) → heard (body.Reserve number cell) → is_second here.state here.me cell ≡ true → last_on own cell ≡ o → D (hears_reserve here own cell number o)
+  did_reserve number cell None h s e = did_reserves number cell false (nat_lt 0 (free_of own.store)) h s (no_past cell number e) (subst (λ o. progress o ≤ number + number) (sym e) (omega arith)) refl
   did_reserve number cell (Some last) h s e = by_test D (nat_lt number last.op) _ _ (λ t. Ignores)
       (λ older. by_test D (number == last.op) _ _
       (λ same. Promises number cell last.far s (e ∙ λ i. Some (record { op = sym (same_numbers number last.op same) i; far = last.far })))
-      (λ apart. did_reserves number cell (has_slot last.far) (nat_lt 0 (free_of half.store)) h s (past_is cell number last e (newer_op last number older apart)) (subst (λ o. progress o ≤ number + number) (sym e) (later_op last number older apart)) refl))
+      (λ apart. did_reserves number cell (has_slot last.far) (nat_lt 0 (free_of own.store)) h s (past_is cell number last e (newer_op last number older apart)) (subst (λ o. progress o ≤ number + number) (sym e) (later_op last number older apart)) refl))
 
-  did_once : (number : ℕ) (key : Key) (version : ℕ) (bytes : List ℕ) (how : Far) → heard (body.Replicate number key version bytes) → is_second here.state here.me (cell_of key) ≡ true → last_on half (cell_of key) ≡ Some (record { op = number; far = how }) → D (follows_once here half number key bytes how)
+  did_once : (number : ℕ) (key : Key) (version : ℕ) (bytes : List ℕ) (how : Far) → heard (body.Replicate number key version bytes) → is_second here.state here.me (cell_of key) ≡ true → last_on own (cell_of key) ≡ Some (record { op = number; far = how }) → D (follows_once here own number key bytes how)
   did_once number key version bytes far.Reserved h s e = Follows number key version bytes h s e
   did_once number key version bytes far.Replicated h s e = Promises number (cell_of key) far.Replicated s e
 
-  did_replicate : (number : ℕ) (key : Key) (version : ℕ) (bytes : List ℕ) (o : Option LastOp) → heard (body.Replicate number key version bytes) → is_second here.state here.me (cell_of key) ≡ true → last_on half (cell_of key) ≡ o → D (hears_replicate here half number key bytes o)
+  did_replicate : (number : ℕ) (key : Key) (version : ℕ) (bytes : List ℕ) (o : Option LastOp) → heard (body.Replicate number key version bytes) → is_second here.state here.me (cell_of key) ≡ true → last_on own (cell_of key) ≡ o → D (hears_replicate here own number key bytes o)
   did_replicate number key version bytes None h s e = Ignores
   did_replicate number key version bytes (Some last) h s e = by_test D (number == last.op) _ _
       (λ same. did_once number key version bytes last.far h s (e ∙ λ i. Some (record { op = sym (same_numbers number last.op same) i; far = last.far })))
@@ -249,10 +249,10 @@ module _ (heard : Body → Type 0) (here : Here) (half : Half) (steady : IsStead
 
   -- ### Reads
 
-  shown : (client seq : ℕ) (cell : Cell) (epoch : ℕ) → heard (body.Read client seq cell epoch) → readable here.state here.me cell ≡ true → (all lead some : Bool) → is_lead here.state here.me cell ≡ lead → is_some (pending_on half cell) ≡ some
-      → D (says half (actor.Client client) (said seq (if all then reply.Held else if lead && some then reply.BlockBusy else reply.Data (bytes_of (entry_at (chain_in half.store.chains cell) epoch)))))
+  shown : (client seq : ℕ) (cell : Cell) (epoch : ℕ) → heard (body.Read client seq cell epoch) → readable here.state here.me cell ≡ true → (all lead some : Bool) → is_lead here.state here.me cell ≡ lead → is_some (pending_on own cell) ≡ some
+      → D (says own (actor.Client client) (said seq (if all then reply.Held else if lead && some then reply.BlockBusy else reply.Data (bytes_of (entry_at (chain_in own.store.chains cell) epoch)))))
   shown client seq cell epoch h r true lead some e f = Refuses (actor.Client client) (body.Held seq) tt (λ k g. not_busy (body.Held seq) k g refl)
-  shown client seq cell epoch h r false true true e f = let there = is_there (pending_on half cell) f in Refuses (actor.Client client) (body.BlockBusy seq) tt
+  shown client seq cell epoch h r false true true e f = let there = is_there (pending_on own cell) f in Refuses (actor.Client client) (body.BlockBusy seq) tt
       (λ k g. For_a_read client cell epoch there.0 (subst (λ i. heard (body.Read client i cell epoch)) (busy_seq g) h) e there.1)
   shown client seq cell epoch h r false true false e f = Shows client seq cell epoch h r (λ t. is_none _ f)
     where
@@ -261,13 +261,13 @@ module _ (heard : Body → Type 0) (here : Here) (half : Half) (steady : IsStead
       is_none (Some op) e = let g : true ≡ false = e in absurd cc
   shown client seq cell epoch h r false false some e f = Shows client seq cell epoch h r (λ t. true_false t e)
 
-  did_read : (client seq : ℕ) (cell : Cell) (epoch : ℕ) → heard (body.Read client seq cell epoch) → D (on_read here half client seq cell epoch)
+  did_read : (client seq : ℕ) (cell : Cell) (epoch : ℕ) → heard (body.Read client seq cell epoch) → D (on_read here own client seq cell epoch)
   unfolding on_read
   did_read client seq cell epoch h = by_test D (readable here.state here.me cell) _ _ (λ r. shown client seq cell epoch h r _ _ _ refl refl) (λ t. Ignores)
 
   -- ### Letters and stages
 
-  did_handle : (said : Body) → heard said → D (handles here half said)
+  did_handle : (said : Body) → heard said → D (handles here own said)
   unfolding handles on_reserve on_reserved on_pair_full on_replicate on_replicated
   did_handle (body.Read client seq cell epoch) h = did_read client seq cell epoch h
   did_handle (body.Write client seq cell epoch bytes) h = did_write (record { client = client; seq = seq; cell = cell; epoch = epoch; bytes = bytes }) h
@@ -284,11 +284,11 @@ module _ (heard : Body → Type 0) (here : Here) (half : Half) (steady : IsStead
   did_handle (body.Replicate number key version bytes) h = by_test D (is_second here.state here.me (cell_of key)) _ _ (λ s. did_replicate number key version bytes _ h s refl) (λ t. Ignores)
   did_handle (body.Replicated number cell) h = did_replicated number cell _ h refl
 
-  told_rev : (client : ℕ) (o : Option ℕ) → D (wrong_rev half client o)
+  told_rev : (client : ℕ) (o : Option ℕ) → D (wrong_rev own client o)
   told_rev client None = Ignores
   told_rev client (Some seq) = Refuses (actor.Client client) (body.WrongRev seq) tt (λ k g. not_busy (body.WrongRev seq) k g refl)
 
-  other_rev : (letter : Letter) (from : Actor) → D (at_other_rev half letter from)
+  other_rev : (letter : Letter) (from : Actor) → D (at_other_rev own letter from)
   other_rev letter (actor.Server n) = Ignores
   other_rev letter (actor.Client c) = told_rev c _
 
@@ -297,7 +297,7 @@ module _ (heard : Body → Type 0) (here : Here) (half : Half) (steady : IsStead
   IsHeard (job.Letter letter) = heard letter.body
   IsHeard (job.Stage cell) = Unit {0}
 
-  pub did : (what : Job) → IsHeard what → D (does here half what)
+  pub did : (what : Job) → IsHeard what → D (does here own what)
   unfolding does goes_on
   did (job.Letter letter) h =
       by_test D (not (is_in here.state here.me here.inc)) _ _ (λ t. Ignores) (λ t.

@@ -12,7 +12,7 @@ use Rattle.petal_msg.specs.declared.operation.Stage.{Stage}
 use Rattle.petal_rules.specs.Lists.{In}
 use Rattle.petal_rules.specs.State.{State}
 use Rattle.petal_rules.specs.Store.{cell_cmp, chain_in, version_of}
-use Rattle.petal_rules.specs.Server.{Half, Here, Done}
+use Rattle.petal_rules.specs.Server.{Own, Here, Done}
 use Rattle.petal_rules.specs.Writes.{operation, with_reserved, with_paired, tells}
 use Rattle.petal_rules.specs.declared.job.Job.{Job}
 use Rattle.petal_rules.specs.declared.job.Job.TheVariants as job
@@ -44,21 +44,21 @@ put_put t cell one two q ne = cell_apart (put cell_cmp t cell one) cell two q ne
 put_gone : (t : Table Cell Pending) (cell : Cell) (one : Pending) (q : Cell) → q ≢ cell → at cell_cmp (without cell_cmp (put cell_cmp t cell one) cell) q ≡ at cell_cmp t q
 put_gone t cell one q ne = cell_gone_apart (put cell_cmp t cell one) cell q ne ∙ cell_apart t cell one q ne
 
-module _ (heard : Body → Type 0) (here : Here) (half : Half) (ready : IsReady here.state here.me half.pairs.pending) where
-  restaged : (op new : Pending) → at cell_cmp half.pairs.pending op.cell ≡ Some op → new.cell ≡ op.cell → new.key ≡ op.key → (new.stage ≡ waiting) ⊎ (new.stage ≡ copying) → IsStaged here.state here.me op.cell new
+module _ (heard : Body → Type 0) (here : Here) (own : Own) (ready : IsReady here.state here.me own.pairs.pending) where
+  restaged : (op new : Pending) → at cell_cmp own.pairs.pending op.cell ≡ Some op → new.cell ≡ op.cell → new.key ≡ op.key → (new.stage ≡ waiting) ⊎ (new.stage ≡ copying) → IsStaged here.state here.me op.cell new
   restaged op new is cell key stage =
       let s = ready.staged op.cell op is in
       record { own = cell; keyed = ap cell_of key ∙ s.keyed; lead = s.lead; stage = stage }
 
-  told : (cell : Cell) (number : ℕ) (how : Far) (half' : Half) → (tells here half' cell number how).half ≡ half'
-  told cell number far.Reserved half' = refl
-  told cell number far.Replicated half' = refl
+  told : (cell : Cell) (number : ℕ) (how : Far) (own' : Own) → (tells here own' cell number how).own ≡ own'
+  told cell number far.Reserved own' = refl
+  told cell number far.Replicated own' = refl
 
-  told_jobs : (cell : Cell) (number : ℕ) (how : Far) → (tells here half cell number how).jobs ≡ []
+  told_jobs : (cell : Cell) (number : ℕ) (how : Far) → (tells here own cell number how).jobs ≡ []
   told_jobs cell number far.Reserved = refl
   told_jobs cell number far.Replicated = refl
 
-  pub did_ready : (done : Done) → Did heard here half done → IsReady here.state here.me done.half.pairs.pending
+  pub did_ready : (done : Done) → Did heard here own done → IsReady here.state here.me done.own.pairs.pending
   did_ready _ Ignores = ready
   did_ready _ (Refuses to said is why) = ready
   did_ready _ (Asks_for posts h) = ready
@@ -66,34 +66,34 @@ module _ (heard : Body → Type 0) (here : Here) (half : Half) (ready : IsReady 
   did_ready _ (Repeats want last h lead is e) = ready
   did_ready _ (Is_full want h lead new none no_room) = ready
   did_ready _ (Opens want h lead new none) =
-      let t = half.pairs.pending in
-      let op = operation here half.pairs.next want in
+      let t = own.pairs.pending in
+      let op = operation here own.pairs.next want in
       changed_ready here.state here.me t (put cell_cmp t want.cell op) want.cell ready (put_rises cell_cmp_total t want.cell op ready.rising) (λ q ne. cell_apart t want.cell op q ne)
       (λ o is. subst (IsStaged here.state here.me want.cell) (same_some (sym (cell_same t want.cell op) ∙ is)) (record { own = refl; keyed = refl; lead = lead; stage = inl refl }))
   did_ready _ (Puts op h is stage) =
-      let t = half.pairs.pending in
+      let t = own.pairs.pending in
       let one = with_reserved op in
-      let two : Pending = record one { version = version_of (chain_in half.store.chains op.cell) + 1; stage = record one.stage { put = true } } in
+      let two : Pending = record one { version = version_of (chain_in own.store.chains op.cell) + 1; stage = record one.stage { put = true } } in
       changed_ready here.state here.me t (put cell_cmp (put cell_cmp t op.cell one) op.cell two) op.cell ready
       (put_rises cell_cmp_total (put cell_cmp t op.cell one) op.cell two (put_rises cell_cmp_total t op.cell one ready.rising)) (λ q ne. put_put t op.cell one two q ne)
       (λ o there. subst (IsStaged here.state here.me op.cell) (same_some (sym (cell_same (put cell_cmp t op.cell one) op.cell two) ∙ there))
       (restaged op two is refl refl (inr (ap (λ (x : Stage). (record x { reserved = true; put = true })) stage))))
   did_ready _ (Gives_up op h is stage) =
-      let t = half.pairs.pending in
+      let t = own.pairs.pending in
       changed_ready here.state here.me t (without cell_cmp t op.cell) op.cell ready (without_rises cell_cmp t op.cell ready.rising) (λ q ne. cell_gone_apart t op.cell q ne) (λ o there. none_some (cell_gone t op.cell) there)
   did_ready _ (Closes op h is stage) =
-      let t = half.pairs.pending in
+      let t = own.pairs.pending in
       let one = with_paired op in
       changed_ready here.state here.me t (without cell_cmp (put cell_cmp t op.cell one) op.cell) op.cell ready
       (without_rises cell_cmp (put cell_cmp t op.cell one) op.cell (put_rises cell_cmp_total t op.cell one ready.rising)) (λ q ne. put_gone t op.cell one q ne)
       (λ o there. none_some (cell_gone (put cell_cmp t op.cell one) op.cell) there)
   did_ready _ (Sets_apart number cell store h s e le) = ready
-  did_ready _ (Promises number cell how s is) = subst (λ (d : Half). IsReady here.state here.me d.pairs.pending) (sym (told cell number how half)) ready
+  did_ready _ (Promises number cell how s is) = subst (λ (d : Own). IsReady here.state here.me d.pairs.pending) (sym (told cell number how own)) ready
   did_ready _ (Declines number cell h s no_room) = ready
   did_ready _ (Follows number key version bytes h s is) = ready
 
   -- what follows a job up is a stage, and no letter
-  pub no_letters : (done : Done) → Did heard here half done → (letter : Letter) → In (job.Letter letter) done.jobs → ⊥
+  pub no_letters : (done : Done) → Did heard here own done → (letter : Letter) → In (job.Letter letter) done.jobs → ⊥
   unfolding In
   no_letters _ Ignores letter i = i
   no_letters _ (Refuses to said is why) letter i = i

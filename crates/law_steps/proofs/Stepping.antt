@@ -16,9 +16,9 @@ use Rattle.script_lines.specs.declared.request.Request.{Request}
 use Rattle.script_lines.specs.declared.request.Request.TheVariants as request
 use Rattle.petal_rules.specs.Lists.{In}
 use Rattle.petal_rules.specs.State.{State}
-use Rattle.petal_rules.specs.Server.{Half, Here, Post, Done, silent}
+use Rattle.petal_rules.specs.Server.{Own, Here, Post, Done, silent}
 use Rattle.petal_rules.specs.Writes.{pending_on}
-use Rattle.petal_rules.specs.Jobs.{Acted, here_of, half_of, works, tick_posts, sent_anew, awaited, does}
+use Rattle.petal_rules.specs.Jobs.{Acted, here_of, works, tick_posts, sent_anew, awaited, does}
 use Rattle.petal_rules.specs.Clients.{Client, Asked, Reacted, opens, called, heard, hears_of, hears, counts, is_read, is_write, ticked, asks_anew}
 use Rattle.petal_rules.specs.World.{Setting, World, acts, step, server_step, client_step, calls, next_line, received, clock_of, MayActor, MayServer, MayClient}
 use Rattle.petal_rules.specs.declared.job.Job.{Job}
@@ -135,29 +135,29 @@ module _ (state : State) (steady : IsSteady state) (lines : List Line) (w : Worl
   abbrev here : Here
   here = here_of state n (w.servers n)
 
-  abbrev half : Half
-  half = half_of (w.servers n)
+  abbrev own : Own
+  own = (w.servers n).own
 
   abbrev hears_server : Body → Type 0
   hears_server = Handled w n
 
-  staged : (cell : Cell) (op : Pending) → pending_on half cell ≡ Some op → IsStaged state n cell op
+  staged : (cell : Cell) (op : Pending) → pending_on own cell ≡ Some op → IsStaged state n cell op
   staged = (ready.pending n).staged
 
-  asked_anew : (op : Pending) → pending_on half op.cell ≡ Some op → (post : Post) → In post (sent_anew here half op) → Asks here half post
+  asked_anew : (op : Pending) → pending_on own op.cell ≡ Some op → (post : Post) → In post (sent_anew here own op) → Asks here own post
   asked_anew op is post h =
       let s = staged op.cell op is in
       elim s.stage [
-        | inl stage ↦ asks_slot hears_server here half steady staged op is stage post (subst (λ a. In post (awaited here half op a)) (action_is hears_server here half steady staged op waiting s.lead stage) h)
-        | inr stage ↦ asks_copy hears_server here half steady staged op is stage post (subst (λ a. In post (awaited here half op a)) (action_is hears_server here half steady staged op copying s.lead stage) h)
+        | inl stage ↦ asks_slot hears_server here own steady staged op is stage post (subst (λ a. In post (awaited here own op a)) (action_is hears_server here own steady staged op waiting s.lead stage) h)
+        | inr stage ↦ asks_copy hears_server here own steady staged op is stage post (subst (λ a. In post (awaited here own op a)) (action_is hears_server here own steady staged op copying s.lead stage) h)
       ]
 
-  tick_asks : (post : Post) → In post (tick_posts here (w.servers n)) → Asks here half post
+  tick_asks : (post : Post) → In post (tick_posts here (w.servers n)) → Asks here own post
   tick_asks post h =
-      let found = in_flat_map (λ (row : Cell × Pending). sent_anew here half row.1) (w.servers n).pairs.pending post h in
+      let found = in_flat_map (λ (row : Cell × Pending). sent_anew here own row.1) (w.servers n).own.pairs.pending post h in
       let row = found.0 in
-      let is : pending_on half row.0 ≡ Some row.1 = at_row cell_cmp_total (w.servers n).pairs.pending row (ready.pending n).rising found.1 in
-      asked_anew row.1 (subst (λ (q : Cell). pending_on half q ≡ Some row.1) (sym (staged row.0 row.1 is).own) is) post found.2
+      let is : pending_on own row.0 ≡ Some row.1 = at_row cell_cmp_total (w.servers n).own.pairs.pending row (ready.pending n).rising found.1 in
+      asked_anew row.1 (subst (λ (q : Cell). pending_on own q ≡ Some row.1) (sym (staged row.0 row.1 is).own) is) post found.2
 
   queue_delivered : (letter : Letter) → In letter w.sent → letter.to ≡ actor.Server n → AreQueued w n ((w.servers n).queue ++ job.Letter letter ∷ [])
   unfolding In
@@ -169,41 +169,41 @@ module _ (state : State) (steady : IsSteady state) (lines : List Line) (w : Worl
       same_letter : {one two : Letter} → job.Letter one ≡ job.Letter two → one ≡ two
       same_letter e = cc
 
-  heard_job : (what : Job) (rest : List Job) → (w.servers n).queue ≡ what ∷ rest → (what' : Job) → what' ≡ what → Rattle.law_steps.proofs.Inversion.IsHeard hears_server here half steady staged what'
+  heard_job : (what : Job) (rest : List Job) → (w.servers n).queue ≡ what ∷ rest → (what' : Job) → what' ≡ what → Rattle.law_steps.proofs.Inversion.IsHeard hears_server here own steady staged what'
   unfolding In
   heard_job what rest e (job.Letter letter) is =
       let known = ready.queues n letter (subst (λ (q : List Job). In (job.Letter letter) q) (sym e) (inl is)) in
       record { letter = letter; rest = rest; next = e ∙ ap (λ (j : Job). j ∷ rest) (sym is); sent = known.0; own = known.1; is = refl }
   heard_job what rest e (job.Stage cell) is = tt
 
-  queue_left : (what : Job) (rest : List Job) (done : Done) → (w.servers n).queue ≡ what ∷ rest → Did hears_server here half done → AreQueued w n (rest ++ done.jobs)
+  queue_left : (what : Job) (rest : List Job) (done : Done) → (w.servers n).queue ≡ what ∷ rest → Did hears_server here own done → AreQueued w n (rest ++ done.jobs)
   unfolding In
   queue_left what rest done e d letter i = elim (in-append (job.Letter letter) rest done.jobs i) [
     | inl old ↦ ready.queues n letter (subst (λ (q : List Job). In (job.Letter letter) q) (sym e) (inr old))
-    | inr new ↦ absurd (no_letters hears_server here half (ready.pending n) done d letter new)
+    | inr new ↦ absurd (no_letters hears_server here own (ready.pending n) done d letter new)
   ]
 
   abbrev S : Step → Acted → Type 0
   S what acted = Serving state w n what acted
 
   -- nothing is done
-  rests_idle : IsIdle here half (silent half)
+  rests_idle : IsIdle here own (silent own)
   unfolding In
   rests_idle = record { same = refl; asks = λ post i. absurd i }
 
   works_serve : (queue : List Job) → (w.servers n).queue ≡ queue → S (Work work_end.Done) (works here (w.servers n) queue)
-  works_serve [] e = record { done = silent half; queue = (w.servers n).queue; did = Ignores; queued = ready.queues n; works = inl refl; is = refl }
+  works_serve [] e = record { done = silent own; queue = (w.servers n).queue; did = Ignores; queued = ready.queues n; works = inl refl; is = refl }
   works_serve (what ∷ rest) e =
-      let d = did hears_server here half steady staged what (heard_job what rest e what refl) in
-      record { done = does here half what; queue = rest ++ (does here half what).jobs; did = d; queued = queue_left what rest (does here half what) e d; works = inl refl; is = refl }
+      let d = did hears_server here own steady staged what (heard_job what rest e what refl) in
+      record { done = does here own what; queue = rest ++ (does here own what).jobs; did = d; queued = queue_left what rest (does here own what) e d; works = inl refl; is = refl }
 
   pub server_serves : (what : Step) → MayServer what w n → S what (server_step what state n (w.servers n))
   server_serves (Call line) may = absurd may
   server_serves (Deliver letter) may =
       by_test (λ server. S (Deliver letter) (record { server = server; letters = [] })) (w.servers n).life.running _ _
-      (λ runs. record { done = silent half; queue = (w.servers n).queue ++ job.Letter letter ∷ []; did = Ignores; queued = queue_delivered letter may.sent may.own; works = inr rests_idle; is = refl })
-      (λ stopped. record { done = silent half; queue = (w.servers n).queue; did = Ignores; queued = ready.queues n; works = inr rests_idle; is = refl })
-  server_serves Tick may = record { done = record { half = half; posts = tick_posts here (w.servers n); jobs = [] }; queue = (w.servers n).queue; did = Asks_for _ tick_asks; queued = ready.queues n; works = inr (record { same = refl; asks = tick_asks }); is = refl }
+      (λ runs. record { done = silent own; queue = (w.servers n).queue ++ job.Letter letter ∷ []; did = Ignores; queued = queue_delivered letter may.sent may.own; works = inr rests_idle; is = refl })
+      (λ stopped. record { done = silent own; queue = (w.servers n).queue; did = Ignores; queued = ready.queues n; works = inr rests_idle; is = refl })
+  server_serves Tick may = record { done = record { own = own; posts = tick_posts here (w.servers n); jobs = [] }; queue = (w.servers n).queue; did = Asks_for _ tick_asks; queued = ready.queues n; works = inr (record { same = refl; asks = tick_asks }); is = refl }
   server_serves (Work work_end.Done) may = works_serve (w.servers n).queue refl
 
   server_happens : (stamp : ℕ) (what : Step) → w.server_clocks n < stamp → MayServer what w n → Happens state lines w (acts w n stamp (server_step what state n (w.servers n))).world
@@ -236,8 +236,8 @@ module _ (servers slots : ℕ) (lines : List Line) (state : State) (steady : IsS
       record {
         queues = all_put w.servers n (served (w.servers n) done queue) (λ m server. AreQueued v m server.queue)
             (λ m. queues_later w v (λ letter. in_later letter _ w.sent) m (w.servers m).queue (ready.queues m)) (queues_later w v (λ letter. in_later letter _ w.sent) n queue queued);
-        pending = all_put w.servers n (served (w.servers n) done queue) (λ m server. IsReady state m server.pairs.pending) ready.pending
-            (did_ready (Handled w n) (here_of state n (w.servers n)) (half_of (w.servers n)) (ready.pending n) done d);
+        pending = all_put w.servers n (served (w.servers n) done queue) (λ m server. IsReady state m server.own.pairs.pending) ready.pending
+            (did_ready (Handled w n) (here_of state n (w.servers n)) (w.servers n).own (ready.pending n) done d);
       }
   happens_ready w _ ready (Turns c stamp in_call reacted lt c_lt t) = record {
     queues = λ m letter i. let known = ready.queues m letter i in (in_later letter _ w.sent known.0, known.1);

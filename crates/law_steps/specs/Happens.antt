@@ -13,9 +13,9 @@ use Rattle.script_lines.specs.declared.request.Line.{Line}
 use Rattle.script_lines.specs.declared.request.Request.TheVariants as request
 use Rattle.petal_rules.specs.Lists.{In}
 use Rattle.petal_rules.specs.State.{State}
-use Rattle.petal_rules.specs.Server.{Server, Half, Here, Post, Done, sender, letters_of}
+use Rattle.petal_rules.specs.Server.{Server, Own, Here, Post, Done, sender, letters_of}
 use Rattle.petal_rules.specs.Writes.{ended}
-use Rattle.petal_rules.specs.Jobs.{Acted, here_of, half_of}
+use Rattle.petal_rules.specs.Jobs.{Acted, here_of}
 use Rattle.petal_rules.specs.Clients.{Client, Asked, Reacted, rests, sends, opens, answers, is_read, is_write}
 use Rattle.petal_rules.specs.World.{World, acts, reacts, lines_of, next_line}
 use Rattle.petal_rules.specs.declared.job.Job.{Job}
@@ -49,20 +49,20 @@ pub record Handled (w : World) (n : ℕ) (said : Body) : Type 0 where
 
 -- the server after a job, with this queue
 abbrev pub served : Server → Done → List Job → Server
-served server done queue = record server { pairs = done.half.pairs; store = done.half.store; queue = queue }
+served server done queue = record server { own = done.own; queue = queue }
 
 -- nothing is done but to ask once more what pending operations wait for
-pub record IsIdle (here : Here) (half : Half) (done : Done) : Type 0 where
-  pub same : done.half ≡ half
-  pub asks : (post : Post) → In post done.posts → Asks here half post
+pub record IsIdle (here : Here) (own : Own) (done : Done) : Type 0 where
+  pub same : done.own ≡ own
+  pub asks : (post : Post) → In post done.posts → Asks here own post
 
 -- a server's step is a job, or idle
 pub record Serving (state : State) (w : World) (n : ℕ) (what : Step) (acted : Acted) : Type 0 where
   pub done : Done
   pub queue : List Job
-  pub did : Did (Handled w n) (here_of state n (w.servers n)) (half_of (w.servers n)) done
+  pub did : Did (Handled w n) (here_of state n (w.servers n)) (w.servers n).own done
   pub queued : AreQueued w n queue
-  pub works : (what ≡ Work work_end.Done) ⊎ IsIdle (here_of state n (w.servers n)) (half_of (w.servers n)) done
+  pub works : (what ≡ Work work_end.Done) ⊎ IsIdle (here_of state n (w.servers n)) (w.servers n).own done
   pub is : acted ≡ record { server = served (w.servers n) done queue; letters = letters_of (sender (here_of state n (w.servers n))) 0 done.posts }
 
 -- the world after a server's step
@@ -95,7 +95,7 @@ pub data Turned (heard : Body → Type 0) (state : State) (lines : List Line) (c
 
 -- the world after a step that is allowed
 pub data Happens (state : State) (lines : List Line) (w : World) : World → Type 0 where
-  Serves : (n stamp : ℕ) (done : Done) (queue : List Job) → w.server_clocks n < stamp → Did (Handled w n) (here_of state n (w.servers n)) (half_of (w.servers n)) done → AreQueued w n queue
+  Serves : (n stamp : ℕ) (done : Done) (queue : List Job) → w.server_clocks n < stamp → Did (Handled w n) (here_of state n (w.servers n)) (w.servers n).own done → AreQueued w n queue
       → Happens state lines w (server_moves state w n stamp done queue)
   Turns : (c stamp : ℕ) (in_call : Bool) (reacted : Reacted) → w.client_clocks c < stamp → c < 9 → Turned (Heard w (actor.Client c)) state lines c (w.clients c) in_call reacted
       → Happens state lines w (reacts state w c stamp reacted).world

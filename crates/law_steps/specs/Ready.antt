@@ -25,4 +25,4 @@ pub record IsReady (state : State) (me : ℕ) (pending : Table Cell Pending) : T
 -- and what waits in a queue was sent
 pub record Ready (state : State) (w : World) : Type 0 where
   pub queues : (n : ℕ) → AreQueued w n (w.servers n).queue
-  pub pending : (n : ℕ) → IsReady state n (w.servers n).pairs.pending
+  pub pending : (n : ℕ) → IsReady state n (w.servers n).own.pairs.pending

@@ -36,7 +36,7 @@ Copies first second pending = (first ≡ second) ⊎ ((op : Pending) × (pending
 abbrev pub TwoCopies : State → World → Cell → Type 0
 TwoCopies state w cell =
     (n m : ℕ) → first state cell ≡ Some n → second state cell ≡ Some m
-    → Copies (chain_in (w.servers n).store.chains cell) (chain_in (w.servers m).store.chains cell) (at cell_cmp (w.servers n).pairs.pending cell)
+    → Copies (chain_in (w.servers n).own.store.chains cell) (chain_in (w.servers m).own.store.chains cell) (at cell_cmp (w.servers n).own.pairs.pending cell)
 
 -- the client called a request under this number, and has answered it
 pub record IsOver (w : World) (client seq : ℕ) : Type 0 where
@@ -53,11 +53,11 @@ pub record HasFinished (finished : Option Finished) (seq : ℕ) : Type 0 where
 abbrev pub IsLateAt : State → World → Letter → (client seq : ℕ) → Cell → ℕ → Type 0
 IsLateAt state w letter client seq cell n =
     (w.servers n).life.running ≡ true → (w.servers n).life.rev ≡ letter.rev
-    → HasFinished (at nat_cmp (w.servers n).pairs.finished client) seq ⊎ (is_lead state n cell ≡ false) ⊎ (held state cell ≢ No)
+    → HasFinished (at nat_cmp (w.servers n).own.pairs.finished client) seq ⊎ (is_lead state n cell ≡ false) ⊎ (held state cell ≢ No)
 
 -- a request that its client has answered is pending at no running server, and its Write letters come too late everywhere
 pub record Requests (state : State) (w : World) : Type 0 where
-  pub pending : (n : ℕ) (cell : Cell) (op : Pending) → (w.servers n).life.running ≡ true → at cell_cmp (w.servers n).pairs.pending cell ≡ Some op → IsOver w op.client op.seq → ⊥
+  pub pending : (n : ℕ) (cell : Cell) (op : Pending) → (w.servers n).life.running ≡ true → at cell_cmp (w.servers n).own.pairs.pending cell ≡ Some op → IsOver w op.client op.seq → ⊥
   pub late : (letter : Letter) (client seq epoch : ℕ) (cell : Cell) (bytes : List ℕ) → In letter w.sent → letter.body ≡ body.Write client seq cell epoch bytes → IsOver w client seq
       → (n : ℕ) → IsLateAt state w letter client seq cell n
 

@@ -26,7 +26,7 @@ cell_of_block block = record { map = 0; block = block }
 
 -- the bytes of a server's entry of the greatest epoch not above this one, or zeros
 abbrev pub held_at : Server → Cell → ℕ → List ℕ
-held_at server cell epoch = bytes_of (entry_at (chain_in server.store.chains cell) epoch)
+held_at server cell epoch = bytes_of (entry_at (chain_in server.own.store.chains cell) epoch)
 
 abbrev pub content_by : World → Cell → ℕ → Option ℕ → List ℕ
 content_by w cell epoch None = zero_block

@@ -91,7 +91,7 @@ ends (actor.Server n) w given = []
 
 -- the blocks of the cells of a server's chains
 abbrev pub blocks_of : Server → List ℕ
-blocks_of server = map (λ row. row.0.block) server.store.chains
+blocks_of server = map (λ row. row.0.block) server.own.store.chains
 
 -- the blocks that some server has an entry of, by number
 abbrev pub blocks_in : Setting → World → List ℕ

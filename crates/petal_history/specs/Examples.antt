@@ -39,7 +39,7 @@ world_of setting moves = plays setting (start setting) moves
 
 -- the chain of a block at a server
 abbrev pub chain_at : World → (server block : ℕ) → List (ℕ × Stored)
-chain_at w server block = chain_in (w.servers server).store.chains (cell_of_block block)
+chain_at w server block = chain_in (w.servers server).own.store.chains (cell_of_block block)
 
 -- one entry, of epoch 0
 abbrev pub one_entry : ℕ → List ℕ → List (ℕ × Stored)
@@ -99,5 +99,5 @@ mindful state me server = works (here_of state me server) server server.queue
 -- the server that does its next job, had it forgotten what it has finished
 abbrev pub forgetful : State → ℕ → Server → Acted
 forgetful state me server =
-    let forgets : Server = record server { pairs = record server.pairs { finished = [] } } in
+    let forgets : Server = record server { own = record server.own { pairs = record server.own.pairs { finished = [] } } } in
     works (here_of state me forgets) forgets forgets.queue

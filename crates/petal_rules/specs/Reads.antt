@@ -9,7 +9,7 @@ use Rattle.petal_msg.specs.declared.operation.Reply.TheVariants.{Data, NotHere, 
 use Rattle.petal_state.specs.declared.answer.Hold.TheVariants as hold
 use Rattle.petal_rules.specs.State.{Hold, held, is_lead, readable}
 use Rattle.petal_rules.specs.Store.{chain_in, entry_at, bytes_of}
-use Rattle.petal_rules.specs.Server.{Half, Here, Done, silent, says}
+use Rattle.petal_rules.specs.Server.{Own, Here, Done, silent, says}
 use Rattle.petal_rules.specs.Writes.{pending_on}
 
 abbrev pub is_all_held : Hold → Bool
@@ -18,11 +18,11 @@ is_all_held hold.Writes = false
 is_all_held hold.All = true
 
 -- a fence, or an operation at the lead, keeps a read back; else it gives the entry of the greatest epoch not above its own
-abbrev pub reply_to : Here → Half → Cell → ℕ → Reply
-reply_to here half cell epoch =
+abbrev pub reply_to : Here → Own → Cell → ℕ → Reply
+reply_to here own cell epoch =
     if is_all_held (held here.state cell) then Held
-    else if is_lead here.state here.me cell && is_some (pending_on half cell) then BlockBusy
-    else Data (bytes_of (entry_at (chain_in half.store.chains cell) epoch))
+    else if is_lead here.state here.me cell && is_some (pending_on own cell) then BlockBusy
+    else Data (bytes_of (entry_at (chain_in own.store.chains cell) epoch))
 
 abbrev pub said : ℕ → Reply → Body
 said seq (Data bytes) = body.Data seq bytes
@@ -31,7 +31,7 @@ said seq BlockBusy = body.BlockBusy seq
 said seq Held = body.Held seq
 
 -- a read is answered at a server that may read the cell
-unfoldable pub on_read : Here → Half → (client seq : ℕ) → Cell → ℕ → Done
-on_read here half client seq cell epoch =
-    if readable here.state here.me cell then says half (actor.Client client) (said seq (reply_to here half cell epoch))
-    else silent half
+unfoldable pub on_read : Here → Own → (client seq : ℕ) → Cell → ℕ → Done
+on_read here own client seq cell epoch =
+    if readable here.state here.me cell then says own (actor.Client client) (said seq (reply_to here own cell epoch))
+    else silent own

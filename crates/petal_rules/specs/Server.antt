@@ -27,10 +27,15 @@ pub record Pairs : Type 0 where
   pub finished : Table ℕ Finished
   pub last : Table Cell LastOp
 
-pub record Server : Type 0 where
-  pub life : Life
+-- a server's own part: what a job may change
+pub record Own : Type 0 where
   pub pairs : Pairs
   pub store : Store
+
+-- a server: its life, its own part, and its jobs in the order in which they came
+pub record Server : Type 0 where
+  pub life : Life
+  pub own : Own
   pub queue : List Job
 
 -- nothing is pending and nothing was finished
@@ -39,12 +44,7 @@ no_pairs = record { pending = []; next = 1; finished = []; last = [] }
 
 -- a server of a run that begins
 abbrev pub first_server : (running : Bool) → ℕ → Server
-first_server running slots = record { life = record { running = running; inc = 1; rev = 1 }; pairs = no_pairs; store = empty_store slots; queue = [] }
-
--- one server's half of its pairs: what a job may change
-pub record Half : Type 0 where
-  pub pairs : Pairs
-  pub store : Store
+first_server running slots = record { life = record { running = running; inc = 1; rev = 1 }; own = record { pairs = no_pairs; store = empty_store slots }; queue = [] }
 
 -- where a job is done: the state at the server's revision, the server and its incarnation
 pub record Here : Type 0 where
@@ -59,17 +59,17 @@ pub record Post : Type 0 where
 
 -- what a job leaves, what it sends, and the jobs that follow it up
 pub record Done : Type 0 where
-  pub half : Half
+  pub own : Own
   pub posts : List Post
   pub jobs : List Job
 
 -- the job leaves this and sends nothing
-abbrev pub silent : Half → Done
-silent half = record { half = half; posts = []; jobs = [] }
+abbrev pub silent : Own → Done
+silent own = record { own = own; posts = []; jobs = [] }
 
 -- the job leaves this and sends one letter
-abbrev pub says : Half → Actor → Body → Done
-says half to body = record { half = half; posts = record { to = to; body = body } ∷ []; jobs = [] }
+abbrev pub says : Own → Actor → Body → Done
+says own to body = record { own = own; posts = record { to = to; body = body } ∷ []; jobs = [] }
 
 -- a letter to one of the servers, where there is one
 abbrev pub post_to : Option ℕ → Body → List Post
@@ -77,8 +77,8 @@ post_to None said = []
 post_to (Some server) said = record { to = actor.Server server; body = said } ∷ []
 
 -- the job leaves this and sends one letter to a server
-abbrev pub says_to : Half → Option ℕ → Body → Done
-says_to half server said = record { half = half; posts = post_to server said; jobs = [] }
+abbrev pub says_to : Own → Option ℕ → Body → Done
+says_to own server said = record { own = own; posts = post_to server said; jobs = [] }
 
 -- who sends, as which incarnation and at which revision
 pub record Sender : Type 0 where

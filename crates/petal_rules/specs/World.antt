@@ -210,7 +210,7 @@ turn_of (Some asked) = asked.turn
 
 -- a number of the actor is the greatest of its type, so that a step could not count on
 abbrev pub is_spent : World → Actor → Bool
-is_spent w (actor.Server n) = ((w.servers n).pairs.next == greatest_u64) || (top_of (w.servers n).store.chains == greatest_u64)
+is_spent w (actor.Server n) = ((w.servers n).own.pairs.next == greatest_u64) || (top_of (w.servers n).own.store.chains == greatest_u64)
 is_spent w (actor.Client c) = ((w.clients c).seq == greatest_u32) || (turn_of (w.clients c).asked == greatest_u32)
 
 abbrev pub MayActor : Actor → Step → Setting → World → Type 0

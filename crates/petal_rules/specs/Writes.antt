@@ -23,7 +23,7 @@ use Rattle.petal_msg.specs.declared.operation.Stage.{Stage}
 use Rattle.petal_state.specs.declared.answer.Hold.TheVariants as hold
 use Rattle.petal_rules.specs.State.{State, Hold, held, is_lead, leads_link, is_second, first, second}
 use Rattle.petal_rules.specs.Store.{cell_cmp, chain_in, version_of, free_of, with_ticket, without_ticket, with_entry}
-use Rattle.petal_rules.specs.Server.{Half, Here, Done, silent, says, says_to}
+use Rattle.petal_rules.specs.Server.{Own, Here, Done, silent, says, says_to}
 use Rattle.petal_rules.specs.declared.job.Job.TheVariants as job
 
 -- ### The table of stages
@@ -43,20 +43,20 @@ next_stage state me op = if leads_link state me op.cell then both_action op.stag
 -- ### What the lead remembers
 
 -- the operation that is pending on the cell
-abbrev pub pending_on : Half → Cell → Option Pending
-pending_on half cell = at cell_cmp half.pairs.pending cell
+abbrev pub pending_on : Own → Cell → Option Pending
+pending_on own cell = at cell_cmp own.pairs.pending cell
 
--- the half with this operation pending on its cell
-abbrev pub with_pending : Half → Pending → Half
-with_pending half op = record half { pairs = record half.pairs { pending = put cell_cmp half.pairs.pending op.cell op } }
+-- the own with this operation pending on its cell
+abbrev pub with_pending : Own → Pending → Own
+with_pending own op = record own { pairs = record own.pairs { pending = put cell_cmp own.pairs.pending op.cell op } }
 
--- the half with nothing pending on the cell
-abbrev pub without_pending : Half → Cell → Half
-without_pending half cell = record half { pairs = record half.pairs { pending = without cell_cmp half.pairs.pending cell } }
+-- the own with nothing pending on the cell
+abbrev pub without_pending : Own → Cell → Own
+without_pending own cell = record own { pairs = record own.pairs { pending = without cell_cmp own.pairs.pending cell } }
 
--- the half with a slot less that is set apart
-abbrev pub gives_back : Half → Half
-gives_back half = record half { store = without_ticket half.store }
+-- the own with a slot less that is set apart
+abbrev pub gives_back : Own → Own
+gives_back own = record own { store = without_ticket own.store }
 
 -- the reply that ended a request
 abbrev pub ended : ℕ → Ending → Body
@@ -64,43 +64,43 @@ ended seq Written = body.Written seq
 ended seq Full = body.Full seq
 
 -- the client's request is done with, which is remembered, and its client is told
-abbrev pub finishes : Half → (client seq : ℕ) → Ending → Done
-finishes half client seq ending =
+abbrev pub finishes : Own → (client seq : ℕ) → Ending → Done
+finishes own client seq ending =
     says
-    (record half { pairs = record half.pairs { finished = put nat_cmp half.pairs.finished client (record { seq = seq; ending = ending }) } })
+    (record own { pairs = record own.pairs { finished = put nat_cmp own.pairs.finished client (record { seq = seq; ending = ending }) } })
     (actor.Client client) (ended seq ending)
 
 -- ### The next stage of a pending operation
 
 -- the lead puts its own copy, with the version after that of its chain
-abbrev pub puts : Half → Pending → Done
-puts half op =
-    let version = version_of (chain_in half.store.chains op.cell) + 1 in
+abbrev pub puts : Own → Pending → Done
+puts own op =
+    let version = version_of (chain_in own.store.chains op.cell) + 1 in
     let put_op : Pending = record op { version = version; stage = record op.stage { put = true } } in
     record {
-      half = with_pending (record half { store = with_entry half.store op.key (record { version = version; bytes = op.bytes }) }) put_op;
+      own = with_pending (record own { store = with_entry own.store op.key (record { version = version; bytes = op.bytes }) }) put_op;
       posts = [];
       jobs = job.Stage op.cell ∷ [];
     }
 
 -- the operation ends without an answer; a slot that it has not used is free again
-abbrev pub gives_up : Half → Pending → Half
-gives_up half op = if op.stage.put then without_pending half op.cell else gives_back (without_pending half op.cell)
+abbrev pub gives_up : Own → Pending → Own
+gives_up own op = if op.stage.put then without_pending own op.cell else gives_back (without_pending own op.cell)
 
-abbrev pub acts : Here → Half → Pending → Action → Done
-acts here half op action.Reserve = says_to half (second here.state op.cell) (body.Reserve op.op op.cell)
-acts here half op action.Put = puts half op
-acts here half op action.Replicate = says_to half (second here.state op.cell) (body.Replicate op.op op.key op.version op.bytes)
-acts here half op action.Answer = finishes (without_pending half op.cell) op.client op.seq Written
-acts here half op action.Drop = silent (gives_up half op)
+abbrev pub acts : Here → Own → Pending → Action → Done
+acts here own op action.Reserve = says_to own (second here.state op.cell) (body.Reserve op.op op.cell)
+acts here own op action.Put = puts own op
+acts here own op action.Replicate = says_to own (second here.state op.cell) (body.Replicate op.op op.key op.version op.bytes)
+acts here own op action.Answer = finishes (without_pending own op.cell) op.client op.seq Written
+acts here own op action.Drop = silent (gives_up own op)
 
-abbrev pub goes_on_with : Here → Half → Option Pending → Done
-goes_on_with here half None = silent half
-goes_on_with here half (Some op) = acts here half op (next_stage here.state here.me op)
+abbrev pub goes_on_with : Here → Own → Option Pending → Done
+goes_on_with here own None = silent own
+goes_on_with here own (Some op) = acts here own op (next_stage here.state here.me op)
 
 -- the operation that is pending on the cell does its next stage
-unfoldable pub goes_on : Here → Half → Cell → Done
-goes_on here half cell = goes_on_with here half (pending_on half cell)
+unfoldable pub goes_on : Here → Own → Cell → Done
+goes_on here own cell = goes_on_with here own (pending_on own cell)
 
 -- ### Write
 
@@ -150,39 +150,39 @@ operation here number want = record {
   bytes = want.bytes;
 }
 
--- the half with the write's operation opened, and a slot of its own set apart
-abbrev pub opened : Here → Half → Wanted → Half
-opened here half want =
-    let with_op = with_pending half (operation here half.pairs.next want) in
-    record { pairs = record with_op.pairs { next = half.pairs.next + 1 }; store = with_ticket half.store }
+-- the own with the write's operation opened, and a slot of its own set apart
+abbrev pub opened : Here → Own → Wanted → Own
+opened here own want =
+    let with_op = with_pending own (operation here own.pairs.next want) in
+    record { pairs = record with_op.pairs { next = own.pairs.next + 1 }; store = with_ticket own.store }
 
 -- a write that is neither finished nor pending
-abbrev pub opens : Here → Half → Wanted → (room : Bool) → Done
-opens here half want false = finishes half want.client want.seq Full
-opens here half want true = goes_on here (opened here half want) want.cell
+abbrev pub opens : Here → Own → Wanted → (room : Bool) → Done
+opens here own want false = finishes own want.client want.seq Full
+opens here own want true = goes_on here (opened here own want) want.cell
 
 -- what a fence or an operation on its block keeps back is refused, and ends nothing
-abbrev pub takes_newer : Here → Half → Wanted → (fenced : Bool) → Option Pending → Done
-takes_newer here half want true op = says half (actor.Client want.client) (body.Held want.seq)
-takes_newer here half want false (Some op) = says half (actor.Client want.client) (body.BlockBusy want.seq)
-takes_newer here half want false None = opens here half want (nat_lt 0 (free_of half.store))
+abbrev pub takes_newer : Here → Own → Wanted → (fenced : Bool) → Option Pending → Done
+takes_newer here own want true op = says own (actor.Client want.client) (body.Held want.seq)
+takes_newer here own want false (Some op) = says own (actor.Client want.client) (body.BlockBusy want.seq)
+takes_newer here own want false None = opens here own want (nat_lt 0 (free_of own.store))
 
 abbrev pub is_pending_for : Option Pending → Wanted → Bool
 is_pending_for None want = false
 is_pending_for (Some op) want = is_for op want
 
-abbrev pub takes : Here → Half → Wanted → Standing → Done
-takes here half want Older = silent half
-takes here half want (Again ending) = says half (actor.Client want.client) (ended want.seq ending)
-takes here half want Newer =
-    if is_pending_for (pending_on half want.cell) want then silent half
-    else takes_newer here half want (is_writes_held (held here.state want.cell)) (pending_on half want.cell)
+abbrev pub takes : Here → Own → Wanted → Standing → Done
+takes here own want Older = silent own
+takes here own want (Again ending) = says own (actor.Client want.client) (ended want.seq ending)
+takes here own want Newer =
+    if is_pending_for (pending_on own want.cell) want then silent own
+    else takes_newer here own want (is_writes_held (held here.state want.cell)) (pending_on own want.cell)
 
 -- a write is taken by the cell's lead, once
-unfoldable pub on_write : Here → Half → Wanted → Done
-on_write here half want =
-    if is_lead here.state here.me want.cell then takes here half want (standing (at nat_cmp half.pairs.finished want.client) want.seq)
-    else silent half
+unfoldable pub on_write : Here → Own → Wanted → Done
+on_write here own want =
+    if is_lead here.state here.me want.cell then takes here own want (standing (at nat_cmp own.pairs.finished want.client) want.seq)
+    else silent own
 
 -- ### Reserved, PairFull and Replicated
 
@@ -200,45 +200,45 @@ with_reserved op = record op { stage = record op.stage { reserved = true } }
 abbrev pub with_paired : Pending → Pending
 with_paired op = record op { stage = record op.stage { paired = true } }
 
-abbrev pub hears_reserved : Here → Half → ℕ → Option Pending → Done
-hears_reserved here half number None = silent half
-hears_reserved here half number (Some op) =
-    if is_reserving op number then goes_on here (with_pending half (with_reserved op)) op.cell else silent half
+abbrev pub hears_reserved : Here → Own → ℕ → Option Pending → Done
+hears_reserved here own number None = silent own
+hears_reserved here own number (Some op) =
+    if is_reserving op number then goes_on here (with_pending own (with_reserved op)) op.cell else silent own
 
-unfoldable pub on_reserved : Here → Half → ℕ → Cell → Done
-on_reserved here half number cell = hears_reserved here half number (pending_on half cell)
+unfoldable pub on_reserved : Here → Own → ℕ → Cell → Done
+on_reserved here own number cell = hears_reserved here own number (pending_on own cell)
 
 -- the lead gives its slot back, and answers that there is none
-abbrev pub hears_pair_full : Half → ℕ → Option Pending → Done
-hears_pair_full half number None = silent half
-hears_pair_full half number (Some op) =
-    if is_reserving op number then finishes (gives_back (without_pending half op.cell)) op.client op.seq Full else silent half
+abbrev pub hears_pair_full : Own → ℕ → Option Pending → Done
+hears_pair_full own number None = silent own
+hears_pair_full own number (Some op) =
+    if is_reserving op number then finishes (gives_back (without_pending own op.cell)) op.client op.seq Full else silent own
 
 -- only an operation that still waits for its reservation is refused
-unfoldable pub on_pair_full : Half → ℕ → Cell → Done
-on_pair_full half number cell = hears_pair_full half number (pending_on half cell)
+unfoldable pub on_pair_full : Own → ℕ → Cell → Done
+on_pair_full own number cell = hears_pair_full own number (pending_on own cell)
 
-abbrev pub hears_replicated : Here → Half → ℕ → Option Pending → Done
-hears_replicated here half number None = silent half
-hears_replicated here half number (Some op) =
-    if is_replicating op number then goes_on here (with_pending half (with_paired op)) op.cell else silent half
+abbrev pub hears_replicated : Here → Own → ℕ → Option Pending → Done
+hears_replicated here own number None = silent own
+hears_replicated here own number (Some op) =
+    if is_replicating op number then goes_on here (with_pending own (with_paired op)) op.cell else silent own
 
-unfoldable pub on_replicated : Here → Half → ℕ → Cell → Done
-on_replicated here half number cell = hears_replicated here half number (pending_on half cell)
+unfoldable pub on_replicated : Here → Own → ℕ → Cell → Done
+on_replicated here own number cell = hears_replicated here own number (pending_on own cell)
 
 -- ### The second server: Reserve and Replicate
 
 -- the last operation on the cell that this server took part in as second server
-abbrev pub last_on : Half → Cell → Option LastOp
-last_on half cell = at cell_cmp half.pairs.last cell
+abbrev pub last_on : Own → Cell → Option LastOp
+last_on own cell = at cell_cmp own.pairs.last cell
 
-abbrev pub with_last : Half → Cell → ℕ → Far → Half
-with_last half cell number far = record half { pairs = record half.pairs { last = put cell_cmp half.pairs.last cell (record { op = number; far = far }) } }
+abbrev pub with_last : Own → Cell → ℕ → Far → Own
+with_last own cell number far = record own { pairs = record own.pairs { last = put cell_cmp own.pairs.last cell (record { op = number; far = far }) } }
 
 -- the second server tells the lead how far it is
-abbrev pub tells : Here → Half → Cell → ℕ → Far → Done
-tells here half cell number far.Reserved = says_to half (first here.state cell) (body.Reserved number cell)
-tells here half cell number far.Replicated = says_to half (first here.state cell) (body.Replicated number cell)
+abbrev pub tells : Here → Own → Cell → ℕ → Far → Done
+tells here own cell number far.Reserved = says_to own (first here.state cell) (body.Reserved number cell)
+tells here own cell number far.Replicated = says_to own (first here.state cell) (body.Replicated number cell)
 
 -- a slot is set apart and not yet used
 abbrev pub has_slot : Far → Bool
@@ -246,38 +246,38 @@ has_slot far.Reserved = true
 has_slot far.Replicated = false
 
 -- an operation that is new here gets the slot that is set apart for the cell, or a free one
-abbrev pub reserves : Here → Half → Cell → ℕ → (has room : Bool) → Done
-reserves here half cell number true room = tells here (with_last half cell number far.Reserved) cell number far.Reserved
-reserves here half cell number false true = tells here (with_last (record half { store = with_ticket half.store }) cell number far.Reserved) cell number far.Reserved
-reserves here half cell number false false = says_to half (first here.state cell) (body.PairFull number cell)
+abbrev pub reserves : Here → Own → Cell → ℕ → (has room : Bool) → Done
+reserves here own cell number true room = tells here (with_last own cell number far.Reserved) cell number far.Reserved
+reserves here own cell number false true = tells here (with_last (record own { store = with_ticket own.store }) cell number far.Reserved) cell number far.Reserved
+reserves here own cell number false false = says_to own (first here.state cell) (body.PairFull number cell)
 
 -- an older number is dropped, an equal one is answered again
-abbrev pub hears_reserve : Here → Half → Cell → ℕ → Option LastOp → Done
-hears_reserve here half cell number None = reserves here half cell number false (nat_lt 0 (free_of half.store))
-hears_reserve here half cell number (Some last) =
-    if nat_lt number last.op then silent half
-    else if number == last.op then tells here half cell number last.far
-    else reserves here half cell number (has_slot last.far) (nat_lt 0 (free_of half.store))
+abbrev pub hears_reserve : Here → Own → Cell → ℕ → Option LastOp → Done
+hears_reserve here own cell number None = reserves here own cell number false (nat_lt 0 (free_of own.store))
+hears_reserve here own cell number (Some last) =
+    if nat_lt number last.op then silent own
+    else if number == last.op then tells here own cell number last.far
+    else reserves here own cell number (has_slot last.far) (nat_lt 0 (free_of own.store))
 
-unfoldable pub on_reserve : Here → Half → ℕ → Cell → Done
-on_reserve here half number cell = if is_second here.state here.me cell then hears_reserve here half cell number (last_on half cell) else silent half
+unfoldable pub on_reserve : Here → Own → ℕ → Cell → Done
+on_reserve here own number cell = if is_second here.state here.me cell then hears_reserve here own cell number (last_on own cell) else silent own
 
 -- the second server puts its copy, with the version after that of its own chain
-abbrev pub follows : Here → Half → ℕ → Key → List ℕ → Done
-follows here half number key bytes =
-    let version = version_of (chain_in half.store.chains (cell_of key)) + 1 in
-    let put_half : Half = record half { store = with_entry half.store key (record { version = version; bytes = bytes }) } in
-    tells here (with_last put_half (cell_of key) number far.Replicated) (cell_of key) number far.Replicated
+abbrev pub follows : Here → Own → ℕ → Key → List ℕ → Done
+follows here own number key bytes =
+    let version = version_of (chain_in own.store.chains (cell_of key)) + 1 in
+    let with_put : Own = record own { store = with_entry own.store key (record { version = version; bytes = bytes }) } in
+    tells here (with_last with_put (cell_of key) number far.Replicated) (cell_of key) number far.Replicated
 
 -- once, in the slot that was set apart
-abbrev pub follows_once : Here → Half → ℕ → Key → List ℕ → Far → Done
-follows_once here half number key bytes far.Reserved = follows here half number key bytes
-follows_once here half number key bytes far.Replicated = tells here half (cell_of key) number far.Replicated
+abbrev pub follows_once : Here → Own → ℕ → Key → List ℕ → Far → Done
+follows_once here own number key bytes far.Reserved = follows here own number key bytes
+follows_once here own number key bytes far.Replicated = tells here own (cell_of key) number far.Replicated
 
 -- only for the number whose slot was set apart; an equal number is answered again
-abbrev pub hears_replicate : Here → Half → ℕ → Key → List ℕ → Option LastOp → Done
-hears_replicate here half number key bytes None = silent half
-hears_replicate here half number key bytes (Some last) = if number == last.op then follows_once here half number key bytes last.far else silent half
+abbrev pub hears_replicate : Here → Own → ℕ → Key → List ℕ → Option LastOp → Done
+hears_replicate here own number key bytes None = silent own
+hears_replicate here own number key bytes (Some last) = if number == last.op then follows_once here own number key bytes last.far else silent own
 
-unfoldable pub on_replicate : Here → Half → ℕ → Key → List ℕ → Done
-on_replicate here half number key bytes = if is_second here.state here.me (cell_of key) then hears_replicate here half number key bytes (last_on half (cell_of key)) else silent half
+unfoldable pub on_replicate : Here → Own → ℕ → Key → List ℕ → Done
+on_replicate here own number key bytes = if is_second here.state here.me (cell_of key) then hears_replicate here own number key bytes (last_on own (cell_of key)) else silent own

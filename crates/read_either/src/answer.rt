@@ -7,7 +7,7 @@ ghost use Rattle.petal_rules.specs.Server.{Pairs};
 ghost use Rattle.petal_rules.specs.State.{is_lead, readable};
 ghost use Rattle.server_store.specs.Shown.{Holds};
 ghost use Rattle.kept_chains.specs.Reading.{IsReadFault};
-ghost use Rattle.read_either.specs.Halves.{half_of};
+ghost use Rattle.read_either.specs.Owns.{own_with};
 
 use global_state::{GlobalState, Hold};
 use kept_chains::{ReadError, read_at};
@@ -52,7 +52,7 @@ pub fn answer_read<D: Disk>(
     epoch: Epoch,
 ) -> Result<Reply, ReadError>
     requires { readable state.now me cell ≡ true }
-    ensures reply { IfOk result (λ reply. D.told → (inc : ℕ) (pairs : Pairs) → pairs.pending ≡ locks.now → reply ≡ reads.reply_to (record { state = state.now; me = me; inc = inc }) (half_of pairs store.old) cell epoch) }
+    ensures reply { IfOk result (λ reply. D.told → (inc : ℕ) (pairs : Pairs) → pairs.pending ≡ locks.now → reply ≡ reads.reply_to (record { state = state.now; me = me; inc = inc }) (own_with pairs store.old) cell epoch) }
     ensures same { store.new ≡ record store.old { disk = store.new.disk } }
     ensures device { KeepsDevice D.size D.seen D.may_leave D.moment D.left_since store.old.disk store.new.disk }
     ensures holds { D.told → Holds store.old (D.seen store.old.disk) (D.may_leave store.old.disk)

@@ -5,7 +5,7 @@ use Rattle.petal_msg.specs.declared.body.Body.{Body}
 use Rattle.petal_msg.specs.declared.letter.Actor.TheVariants as actor
 use Rattle.petal_msg.specs.declared.operation.Reply.{Reply}
 use Rattle.petal_rules.specs.State.{readable}
-use Rattle.petal_rules.specs.Server.{Half, Here, Done, says}
+use Rattle.petal_rules.specs.Server.{Own, Here, Done, says}
 use Rattle.petal_rules.specs.Reads.{on_read, reply_to, said}
 use Rattle.server_store.specs.Holdings.{Holdings}
 use Rattle.write_pair.specs.declared.error.WorkError.{WorkError}
@@ -43,8 +43,8 @@ module _ {D : Type 0} (told : Type 0) (seen : D → List ℕ) (may_leave : D →
   }
 
 -- the reply of a read that the server may answer
-pub told_is : (here : Here) (half half' : Half) (client seq : ℕ) (cell : Cell) (epoch : ℕ) (reply : Reply) (said_so : Body) → half ≡ half'
-    → readable here.state here.me cell ≡ true → reply ≡ reply_to here half' cell epoch → said_so ≡ said seq reply
-    → says half (actor.Client client) said_so ≡ on_read here half' client seq cell epoch
+pub told_is : (here : Here) (own own' : Own) (client seq : ℕ) (cell : Cell) (epoch : ℕ) (reply : Reply) (said_so : Body) → own ≡ own'
+    → readable here.state here.me cell ≡ true → reply ≡ reply_to here own' cell epoch → said_so ≡ said seq reply
+    → says own (actor.Client client) said_so ≡ on_read here own' client seq cell epoch
 unfolding on_read
-told_is here half half' client seq cell epoch reply said_so same may is spelled = rw (spelled, is, same, may) refl
+told_is here own own' client seq cell epoch reply said_so same may is spelled = rw (spelled, is, same, may) refl

@@ -42,8 +42,7 @@ pairs_of core = record { pending = core.pending; next = core.next; finished = co
 abbrev pub server_of : Core → Store → Server
 server_of core store = record {
   life = record { running = true; inc = core.inc; rev = core.state.rev };
-  pairs = pairs_of core;
-  store = store;
+  own = record { pairs = pairs_of core; store = store };
   queue = core.queue;
 }
 

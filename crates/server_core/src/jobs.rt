@@ -5,7 +5,7 @@ ghost use Rattle.petal_rules.specs.State.{is_in};
 ghost use Rattle.petal_rules.specs.Server as rules;
 ghost use Rattle.petal_rules.specs.Jobs.{asked_by, at_other_rev, does, handles, is_from_in, on_letter};
 ghost use Rattle.petal_rules.specs.Reads.{on_read};
-ghost use Rattle.write_pair.specs.Desk.{desk, half_at, HasTicketsAt, HasVersions, left_by, left_with};
+ghost use Rattle.write_pair.specs.Desk.{desk, own_at, HasTicketsAt, HasVersions, left_by, left_with};
 ghost use Rattle.write_pair.specs.Jobs.{place, is_pair_letter};
 ghost use Rattle.server_core.specs.Job.{IsJob};
 
@@ -79,7 +79,7 @@ fn silent<D: Disk>(
     requires { HasTicketsAt (desk locks.now tables.now store.now) }
     ensures { IsJob D.told D.seen D.may_leave D.faults D.came_to (place here.now) here.now.next
         (desk locks.now tables.now store.now) (desk locks.now tables.now store.now) result
-        (rules.silent (half_at here.now.next (desk locks.now tables.now store.now))) }
+        (rules.silent (own_at here.now.next (desk locks.now tables.now store.now))) }
 {
     Ok(only(Sequence::new(here.alloc)))
 }
@@ -96,7 +96,7 @@ fn says<D: Disk>(
     requires { HasTicketsAt (desk locks.now tables.now store.now) }
     ensures { IsJob D.told D.seen D.may_leave D.faults D.came_to (place here.now) here.now.next
         (desk locks.now tables.now store.now) (desk locks.now tables.now store.now) result
-        (rules.says (half_at here.now.next (desk locks.now tables.now store.now)) to body) }
+        (rules.says (own_at here.now.next (desk locks.now tables.now store.now)) to body) }
 {
     Ok(only(here.says(to, body)?))
 }
@@ -112,7 +112,7 @@ fn at_other_rev<D: Disk>(
     requires { HasTicketsAt (desk locks.now tables.now store.now) }
     ensures { IsJob D.told D.seen D.may_leave D.faults D.came_to (place here.now) here.now.next
         (desk locks.now tables.now store.now) (desk locks.now tables.now store.now) result
-        (at_other_rev (half_at here.now.next (desk locks.now tables.now store.now)) letter.now letter.now.from) }
+        (at_other_rev (own_at here.now.next (desk locks.now tables.now store.now)) letter.now letter.now.from) }
 {
     match letter.from {
         Actor::Server(_) => silent(here, tables, locks, store),
@@ -145,7 +145,7 @@ fn on_read<D: Disk>(
     requires { HasTicketsAt (desk locks.now tables.now store.old) }
     ensures { IsJob D.told D.seen D.may_leave D.faults D.came_to (place here.now) here.now.next
         (desk locks.now tables.now store.old) (desk locks.now tables.now store.new) result
-        (on_read (place here.now) (half_at here.now.next (desk locks.now tables.now store.old)) client seq cell epoch) }
+        (on_read (place here.now) (own_at here.now.next (desk locks.now tables.now store.old)) client seq cell epoch) }
 {
     if !here.state.readable(here.me, cell) {
         return silent(here, tables, locks, store);
@@ -177,7 +177,7 @@ fn handles<D: Disk>(
     requires versions { HasVersions store.old }
     ensures { IsJob D.told D.seen D.may_leave D.faults D.came_to (place here.now) here.now.next
         (desk locks.old tables.old store.old) (desk locks.new tables.new store.new) result
-        (handles (place here.now) (half_at here.now.next (desk locks.old tables.old store.old)) letter.now.body) }
+        (handles (place here.now) (own_at here.now.next (desk locks.old tables.old store.old)) letter.now.body) }
 {
     match &letter.body {
         Body::Read {
@@ -216,7 +216,7 @@ fn on_letter<D: Disk>(
     requires versions { HasVersions store.old }
     ensures { IsJob D.told D.seen D.may_leave D.faults D.came_to (place here.now) here.now.next
         (desk locks.old tables.old store.old) (desk locks.new tables.new store.new) result
-        (on_letter (place here.now) (half_at here.now.next (desk locks.old tables.old store.old)) letter.now) }
+        (on_letter (place here.now) (own_at here.now.next (desk locks.old tables.old store.old)) letter.now) }
 {
     if !is_in(here.state, here.me, here.inc) {
         silent(here, tables, locks, store)
@@ -242,7 +242,7 @@ pub fn does<D: Disk>(
     requires versions { HasVersions store.old }
     ensures { IsJob D.told D.seen D.may_leave D.faults D.came_to (place here.now) here.now.next
         (desk locks.old tables.old store.old) (desk locks.new tables.new store.new) result
-        (does (place here.now) (half_at here.now.next (desk locks.old tables.old store.old)) job.now) }
+        (does (place here.now) (own_at here.now.next (desk locks.old tables.old store.old)) job.now) }
 {
     match job {
         Job::Letter(letter) => on_letter(here, tables, locks, store, letter.get()),

@@ -30,7 +30,7 @@ acted_at site step = gone site (server_step step site.state site.me site.server)
 
 -- a number of the server is the greatest of its type
 abbrev pub is_spent : Server → Bool
-is_spent server = (server.pairs.next == greatest_u64) || (top_of server.store.chains == greatest_u64)
+is_spent server = (server.own.pairs.next == greatest_u64) || (top_of server.own.store.chains == greatest_u64)
 
 -- a server and the stamp of its last step
 pub record Desk : Type 0 where

@@ -9,7 +9,7 @@ use Rattle.petal_msg.specs.declared.operation.Action.TheVariants as action
 use Rattle.petal_msg.specs.declared.operation.Pending.{Pending}
 use Rattle.petal_state.specs.Place.{live, leaving, cell_link, row_lead}
 use Rattle.petal_rules.specs.State.{State, is_the, is_lead, leads_link, second}
-use Rattle.petal_rules.specs.Server.{Half, Here, Done, says_to, sender, letters_of, post_to}
+use Rattle.petal_rules.specs.Server.{Own, Here, Done, says_to, sender, letters_of, post_to}
 use Rattle.petal_rules.specs.Store.{Store, cell_cmp, free_of}
 use Rattle.petal_rules.specs.Writes.{Wanted, acts, both_action, first_stage, goes_on, goes_on_with, opened, opens, operation}
 use Rattle.petal_rules.proofs.CellTables.{cell_cmp_total, cell_same}
@@ -19,7 +19,7 @@ use Rattle.kept_chains.proofs.Puts.{without_new}
 use Rattle.write_pair.specs.declared.error.WorkError.TheVariants.{NoMemory}
 use Rattle.write_pair.specs.declared.outcome.Outcome.{Outcome}
 use Rattle.write_pair.specs.Books.{Books, HasTickets, needs_own}
-use Rattle.write_pair.specs.Desk.{Desk, Left, desk, half_at, left_by, left_with, IsSaid}
+use Rattle.write_pair.specs.Desk.{Desk, Left, desk, own_at, left_by, left_with, IsSaid}
 use Rattle.write_pair.specs.Slots.{IsKept}
 use Rattle.write_pair.proofs.Tickets.{kept_opened, kept_is}
 
@@ -41,25 +41,25 @@ module _ {D : Type 0} (here : Here) (next : ℕ) (pending : Table Cell Pending) 
   own_none = none_of (at cell_cmp books.own want.cell) (h.own want.cell ∙ ap needs_own none)
 
   -- a letter to the second server is what an operation does first
-  first_act : (half : Half) → half.pairs.next ≡ next → half.pairs.pending ≡ pending → is_lead here.state here.me want.cell ≡ true
-      → opens here half want true ≡ says_to (opened here half want) (second here.state want.cell) (body.Reserve half.pairs.next want.cell)
+  first_act : (own : Own) → own.pairs.next ≡ next → own.pairs.pending ≡ pending → is_lead here.state here.me want.cell ≡ true
+      → opens here own want true ≡ says_to (opened here own want) (second here.state want.cell) (body.Reserve own.pairs.next want.cell)
   unfolding goes_on
-  first_act half number table lead =
-      let op = operation here half.pairs.next want in
-      ap (goes_on_with here (opened here half want)) (cell_same half.pairs.pending want.cell op)
-      ∙ ap (λ (b : Bool). acts here (opened here half want) op (if b then both_action op.stage else action.Drop)) (leads here.state here.me want.cell lead)
+  first_act own number table lead =
+      let op = operation here own.pairs.next want in
+      ap (goes_on_with here (opened here own want)) (cell_same own.pairs.pending want.cell op)
+      ∙ ap (λ (b : Bool). acts here (opened here own want) op (if b then both_action op.stage else action.Drop)) (leads here.state here.me want.cell lead)
 
   pub opens_done : (new : Table Cell Pending) (own : Table Cell ℕ) (after : Holdings D) (letters : List Letter) (room : Bool) → is_lead here.state here.me want.cell ≡ true → room ≡ true → IsKept books.own own store after want.cell
       → new ≡ put cell_cmp pending want.cell (operation here next want) → letters ≡ letters_of (sender here) 0 (post_to (second here.state want.cell) (body.Reserve next want.cell))
-      → IsSaid here next (desk pending books store) (desk new (record books { own = own }) after) (Ok (record { letters = letters; follow = None; opened = true })) (opens here (half_at next (desk pending books store)) want room)
+      → IsSaid here next (desk pending books store) (desk new (record books { own = own }) after) (Ok (record { letters = letters; follow = None; opened = true })) (opens here (own_at next (desk pending books store)) want room)
   opens_done new own after letters room lead has kept table said =
       let kept_store = kept_is store after kept.slot kept.store in
       rw (has, table, said, kept.table, kept.store) (record {
         done = ap (λ (s : Store). left_by here (says_to (record {
-          pairs = record (half_at next (desk pending books store)).pairs { pending = put cell_cmp pending want.cell (operation here next want); next = next + 1 };
+          pairs = record (own_at next (desk pending books store)).pairs { pending = put cell_cmp pending want.cell (operation here next want); next = next + 1 };
           store = s;
         }) (second here.state want.cell) (body.Reserve next want.cell))) (kept_is store _ kept.slot refl)
-            ∙ ap (left_by here) (sym (first_act (half_at next (desk pending books store)) refl refl lead));
+            ∙ ap (left_by here) (sym (first_act (own_at next (desk pending books store)) refl refl lead));
         keeps = kept_opened pending books store.tickets h want.cell (operation here next want) kept.slot own_none refl;
         err = tt;
         store = refl;

@@ -7,7 +7,7 @@ use Rattle.pair_lock.specs.Pairs.{at_stage}
 use Rattle.petal_msg.specs.declared.letter.Letter.{Letter}
 use Rattle.petal_msg.specs.declared.operation.Pending.{Pending}
 use Rattle.physical_map.specs.Entries.{top_of}
-use Rattle.petal_rules.specs.Server.{Half, Here, Done, sender, letters_of}
+use Rattle.petal_rules.specs.Server.{Own, Here, Done, sender, letters_of}
 use Rattle.petal_rules.specs.declared.job.Job.{Job}
 use Rattle.petal_rules.specs.declared.job.Job.TheVariants as job
 use Rattle.server_store.specs.Holdings.{Holdings, listed}
@@ -24,22 +24,22 @@ pub record Desk (D : Type 0) : Type 0 where
   pub books : Books
   pub store : Holdings D
 
--- the desk as a server's half of its pairs, with the number of the next operation
-abbrev pub half_at : {D : Type 0} → ℕ → Desk D → Half
-half_at next desk = record {
+-- the desk as a server's own of its pairs, with the number of the next operation
+abbrev pub own_at : {D : Type 0} → ℕ → Desk D → Own
+own_at next desk = record {
   pairs = record { pending = desk.pending; next = next; finished = desk.books.finished; last = desk.books.last };
   store = kept_of desk.store;
 }
 
--- a half behind a job, with the letters that it sends and the jobs that follow it up
+-- a own behind a job, with the letters that it sends and the jobs that follow it up
 pub record Left : Type 0 where
-  pub half : Half
+  pub own : Own
   pub letters : List Letter
   pub jobs : List Job
 
 -- what a rule says of a job
 abbrev pub left_by : Here → Done → Left
-left_by here done = record { half = done.half; letters = letters_of (sender here) 0 done.posts; jobs = done.jobs }
+left_by here done = record { own = done.own; letters = letters_of (sender here) 0 done.posts; jobs = done.jobs }
 
 -- the number behind a job that opened an operation or none
 abbrev pub next_after : ℕ → Bool → ℕ
@@ -52,7 +52,7 @@ follow_up (Some cell) = job.Stage cell ∷ []
 
 -- what the code leaves behind a job
 abbrev pub left_with : {D : Type 0} → ℕ → Desk D → Outcome → Left
-left_with next desk out = record { half = half_at (next_after next out.opened) desk; letters = out.letters; jobs = follow_up out.follow }
+left_with next desk out = record { own = own_at (next_after next out.opened) desk; letters = out.letters; jobs = follow_up out.follow }
 
 -- the greatest version of the store can still be counted up
 abbrev pub HasVersions : {D : Type 0} → Holdings D → Type 0

@@ -3,7 +3,7 @@
 ghost use Rattle.std.specs.Prelude.{◌≡◌, false, true};
 ghost use Rattle.petal_rules.specs.Writes as writes;
 ghost use Rattle.petal_msg.specs.declared.operation.Action.TheVariants as action;
-ghost use Rattle.write_pair.specs.Desk.{desk, half_at, HasTicketsAt, HasVersions, IsDone, IsMoved, IsSaid};
+ghost use Rattle.write_pair.specs.Desk.{desk, own_at, HasTicketsAt, HasVersions, IsDone, IsMoved, IsSaid};
 ghost use Rattle.write_pair.specs.Jobs.{place};
 
 use crate::answer::silent;
@@ -28,7 +28,7 @@ fn replicates<D: Disk>(
     requires tickets { HasTicketsAt (desk locks.old tables.now store.now) }
     requires moved { IsMoved locks.old op.now }
     ensures { IsSaid (place here.now) here.now.next (desk locks.old tables.now store.now) (desk locks.new tables.now store.now) result
-        (writes.acts (place here.now) (writes.with_pending (half_at here.now.next (desk locks.old tables.now store.now)) op.now) op.now action.Replicate) }
+        (writes.acts (place here.now) (writes.with_pending (own_at here.now.next (desk locks.old tables.now store.now)) op.now) op.now action.Replicate) }
 {
     let body = Body::Replicate {
         op: op.op,
@@ -52,7 +52,7 @@ pub fn acts<D: Disk>(
     requires moved { IsMoved locks.old op.now }
     ensures { IsDone D.told D.seen D.may_leave D.faults D.came_to (place here.now) here.now.next
         (desk locks.old tables.old store.old) (desk locks.new tables.new store.new) result
-        (writes.acts (place here.now) (writes.with_pending (half_at here.now.next (desk locks.old tables.old store.old)) op.now) op.now (writes.next_stage here.now.state.now here.now.me op.now)) }
+        (writes.acts (place here.now) (writes.with_pending (own_at here.now.next (desk locks.old tables.old store.old)) op.now) op.now (writes.next_stage here.now.state.now here.now.me op.now)) }
 {
     match next_stage(here.state, here.me, op) {
         Action::Reserve => {
@@ -81,7 +81,7 @@ pub fn goes_on<D: Disk>(
     requires versions { HasVersions store.old }
     ensures { IsDone D.told D.seen D.may_leave D.faults D.came_to (place here.now) here.now.next
         (desk locks.old tables.old store.old) (desk locks.new tables.new store.new) result
-        (writes.goes_on (place here.now) (half_at here.now.next (desk locks.old tables.old store.old)) cell) }
+        (writes.goes_on (place here.now) (own_at here.now.next (desk locks.old tables.old store.old)) cell) }
 {
     match found(locks, cell)? {
         Some(op) => acts(here, tables, locks, store, &op),

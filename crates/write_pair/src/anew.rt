@@ -2,7 +2,7 @@
 
 ghost use Rattle.std.specs.Prelude.{◌≡◌, ◌+◌, ◌++◌, length, IfOk};
 ghost use Rattle.std.specs.List.{flat_map};
-ghost use Rattle.petal_rules.specs.Server.{Half, letters_of, sender};
+ghost use Rattle.petal_rules.specs.Server.{Own, letters_of, sender};
 ghost use Rattle.petal_rules.specs.Jobs.{sent_anew};
 ghost use Rattle.write_pair.specs.Anew.{posts_of};
 ghost use Rattle.write_pair.specs.Jobs.{place};
@@ -18,7 +18,7 @@ use std::alloc::Global;
 
 /// The letter that an operation sends, with its content, if it waits for an answer.
 fn awaited(here: &Here, op: &Pending) -> Result<Option<(ServerId, Body)>, NoMemory>
-    ensures { IfOk result (λ found. (half : Half) → posts_of found ≡ sent_anew (place here.now) half op.now) }
+    ensures { IfOk result (λ found. (own : Own) → posts_of found ≡ sent_anew (place here.now) own op.now) }
 {
     match (
         next_stage(here.state, here.me, op),
@@ -52,7 +52,7 @@ fn with_awaited(
     nth: u32,
     op: &Pending,
 ) -> Result<(Sequence<Letter>, u32), NoMemory>
-    ensures { IfOk result (λ more. (half : Half) → (more.0 ≡ letters ++ letters_of (sender (place here.now)) nth (sent_anew (place here.now) half op.now)) × (more.1 ≡ nth + length (sent_anew (place here.now) half op.now))) }
+    ensures { IfOk result (λ more. (own : Own) → (more.0 ≡ letters ++ letters_of (sender (place here.now)) nth (sent_anew (place here.now) own op.now)) × (more.1 ≡ nth + length (sent_anew (place here.now) own op.now))) }
 {
     match awaited(here, op)? {
         None => Ok((letters, nth)),
@@ -72,7 +72,7 @@ fn with_awaited(
 }
 
 fn all_anew(here: &Here, locks: &PairLock) -> Result<Sequence<Letter>, NoMemory>
-    ensures { IfOk result (λ letters. (half : Half) → letters ≡ letters_of (sender (place here.now)) 0 (flat_map (λ row. sent_anew (place here.now) half row.1) locks.now)) }
+    ensures { IfOk result (λ letters. (own : Own) → letters ≡ letters_of (sender (place here.now)) 0 (flat_map (λ row. sent_anew (place here.now) own row.1) locks.now)) }
 {
     let mut letters = Sequence::new(here.alloc);
     let mut nth = 0;
@@ -95,8 +95,8 @@ pub fn letters_anew(
     inc: Inc,
     locks: &PairLock,
 ) -> Result<Sequence<Letter>, NoMemory>
-    ensures { IfOk result (λ letters. (half : Half) → letters ≡ letters_of (sender (record { state = state.now; me = me; inc = inc })) 0
-        (flat_map (λ row. sent_anew (record { state = state.now; me = me; inc = inc }) half row.1) locks.now)) }
+    ensures { IfOk result (λ letters. (own : Own) → letters ≡ letters_of (sender (record { state = state.now; me = me; inc = inc })) 0
+        (flat_map (λ row. sent_anew (record { state = state.now; me = me; inc = inc }) own row.1) locks.now)) }
 {
     let here = Here {
         alloc,

@@ -3,7 +3,7 @@
 ghost use Rattle.std.specs.Prelude.{◌≡◌};
 ghost use Rattle.petal_rules.specs.Server as rules;
 ghost use Rattle.petal_rules.specs.Writes as writes;
-ghost use Rattle.write_pair.specs.Desk.{desk, half_at, HasTicketsAt, IsSaid};
+ghost use Rattle.write_pair.specs.Desk.{desk, own_at, HasTicketsAt, IsSaid};
 ghost use Rattle.write_pair.specs.Jobs.{place};
 
 use crate::here::{Here, only};
@@ -23,7 +23,7 @@ pub fn silent<D: Disk>(
 ) -> Result<Outcome, WorkError>
     requires { HasTicketsAt (desk locks.now tables.now store.now) }
     ensures { IsSaid (place here.now) here.now.next (desk locks.now tables.now store.now) (desk locks.now tables.now store.now) result
-        (rules.silent (half_at here.now.next (desk locks.now tables.now store.now))) }
+        (rules.silent (own_at here.now.next (desk locks.now tables.now store.now))) }
 {
     Ok(only(Sequence::new(here.alloc)))
 }
@@ -39,7 +39,7 @@ pub fn says<D: Disk>(
 ) -> Result<Outcome, WorkError>
     requires { HasTicketsAt (desk locks.now tables.now store.now) }
     ensures { IsSaid (place here.now) here.now.next (desk locks.now tables.now store.now) (desk locks.now tables.now store.now) result
-        (rules.says (half_at here.now.next (desk locks.now tables.now store.now)) to body) }
+        (rules.says (own_at here.now.next (desk locks.now tables.now store.now)) to body) }
 {
     Ok(only(here.says(to, body)?))
 }
@@ -55,7 +55,7 @@ pub fn says_to<D: Disk>(
 ) -> Result<Outcome, WorkError>
     requires { HasTicketsAt (desk locks.now tables.now store.now) }
     ensures { IsSaid (place here.now) here.now.next (desk locks.now tables.now store.now) (desk locks.now tables.now store.now) result
-        (rules.says_to (half_at here.now.next (desk locks.now tables.now store.now)) to body) }
+        (rules.says_to (own_at here.now.next (desk locks.now tables.now store.now)) to body) }
 {
     Ok(only(here.says_to(to, body)?))
 }
@@ -82,7 +82,7 @@ pub fn finishes<D: Disk>(
 ) -> Result<Outcome, WorkError>
     requires { HasTicketsAt (desk locks.now tables.old store.now) }
     ensures { IsSaid (place here.now) here.now.next (desk locks.now tables.old store.now) (desk locks.now tables.new store.now) result
-        (writes.finishes (half_at here.now.next (desk locks.now tables.old store.now)) client seq ending) }
+        (writes.finishes (own_at here.now.next (desk locks.now tables.old store.now)) client seq ending) }
 {
     let letters = here.says(Actor::Client(client), ended(seq, ending))?;
     tables.finished.put(client, Finished { seq, ending })?;

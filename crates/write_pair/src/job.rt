@@ -3,7 +3,7 @@
 ghost use Rattle.std.specs.Prelude.{◌≡◌, true};
 ghost use Rattle.petal_rules.specs.Jobs.{handles};
 ghost use Rattle.petal_rules.specs.Writes as writes;
-ghost use Rattle.write_pair.specs.Desk.{desk, half_at, HasTicketsAt, HasVersions, IsDone};
+ghost use Rattle.write_pair.specs.Desk.{desk, own_at, HasTicketsAt, HasVersions, IsDone};
 ghost use Rattle.write_pair.specs.Jobs.{is_pair_letter};
 
 use crate::acts::goes_on;
@@ -44,7 +44,7 @@ pub fn on_letter<D: Disk>(
     requires versions { HasVersions store.old }
     ensures job { IsDone D.told D.seen D.may_leave D.faults D.came_to (record { state = state.now; me = me; inc = inc }) op
         (desk locks.old tables.old store.old) (desk locks.new tables.new store.new) result
-        (handles (record { state = state.now; me = me; inc = inc }) (half_at op (desk locks.old tables.old store.old)) letter.now.body) }
+        (handles (record { state = state.now; me = me; inc = inc }) (own_at op (desk locks.old tables.old store.old)) letter.now.body) }
 {
     let here = &Here {
         alloc,
@@ -110,7 +110,7 @@ pub fn on_stage<D: Disk>(
     requires versions { HasVersions store.old }
     ensures job { IsDone D.told D.seen D.may_leave D.faults D.came_to (record { state = state.now; me = me; inc = inc }) op
         (desk locks.old tables.old store.old) (desk locks.new tables.new store.new) result
-        (writes.goes_on (record { state = state.now; me = me; inc = inc }) (half_at op (desk locks.old tables.old store.old)) cell) }
+        (writes.goes_on (record { state = state.now; me = me; inc = inc }) (own_at op (desk locks.old tables.old store.old)) cell) }
 {
     let here = &Here {
         alloc,

@@ -5,7 +5,7 @@ ghost use Rattle.petal_table.specs.Table.{at};
 ghost use Rattle.petal_rules.specs.Store.{cell_cmp};
 ghost use Rattle.petal_rules.specs.Writes as writes;
 ghost use Rattle.petal_msg.specs.declared.operation.Ending.TheVariants as ending;
-ghost use Rattle.write_pair.specs.Desk.{desk, half_at, HasTicketsAt, HasVersions, IsDone, IsMoved, IsSaid};
+ghost use Rattle.write_pair.specs.Desk.{desk, own_at, HasTicketsAt, HasVersions, IsDone, IsMoved, IsSaid};
 ghost use Rattle.write_pair.specs.Jobs.{place};
 
 use crate::acts::acts;
@@ -48,7 +48,7 @@ pub fn on_reserved<D: Disk>(
     requires versions { HasVersions store.old }
     ensures { IsDone D.told D.seen D.may_leave D.faults D.came_to (place here.now) here.now.next
         (desk locks.old tables.old store.old) (desk locks.new tables.new store.new) result
-        (writes.on_reserved (place here.now) (half_at here.now.next (desk locks.old tables.old store.old)) op cell) }
+        (writes.on_reserved (place here.now) (own_at here.now.next (desk locks.old tables.old store.old)) op cell) }
 {
     match found(locks, cell)? {
         Some(pending) if pending.op == op && !pending.stage.reserved => {
@@ -70,7 +70,7 @@ fn ends_full<D: Disk>(
     requires there { at cell_cmp locks.old op.now.cell ≡ Some op.now }
     requires waits { op.now.stage.reserved ≡ false }
     ensures { IsSaid (place here.now) here.now.next (desk locks.old tables.old store.old) (desk locks.new tables.new store.new) result
-        (writes.finishes (writes.gives_back (writes.without_pending (half_at here.now.next (desk locks.old tables.old store.old)) op.now.cell)) op.now.client op.now.seq ending.Full) }
+        (writes.finishes (writes.gives_back (writes.without_pending (own_at here.now.next (desk locks.old tables.old store.old)) op.now.cell)) op.now.client op.now.seq ending.Full) }
 {
     let outcome = finishes(here, tables, locks, store, op.client, op.seq, Ending::Full)?;
     locks.close(op.cell);
@@ -90,7 +90,7 @@ pub fn on_pair_full<D: Disk>(
 ) -> Result<Outcome, WorkError>
     requires tickets { HasTicketsAt (desk locks.old tables.old store.old) }
     ensures { IsSaid (place here.now) here.now.next (desk locks.old tables.old store.old) (desk locks.new tables.new store.new) result
-        (writes.on_pair_full (half_at here.now.next (desk locks.old tables.old store.old)) op cell) }
+        (writes.on_pair_full (own_at here.now.next (desk locks.old tables.old store.old)) op cell) }
 {
     match found(locks, cell)? {
         Some(pending) if pending.op == op && !pending.stage.reserved => {
@@ -114,7 +114,7 @@ pub fn on_replicated<D: Disk>(
     requires versions { HasVersions store.old }
     ensures { IsDone D.told D.seen D.may_leave D.faults D.came_to (place here.now) here.now.next
         (desk locks.old tables.old store.old) (desk locks.new tables.new store.new) result
-        (writes.on_replicated (place here.now) (half_at here.now.next (desk locks.old tables.old store.old)) op cell) }
+        (writes.on_replicated (place here.now) (own_at here.now.next (desk locks.old tables.old store.old)) op cell) }
 {
     match found(locks, cell)? {
         Some(pending) if pending.op == op && pending.stage.put && !pending.stage.paired => {

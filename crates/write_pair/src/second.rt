@@ -9,7 +9,7 @@ ghost use Rattle.petal_rules.specs.Writes as writes;
 ghost use Rattle.petal_msg.specs.declared.operation.Far.TheVariants as far;
 ghost use Rattle.kept_chains.specs.Kept.{kept_of};
 ghost use Rattle.write_pair.specs.Books.{needs_apart};
-ghost use Rattle.write_pair.specs.Desk.{desk, half_at, HasTicketsAt, HasVersions, IsDone, IsSaid};
+ghost use Rattle.write_pair.specs.Desk.{desk, own_at, HasTicketsAt, HasVersions, IsDone, IsSaid};
 ghost use Rattle.write_pair.specs.Jobs.{place};
 
 use crate::answer::{says_to, silent};
@@ -36,7 +36,7 @@ fn tells<D: Disk>(
 ) -> Result<Outcome, WorkError>
     requires { HasTicketsAt (desk locks.now tables.now store.now) }
     ensures { IsSaid (place here.now) here.now.next (desk locks.now tables.now store.now) (desk locks.now tables.now store.now) result
-        (writes.tells (place here.now) (half_at here.now.next (desk locks.now tables.now store.now)) cell op far) }
+        (writes.tells (place here.now) (own_at here.now.next (desk locks.now tables.now store.now)) cell op far) }
 {
     match far {
         Far::Reserved => {
@@ -62,7 +62,7 @@ fn reserves_again<D: Disk>(
     requires tickets { HasTicketsAt (desk locks.now tables.old store.now) }
     requires has { needs_apart (at cell_cmp tables.old.last cell) ≡ true }
     ensures { IsSaid (place here.now) here.now.next (desk locks.now tables.old store.now) (desk locks.now tables.new store.now) result
-        (writes.reserves (place here.now) (half_at here.now.next (desk locks.now tables.old store.now)) cell op true (nat_lt 0 (free_of (kept_of store.now)))) }
+        (writes.reserves (place here.now) (own_at here.now.next (desk locks.now tables.old store.now)) cell op true (nat_lt 0 (free_of (kept_of store.now)))) }
 {
     let outcome = tells(here, tables, locks, store, cell, op, Far::Reserved)?;
     let last = LastOp {
@@ -85,7 +85,7 @@ fn reserves_anew<D: Disk>(
     requires tickets { HasTicketsAt (desk locks.now tables.old store.old) }
     requires has { needs_apart (at cell_cmp tables.old.last cell) ≡ false }
     ensures { IsSaid (place here.now) here.now.next (desk locks.now tables.old store.old) (desk locks.now tables.new store.new) result
-        (writes.reserves (place here.now) (half_at here.now.next (desk locks.now tables.old store.old)) cell op false (nat_lt 0 (free_of (kept_of store.old)))) }
+        (writes.reserves (place here.now) (own_at here.now.next (desk locks.now tables.old store.old)) cell op false (nat_lt 0 (free_of (kept_of store.old)))) }
 {
     let outcome = tells(here, tables, locks, store, cell, op, Far::Reserved)?;
     if !keep(&mut tables.apart, store, cell)? {
@@ -127,7 +127,7 @@ fn reserves<D: Disk>(
     requires tickets { HasTicketsAt (desk locks.now tables.old store.old) }
     requires has { needs_apart (at cell_cmp tables.old.last cell) ≡ has }
     ensures { IsSaid (place here.now) here.now.next (desk locks.now tables.old store.old) (desk locks.now tables.new store.new) result
-        (writes.reserves (place here.now) (half_at here.now.next (desk locks.now tables.old store.old)) cell op has (nat_lt 0 (free_of (kept_of store.old)))) }
+        (writes.reserves (place here.now) (own_at here.now.next (desk locks.now tables.old store.old)) cell op has (nat_lt 0 (free_of (kept_of store.old)))) }
 {
     if has {
         reserves_again(here, tables, locks, store, cell, op)
@@ -149,7 +149,7 @@ fn reserves_after<D: Disk>(
     requires tickets { HasTicketsAt (desk locks.now tables.old store.old) }
     requires last { at cell_cmp tables.old.last cell ≡ Some last }
     ensures { IsSaid (place here.now) here.now.next (desk locks.now tables.old store.old) (desk locks.now tables.new store.new) result
-        (writes.hears_reserve (place here.now) (half_at here.now.next (desk locks.now tables.old store.old)) cell op (Some last)) }
+        (writes.hears_reserve (place here.now) (own_at here.now.next (desk locks.now tables.old store.old)) cell op (Some last)) }
 {
     if op < last.op {
         return silent(here, tables, locks, store);
@@ -172,7 +172,7 @@ pub fn on_reserve<D: Disk>(
 ) -> Result<Outcome, WorkError>
     requires tickets { HasTicketsAt (desk locks.now tables.old store.old) }
     ensures { IsSaid (place here.now) here.now.next (desk locks.now tables.old store.old) (desk locks.now tables.new store.new) result
-        (writes.on_reserve (place here.now) (half_at here.now.next (desk locks.now tables.old store.old)) op cell) }
+        (writes.on_reserve (place here.now) (own_at here.now.next (desk locks.now tables.old store.old)) op cell) }
 {
     if !is_second(here.state, here.me, cell) {
         return silent(here, tables, locks, store);
@@ -198,7 +198,7 @@ fn follows<D: Disk>(
     requires has { needs_apart (at cell_cmp tables.old.last (cell_of key)) ≡ true }
     ensures { IsDone D.told D.seen D.may_leave D.faults D.came_to (place here.now) here.now.next
         (desk locks.now tables.old store.old) (desk locks.now tables.new store.new) result
-        (writes.follows (place here.now) (half_at here.now.next (desk locks.now tables.old store.old)) op key bytes.now) }
+        (writes.follows (place here.now) (own_at here.now.next (desk locks.now tables.old store.old)) op key bytes.now) }
 {
     let cell = key.cell();
     let body = Body::Replicated { op, cell };
@@ -228,7 +228,7 @@ pub fn on_replicate<D: Disk>(
     requires versions { HasVersions store.old }
     ensures { IsDone D.told D.seen D.may_leave D.faults D.came_to (place here.now) here.now.next
         (desk locks.now tables.old store.old) (desk locks.now tables.new store.new) result
-        (writes.on_replicate (place here.now) (half_at here.now.next (desk locks.now tables.old store.old)) op key bytes.now) }
+        (writes.on_replicate (place here.now) (own_at here.now.next (desk locks.now tables.old store.old)) op key bytes.now) }
 {
     let cell = key.cell();
     if !is_second(here.state, here.me, cell) {

@@ -10,7 +10,7 @@ ghost use Rattle.petal_rules.specs.Store.{cell_cmp};
 ghost use Rattle.petal_rules.specs.Writes as writes;
 ghost use Rattle.petal_msg.specs.declared.operation.Action.TheVariants as action;
 ghost use Rattle.petal_msg.specs.declared.operation.Ending.TheVariants as ending;
-ghost use Rattle.write_pair.specs.Desk.{desk, half_at, HasTicketsAt, HasVersions, IsDone, IsMoved, IsSaid};
+ghost use Rattle.write_pair.specs.Desk.{desk, own_at, HasTicketsAt, HasVersions, IsDone, IsMoved, IsSaid};
 ghost use Rattle.write_pair.specs.Jobs.{place};
 
 use crate::answer::finishes;
@@ -49,7 +49,7 @@ pub fn waits<D: Disk>(
     requires tickets { HasTicketsAt (desk locks.old tables.now store.now) }
     requires moved { IsMoved locks.old op.now }
     ensures { IsSaid (place here.now) here.now.next (desk locks.old tables.now store.now) (desk locks.new tables.now store.now) result
-        (rules.says_to (writes.with_pending (half_at here.now.next (desk locks.old tables.now store.now)) op.now) (second here.now.state.now op.now.cell) body) }
+        (rules.says_to (writes.with_pending (own_at here.now.next (desk locks.old tables.now store.now)) op.now) (second here.now.state.now op.now.cell) body) }
 {
     let letters = here.says_to(second(here.state, op.cell), body)?;
     locks.set_stage(op.cell, op.stage);
@@ -68,7 +68,7 @@ pub fn answers<D: Disk>(
     requires moved { IsMoved locks.old op.now }
     requires put { op.now.stage.put ≡ true }
     ensures { IsSaid (place here.now) here.now.next (desk locks.old tables.old store.now) (desk locks.new tables.new store.now) result
-        (writes.acts (place here.now) (writes.with_pending (half_at here.now.next (desk locks.old tables.old store.now)) op.now) op.now action.Answer) }
+        (writes.acts (place here.now) (writes.with_pending (own_at here.now.next (desk locks.old tables.old store.now)) op.now) op.now action.Answer) }
 {
     let outcome = finishes(
         here,
@@ -94,7 +94,7 @@ pub fn drops<D: Disk>(
     requires tickets { HasTicketsAt (desk locks.old tables.old store.old) }
     requires moved { IsMoved locks.old op.now }
     ensures { IsSaid (place here.now) here.now.next (desk locks.old tables.old store.old) (desk locks.new tables.new store.new) (Ok result)
-        (writes.acts (place here.now) (writes.with_pending (half_at here.now.next (desk locks.old tables.old store.old)) op.now) op.now action.Drop) }
+        (writes.acts (place here.now) (writes.with_pending (own_at here.now.next (desk locks.old tables.old store.old)) op.now) op.now action.Drop) }
 {
     locks.close(op.cell);
     if op.stage.put {
@@ -128,7 +128,7 @@ pub fn puts<D: Disk>(
     requires reserved { op.now.stage.reserved ≡ true }
     ensures { IsDone D.told D.seen D.may_leave D.faults D.came_to (place here.now) here.now.next
         (desk locks.old tables.old store.old) (desk locks.new tables.new store.new) result
-        (writes.acts (place here.now) (writes.with_pending (half_at here.now.next (desk locks.old tables.old store.old)) op.now) op.now action.Put) }
+        (writes.acts (place here.now) (writes.with_pending (own_at here.now.next (desk locks.old tables.old store.old)) op.now) op.now action.Put) }
 {
     let version = next_version(store, op.cell);
     spend(&mut tables.own, store, op.cell, op.key, version, &op.bytes)?;

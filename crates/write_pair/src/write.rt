@@ -6,7 +6,7 @@ ghost use Rattle.petal_rules.specs.State.{is_lead};
 ghost use Rattle.petal_rules.specs.Store.{cell_cmp, free_of};
 ghost use Rattle.petal_rules.specs.Writes as writes;
 ghost use Rattle.kept_chains.specs.Kept.{kept_of};
-ghost use Rattle.write_pair.specs.Desk.{desk, half_at, HasTicketsAt, IsSaid};
+ghost use Rattle.write_pair.specs.Desk.{desk, own_at, HasTicketsAt, IsSaid};
 ghost use Rattle.write_pair.specs.Jobs.{place, wanted};
 
 use crate::answer::{ended, finishes, says, silent};
@@ -92,7 +92,7 @@ fn opens<D: Disk>(
     requires lead { is_lead here.now.state.now here.now.me want.now.cell ≡ true }
     requires none { at cell_cmp locks.old want.now.cell ≡ None }
     ensures { IsSaid (place here.now) here.now.next (desk locks.old tables.old store.old) (desk locks.new tables.new store.new) result
-        (writes.opens (place here.now) (half_at here.now.next (desk locks.old tables.old store.old)) (wanted want.now) (nat_lt 0 (free_of (kept_of store.old)))) }
+        (writes.opens (place here.now) (own_at here.now.next (desk locks.old tables.old store.old)) (wanted want.now) (nat_lt 0 (free_of (kept_of store.old)))) }
 {
     let body = Body::Reserve {
         op: here.next,
@@ -135,7 +135,7 @@ fn takes_newer<D: Disk>(
     requires tickets { HasTicketsAt (desk locks.old tables.old store.old) }
     requires lead { is_lead here.now.state.now here.now.me want.now.cell ≡ true }
     ensures { IsSaid (place here.now) here.now.next (desk locks.old tables.old store.old) (desk locks.new tables.new store.new) result
-        (writes.takes (place here.now) (half_at here.now.next (desk locks.old tables.old store.old)) (wanted want.now) writes.Newer) }
+        (writes.takes (place here.now) (own_at here.now.next (desk locks.old tables.old store.old)) (wanted want.now) writes.Newer) }
 {
     if is_pending_for(locks, want) {
         return silent(here, tables, locks, store);
@@ -175,7 +175,7 @@ pub fn on_write<D: Disk>(
 ) -> Result<Outcome, WorkError>
     requires tickets { HasTicketsAt (desk locks.old tables.old store.old) }
     ensures { IsSaid (place here.now) here.now.next (desk locks.old tables.old store.old) (desk locks.new tables.new store.new) result
-        (writes.on_write (place here.now) (half_at here.now.next (desk locks.old tables.old store.old)) (wanted want.now)) }
+        (writes.on_write (place here.now) (own_at here.now.next (desk locks.old tables.old store.old)) (wanted want.now)) }
 {
     if !is_lead(here.state, here.me, want.cell) {
         return silent(here, tables, locks, store);

@@ -18,7 +18,7 @@ none_some : {A : Type 0} {x : A} → None ≡ Some x → ⊥
 none_some e = cc
 
 -- a block of which no server has an entry is zero
-zero : (w : World) → ((n : ℕ) → (w.servers n).store.chains ≡ []) → (o : Option ℕ) (block : ℕ) → content_by w (cell_of_block block) 0 o ≡ zero_block
+zero : (w : World) → ((n : ℕ) → (w.servers n).own.store.chains ≡ []) → (o : Option ℕ) (block : ℕ) → content_by w (cell_of_block block) 0 o ≡ zero_block
 zero w empty None block = refl
 zero w empty (Some n) block =
     ap (λ chains. bytes_of (entry_at (chain_in chains (cell_of_block block)) 0)) (empty n)

@@ -4,22 +4,22 @@ use Rattle.std.proofs.lemmas.Bool.Decides.{nat_tests}
 use Rattle.std.specs.Prelude.{nat_lt, if◌then◌else◌}
 use Rattle.petal_msg.specs.declared.operation.Finished.{Finished}
 use Rattle.petal_rules.specs.State.{is_lead}
-use Rattle.petal_rules.specs.Server.{Half, Here, silent}
+use Rattle.petal_rules.specs.Server.{Own, Here, silent}
 use Rattle.petal_rules.specs.Writes.{Wanted, Older, Again, Newer, on_write, takes, standing}
 use Rattle.petal_rules.proofs.laws.a_finished_request_changes_nothing.Goals as goal
 
 equal : (a b : ℕ) → a ≤ b → nat_lt a b ≡ false → (a == b) ≡ true
 equal a b le e = grind (arith, nat_tests)
 
-kept : (here : Here) (half : Half) (want : Wanted) (last : Finished) (lead older same : Bool) → (older ≡ false → same ≡ true)
-    → (if lead then takes here half want (if older then Older else if same then Again last.ending else Newer) else silent half).half ≡ half
-kept here half want last false older same h = refl
-kept here half want last true true same h = refl
-kept here half want last true false true h = refl
-kept here half want last true false false h = let e = h refl in cc
+kept : (here : Here) (own : Own) (want : Wanted) (last : Finished) (lead older same : Bool) → (older ≡ false → same ≡ true)
+    → (if lead then takes here own want (if older then Older else if same then Again last.ending else Newer) else silent own).own ≡ own
+kept here own want last false older same h = refl
+kept here own want last true true same h = refl
+kept here own want last true false true h = refl
+kept here own want last true false false h = let e = h refl in cc
 
 pub returns : goal.returns
 unfolding on_write
-returns c here half want last is le =
-    ap (λ (o : Option Finished). (if is_lead here.state here.me want.cell then takes here half want (standing o want.seq) else silent half).half) is
-    ∙ kept here half want last (is_lead here.state here.me want.cell) (nat_lt want.seq last.seq) (want.seq == last.seq) (equal want.seq last.seq le)
+returns c here own want last is le =
+    ap (λ (o : Option Finished). (if is_lead here.state here.me want.cell then takes here own want (standing o want.seq) else silent own).own) is
+    ∙ kept here own want last (is_lead here.state here.me want.cell) (nat_lt want.seq last.seq) (want.seq == last.seq) (equal want.seq last.seq le)

@@ -8,6 +8,6 @@ use Rattle.petal_rules.proofs.laws.a_second_copy_is_put.Goals as goal
 
 pub returns : goal.returns
 returns c = record {
-  chain = λ here half number key bytes. ap (λ o. unwrap_or {T = Chain} o []) (cell_same half.store.chains (cell_of key) _);
-  last = λ here half number key bytes. cell_same half.pairs.last (cell_of key) _;
+  chain = λ here own number key bytes. ap (λ o. unwrap_or {T = Chain} o []) (cell_same own.store.chains (cell_of key) _);
+  last = λ here own number key bytes. cell_same own.pairs.last (cell_of key) _;
 }

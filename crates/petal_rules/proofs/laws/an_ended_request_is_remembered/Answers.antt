@@ -3,4 +3,4 @@ use Rattle.petal_table.proofs.Rows.{at_same}
 use Rattle.petal_rules.proofs.laws.an_ended_request_is_remembered.Goals as goal
 
 pub returns : goal.returns
-returns c half client seq ending = at_same half.pairs.finished client _
+returns c own client seq ending = at_same own.pairs.finished client _

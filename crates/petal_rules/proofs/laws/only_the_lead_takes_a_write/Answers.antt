@@ -9,4 +9,4 @@ use Rattle.petal_rules.proofs.laws.only_the_lead_takes_a_write.Goals as goal
 
 pub returns : goal.returns
 unfolding on_write
-returns c here half want e = ap (λ b. if b then takes here half want (standing (at nat_cmp half.pairs.finished want.client) want.seq) else silent half) e
+returns c here own want e = ap (λ b. if b then takes here own want (standing (at nat_cmp own.pairs.finished want.client) want.seq) else silent own) e

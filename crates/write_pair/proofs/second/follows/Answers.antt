@@ -5,7 +5,7 @@ use Rattle.petal_table.specs.Table.{at}
 use Rattle.petal_rules.specs.Server.{letters_of, post_to, sender}
 use Rattle.petal_rules.specs.Store.{cell_cmp}
 use Rattle.write_pair.specs.Books.{Books, needs_apart}
-use Rattle.write_pair.specs.Desk.{desk, half_at, IsDone}
+use Rattle.write_pair.specs.Desk.{desk, own_at, IsDone}
 use Rattle.write_pair.specs.Jobs.{place}
 use Rattle.write_pair.proofs.Follows.{apart_slot, follows_in, follows_done, follows_keeps}
 use Rattle.write_pair.proofs.Moves.{only}
@@ -27,7 +27,7 @@ returns g c =
     let new = desk c.args.locks.now (record books { last = c.replace.new.self; apart = c.spend.new.table }) c.spend.new.store in
     let said = ap (λ (to : Option ℕ). letters_of (sender here) 0 (post_to to (body.Replicated c.args.op c.cell-cell.result))) c.first.ensures in
     rw (← c.tables.view_is)
-    (subst (λ (cell : Cell). IsDone g.D.Disk.told g.D.Disk.seen g.D.Disk.may_leave g.D.Disk.faults g.D.Disk.came_to here c.args.here.now.next old new (Ok c.only.result) (follows_in here (half_at c.args.here.now.next old) c.args.op c.args.key c.args.bytes.now cell)) c.cell-cell.ensures
+    (subst (λ (cell : Cell). IsDone g.D.Disk.told g.D.Disk.seen g.D.Disk.may_leave g.D.Disk.faults g.D.Disk.came_to here c.args.here.now.next old new (Ok c.only.result) (follows_in here (own_at c.args.here.now.next old) c.args.op c.args.key c.args.bytes.now cell)) c.cell-cell.ensures
     (record {
       done = λ told.
           follows_done here c.args.here.now.next c.args.locks.now books c.args.store.now c.cell-cell.result c.args.op h c.args.key c.args.bytes.now c.replace.new.self c.spend.new.table c.spend.new.store c.next_version-version.result c.only.result

@@ -1,5 +1,4 @@
 use Rattle.std.proofs.Common.{ap}
-use Rattle.petal_rules.specs.Jobs.{half_of}
 use Rattle.server_core.specs.Core.{Core, acted, server_of}
 use Rattle.server_core.proofs.Steps.{of_each}
 use Rattle.server_core.proofs.server.ServerCore.tick.Goals as goal
@@ -9,4 +8,4 @@ returns c =
     let it = c.self.inside in
     let core : Core = record { me = it.me; inc = it.inc; state = it.state; next = it.next; pending = it.locks; books = it.tables; queue = it.queue } in
     rw (← c.self.view_is) (of_each _ _
-    (λ letters sent store. ap (acted core store) (sent (half_of (server_of core store)))) c.letters_anew.result c.letters_anew.ensures)
+    (λ letters sent store. ap (acted core store) (sent (server_of core store).own)) c.letters_anew.result c.letters_anew.ensures)
