@@ -86,15 +86,7 @@ module _ (state : State) (lines : List Line) (c : ℕ) where
     unfolding In
     sends_known turn (request.Write name block pattern) e post h = write_known name block pattern e _ refl post h
     sends_known turn (request.Read name snap block) e post h = read_known name snap block turn e _ refl post h
-    sends_known turn (request.Disk name tuple) e post h = absurd h
-    sends_known turn (request.Snap name snap) e post h = absurd h
-    sends_known turn (request.Move name tuple) e post h = absurd h
-    sends_known turn (request.Stop server) e post h = absurd h
-    sends_known turn (request.StopAt server at) e post h = absurd h
-    sends_known turn (request.Fault server which kind at) e post h = absurd h
-    sends_known turn (request.Start server) e post h = absurd h
-    sends_known turn (request.Blank server) e post h = absurd h
-    sends_known turn request.Settle e post h = absurd h
+    sends_known turn _ e post h = absurd h
 
   module _ (w : World) (asking : Asking state lines w) (within : c < 9) where
     abbrev client : Client

@@ -28,16 +28,7 @@ unlike xs ys e = ap (λ zs. not (same_bytes xs zs)) (sym e) ∙ ap not (nat_list
 -- a client's open write is its own
 written_by : (client seq : ℕ) (asked : Request) (write : Write) → write_by client seq asked ≡ Some write → write.client ≡ client
 written_by client seq (request.Write name block pattern) write e = ap (λ (w : Write). w.client) (sym (same_some e))
-written_by client seq (request.Disk name tuple) write e = none_some refl e
-written_by client seq (request.Read name snap block) write e = none_some refl e
-written_by client seq (request.Snap name snap) write e = none_some refl e
-written_by client seq (request.Move name tuple) write e = none_some refl e
-written_by client seq (request.Stop server) write e = none_some refl e
-written_by client seq (request.StopAt server at) write e = none_some refl e
-written_by client seq (request.Fault server which kind at) write e = none_some refl e
-written_by client seq (request.Start server) write e = none_some refl e
-written_by client seq (request.Blank server) write e = none_some refl e
-written_by client seq request.Settle write e = none_some refl e
+written_by client seq _ write e = none_some refl e
 
 asked_by : (client : ℕ) (o : Option Asked) (write : Write) → write_asked client o ≡ Some write → write.client ≡ client
 asked_by client None write e = none_some refl e
