@@ -24,7 +24,7 @@ use Rattle.law_steps.specs.Happens.{Happens, Serves, Turns, server_moves, served
 use Rattle.law_steps.specs.Ready.{Ready}
 use Rattle.law_steps.proofs.Letters.{said}
 use Rattle.law_steps.proofs.Sending.{is_ask, turned_asks}
-use Rattle.law_steps.proofs.Tests.{true_false}
+use Rattle.petal_rules.proofs.Tests.{true_false}
 use Rattle.law_steps.proofs.Scripts.{script_steady, start_ready}
 use Rattle.law_steps.proofs.Stepping.{kept_after}
 use Rattle.law_copies.specs.Pair.{Pair, pair_of, IsPair, PairOk, Keeps, SaidOk, owns_of, Good}

@@ -8,7 +8,7 @@ use Rattle.petal_rules.specs.Lists.{In}
 use Rattle.petal_rules.specs.State.{State}
 use Rattle.petal_rules.specs.Server.{Own, Post}
 use Rattle.law_steps.specs.Steady.{IsSteady}
-use Rattle.law_steps.proofs.Tests.{none_some, same_or_apart, same_some}
+use Rattle.petal_rules.proofs.Tests.{none_some, same_or_apart, same_some}
 use Rattle.law_copies.specs.Pair.{Pair, pair_of, IsPair, PairOk, Grows, Keeps, Known, SaidOk}
 
 -- what was known of a letter is known later

@@ -39,7 +39,7 @@ use Rattle.law_steps.proofs.Letters.{said}
 use Rattle.law_steps.proofs.Scripts.{script_steady, start_ready}
 use Rattle.law_steps.proofs.Sending.{is_ask, turned_asks}
 use Rattle.law_steps.proofs.Stepping.{fixed_setting, server_serves, client_turns, is_call, happens, happens_ready}
-use Rattle.law_steps.proofs.Tests.{same_some, none_some, true_false}
+use Rattle.petal_rules.proofs.Tests.{same_some, none_some, true_false}
 use Rattle.law_copies.specs.Pair.{Good}
 use Rattle.law_copies.proofs.Copying.{happens_good, start_good}
 use Rattle.law_refusals.specs.Reasons.{HadNoSlot, WasRefused, HasReason, FoundBusy, Refusals}

@@ -21,7 +21,7 @@ use Rattle.law_steps.specs.Steady.{IsSteady}
 use Rattle.law_steps.specs.Happens.{server_moves, served}
 use Rattle.law_steps.specs.Ready.{Ready}
 use Rattle.law_steps.proofs.Letters.{said}
-use Rattle.law_steps.proofs.Tests.{same_or_apart, all_put, is_the_one, none_some, same_some}
+use Rattle.petal_rules.proofs.Tests.{same_or_apart, all_put, is_the_one, none_some, same_some}
 use Rattle.law_requests.specs.Asked.{IsWrite, IsAsked, IsOpen}
 use Rattle.law_requests.specs.Known.{Seen, seen, done_by, IsPast, EndKnownAt, Known, PendingFor, Asking}
 use Rattle.law_requests.proofs.Later.{Later, known_later, one_cell, one_open}

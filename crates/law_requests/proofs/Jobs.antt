@@ -28,7 +28,7 @@ use Rattle.law_steps.specs.Steady.{IsSteady}
 use Rattle.law_steps.specs.Did.{Did, Ignores, Refuses, Asks_for, Shows, Repeats, Is_full, Opens, Puts, Gives_up, Closes, Sets_apart, Promises, Declines, Follows, Asks, A_slot, A_copy, IsRefusal, done_to}
 use Rattle.law_steps.specs.Happens.{Handled}
 use Rattle.law_steps.specs.Ready.{Ready}
-use Rattle.law_steps.proofs.Tests.{same_or_apart, same_some, none_some, is_the_one}
+use Rattle.petal_rules.proofs.Tests.{same_or_apart, same_some, none_some, is_the_one}
 use Rattle.law_steps.proofs.Staged.{same_cell_or_apart}
 use Rattle.law_requests.specs.Asked.{IsWrite, IsOpen}
 use Rattle.law_requests.specs.Known.{seen, done_by, Known, PendingFor, Asking}

@@ -11,7 +11,7 @@ use Rattle.script_lines.specs.declared.request.Request.{Request}
 use Rattle.script_lines.specs.declared.request.Request.TheVariants as request
 use Rattle.petal_rules.specs.State.{State, find}
 use Rattle.petal_rules.specs.Clients.{Client, Asked, cell_on}
-use Rattle.law_steps.proofs.Tests.{same_some}
+use Rattle.petal_rules.proofs.Tests.{same_some}
 use Rattle.law_requests.specs.Asked.{IsWrite, IsOpen}
 use Rattle.law_requests.specs.Known.{Seen, IsPast, EndKnownAt, Known}
 

@@ -37,7 +37,7 @@ use Rattle.law_steps.specs.Happens as happens
 use Rattle.law_steps.specs.Ready.{Ready}
 use Rattle.law_steps.proofs.Scripts.{script_steady, start_ready}
 use Rattle.law_steps.proofs.Stepping.{kept_after}
-use Rattle.law_steps.proofs.Tests.{by_bool, same_some, none_some, true_false, is_the_one}
+use Rattle.petal_rules.proofs.Tests.{by_bool, same_some, none_some, true_false, is_the_one}
 use Rattle.law_requests.specs.Asked.{IsWrite, IsAsked, IsOpen}
 use Rattle.law_requests.specs.Known.{Seen, seen, done_by, IsPast, WriteKnown, EndKnown, Known, Asking}
 use Rattle.law_requests.proofs.Later.{one_cell}

@@ -39,7 +39,7 @@ use Rattle.law_steps.specs.Happens.{Heard, Turned, Rests, Sends_anew, Begins, Ma
 use Rattle.law_steps.proofs.Letters.{said}
 use Rattle.law_steps.proofs.Sending.{is_ask, turned_asks}
 use Rattle.law_steps.proofs.Stepping.{fixed_setting}
-use Rattle.law_steps.proofs.Tests.{same_or_apart, same_some, none_some, true_false, all_put_apart}
+use Rattle.petal_rules.proofs.Tests.{same_or_apart, same_some, none_some, true_false, all_put_apart}
 use Rattle.law_copies.specs.Pair.{IsPair, owns_of}
 use Rattle.law_requests.specs.Asked.{IsOpen}
 use Rattle.law_requests.specs.Known.{Known, seen, Asking}

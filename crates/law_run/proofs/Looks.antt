@@ -28,7 +28,7 @@ use Rattle.petal_history.specs.declared.record.Record.{Record}
 use Rattle.law_steps.specs.Steady.{IsSteady}
 use Rattle.law_steps.specs.Happens.{line_by}
 use Rattle.law_steps.proofs.Stepping.{fixed_setting, happens}
-use Rattle.law_steps.proofs.Tests.{by_test, by_bool, both_true, same_some, none_some, same_numbers, true_false}
+use Rattle.petal_rules.proofs.Tests.{by_test, by_bool, both_true, same_some, none_some, same_numbers, true_false}
 use Rattle.law_run.specs.Onward.{one_disk, HasOnly, IsMindful, Onward}
 use Rattle.law_run.specs.Follow.{Ground}
 use Rattle.law_run.proofs.Grounds.{happens_ground}

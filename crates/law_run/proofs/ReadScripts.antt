@@ -21,7 +21,7 @@ use Rattle.script_lines.specs.declared.script.Script.{Script}
 use Rattle.petal_rules.specs.Lists.{In}
 use Rattle.petal_rules.proofs.ListLemmas.{in-append}
 use Rattle.petal_history.specs.Sound.{IsSound}
-use Rattle.law_steps.proofs.Tests.{by_test}
+use Rattle.petal_rules.proofs.Tests.{by_test}
 
 -- what holds of each result that is no fault
 abbrev EachOk : {A : Type 0} → (A → Type 0) → Result A Cause → Type 0

@@ -29,7 +29,7 @@ use Rattle.petal_history.specs.declared.record.Record.{Record}
 use Rattle.law_steps.specs.Steady.{IsSteady}
 use Rattle.law_steps.proofs.Scripts.{script_steady}
 use Rattle.law_steps.proofs.Stepping.{fixed_setting, is_call, server_serves, client_turns, happens}
-use Rattle.law_steps.proofs.Tests.{none_some}
+use Rattle.petal_rules.proofs.Tests.{none_some}
 use Rattle.law_copies.proofs.Copying.{copies_after}
 use Rattle.law_requests.proofs.Turning.{requests_after}
 use Rattle.law_run.specs.Follow.{Ground, Follow}

@@ -29,7 +29,7 @@ use Rattle.law_steps.specs.Steady.{IsSteady}
 use Rattle.law_steps.specs.Did.{Did, Ignores, Refuses, Asks_for, Shows, Repeats, Is_full, Opens, Puts, Gives_up, Closes, Sets_apart, Promises, Declines, Follows, Asks, A_slot, A_copy, IsRefusal, progress}
 use Rattle.law_steps.specs.Happens.{Handled}
 use Rattle.law_steps.specs.Ready.{Ready}
-use Rattle.law_steps.proofs.Tests.{same_or_apart, same_some, none_some, true_false}
+use Rattle.petal_rules.proofs.Tests.{same_or_apart, same_some, none_some, true_false}
 use Rattle.law_steps.proofs.Staged.{same_cell_or_apart}
 use Rattle.law_copies.specs.Pair.{IsPair, ceiling_of, owns_of, Good}
 use Rattle.law_copies.proofs.Frames.{apart}

@@ -42,7 +42,7 @@ use Rattle.law_steps.specs.Did.{Did, Ignores, Refuses, Asks_for, Shows, Repeats,
 use Rattle.law_steps.specs.Happens.{Handled, line_by, served, server_moves}
 use Rattle.law_steps.proofs.Letters.{said}
 use Rattle.law_steps.proofs.Stepping.{fixed_setting}
-use Rattle.law_steps.proofs.Tests.{by_bool, is_the_so, same_or_apart, same_some, none_some, nat_lists_same}
+use Rattle.petal_rules.proofs.Tests.{by_bool, is_the_so, same_or_apart, same_some, none_some, nat_lists_same}
 use Rattle.law_steps.proofs.Staged.{same_cell_or_apart}
 use Rattle.law_copies.specs.Pair.{IsPair, AreCopies, owns_of}
 use Rattle.law_copies.proofs.Frames.{same_first}

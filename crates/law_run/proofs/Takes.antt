@@ -18,7 +18,7 @@ use Rattle.petal_rules.specs.World.{Setting, World}
 use Rattle.petal_rules.proofs.CellTables.{cell_cmp_same}
 use Rattle.petal_history.specs.Contents.{content_at, disk_name, cell_of_block}
 use Rattle.petal_history.specs.Events.{open_write, write_by, write_asked, blocks_of, blocks_in, changed_blocks, writes_so, taker, taken, takes, all_there, with_first}
-use Rattle.law_steps.proofs.Tests.{same_or_apart, both_true, same_numbers, number_itself, nat_lists_same, none_some, same_some}
+use Rattle.petal_rules.proofs.Tests.{same_or_apart, both_true, same_numbers, number_itself, nat_lists_same, none_some, same_some}
 use Rattle.law_run.proofs.Members.{into_map, into_flat_map, into_range, into_filter, of_filter, none_pass, into_filter_map, of_filter_map, found_one, row_at, key_at, put_key}
 use Rattle.law_run.proofs.Machine.{AllTakes}
 

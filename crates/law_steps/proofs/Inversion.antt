@@ -32,7 +32,7 @@ use Rattle.petal_rules.specs.declared.job.Job.TheVariants as job
 use Rattle.petal_rules.proofs.CellTables.{cell_same}
 use Rattle.law_steps.specs.Steady.{IsSteady}
 use Rattle.law_steps.specs.Did.{Did, Ignores, Refuses, Asks_for, Shows, Repeats, Is_full, Opens, Puts, Gives_up, Closes, Sets_apart, Promises, Declines, Follows, Asks, A_slot, A_copy, For_a_write, For_a_read, IsStaged, waiting, copying, progress, done_to}
-use Rattle.law_steps.proofs.Tests.{by_test, by_bool, both_true, not_true, true_false, same_numbers, same_some, none_some, only}
+use Rattle.petal_rules.proofs.Tests.{by_test, by_bool, both_true, not_true, true_false, same_numbers, same_some, none_some, only}
 
 is_waiting : (stage : Stage) → (stage ≡ waiting) ⊎ (stage ≡ copying) → stage.reserved ≡ false → stage ≡ waiting
 is_waiting stage (inl e) f = e

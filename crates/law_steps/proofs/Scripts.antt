@@ -15,7 +15,7 @@ use Rattle.petal_history.specs.Sound.{IsSound}
 use Rattle.law_steps.specs.Steady.{IsSteady}
 use Rattle.law_steps.specs.Ready.{Ready}
 use Rattle.law_steps.proofs.Fixed.{fixed_steady}
-use Rattle.law_steps.proofs.Tests.{none_some}
+use Rattle.petal_rules.proofs.Tests.{none_some}
 
 state_steady : (servers : ℕ) (lines : List Line) → ((line : Line) (name tuple : List ℕ) → In line lines → line.request ≡ request.Disk name tuple → is_tuple servers tuple ≡ true) → IsSteady (state_of servers lines)
 unfolding In

@@ -34,7 +34,7 @@ use Rattle.law_steps.specs.Steady.{IsSteady}
 use Rattle.law_steps.specs.Did.{Did, Ignores, Asks_for, Asks, IsStaged, waiting, copying}
 use Rattle.law_steps.specs.Happens.{IsIdle, Handled, Heard, AreQueued, Serving, served, server_moves, Turned, Rests, Sends_anew, Begins, Makes, Reads, Ends, Happens, Serves, Turns}
 use Rattle.law_steps.specs.Ready.{IsReady, Ready}
-use Rattle.law_steps.proofs.Tests.{by_test, both_true, same_numbers, all_put}
+use Rattle.petal_rules.proofs.Tests.{by_test, both_true, same_numbers, all_put}
 use Rattle.law_steps.proofs.Tables.{at_row}
 use Rattle.law_steps.proofs.Inversion.{did, asks_slot, asks_copy, action_is}
 use Rattle.law_steps.proofs.Staged.{did_ready, no_letters}
