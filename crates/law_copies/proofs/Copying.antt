@@ -9,7 +9,7 @@ use Rattle.script_lines.specs.declared.script.Script.{Script}
 use Rattle.petal_rules.specs.Lists.{In}
 use Rattle.petal_rules.specs.State.{State}
 use Rattle.petal_rules.specs.Store.{cell_cmp, chain_in}
-use Rattle.petal_rules.specs.Server.{Own, sender}
+use Rattle.petal_rules.specs.Server.{Own, Server, sender}
 use Rattle.petal_rules.specs.Jobs.{here_of}
 use Rattle.petal_rules.specs.Clients.{client_sender}
 use Rattle.petal_rules.specs.World.{World, start, setting_of}
@@ -47,7 +47,7 @@ module _ (state : State) (steady : IsSteady state) (lines : List Line) where
   happens_good w _ ready good (Serves n stamp done queue lt did queued) =
       let v = server_moves state w n stamp done queue in
       let server = served (w.servers n) done queue in
-      let changes : Changes (owns_of w) (owns_of v) n done.own = record { here = ap (put_same w.servers n server).own; others = λ m ne. ap (put_apart w.servers n server m ne).own } in
+      let changes : Changes (owns_of w) (owns_of v) n done.own = record { here = ap (λ (s : Server). s.own) (put_same w.servers n server); others = λ m ne. ap (λ (s : Server). s.own) (put_apart w.servers n server m ne) } in
       let keeps = job_keeps state steady w ready good n done did in
       let kept = λ (cell : Cell) (i j : ℕ) (pair : IsPair state cell i j). pairs_kept state steady (owns_of w) (owns_of v) n done.own changes done.posts keeps same cell i j pair (good.pairs cell i j pair) in
       record {
