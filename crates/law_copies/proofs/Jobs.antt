@@ -26,25 +26,20 @@ use Rattle.petal_rules.specs.Jobs.{here_of}
 use Rattle.petal_rules.specs.World.{World}
 use Rattle.petal_rules.proofs.CellTables.{cell_same, cell_apart, cell_gone, cell_gone_apart}
 use Rattle.law_steps.specs.Steady.{IsSteady}
-use Rattle.law_steps.specs.Did.{Did, Ignores, Refuses, Asks_for, Shows, Repeats, Is_full, Opens, Puts, Gives_up, Closes, Sets_apart, Promises, Declines, Follows, Asks, A_slot, A_copy, IsRefusal, waiting, copying, progress}
+use Rattle.law_steps.specs.Operations.{waiting, copying, progress}
+use Rattle.law_steps.specs.DidRead.{DidRead, Shows}
+use Rattle.law_steps.specs.DidLead.{DidLead, Asks_for, Repeats, Is_full, Opens, Puts, Gives_up, Closes, Asks, A_slot, A_copy}
+use Rattle.law_steps.specs.DidSecond.{DidSecond, Sets_apart, Promises, Declines, Follows}
+use Rattle.law_steps.specs.Did.{Did, Ignores, Refuses, IsRefusal, By_read, By_lead, By_second}
 use Rattle.law_steps.specs.Happens.{Handled}
 use Rattle.law_steps.specs.Ready.{Ready}
 use Rattle.petal_rules.proofs.Tests.{same_some, is_the_one}
+use Rattle.law_steps.proofs.Letters.{one_post, posted}
 use Rattle.law_steps.proofs.Staged.{same_cell_or_apart}
+use Rattle.law_steps.proofs.Subjects.{of_read, told_own}
 use Rattle.law_copies.specs.Pair.{Pair, pair_of, IsPair, far, ceiling_of, PairOk, IsPutting, Keeps, Known, SaidOk, owns_of, Good}
 use Rattle.law_copies.proofs.Frames.{Changes, JobKeeps, apart, known_first, known_second, unpaired, no_cell}
 use Rattle.law_copies.proofs.Moves as moves
-
-posted : (o : Option ℕ) (said : Body) (post : Post) → In post (post_to o said) → post.body ≡ said
-unfolding In
-posted None said post h = absurd h
-posted (Some to) said post (inl e) = ap (λ (p : Post). p.body) e
-posted (Some to) said post (inr h) = absurd h
-
-one_post : (to : Actor) (said : Body) (post : Post) → In post (record { to = to; body = said } ∷ []) → post.body ≡ said
-unfolding In
-one_post to said post (inl e) = ap (λ (p : Post). p.body) e
-one_post to said post (inr h) = absurd h
 
 ended_known : (pair : Pair) (seq : ℕ) (how : Ending) → Known pair (ended seq how)
 ended_known pair seq ending.Written = tt
@@ -150,6 +145,11 @@ module _ (state : State) (steady : IsSteady state) (w : World) (ready : Ready st
     as_second = λ q n mine. subst (Keeps (pair_of (halves n) own q)) (sym (second (halves n) q)) (moves.stays (pair_of (halves n) own q) (halves n).pairs.next (ok_second q n mine) (omega arith));
     says = says;
   }
+
+  -- a job that leaves the server's own part
+  talked : (done : Done) → done.own ≡ own → ((later : ℕ → Own) → Changes halves later k done.own → (post : Post) → In post done.posts → SaidOk state later post.body)
+      → J done.own done.posts
+  talked done same says = talks done.own done.posts (λ other q. ap (λ (o : Own). pair_of o other q) same) (λ other q. ap (λ (o : Own). pair_of other o q) same) says
 
   -- the letter says this, of which nothing need be known
   says_any : (later : ℕ → Own) (said : Body) (post : Post) → post.body ≡ said → ((pair : Pair) → Known pair said) → SaidOk state later post.body
@@ -286,31 +286,46 @@ module _ (state : State) (steady : IsSteady state) (w : World) (ready : Ready st
       (moves.follows (pair_of (halves pair.0) own cell) number key bytes (ok_second cell pair.0 pair.1) is putting))
       (λ later changes post i. tells_known later new changes cell number far_is.Replicated pair.0 pair.1 there post i)
 
-  promises_keeps : (number : ℕ) (cell : Cell) (how : Far) → is_second state k cell ≡ true → at cell_cmp own.pairs.last cell ≡ Some (record { op = number; far = how }) → J (tells here own cell number how).own (tells here own cell number how).posts
+  promises_keeps : (number : ℕ) (cell : Cell) (how : Far) → is_second state k cell ≡ true → at cell_cmp own.pairs.last cell ≡ Some (record { op = number; far = how })
+      → J (tells here own cell number how).own (tells here own cell number how).posts
   promises_keeps number cell how s is =
       let pair = second_pair cell s in
-      subst (λ new. J new (tells here own cell number how).posts) (told how)
-      (talks own _ (λ other q. refl) (λ other q. refl) (λ later changes post i. tells_known later own changes cell number how pair.0 pair.1 is post i))
-    where
-      told : (how : Far) → own ≡ (tells here own cell number how).own
-      told far_is.Reserved = refl
-      told far_is.Replicated = refl
+      let same = told_own here own cell number how in
+      talked (tells here own cell number how) same (λ later changes post i.
+      tells_known later own (subst (Changes halves later k) same changes) cell number how pair.0 pair.1 is post i)
 
   -- ### Each kind of job
 
+  lead_keeps : (done : Done) → DidLead hears here own done → J done.own done.posts
+  unfolding In
+  lead_keeps _ (Asks_for posts h) = talked _ refl (λ later changes post i. asks_known later changes post (h post i))
+  lead_keeps _ (Repeats want last h lead is e) =
+      talked _ refl (λ later changes post i. says_any later _ post (one_post _ _ post i).1 (λ pair. ended_known pair want.seq last.ending))
+  lead_keeps _ (Is_full want h lead new none no_room) =
+      talks _ _ (λ other q. refl) (λ other q. refl) (λ later changes post i. says_any later _ post (one_post _ _ post i).1 (λ pair. tt))
+  lead_keeps _ (Opens want h lead new none) = opens_keeps want lead none
+  lead_keeps _ (Puts op h is stage) = puts_keeps op h is stage
+  lead_keeps _ (Gives_up op h is stage) =
+      gives_up_keeps op _ _ is stage refl refl refl refl (λ later changes post i. says_any later _ post (one_post _ _ post i).1 (λ pair. tt))
+  lead_keeps _ (Closes op h is stage) =
+      closes_keeps op _ _ h is stage refl refl refl refl (λ later changes post i. says_any later _ post (one_post _ _ post i).1 (λ pair. tt))
+
+  second_keeps : (done : Done) → DidSecond hears here own done → J done.own done.posts
+  second_keeps _ (Sets_apart number cell store h s e le) = reserves_keeps number cell store h s e le _ refl refl refl refl
+  second_keeps _ (Promises number cell how s is) = promises_keeps number cell how s is
+  second_keeps _ (Declines number cell h s no_room) = talked _ refl (λ later changes post i. says_any later _ post (posted _ _ post i) (λ pair. tt))
+  second_keeps _ (Follows number key version bytes h s is) = follows_keeps number key version bytes h s is
+
+  read_keeps : (done : Done) → DidRead hears here own done → J done.own done.posts
+  read_keeps done d =
+      let frame = of_read hears here own done d in
+      talked done frame.same (λ later changes post i. says_any later _ post (frame.says post i).is (λ pair. tt))
+
   pub job_keeps : (done : Done) → Did hears here own done → J done.own done.posts
   unfolding In
-  job_keeps _ Ignores = talks own [] (λ other q. refl) (λ other q. refl) (λ later changes post i. absurd i)
-  job_keeps _ (Refuses to said is why) = talks own _ (λ other q. refl) (λ other q. refl) (λ later changes post i. says_so later said post (one_post to said post i) (no_cell state later said (unpaired said (ap is_paired is))))
-  job_keeps _ (Asks_for posts h) = talks own posts (λ other q. refl) (λ other q. refl) (λ later changes post i. asks_known later changes post (h post i))
-  job_keeps _ (Shows client seq cell epoch h r none) = talks own _ (λ other q. refl) (λ other q. refl) (λ later changes post i. says_any later _ post (one_post _ _ post i) (λ pair. tt))
-  job_keeps _ (Repeats want last h lead is e) = talks own _ (λ other q. refl) (λ other q. refl) (λ later changes post i. says_any later _ post (one_post _ _ post i) (λ pair. ended_known pair want.seq last.ending))
-  job_keeps _ (Is_full want h lead new none no_room) = talks _ _ (λ other q. refl) (λ other q. refl) (λ later changes post i. says_any later _ post (one_post _ _ post i) (λ pair. tt))
-  job_keeps _ (Opens want h lead new none) = opens_keeps want lead none
-  job_keeps _ (Puts op h is stage) = puts_keeps op h is stage
-  job_keeps _ (Gives_up op h is stage) = gives_up_keeps op _ _ is stage refl refl refl refl (λ later changes post i. says_any later _ post (one_post _ _ post i) (λ pair. tt))
-  job_keeps _ (Closes op h is stage) = closes_keeps op _ _ h is stage refl refl refl refl (λ later changes post i. says_any later _ post (one_post _ _ post i) (λ pair. tt))
-  job_keeps _ (Sets_apart number cell store h s e le) = reserves_keeps number cell store h s e le _ refl refl refl refl
-  job_keeps _ (Promises number cell how s is) = promises_keeps number cell how s is
-  job_keeps _ (Declines number cell h s no_room) = talks own _ (λ other q. refl) (λ other q. refl) (λ later changes post i. says_any later _ post (posted _ _ post i) (λ pair. tt))
-  job_keeps _ (Follows number key version bytes h s is) = follows_keeps number key version bytes h s is
+  job_keeps _ Ignores = talked _ refl (λ later changes post i. absurd i)
+  job_keeps _ (Refuses to said is why) =
+      talked _ refl (λ later changes post i. says_so later said post (one_post to said post i).1 (no_cell state later said (unpaired said (ap is_paired is))))
+  job_keeps _ (By_read done d) = read_keeps done d
+  job_keeps _ (By_lead done d) = lead_keeps done d
+  job_keeps _ (By_second done d) = second_keeps done d

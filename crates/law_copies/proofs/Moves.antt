@@ -6,7 +6,7 @@ use Rattle.petal_table.specs.Table.{put}
 use Rattle.petal_msg.specs.declared.operation.Far.TheVariants.{Reserved, Replicated}
 use Rattle.petal_msg.specs.declared.operation.Pending.{Pending}
 use Rattle.petal_rules.specs.Store.{version_of}
-use Rattle.law_steps.specs.Did.{progress}
+use Rattle.law_steps.specs.Operations.{progress}
 use Rattle.law_copies.specs.Pair.{Pair, far, ceiling, PairOk, IsPutting, Keeps}
 
 -- nothing happens to the cell, but new numbers may be given to others

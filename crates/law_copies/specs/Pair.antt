@@ -16,7 +16,7 @@ use Rattle.petal_rules.specs.Store.{Chain, cell_cmp, chain_in}
 use Rattle.petal_rules.specs.Server.{Own}
 use Rattle.petal_rules.specs.World.{World}
 use Rattle.petal_history.specs.Claims.{one_put_ahead}
-use Rattle.law_steps.specs.Did.{progress}
+use Rattle.law_steps.specs.Operations.{progress}
 
 -- the two copies, the operation that is pending at the first server and the number of its next one, and the last operation
 -- that the second one took part in

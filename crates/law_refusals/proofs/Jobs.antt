@@ -30,16 +30,20 @@ use Rattle.petal_rules.specs.declared.step.WorkEnd.TheVariants as work_end
 use Rattle.petal_rules.proofs.CellTables.{cell_same, cell_apart, cell_gone, cell_gone_apart}
 use Rattle.petal_rules.proofs.ListLemmas.{put_same, put_apart, in-append}
 use Rattle.law_steps.specs.Steady.{IsSteady}
-use Rattle.law_steps.specs.Did.{Did, Ignores, Refuses, Asks_for, Shows, Repeats, Is_full, Opens, Puts, Gives_up, Closes, Sets_apart, Promises, Declines, Follows, Asks, A_slot, A_copy, FoundNoSlot, IsRefusal}
+use Rattle.law_steps.specs.DidRead.{DidRead, Shows}
+use Rattle.law_steps.specs.DidLead.{DidLead, Asks_for, Repeats, Is_full, Opens, Puts, Gives_up, Closes, Asks, A_slot, A_copy}
+use Rattle.law_steps.specs.DidSecond.{DidSecond, Sets_apart, Promises, Declines, Follows, FoundNoSlot}
+use Rattle.law_steps.specs.Did.{Did, Ignores, Refuses, IsRefusal, By_read, By_lead, By_second}
 use Rattle.law_steps.specs.Happens.{IsIdle, Handled, server_moves, served}
 use Rattle.law_steps.specs.Ready.{Ready}
-use Rattle.law_steps.proofs.Letters.{said}
+use Rattle.law_steps.proofs.Letters.{said, one_post, posted}
 use Rattle.petal_rules.proofs.Tests.{same_or_apart, same_some, none_some, true_false}
 use Rattle.law_steps.proofs.Staged.{same_cell_or_apart}
 use Rattle.law_copies.specs.Pair.{IsPair, ceiling_of, owns_of, Good}
 use Rattle.law_copies.proofs.Frames.{apart}
 use Rattle.law_copies.proofs.Jobs.{heard_known, lead_pair, second_pair}
 use Rattle.law_refusals.specs.Reasons.{HadNoSlot, At_the_lead, At_the_second, Refusals}
+use Rattle.law_steps.proofs.Subjects.{of_read, told_own}
 
 -- the operation was pending, under this number and for this request
 pub record Was (own : Own) (cell : Cell) (op : Pending) : Type 0 where
@@ -62,17 +66,6 @@ refusal_not_full _ h = refl
 asks_not_full : (here : Here) (own : Own) (post : Post) → Asks here own post → is_full post.body ≡ false
 asks_not_full here own _ (A_slot op to is stage e) = refl
 asks_not_full here own _ (A_copy op to is stage e) = refl
-
-one_post : (to : Actor) (what : Body) (post : Post) → In post (record { to = to; body = what } ∷ []) → (post.to ≡ to) × (post.body ≡ what)
-unfolding In
-one_post to what post (inl e) = (ap (λ (p : Post). p.to) e, ap (λ (p : Post). p.body) e)
-one_post to what post (inr h) = absurd h
-
-posted : (o : Option ℕ) (what : Body) (post : Post) → In post (post_to o what) → post.body ≡ what
-unfolding In
-posted None what post h = absurd h
-posted (Some to) what post (inl e) = ap (λ (p : Post). p.body) e
-posted (Some to) what post (inr h) = absurd h
 
 tells_not_full : (here : Here) (new : Own) (cell : Cell) (number : ℕ) (how : Far) (post : Post) → In post (tells here new cell number how).posts → is_full post.body ≡ false
 tells_not_full here new cell number far.Reserved post i = ap is_full (posted _ _ post i)
@@ -263,13 +256,15 @@ module _ (R S : ℕ → ℕ → Type 0) (state : State) (steady : IsSteady state
       full_cell : {a b : ℕ} {c d : Cell} → body.PairFull a c ≡ body.PairFull b d → (a ≡ b) × (c ≡ d)
       full_cell {a} {b} {c} {d} e = (cc, cc)
 
-  pub job_refuses : (done : Done) → Did hears here own done → J done.own done.posts
+  -- a job that leaves the server's own part
+  talked : (done : Done) → done.own ≡ own → ((post : Post) → In post done.posts → is_full post.body ≡ false) → J done.own done.posts
+  talked done same unsaid =
+      still done.posts done.own (ap (λ (o : Own). o.pairs.finished) same) (ap (λ (o : Own). o.pairs.pending) same) (ap (λ (o : Own). o.pairs.next) same) unsaid
+
+  lead_refuses : (done : Done) → DidLead hears here own done → J done.own done.posts
   unfolding In
-  job_refuses _ Ignores = still [] own refl refl refl (λ post i. absurd i)
-  job_refuses _ (Refuses to what is why) = still _ own refl refl refl (λ post i. ap is_full (one_post to what post i).1 ∙ refusal_not_full what is)
-  job_refuses _ (Asks_for posts h) = still posts own refl refl refl (λ post i. asks_not_full here own post (h post i))
-  job_refuses _ (Shows client seq cell epoch h r none) = still (record { to = actor.Client client; body = body.Data seq (bytes_of (entry_at (chain_in own.store.chains cell) epoch)) } ∷ []) own refl refl refl (λ post i. ap is_full (one_post (actor.Client client) (body.Data seq (bytes_of (entry_at (chain_in own.store.chains cell) epoch))) post i).1)
-  job_refuses _ (Repeats want last h lead is e) = repeats last.ending refl
+  lead_refuses _ (Asks_for posts h) = talked _ refl (λ post i. asks_not_full here own post (h post i))
+  lead_refuses _ (Repeats want last h lead is e) = repeats last.ending refl
     where
       repeats : (how : Ending) → last.ending ≡ how → J own (record { to = actor.Client want.client; body = ended want.seq how } ∷ [])
       repeats ending.Written f = still (record { to = actor.Client want.client; body = body.Written want.seq } ∷ []) own refl refl refl (λ post i. ap is_full (one_post (actor.Client want.client) (body.Written want.seq) post i).1)
@@ -281,15 +276,15 @@ module _ (R S : ℕ → ℕ → Type 0) (state : State) (steady : IsSteady state
         numbers = λ post number p cell i says leads. absurd (let g : body.Full want.seq ≡ body.PairFull number cell = sym (one_post _ _ post i).1 ∙ says in cc);
         declined = λ post number p cell op i says leads there same. absurd (let g : body.Full want.seq ≡ body.PairFull number cell = sym (one_post _ _ post i).1 ∙ says in cc);
       }
-  job_refuses _ (Is_full want h lead new none no_room) = fills want.client want.seq _ (now want.client want.seq (At_the_lead n want.cell want.epoch want.bytes refl refl lead h new none no_room)) refl (omega arith) (λ cell op is. inl (was_same cell op is))
-  job_refuses _ (Opens want h lead new none) =
+  lead_refuses _ (Is_full want h lead new none no_room) = fills want.client want.seq _ (now want.client want.seq (At_the_lead n want.cell want.epoch want.bytes refl refl lead h new none no_room)) refl (omega arith) (λ cell op is. inl (was_same cell op is))
+  lead_refuses _ (Opens want h lead new none) =
       let op = operation here own.pairs.next want in
       quiet (opened here own want) (post_to (second state want.cell) (body.Reserve own.pairs.next want.cell)) (λ c last is how. inl is)
       (λ cell o is. elim (same_cell_or_apart cell want.cell) [
         | inl e ↦ inr (ap (λ (x : Pending). x.op) (sym (same_some {x = op} (sym (cell_same own.pairs.pending want.cell op) ∙ subst (λ (q : Cell). at cell_cmp (put cell_cmp own.pairs.pending want.cell op) q ≡ Some o) e is))))
         | inr ne ↦ inl (was_same cell o (sym (cell_apart own.pairs.pending want.cell op cell ne) ∙ is))
       ]) (omega arith) (λ post i. ap is_full (posted (second state want.cell) (body.Reserve own.pairs.next want.cell) post i))
-  job_refuses _ (Puts op h is stage) =
+  lead_refuses _ (Puts op h is stage) =
       let t = own.pairs.pending in
       let one = with_reserved op in
       let two : Pending = record one { version = version_of (chain_in own.store.chains op.cell) + 1; stage = record one.stage { put = true } } in
@@ -300,8 +295,8 @@ module _ (R S : ℕ → ℕ → Type 0) (state : State) (steady : IsSteady state
             inl (record { was = op; is = subst (λ (x : Cell). at cell_cmp t x ≡ Some op) (sym e) is; number = ap (λ (x : Pending). x.op) same; client = ap (λ (x : Pending). x.client) same; seq = ap (λ (x : Pending). x.seq) same })
         | inr ne ↦ inl (was_same cell o (sym (cell_apart (put cell_cmp t op.cell one) op.cell two cell ne ∙ cell_apart t op.cell one cell ne) ∙ there))
       ]) (omega arith) (λ post i. absurd i)
-  job_refuses _ (Gives_up op h is stage) = fills op.client op.seq _ (declined_op op h is) refl (omega arith) (gone op (without cell_cmp own.pairs.pending op.cell) (cell_gone own.pairs.pending op.cell) (λ q ne. cell_gone_apart own.pairs.pending op.cell q ne))
-  job_refuses _ (Closes op h is stage) =
+  lead_refuses _ (Gives_up op h is stage) = fills op.client op.seq _ (declined_op op h is) refl (omega arith) (gone op (without cell_cmp own.pairs.pending op.cell) (cell_gone own.pairs.pending op.cell) (λ q ne. cell_gone_apart own.pairs.pending op.cell q ne))
+  lead_refuses _ (Closes op h is stage) =
       let u = put cell_cmp own.pairs.pending op.cell (with_paired op) in
       quiet _ (record { to = actor.Client op.client; body = body.Written op.seq } ∷ [])
       (λ c last there how. elim (same_or_apart c op.client) [
@@ -313,14 +308,25 @@ module _ (R S : ℕ → ℕ → Type 0) (state : State) (steady : IsSteady state
       ])
       (gone op (without cell_cmp u op.cell) (cell_gone u op.cell) (λ q ne. cell_gone_apart u op.cell q ne ∙ cell_apart own.pairs.pending op.cell (with_paired op) q ne)) (omega arith)
       (λ post i. ap is_full (one_post (actor.Client op.client) (body.Written op.seq) post i).1)
-  job_refuses _ (Sets_apart number cell store h s e le) = still (post_to (first state cell) (body.Reserved number cell)) _ refl refl refl (λ post i. ap is_full (posted (first state cell) (body.Reserved number cell) post i))
-  job_refuses _ (Promises number cell how s is) = promised how
-    where
-      promised : (how : Far) → J (tells here own cell number how).own (tells here own cell number how).posts
-      promised far.Reserved = still (post_to (first state cell) (body.Reserved number cell)) own refl refl refl (λ post i. ap is_full (posted (first state cell) (body.Reserved number cell) post i))
-      promised far.Replicated = still (post_to (first state cell) (body.Replicated number cell)) own refl refl refl (λ post i. ap is_full (posted (first state cell) (body.Replicated number cell) post i))
-  job_refuses _ (Declines number cell h s no_room) = declines number cell h s no_room
-  job_refuses _ (Follows number key version bytes h s is) = still (post_to (first state (cell_of key)) (body.Replicated number (cell_of key))) _ refl refl refl (λ post i. ap is_full (posted (first state (cell_of key)) (body.Replicated number (cell_of key)) post i))
+
+  second_refuses : (done : Done) → DidSecond hears here own done → J done.own done.posts
+  second_refuses _ (Sets_apart number cell store h s e le) = still _ _ refl refl refl (λ post i. tells_not_full here own cell number far.Reserved post i)
+  second_refuses _ (Promises number cell how s is) =
+      talked (tells here own cell number how) (told_own here own cell number how) (λ post i. tells_not_full here own cell number how post i)
+  second_refuses _ (Declines number cell h s no_room) = declines number cell h s no_room
+  second_refuses _ (Follows number key version bytes h s is) =
+      still _ _ refl refl refl (λ post i. tells_not_full here own (cell_of key) number far.Replicated post i)
+
+  read_refuses : (done : Done) → DidRead hears here own done → J done.own done.posts
+  read_refuses done d = let frame = of_read hears here own done d in talked done frame.same (λ post i. ap is_full (frame.says post i).is)
+
+  pub job_refuses : (done : Done) → Did hears here own done → J done.own done.posts
+  unfolding In
+  job_refuses _ Ignores = talked _ refl (λ post i. absurd i)
+  job_refuses _ (Refuses to what is why) = talked _ refl (λ post i. ap is_full (one_post to what post i).1 ∙ refusal_not_full what is)
+  job_refuses _ (By_read done d) = read_refuses done d
+  job_refuses _ (By_lead done d) = lead_refuses done d
+  job_refuses _ (By_second done d) = second_refuses done d
 
 -- a step that does nothing but ask once more
 pub idle_refuses : (S : ℕ → ℕ → Type 0) (state : State) (w : World) (n : ℕ) (done : Done) → IsIdle (here_of state n (w.servers n)) (owns_of w n) done → JobRefuses S state w n done.own done.posts

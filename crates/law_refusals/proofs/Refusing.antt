@@ -32,10 +32,13 @@ use Rattle.petal_history.specs.Legal.{Follows, IsLegal, IsLegalFrom, stepped, wo
 use Rattle.petal_history.specs.Sound.{IsSound}
 use Rattle.petal_history.specs.declared.record.Record.{Record}
 use Rattle.law_steps.specs.Steady.{IsSteady}
-use Rattle.law_steps.specs.Did.{Did, Ignores, Refuses, Asks_for, Shows, Repeats, Is_full, Opens, Puts, Gives_up, Closes, Sets_apart, Promises, Declines, Follows as Follows_up, IsBusy, Asks, A_slot, A_copy}
+use Rattle.law_steps.specs.DidRead.{DidRead, Shows}
+use Rattle.law_steps.specs.DidLead.{DidLead, Asks_for, Repeats, Is_full, Opens, Puts, Gives_up, Closes, Asks, A_slot, A_copy}
+use Rattle.law_steps.specs.DidSecond.{DidSecond, Sets_apart, Promises, Declines, Follows as Follows_up}
+use Rattle.law_steps.specs.Did.{Did, Ignores, Refuses, IsBusy, By_read, By_lead, By_second}
 use Rattle.law_steps.specs.Happens.{Heard, Handled, Turned, Rests, Sends_anew, Begins, Makes, Reads, Ends}
 use Rattle.law_steps.specs.Ready.{Ready}
-use Rattle.law_steps.proofs.Letters.{said}
+use Rattle.law_steps.proofs.Letters.{said, one_post, posted}
 use Rattle.law_steps.proofs.Scripts.{script_steady, start_ready}
 use Rattle.law_steps.proofs.Sending.{is_ask, turned_asks}
 use Rattle.law_steps.proofs.Stepping.{fixed_setting, server_serves, client_turns, is_call, happens, happens_ready}
@@ -44,23 +47,14 @@ use Rattle.law_copies.specs.Pair.{Good}
 use Rattle.law_copies.proofs.Copying.{happens_good, start_good}
 use Rattle.law_refusals.specs.Reasons.{HadNoSlot, WasRefused, HasReason, FoundBusy, Refusals}
 use Rattle.law_refusals.proofs.Jobs.{job_refusals, job_refuses, idle_refuses}
+use Rattle.law_steps.proofs.Subjects.{of_read, of_second}
+use Rattle.petal_msg.specs.Kinds.{is_refused, subject_of}
 
 -- ### Who says that a block is busy
 
 abbrev is_busy : Body → Bool
 is_busy (body.BlockBusy seq) = true
 is_busy _ = false
-
-one_says : (to : Actor) (what : Body) (post : Post) → In post (record { to = to; body = what } ∷ []) → what ≡ post.body
-unfolding In
-one_says to what post (inl e) = ap (λ (p : Post). p.body) (sym e)
-one_says to what post (inr h) = absurd h
-
-to_says : (o : Option ℕ) (what : Body) (post : Post) → In post (post_to o what) → what ≡ post.body
-unfolding In
-to_says None what post h = absurd h
-to_says (Some to) what post (inl e) = ap (λ (p : Post). p.body) (sym e)
-to_says (Some to) what post (inr h) = absurd h
 
 asks_quiet : (here : Here) (own : Own) (post : Post) → Asks here own post → is_busy post.body ≡ false
 asks_quiet here own _ (A_slot op to is stage e) = refl
@@ -70,26 +64,30 @@ ended_quiet : (seq : ℕ) (how : Ending) → is_busy (ended seq how) ≡ false
 ended_quiet seq ending.Written = refl
 ended_quiet seq ending.Full = refl
 
-far_quiet : (here : Here) (own : Own) (cell : Cell) (number : ℕ) (how : Far) (post : Post) → In post (tells here own cell number how).posts → is_busy post.body ≡ false
-far_quiet here own cell number far.Reserved post i = ap is_busy (sym (to_says _ _ post i))
-far_quiet here own cell number far.Replicated post i = ap is_busy (sym (to_says _ _ post i))
+-- what is no refusal says nothing of a busy block
+not_refused : (what : Body) → is_refused (subject_of what) ≡ false → is_busy what ≡ false
+not_refused (body.BlockBusy seq) e = true_false refl e
+not_refused _ e = refl
 
-did_busy : (heard : Body → Type 0) (here : Here) (own : Own) (done : Done) → Did heard here own done → (post : Post) (seq : ℕ) → In post done.posts → post.body ≡ body.BlockBusy seq → IsBusy heard here own seq
+lead_quiet : (heard : Body → Type 0) (here : Here) (own : Own) (done : Done) → DidLead heard here own done → (post : Post) → In post done.posts → is_busy post.body ≡ false
+unfolding In
+lead_quiet heard here own _ (Asks_for posts h) post i = asks_quiet here own post (h post i)
+lead_quiet heard here own _ (Repeats want last h lead is f) post i = ap is_busy (one_post _ _ post i).1 ∙ ended_quiet want.seq last.ending
+lead_quiet heard here own _ (Is_full want h lead new none no_room) post i = ap is_busy (one_post _ _ post i).1
+lead_quiet heard here own _ (Opens want h lead new none) post i = ap is_busy (posted _ _ post i)
+lead_quiet heard here own _ (Puts op h is stage) post i = absurd i
+lead_quiet heard here own _ (Gives_up op h is stage) post i = ap is_busy (one_post _ _ post i).1
+lead_quiet heard here own _ (Closes op h is stage) post i = ap is_busy (one_post _ _ post i).1
+
+did_busy : (heard : Body → Type 0) (here : Here) (own : Own) (done : Done) → Did heard here own done
+    → (post : Post) (seq : ℕ) → In post done.posts → post.body ≡ body.BlockBusy seq → IsBusy heard here own seq
 unfolding In
 did_busy heard here own _ Ignores post seq i e = absurd i
-did_busy heard here own _ (Refuses to what is why) post seq i e = why seq (one_says to what post i ∙ e)
-did_busy heard here own _ (Asks_for posts h) post seq i e = true_false (ap is_busy e) (asks_quiet here own post (h post i))
-did_busy heard here own _ (Shows client s cell epoch h r none) post seq i e = true_false (ap is_busy e) (ap is_busy (sym (one_says (actor.Client client) (body.Data s (bytes_of (entry_at (chain_in own.store.chains cell) epoch))) post i)))
-did_busy heard here own _ (Repeats want last h lead is f) post seq i e = true_false (ap is_busy e) (ap is_busy (sym (one_says (actor.Client want.client) (ended want.seq last.ending) post i)) ∙ ended_quiet want.seq last.ending)
-did_busy heard here own _ (Is_full want h lead new none no_room) post seq i e = true_false (ap is_busy e) (ap is_busy (sym (one_says (actor.Client want.client) (body.Full want.seq) post i)))
-did_busy heard here own _ (Opens want h lead new none) post seq i e = true_false (ap is_busy e) (ap is_busy (sym (to_says (second here.state want.cell) (body.Reserve own.pairs.next want.cell) post i)))
-did_busy heard here own _ (Puts op h is stage) post seq i e = absurd i
-did_busy heard here own _ (Gives_up op h is stage) post seq i e = true_false (ap is_busy e) (ap is_busy (sym (one_says (actor.Client op.client) (body.Full op.seq) post i)))
-did_busy heard here own _ (Closes op h is stage) post seq i e = true_false (ap is_busy e) (ap is_busy (sym (one_says (actor.Client op.client) (body.Written op.seq) post i)))
-did_busy heard here own _ (Sets_apart number cell store h s same le) post seq i e = true_false (ap is_busy e) (ap is_busy (sym (to_says (first here.state cell) (body.Reserved number cell) post i)))
-did_busy heard here own _ (Promises number cell how s is) post seq i e = true_false (ap is_busy e) (far_quiet here own cell number how post i)
-did_busy heard here own _ (Declines number cell h s no_room) post seq i e = true_false (ap is_busy e) (ap is_busy (sym (to_says (first here.state cell) (body.PairFull number cell) post i)))
-did_busy heard here own _ (Follows_up number key version bytes h s is) post seq i e = true_false (ap is_busy e) (ap is_busy (sym (to_says (first here.state (cell_of key)) (body.Replicated number (cell_of key)) post i)))
+did_busy heard here own _ (Refuses to what is why) post seq i e = why seq (sym (one_post to what post i).1 ∙ e)
+did_busy heard here own _ (By_read done d) post seq i e = true_false (ap is_busy e) (ap is_busy ((of_read heard here own done d).says post i).is)
+did_busy heard here own _ (By_lead done d) post seq i e = true_false (ap is_busy e) (lead_quiet heard here own done d post i)
+did_busy heard here own _ (By_second done d) post seq i e =
+    true_false (ap is_busy e) (not_refused post.body (ap is_refused ((of_second heard here own done d).says post i)))
 
 -- ### Steps
 

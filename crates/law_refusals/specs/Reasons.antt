@@ -23,7 +23,9 @@ use Rattle.petal_rules.specs.declared.step.WorkEnd.TheVariants as work_end
 use Rattle.petal_history.specs.Contents.{chosen_state}
 use Rattle.petal_history.specs.Legal.{world_after}
 use Rattle.petal_history.specs.declared.record.Record.{Record}
-use Rattle.law_steps.specs.Did.{FoundNoSlot, IsBusy, done_to}
+use Rattle.law_steps.specs.Operations.{done_to}
+use Rattle.law_steps.specs.DidSecond.{FoundNoSlot}
+use Rattle.law_steps.specs.Did.{IsBusy}
 use Rattle.law_steps.specs.Happens.{Handled}
 
 -- ### No slot

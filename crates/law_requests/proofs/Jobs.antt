@@ -1,10 +1,10 @@
 -- Each kind of job keeps what is known of requests.
-use Rattle.std.proofs.Common.{◌≡◌, ◌≢◌, ◌≤◌, ◌+◌, ℕ, List, [], ◌∷◌, true, Option, Some, None, refl, ap, sym, ◌∙◌, subst, inl, inr, arith}
+use Rattle.std.proofs.Common.{◌≡◌, ◌≢◌, ◌≤◌, ◌+◌, ℕ, List, [], ◌∷◌, true, Option, Some, None, refl, ap, sym, ◌∙◌, subst, inl, inr, arith, Bool, false}
 use Rattle.std.specs.Ordering.{nat_cmp}
 use Rattle.petal_base.specs.declared.place.Cell.{Cell}
 use Rattle.petal_table.specs.Table.{at, put}
 use Rattle.petal_table.proofs.Rows.{at_same, at_apart}
-use Rattle.petal_msg.specs.Kinds.{Answered, Read_asked, Refused, Write_asked}
+use Rattle.petal_msg.specs.Kinds.{Subject, Answered, Read_asked, Write_asked, subject_of}
 use Rattle.petal_msg.specs.declared.body.Body.{Body}
 use Rattle.petal_msg.specs.declared.body.Body.TheVariants as body
 use Rattle.petal_msg.specs.declared.letter.Actor.{Actor}
@@ -25,29 +25,31 @@ use Rattle.petal_rules.specs.Jobs.{here_of}
 use Rattle.petal_rules.specs.World.{World}
 use Rattle.petal_rules.proofs.CellTables.{cell_same, cell_apart, cell_gone, cell_gone_apart}
 use Rattle.law_steps.specs.Steady.{IsSteady}
-use Rattle.law_steps.specs.Did.{Did, Ignores, Refuses, Asks_for, Shows, Repeats, Is_full, Opens, Puts, Gives_up, Closes, Sets_apart, Promises, Declines, Follows, Asks, A_slot, A_copy, IsRefusal, done_to}
+use Rattle.law_steps.specs.Operations.{done_to}
+use Rattle.law_steps.specs.DidRead.{DidRead, Shows}
+use Rattle.law_steps.specs.DidLead.{DidLead, Asks_for, Repeats, Is_full, Opens, Puts, Gives_up, Closes, Asks, A_slot, A_copy}
+use Rattle.law_steps.specs.DidSecond.{DidSecond, Sets_apart, Promises, Declines, Follows}
+use Rattle.law_steps.specs.Did.{Did, Ignores, Refuses, IsRefusal, By_read, By_lead, By_second}
 use Rattle.law_steps.specs.Happens.{Handled}
 use Rattle.law_steps.specs.Ready.{Ready}
-use Rattle.petal_rules.proofs.Tests.{same_or_apart, same_some, none_some, is_the_one}
+use Rattle.petal_rules.proofs.Tests.{same_or_apart, same_some, none_some, is_the_one, true_false}
 use Rattle.law_steps.proofs.Staged.{same_cell_or_apart}
 use Rattle.law_requests.specs.Asked.{IsWrite, IsOpen}
 use Rattle.law_requests.specs.Known.{seen, done_by, Known, PendingFor, Asking}
 use Rattle.law_requests.proofs.Frames.{Ends, Stays, Tells, SaysOk, JobTells}
+use Rattle.law_steps.proofs.Letters.{one_post, posted}
+use Rattle.law_steps.proofs.Subjects.{of_read, of_second}
 
 -- the actor is this one, and the letter says this
 abbrev Says : Actor → Body → Post → Type 0
 Says to said post = (post.to ≡ to) × (post.body ≡ said)
 
-one_post : (to : Actor) (said : Body) (post : Post) → In post (record { to = to; body = said } ∷ []) → Says to said post
-unfolding In
-one_post to said post (inl e) = (ap (λ (p : Post). p.to) e, ap (λ (p : Post). p.body) e)
-one_post to said post (inr h) = absurd h
-
-posted : (o : Option ℕ) (said : Body) (post : Post) → In post (post_to o said) → post.body ≡ said
-unfolding In
-posted None said post h = absurd h
-posted (Some to) said post (inl e) = ap (λ (p : Post). p.body) e
-posted (Some to) said post (inr h) = absurd h
+-- a letter about this tells of a request
+abbrev tells_request : Subject → Bool
+tells_request Read_asked = true
+tells_request Write_asked = true
+tells_request Answered = true
+tells_request _ = false
 
 module _ (state : State) (steady : IsSteady state) (lines : List Line) (w : World) (ready : Ready state w) (asking : Asking state lines w) (n : ℕ) where
   abbrev here : Here
@@ -81,20 +83,22 @@ module _ (state : State) (steady : IsSteady state) (lines : List Line) (w : Worl
   calm : (new : Own) (posts : List Post) → ((c : ℕ) → done_by new c ≡ done_by own c) → ((cell : Cell) (op : Pending) → at cell_cmp new.pairs.pending cell ≡ Some op → Stays state w n cell op) → ((post : Post) → In post posts → SaysOk state lines w n new post.to post.body) → J new posts
   calm new posts same pending says = record { finished = λ c. inl (same c); pending = λ cell op is. inl (pending cell op is); says = says }
 
-  refusal_says : (new : Own) (to : Actor) (said : Body) → IsRefusal said → SaysOk state lines w n new to said
-  refusal_says new to (body.Read client seq cell epoch) h = let f : Read_asked ≡ Refused = h in absurd cc
-  refusal_says new to (body.Write client seq cell epoch bytes) h = let f : Write_asked ≡ Refused = h in absurd cc
-  refusal_says new to (body.Written seq) h = let f : Answered ≡ Refused = h in absurd cc
-  refusal_says new to (body.Full seq) h = let f : Answered ≡ Refused = h in absurd cc
-  refusal_says new to _ h = tt
+  -- what speaks of no request
+  nothing_said : (new : Own) (to : Actor) (said : Body) → tells_request (subject_of said) ≡ false → SaysOk state lines w n new to said
+  nothing_said new to (body.Read client seq cell epoch) e = true_false refl e
+  nothing_said new to (body.Write client seq cell epoch bytes) e = true_false refl e
+  nothing_said new to (body.Written seq) e = true_false refl e
+  nothing_said new to (body.Full seq) e = true_false refl e
+  nothing_said new to _ e = tt
+
+  -- a job that leaves the server's own part
+  talked : (done : Done) → done.own ≡ own → ((post : Post) → In post done.posts → SaysOk state lines w n done.own post.to post.body) → J done.own done.posts
+  talked done same says = calm done.own done.posts (λ c. ap (λ (o : Own). done_by o c) same)
+      (λ cell op is. stays cell op (ap (λ (o : Own). at cell_cmp o.pairs.pending cell) (sym same) ∙ is)) says
 
   asks_says : (post : Post) → Asks here own post → SaysOk state lines w n own post.to post.body
   asks_says _ (A_slot op to is stage e) = tt
   asks_says _ (A_copy op to is stage e) = tt
-
-  tells_says : (new : Own) (cell : Cell) (number : ℕ) (how : Far) (post : Post) → In post (tells here new cell number how).posts → SaysOk state lines w n new post.to post.body
-  tells_says new cell number far.Reserved post i = says_any new _ post (posted _ _ post i) (λ to. tt)
-  tells_says new cell number far.Replicated post i = says_any new _ post (posted _ _ post i) (λ to. tt)
 
   ended_says : (new : Own) (c seq : ℕ) (how : Ending) → Tells state lines w n new c seq → SaysOk state lines w n new (actor.Client c) (ended seq how)
   ended_says new c seq ending.Written t = t
@@ -167,17 +171,13 @@ module _ (state : State) (steady : IsSteady state) (lines : List Line) (w : Worl
       ])
 
   -- each kind of job
-  pub job_tells : (done : Done) → Did hears here own done → J done.own done.posts
-  unfolding In
-  job_tells _ Ignores = calm own [] (λ c. refl) stays (λ post i. absurd i)
-  job_tells _ (Refuses to said is why) = calm own _ (λ c. refl) stays (λ post i. says_as own to said post (one_post to said post i) (refusal_says own to said is))
-  job_tells _ (Asks_for posts h) = calm own posts (λ c. refl) stays (λ post i. asks_says post (h post i))
-  job_tells _ (Shows client seq cell epoch h r none) = calm own _ (λ c. refl) stays (λ post i. says_as own _ _ post (one_post _ _ post i) tt)
-  job_tells _ (Repeats want last h lead is e) =
+  lead_tells : (done : Done) → DidLead hears here own done → J done.own done.posts
+  lead_tells _ (Asks_for posts h) = talked _ refl (λ post i. asks_says post (h post i))
+  lead_tells _ (Repeats want last h lead is e) =
       let k = known_of _ h in
       let number = e in
       let above : done_by own want.client ≡ last.seq + 1 = ap done_to is in
-      calm own _ (λ c. refl) stays (λ post i. says_as own _ _ post (one_post _ _ post i) (ended_says own want.client want.seq last.ending (record {
+      talked _ refl (λ post i. says_as own _ _ post (one_post _ _ post i) (ended_says own want.client want.seq last.ending (record {
         cell = want.cell;
         epoch = want.epoch;
         bytes = want.bytes;
@@ -186,18 +186,35 @@ module _ (state : State) (steady : IsSteady state) (lines : List Line) (w : Worl
         old = k.old;
         past = omega arith;
       })))
-  job_tells _ (Is_full want h lead new none no_room) = let k = known_of _ h in finish_tells _ want.client want.seq want.cell want.epoch want.bytes ending.Full refl (first_of want.cell lead) k.write (still_open want h lead new) new none (λ q op is. is)
-  job_tells _ (Opens want h lead new none) = opens_tells want h lead new
-  job_tells _ (Puts op h is stage) = puts_tells op is
-  job_tells _ (Gives_up op h is stage) = done_tells op _ ending.Full is refl (cell_gone own.pairs.pending op.cell) (λ q ne. cell_gone_apart own.pairs.pending op.cell q ne)
-  job_tells _ (Closes op h is stage) =
+  lead_tells _ (Is_full want h lead new none no_room) =
+      let k = known_of _ h in
+      finish_tells _ want.client want.seq want.cell want.epoch want.bytes ending.Full refl (first_of want.cell lead) k.write (still_open want h lead new) new none
+      (λ q op is. is)
+  lead_tells _ (Opens want h lead new none) = opens_tells want h lead new
+  lead_tells _ (Puts op h is stage) = puts_tells op is
+  lead_tells _ (Gives_up op h is stage) =
+      done_tells op _ ending.Full is refl (cell_gone own.pairs.pending op.cell) (λ q ne. cell_gone_apart own.pairs.pending op.cell q ne)
+  lead_tells _ (Closes op h is stage) =
       let u = put cell_cmp own.pairs.pending op.cell (with_paired op) in
-      done_tells op _ ending.Written is refl (cell_gone u op.cell) (λ q ne. cell_gone_apart u op.cell q ne ∙ cell_apart own.pairs.pending op.cell (with_paired op) q ne)
-  job_tells _ (Sets_apart number cell store h s e le) = calm _ _ (λ c. refl) stays (λ post i. tells_says _ cell number far.Reserved post i)
-  job_tells _ (Promises number cell how s is) = promised how
-    where
-      promised : (how : Far) → J (tells here own cell number how).own (tells here own cell number how).posts
-      promised far.Reserved = calm own _ (λ c. refl) stays (λ post i. tells_says own cell number far.Reserved post i)
-      promised far.Replicated = calm own _ (λ c. refl) stays (λ post i. tells_says own cell number far.Replicated post i)
-  job_tells _ (Declines number cell h s no_room) = calm own _ (λ c. refl) stays (λ post i. says_any own _ post (posted _ _ post i) (λ to. tt))
-  job_tells _ (Follows number key version bytes h s is) = calm _ _ (λ c. refl) stays (λ post i. tells_says _ _ number far.Replicated post i)
+      done_tells op _ ending.Written is refl (cell_gone u op.cell)
+      (λ q ne. cell_gone_apart u op.cell q ne ∙ cell_apart own.pairs.pending op.cell (with_paired op) q ne)
+
+  read_tells : (done : Done) → DidRead hears here own done → J done.own done.posts
+  read_tells done d =
+      let frame = of_read hears here own done d in
+      talked done frame.same (λ post i. says_any done.own _ post (frame.says post i).is (λ to. tt))
+
+  second_tells : (done : Done) → DidSecond hears here own done → J done.own done.posts
+  second_tells done d =
+      let frame = of_second hears here own done d in
+      calm done.own done.posts (λ c. ap (λ t. done_to (at nat_cmp t c)) frame.finished)
+      (λ cell op is. stays cell op (ap (λ t. at cell_cmp t cell) (sym frame.pending) ∙ is))
+      (λ post i. nothing_said done.own post.to post.body (ap tells_request (frame.says post i)))
+
+  pub job_tells : (done : Done) → Did hears here own done → J done.own done.posts
+  unfolding In
+  job_tells _ Ignores = talked _ refl (λ post i. absurd i)
+  job_tells _ (Refuses to said is why) = talked _ refl (λ post i. says_as own to said post (one_post to said post i) (nothing_said own to said (ap tells_request is)))
+  job_tells _ (By_read done d) = read_tells done d
+  job_tells _ (By_lead done d) = lead_tells done d
+  job_tells _ (By_second done d) = second_tells done d

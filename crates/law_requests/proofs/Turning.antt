@@ -31,7 +31,7 @@ use Rattle.petal_history.specs.Legal.{IsLegal, world_after}
 use Rattle.petal_history.specs.Sound.{IsSound}
 use Rattle.petal_history.specs.declared.record.Record.{Record}
 use Rattle.law_steps.specs.Steady.{IsSteady}
-use Rattle.law_steps.specs.Did.{done_to}
+use Rattle.law_steps.specs.Operations.{done_to}
 use Rattle.law_steps.specs.Happens.{Heard, Happens, Serves, Turns, Turned, Rests, Sends_anew, Begins, Makes, Reads, line_by}
 use Rattle.law_steps.specs.Happens as happens
 use Rattle.law_steps.specs.Ready.{Ready}

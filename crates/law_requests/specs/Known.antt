@@ -16,7 +16,7 @@ use Rattle.petal_rules.specs.Store.{cell_cmp}
 use Rattle.petal_rules.specs.Server.{Own}
 use Rattle.petal_rules.specs.Clients.{Client, Asked}
 use Rattle.petal_rules.specs.World.{World}
-use Rattle.law_steps.specs.Did.{done_to}
+use Rattle.law_steps.specs.Operations.{done_to}
 use Rattle.law_requests.specs.Asked.{IsWrite, IsRead, IsAsked, IsOpen}
 
 -- what is known of clients, and above which number each server has finished each client's requests

@@ -34,7 +34,7 @@ use Rattle.petal_history.specs.Events as events
 use Rattle.petal_history.specs.Events.{open_write, write_asked, write_by, begun, end_of, takes, looks, look_of, told_with}
 use Rattle.petal_history.specs.declared.record.Record.{Record}
 use Rattle.law_steps.specs.Steady.{IsSteady}
-use Rattle.law_steps.specs.Did.{progress, done_to}
+use Rattle.law_steps.specs.Operations.{progress, done_to}
 use Rattle.law_steps.specs.Happens.{Heard, Turned, Rests, Sends_anew, Begins, Makes, Reads, Ends, answer_of}
 use Rattle.law_steps.proofs.Letters.{said}
 use Rattle.law_steps.proofs.Sending.{is_ask, turned_asks}

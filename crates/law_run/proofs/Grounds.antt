@@ -20,7 +20,10 @@ use Rattle.petal_rules.specs.Writes.{tells}
 use Rattle.petal_rules.specs.Jobs.{here_of}
 use Rattle.petal_rules.specs.World.{World, start, setting_of}
 use Rattle.law_steps.specs.Steady.{IsSteady}
-use Rattle.law_steps.specs.Did.{Did, Ignores, Refuses, Asks_for, Shows, Repeats, Is_full, Opens, Puts, Gives_up, Closes, Sets_apart, Promises, Declines, Follows}
+use Rattle.law_steps.specs.DidRead.{DidRead, Shows}
+use Rattle.law_steps.specs.DidLead.{DidLead, Asks_for, Repeats, Is_full, Opens, Puts, Gives_up, Closes}
+use Rattle.law_steps.specs.DidSecond.{DidSecond, Sets_apart, Promises, Declines, Follows}
+use Rattle.law_steps.specs.Did.{Did, Ignores, Refuses, By_read, By_lead, By_second}
 use Rattle.law_steps.specs.Happens.{Handled, Happens, Serves, Turns, served}
 use Rattle.law_steps.specs.Ready.{Ready}
 use Rattle.law_steps.proofs.Scripts.{start_ready}
@@ -35,6 +38,7 @@ use Rattle.law_requests.specs.Known.{Asking}
 use Rattle.law_requests.proofs.Turning.{happens_asking, start_asking}
 use Rattle.law_run.specs.Follow.{IsShort, Ground}
 use Rattle.law_run.proofs.Names.{happens_named, start_named}
+use Rattle.law_steps.proofs.Subjects.{of_read, told_own}
 
 short_put : (chain : Chain) (epoch : ℕ) (entry : Stored) → epoch ≡ 0 → IsShort chain → IsShort (put nat_cmp chain epoch entry)
 unfolding put
@@ -78,28 +82,34 @@ module _ (state : State) (steady : IsSteady state) (lines : List Line) where
       | inr ne ↦ subst IsShort (sym (chain_apart chains cell chain q ne)) old
     ]
 
-    did_short : ((cell : Cell) → IsShort (chain_in own.store.chains cell)) → (done : Done) → Did hears here own done → (cell : Cell) → IsShort (chain_in done.own.store.chains cell)
-    did_short short _ Ignores cell = short cell
-    did_short short _ (Refuses to said is why) cell = short cell
-    did_short short _ (Asks_for posts h) cell = short cell
-    did_short short _ (Shows client seq c epoch h r none) cell = short cell
-    did_short short _ (Repeats want last h lead is e) cell = short cell
-    did_short short _ (Is_full want h lead new none no_room) cell = short cell
-    did_short short _ (Opens want h lead new none) cell = short cell
-    did_short short _ (Puts op h is stage) cell =
+    lead_short : ((cell : Cell) → IsShort (chain_in own.store.chains cell)) → (done : Done) → DidLead hears here own done
+        → (cell : Cell) → IsShort (chain_in done.own.store.chains cell)
+    lead_short short _ (Puts op h is stage) cell =
         let p = asking.pending n op.cell op is in
         short_at own.store.chains (cell_of op.key) cell _ (short_put (chain_in own.store.chains (cell_of op.key)) op.key.epoch _ (write_epoch state steady lines op.client op.seq op.cell op.key.epoch op.bytes p.write) (short (cell_of op.key))) (short cell)
-    did_short short _ (Gives_up op h is stage) cell = short cell
-    did_short short _ (Closes op h is stage) cell = short cell
-    did_short short _ (Sets_apart number c store h s e le) cell = subst (λ t. IsShort (chain_in t cell)) (sym e) (short cell)
-    did_short short _ (Promises number c how s is) cell = promised how
-      where
-        promised : (how : Far) → IsShort (chain_in (tells here own c number how).own.store.chains cell)
-        promised far.Reserved = short cell
-        promised far.Replicated = short cell
-    did_short short _ (Declines number c h s no_room) cell = short cell
-    did_short short _ (Follows number key version bytes h s is) cell =
+    lead_short short _ (Asks_for posts h) cell = short cell
+    lead_short short _ (Repeats want last h lead is e) cell = short cell
+    lead_short short _ (Is_full want h lead new none no_room) cell = short cell
+    lead_short short _ (Opens want h lead new none) cell = short cell
+    lead_short short _ (Gives_up op h is stage) cell = short cell
+    lead_short short _ (Closes op h is stage) cell = short cell
+
+    second_short : ((cell : Cell) → IsShort (chain_in own.store.chains cell)) → (done : Done) → DidSecond hears here own done
+        → (cell : Cell) → IsShort (chain_in done.own.store.chains cell)
+    second_short short _ (Sets_apart number c store h s e le) cell = subst (λ t. IsShort (chain_in t cell)) (sym e) (short cell)
+    second_short short _ (Promises number c how s is) cell =
+        subst (λ (o : Own). IsShort (chain_in o.store.chains cell)) (sym (told_own here own c number how)) (short cell)
+    second_short short _ (Declines number c h s no_room) cell = short cell
+    second_short short _ (Follows number key version bytes h s is) cell =
         short_at own.store.chains (cell_of key) cell _ (short_put (chain_in own.store.chains (cell_of key)) key.epoch _ (key_epoch number key bytes (followed number key version bytes h s is)) (short (cell_of key))) (short cell)
+
+    did_short : ((cell : Cell) → IsShort (chain_in own.store.chains cell)) → (done : Done) → Did hears here own done
+        → (cell : Cell) → IsShort (chain_in done.own.store.chains cell)
+    did_short short _ Ignores cell = short cell
+    did_short short _ (Refuses to said is why) cell = short cell
+    did_short short _ (By_read done d) cell = subst (λ (o : Own). IsShort (chain_in o.store.chains cell)) (sym (of_read hears here own done d).same) (short cell)
+    did_short short _ (By_lead done d) cell = lead_short short done d cell
+    did_short short _ (By_second done d) cell = second_short short done d cell
 
   short_later : (w v : World) → Ground state lines w → Happens state lines w v → (n : ℕ) (cell : Cell) → IsShort (chain_in (owns_of v n).store.chains cell)
   short_later w _ ground (Serves n stamp done queue lt did queued) =

@@ -20,7 +20,7 @@ use Rattle.petal_rules.proofs.ListLemmas.{put_same, put_apart, in-append}
 use Rattle.petal_history.specs.Contents.{cell_of_block, content_by}
 use Rattle.petal_history.specs.Events.{open_write}
 use Rattle.law_steps.specs.Steady.{IsSteady}
-use Rattle.law_steps.specs.Did.{progress}
+use Rattle.law_steps.specs.Operations.{progress}
 use Rattle.law_steps.specs.Happens.{server_moves, served}
 use Rattle.law_steps.proofs.Letters.{said}
 use Rattle.petal_rules.proofs.Tests.{same_or_apart}

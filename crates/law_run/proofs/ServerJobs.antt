@@ -26,7 +26,11 @@ use Rattle.petal_rules.specs.Jobs.{here_of}
 use Rattle.petal_rules.specs.World.{World}
 use Rattle.petal_rules.proofs.CellTables.{cell_same, cell_apart, cell_gone, cell_gone_apart}
 use Rattle.law_steps.specs.Steady.{IsSteady}
-use Rattle.law_steps.specs.Did.{Did, Ignores, Refuses, Asks_for, Shows, Repeats, Is_full, Opens, Puts, Gives_up, Closes, Sets_apart, Promises, Declines, Follows, Asks, A_slot, A_copy, IsRefusal, progress}
+use Rattle.law_steps.specs.Operations.{progress}
+use Rattle.law_steps.specs.DidRead.{DidRead, Shows}
+use Rattle.law_steps.specs.DidLead.{DidLead, Asks_for, Repeats, Is_full, Opens, Puts, Gives_up, Closes, Asks, A_slot, A_copy}
+use Rattle.law_steps.specs.DidSecond.{DidSecond, Sets_apart, Promises, Declines, Follows}
+use Rattle.law_steps.specs.Did.{Did, Ignores, Refuses, IsRefusal, By_read, By_lead, By_second}
 use Rattle.law_steps.specs.Happens.{Handled}
 use Rattle.law_steps.specs.Ready.{Ready}
 use Rattle.petal_rules.proofs.Tests.{same_or_apart, same_some, none_some, true_false}
@@ -39,23 +43,17 @@ use Rattle.law_run.specs.Onward.{is_held, Onward}
 use Rattle.law_run.specs.Follow.{Follow}
 use Rattle.law_run.proofs.Machine.{held_onward}
 use Rattle.law_run.proofs.ServerFrames.{JobFollow, Was}
+use Rattle.law_steps.proofs.Letters.{one_post, posted}
+use Rattle.law_steps.proofs.Subjects.{of_read, told_own}
 
 -- all kinds of job but one: a second server puts
+abbrev IsCalmSecond : {heard : Body → Type 0} {here : Here} {own : Own} {done : Done} → DidSecond heard here own done → Type 0
+IsCalmSecond (Follows number key version bytes h s is) = ⊥
+IsCalmSecond _ = Unit {0}
+
 abbrev pub IsCalm : {heard : Body → Type 0} {here : Here} {own : Own} {done : Done} → Did heard here own done → Type 0
-IsCalm Ignores = Unit {0}
-IsCalm (Refuses to said is why) = Unit {0}
-IsCalm (Asks_for posts h) = Unit {0}
-IsCalm (Shows client seq cell epoch h r none) = Unit {0}
-IsCalm (Repeats want last h lead is e) = Unit {0}
-IsCalm (Is_full want h lead new none no_room) = Unit {0}
-IsCalm (Opens want h lead new none) = Unit {0}
-IsCalm (Puts op h is stage) = Unit {0}
-IsCalm (Gives_up op h is stage) = Unit {0}
-IsCalm (Closes op h is stage) = Unit {0}
-IsCalm (Sets_apart number cell store h s e le) = Unit {0}
-IsCalm (Promises number cell how s is) = Unit {0}
-IsCalm (Declines number cell h s no_room) = Unit {0}
-IsCalm (Follows number key version bytes h s is) = ⊥
+IsCalm (By_second done d) = IsCalmSecond d
+IsCalm _ = Unit {0}
 
 -- the letter ends no write as written
 abbrev is_written : Body → Bool
@@ -65,17 +63,6 @@ is_written _ = false
 refusal_unwritten : (said : Body) → IsRefusal said → is_written said ≡ false
 refusal_unwritten (body.Written seq) h = let f : Answered ≡ Refused = h in absurd cc
 refusal_unwritten _ h = refl
-
-one_post : (to : Actor) (said : Body) (post : Post) → In post (record { to = to; body = said } ∷ []) → (post.to ≡ to) × (post.body ≡ said)
-unfolding In
-one_post to said post (inl e) = (ap (λ (p : Post). p.to) e, ap (λ (p : Post). p.body) e)
-one_post to said post (inr h) = absurd h
-
-posted : (o : Option ℕ) (said : Body) (post : Post) → In post (post_to o said) → post.body ≡ said
-unfolding In
-posted None said post h = absurd h
-posted (Some to) said post (inl e) = ap (λ (p : Post). p.body) e
-posted (Some to) said post (inr h) = absurd h
 
 asks_unwritten : (here : Here) (own : Own) (post : Post) → Asks here own post → is_written post.body ≡ false
 asks_unwritten here own _ (A_slot op to is stage e) = refl
@@ -224,14 +211,16 @@ module _ (state : State) (steady : IsSteady state) (name : List ℕ) (w : World)
   ended_seq seq ending.Written other e = same_some (ap (λ b. (about b).seq) e)
   ended_seq seq ending.Full other e = true_false {b = is_written (body.Written other)} refl (ap is_written (sym e))
 
-  -- each kind of job but a second server's put
-  pub calm_job : (done : Done) (d : Did hears here own done) → IsCalm d → J done.own done.posts
+  -- a job that leaves the server's own part
+  talked : (done : Done) → done.own ≡ own → SaysOk done.posts → J done.own done.posts
+  talked done same_own says = same done.own done.posts
+      (λ c. ap (λ (o : Own). at nat_cmp o.pairs.finished c) same_own) (λ cell. ap (λ (o : Own). at cell_cmp o.pairs.pending cell) same_own)
+      (λ cell. ap (λ (o : Own). at cell_cmp o.pairs.last cell) same_own) says
+
+  lead_job : (done : Done) → DidLead hears here own done → J done.own done.posts
   unfolding In
-  calm_job _ Ignores calm = same own [] (λ c. refl) (λ cell. refl) (λ cell. refl) (λ post c seq i to says still. absurd i)
-  calm_job _ (Refuses to said is why) calm = same own _ (λ c. refl) (λ cell. refl) (λ cell. refl) (says_one to said (refusal_unwritten said is))
-  calm_job _ (Asks_for posts h) calm = same own posts (λ c. refl) (λ cell. refl) (λ cell. refl) (unwritten posts (λ post i. asks_unwritten here own post (h post i)))
-  calm_job _ (Shows client seq cell epoch h r none) calm = same own _ (λ c. refl) (λ cell. refl) (λ cell. refl) (says_one (actor.Client client) (body.Data seq (bytes_of (entry_at (chain_in own.store.chains cell) epoch))) refl)
-  calm_job _ (Repeats want last h lead is e) calm = same own _ (λ c. refl) (λ cell. refl) (λ cell. refl)
+  lead_job _ (Asks_for posts h) = talked _ refl (unwritten posts (λ post i. asks_unwritten here own post (h post i)))
+  lead_job _ (Repeats want last h lead is e) = same own _ (λ c. refl) (λ cell. refl) (λ cell. refl)
       (λ post c seq i to says still.
       let p = one_post _ _ post i in
       let same_client : want.client ≡ c = one_client (sym p.0 ∙ to) in
@@ -239,16 +228,16 @@ module _ (state : State) (steady : IsSteady state) (name : List ℕ) (w : World)
       let how = ended_written want.seq last.ending seq said in
       let number : seq ≡ last.seq = sym (ended_seq want.seq last.ending seq said) ∙ e in
       held_onward m k c onward (follow.finished n c last (ap (at nat_cmp own.pairs.finished) (sym same_client) ∙ is) how (subst (IsOpen (w.clients c)) number still)))
-  calm_job _ (Is_full want h lead new none no_room) calm = full_job want
-  calm_job _ (Opens want h lead new none) calm = opens_job want none
-  calm_job _ (Puts op h is stage) calm = puts_job op is
-  calm_job _ (Gives_up op h is stage) calm = record {
+  lead_job _ (Is_full want h lead new none no_room) = full_job want
+  lead_job _ (Opens want h lead new none) = opens_job want none
+  lead_job _ (Puts op h is stage) = puts_job op is
+  lead_job _ (Gives_up op h is stage) = record {
     finished = λ c last is how still. finish_full own.pairs.finished op.client op.seq c last is how;
     as_first = λ cell q o pair there. inl (gone_first op (without cell_cmp own.pairs.pending op.cell) (cell_gone own.pairs.pending op.cell) (λ q ne. cell_gone_apart own.pairs.pending op.cell q ne) cell o there);
     as_second = λ cell p o pair is past. inl past;
     says = ended_full op.client op.seq;
   }
-  calm_job _ (Closes op h is stage) calm =
+  lead_job _ (Closes op h is stage) =
       let u = put cell_cmp own.pairs.pending op.cell (with_paired op) in
       let held = closes_held op h is in
       record {
@@ -260,36 +249,54 @@ module _ (state : State) (steady : IsSteady state) (name : List ℕ) (w : World)
         as_second = λ cell p o pair is past. inl past;
         says = λ post c seq i to says still. subst (λ i. is_held k i ≡ true) (one_client (sym (one_post _ _ post i).0 ∙ to)) held;
       }
-  calm_job _ (Sets_apart number cell store h s e le) calm = reserves_job number cell _ h refl refl refl
-  calm_job _ (Promises number cell how s is) calm = promised how
-    where
-      promised : (how : Far) → J (tells here own cell number how).own (tells here own cell number how).posts
-      promised far.Reserved = same own _ (λ c. refl) (λ cell. refl) (λ cell. refl) (says_far own cell number far.Reserved)
-      promised far.Replicated = same own _ (λ c. refl) (λ cell. refl) (λ cell. refl) (says_far own cell number far.Replicated)
-  calm_job _ (Declines number cell h s no_room) calm = same own _ (λ c. refl) (λ cell. refl) (λ cell. refl) (says_to (first state cell) (body.PairFull number cell) refl)
-  calm_job _ (Follows number key version bytes h s is) calm = absurd calm
+
+  second_job : (done : Done) (d : DidSecond hears here own done) → IsCalmSecond d → J done.own done.posts
+  second_job _ (Sets_apart number cell store h s e le) calm = reserves_job number cell _ h refl refl refl
+  second_job _ (Promises number cell how s is) calm =
+      talked (tells here own cell number how) (told_own here own cell number how) (says_far own cell number how)
+  second_job _ (Declines number cell h s no_room) calm = talked _ refl (says_to (first state cell) (body.PairFull number cell) refl)
+  second_job _ (Follows number key version bytes h s is) calm = absurd calm
+
+  read_job : (done : Done) → DidRead hears here own done → J done.own done.posts
+  read_job done d =
+      let frame = of_read hears here own done d in
+      talked done frame.same (unwritten done.posts (λ post i. ap is_written (frame.says post i).is))
+
+  -- each kind of job but a second server's put
+  pub calm_job : (done : Done) (d : Did hears here own done) → IsCalm d → J done.own done.posts
+  unfolding In
+  calm_job _ Ignores calm = talked _ refl (λ post c seq i to says still. absurd i)
+  calm_job _ (Refuses to said is why) calm = talked _ refl (says_one to said (refusal_unwritten said is))
+  calm_job _ (By_read done d) calm = read_job done d
+  calm_job _ (By_lead done d) calm = lead_job done d
+  calm_job _ (By_second done d) calm = second_job done d calm
 
   -- and the copies that count stay as they are
-  pub calm_chains : (done : Done) (d : Did hears here own done) → IsCalm d → (cell : Cell) → second state cell ≡ Some n → chain_in done.own.store.chains cell ≡ chain_in own.store.chains cell
-  calm_chains _ Ignores calm cell own = refl
-  calm_chains _ (Refuses to said is why) calm cell own = refl
-  calm_chains _ (Asks_for posts h) calm cell own = refl
-  calm_chains _ (Shows client seq c epoch h r none) calm cell own = refl
-  calm_chains _ (Repeats want last h lead is e) calm cell own = refl
-  calm_chains _ (Is_full want h lead new none no_room) calm cell own = refl
-  calm_chains _ (Opens want h lead new none) calm cell own = refl
-  calm_chains _ (Puts op h is stage) calm cell own =
+  lead_chains : (done : Done) → DidLead hears here own done → (cell : Cell) → second state cell ≡ Some n
+      → chain_in done.own.store.chains cell ≡ chain_in own.store.chains cell
+  lead_chains _ (Puts op h is stage) cell follows =
       let s = (ready.pending n).staged op.cell op is in
       let pair = lead_pair state steady w ready good n op.cell s.lead in
       chain_apart own.store.chains (cell_of op.key) _ cell
-      (λ e. apart state steady op.cell n n (record { leads = pair.1.leads; follows = subst (λ (c : Cell). second state c ≡ Some n) (e ∙ s.keyed) own }) refl)
-  calm_chains _ (Gives_up op h is stage) calm cell own = refl
-  calm_chains _ (Closes op h is stage) calm cell own = refl
-  calm_chains _ (Sets_apart number c store h s e le) calm cell own = ap (λ t. chain_in t cell) e
-  calm_chains _ (Promises number c how s is) calm cell own = promised how
-    where
-      promised : (how : Far) → chain_in (tells here own c number how).own.store.chains cell ≡ chain_in own.store.chains cell
-      promised far.Reserved = refl
-      promised far.Replicated = refl
-  calm_chains _ (Declines number c h s no_room) calm cell own = refl
-  calm_chains _ (Follows number key version bytes h s is) calm cell own = absurd calm
+      (λ e. apart state steady op.cell n n (record { leads = pair.1.leads; follows = subst (λ (c : Cell). second state c ≡ Some n) (e ∙ s.keyed) follows }) refl)
+  lead_chains _ (Asks_for posts h) cell follows = refl
+  lead_chains _ (Repeats want last h lead is e) cell follows = refl
+  lead_chains _ (Is_full want h lead new none no_room) cell follows = refl
+  lead_chains _ (Opens want h lead new none) cell follows = refl
+  lead_chains _ (Gives_up op h is stage) cell follows = refl
+  lead_chains _ (Closes op h is stage) cell follows = refl
+
+  second_chains : (done : Done) (d : DidSecond hears here own done) → IsCalmSecond d → (cell : Cell)
+      → chain_in done.own.store.chains cell ≡ chain_in own.store.chains cell
+  second_chains _ (Sets_apart number c store h s e le) calm cell = ap (λ t. chain_in t cell) e
+  second_chains _ (Promises number c how s is) calm cell = ap (λ (o : Own). chain_in o.store.chains cell) (told_own here own c number how)
+  second_chains _ (Declines number c h s no_room) calm cell = refl
+  second_chains _ (Follows number key version bytes h s is) calm cell = absurd calm
+
+  pub calm_chains : (done : Done) (d : Did hears here own done) → IsCalm d → (cell : Cell) → second state cell ≡ Some n
+      → chain_in done.own.store.chains cell ≡ chain_in own.store.chains cell
+  calm_chains _ Ignores calm cell follows = refl
+  calm_chains _ (Refuses to said is why) calm cell follows = refl
+  calm_chains _ (By_read done d) calm cell follows = ap (λ (o : Own). chain_in o.store.chains cell) (of_read hears here own done d).same
+  calm_chains _ (By_lead done d) calm cell follows = lead_chains done d cell follows
+  calm_chains _ (By_second done d) calm cell follows = second_chains done d calm cell

@@ -9,7 +9,6 @@ use Rattle.petal_machine.specs.declared.event.Event.{Event}
 use Rattle.petal_machine.specs.declared.event.Write.{Write}
 use Rattle.petal_machine.specs.Machine.{Plain, content, open_of, same_bytes}
 use Rattle.petal_machine.specs.Run.{Obeys, replay}
-use Rattle.petal_msg.specs.Kinds.{Answered, Refused}
 use Rattle.petal_msg.specs.declared.body.Body.{Body}
 use Rattle.petal_msg.specs.declared.body.Body.TheVariants as body
 use Rattle.petal_msg.specs.declared.letter.Actor.{Actor}
@@ -38,9 +37,13 @@ use Rattle.petal_history.specs.Contents.{cell_of_block, content_by, content_at, 
 use Rattle.petal_history.specs.Events.{open_write, write_asked, write_by, takes, looks, look_of, look_for, accepted, told_with}
 use Rattle.petal_history.specs.declared.record.Record.{Record}
 use Rattle.law_steps.specs.Steady.{IsSteady}
-use Rattle.law_steps.specs.Did.{Did, Ignores, Refuses, Asks_for, Shows, Repeats, Is_full, Opens, Puts, Gives_up, Closes, Sets_apart, Promises, Declines, Follows, Asks, A_slot, A_copy, IsRefusal, progress}
+use Rattle.law_steps.specs.Operations.{progress}
+use Rattle.law_steps.specs.DidRead.{DidRead, Shows}
+use Rattle.law_steps.specs.DidLead.{DidLead, Asks_for, Repeats, Is_full, Opens, Puts, Gives_up, Closes, Asks, A_slot, A_copy}
+use Rattle.law_steps.specs.DidSecond.{DidSecond, Sets_apart, Promises, Declines, Follows}
+use Rattle.law_steps.specs.Did.{Did, Ignores, Refuses, IsRefusal, By_read, By_lead, By_second}
 use Rattle.law_steps.specs.Happens.{Handled, line_by, served, server_moves}
-use Rattle.law_steps.proofs.Letters.{said}
+use Rattle.law_steps.proofs.Letters.{said, one_post, posted}
 use Rattle.law_steps.proofs.Stepping.{fixed_setting}
 use Rattle.petal_rules.proofs.Tests.{by_bool, is_the_so, same_or_apart, same_some, none_some, nat_lists_same}
 use Rattle.law_steps.proofs.Staged.{same_cell_or_apart}
@@ -58,39 +61,19 @@ use Rattle.law_run.proofs.Members.{all_empty}
 use Rattle.law_run.proofs.ServerFrames.{JobFollow, job_follow}
 use Rattle.law_run.proofs.ServerJobs.{IsCalm, calm_job, calm_chains, says_far, was_same}
 use Rattle.law_run.proofs.Takes.{no_takes, block_there, one_take}
+use Rattle.law_steps.proofs.Subjects.{of_second}
+use Rattle.petal_msg.specs.Kinds.{is_ending, subject_of}
 
 -- ### Jobs that send no data
 
 abbrev IsQuiet : {heard : Body → Type 0} {here : Here} {own : Own} {done : Done} → Did heard here own done → Type 0
-IsQuiet Ignores = Unit {0}
-IsQuiet (Refuses to said is why) = Unit {0}
-IsQuiet (Asks_for posts h) = Unit {0}
-IsQuiet (Shows client seq cell epoch h r none) = ⊥
-IsQuiet (Repeats want last h lead is e) = Unit {0}
-IsQuiet (Is_full want h lead new none no_room) = Unit {0}
-IsQuiet (Opens want h lead new none) = Unit {0}
-IsQuiet (Puts op h is stage) = Unit {0}
-IsQuiet (Gives_up op h is stage) = Unit {0}
-IsQuiet (Closes op h is stage) = Unit {0}
-IsQuiet (Sets_apart number cell store h s e le) = Unit {0}
-IsQuiet (Promises number cell how s is) = Unit {0}
-IsQuiet (Declines number cell h s no_room) = Unit {0}
-IsQuiet (Follows number key version bytes h s is) = Unit {0}
+IsQuiet (By_read done d) = ⊥
+IsQuiet _ = Unit {0}
 
-one_data : (to : Actor) (said : Body) (post : Post) → In post (record { to = to; body = said } ∷ []) → is_data said ≡ false → is_data post.body ≡ false
-unfolding In
-one_data to said post (inl same) e = ap (λ (p : Post). is_data p.body) same ∙ e
-one_data to said post (inr h) e = absurd h
-
-to_data : (o : Option ℕ) (said : Body) (post : Post) → In post (post_to o said) → is_data said ≡ false → is_data post.body ≡ false
-unfolding In
-to_data None said post h e = absurd h
-to_data (Some to) said post (inl same) e = ap (λ (p : Post). is_data p.body) same ∙ e
-to_data (Some to) said post (inr h) e = absurd h
-
-refusal_data : (said : Body) → IsRefusal said → is_data said ≡ false
-refusal_data (body.Data seq bytes) h = let f : Answered ≡ Refused = h in absurd cc
-refusal_data _ h = refl
+-- what ends no request has no data
+unended_data : (said : Body) → is_ending (subject_of said) ≡ false → is_data said ≡ false
+unended_data (body.Data seq bytes) e = true_false refl e
+unended_data _ e = refl
 
 asks_data : (here : Here) (own : Own) (post : Post) → Asks here own post → is_data post.body ≡ false
 asks_data here own _ (A_slot op to is stage e) = refl
@@ -100,26 +83,24 @@ ended_data : (seq : ℕ) (how : Ending) → is_data (ended seq how) ≡ false
 ended_data seq ending.Written = refl
 ended_data seq ending.Full = refl
 
-far_data : (here : Here) (new : Own) (cell : Cell) (number : ℕ) (how : Far) (post : Post) → In post (tells here new cell number how).posts → is_data post.body ≡ false
-far_data here new cell number far.Reserved post i = to_data _ _ post i refl
-far_data here new cell number far.Replicated post i = to_data _ _ post i refl
+lead_data : (heard : Body → Type 0) (here : Here) (own : Own) (done : Done) → DidLead heard here own done → (post : Post) → In post done.posts → is_data post.body ≡ false
+unfolding In
+lead_data heard here own _ (Asks_for posts h) post i = asks_data here own post (h post i)
+lead_data heard here own _ (Repeats want last h lead is e) post i = ap is_data (one_post _ _ post i).1 ∙ ended_data want.seq last.ending
+lead_data heard here own _ (Is_full want h lead new none no_room) post i = ap is_data (one_post _ _ post i).1
+lead_data heard here own _ (Opens want h lead new none) post i = ap is_data (posted _ _ post i)
+lead_data heard here own _ (Puts op h is stage) post i = absurd i
+lead_data heard here own _ (Gives_up op h is stage) post i = ap is_data (one_post _ _ post i).1
+lead_data heard here own _ (Closes op h is stage) post i = ap is_data (one_post _ _ post i).1
 
-quiet_data : (heard : Body → Type 0) (here : Here) (own : Own) (done : Done) (d : Did heard here own done) → IsQuiet d → (post : Post) → In post done.posts → is_data post.body ≡ false
+quiet_data : (heard : Body → Type 0) (here : Here) (own : Own) (done : Done) (d : Did heard here own done) → IsQuiet d
+    → (post : Post) → In post done.posts → is_data post.body ≡ false
 unfolding In
 quiet_data heard here own _ Ignores quiet post i = absurd i
-quiet_data heard here own _ (Refuses to said is why) quiet post i = one_data to said post i (refusal_data said is)
-quiet_data heard here own _ (Asks_for posts h) quiet post i = asks_data here own post (h post i)
-quiet_data heard here own _ (Shows client seq cell epoch h r none) quiet post i = absurd quiet
-quiet_data heard here own _ (Repeats want last h lead is e) quiet post i = one_data (actor.Client want.client) (ended want.seq last.ending) post i (ended_data want.seq last.ending)
-quiet_data heard here own _ (Is_full want h lead new none no_room) quiet post i = one_data (actor.Client want.client) (ended want.seq ending.Full) post i refl
-quiet_data heard here own _ (Opens want h lead new none) quiet post i = to_data (second here.state want.cell) (body.Reserve own.pairs.next want.cell) post i refl
-quiet_data heard here own _ (Puts op h is stage) quiet post i = absurd i
-quiet_data heard here own _ (Gives_up op h is stage) quiet post i = one_data (actor.Client op.client) (ended op.seq ending.Full) post i refl
-quiet_data heard here own _ (Closes op h is stage) quiet post i = one_data (actor.Client op.client) (ended op.seq ending.Written) post i refl
-quiet_data heard here own _ (Sets_apart number cell store h s e le) quiet post i = to_data (first here.state cell) (body.Reserved number cell) post i refl
-quiet_data heard here own _ (Promises number cell how s is) quiet post i = far_data here own cell number how post i
-quiet_data heard here own _ (Declines number cell h s no_room) quiet post i = to_data (first here.state cell) (body.PairFull number cell) post i refl
-quiet_data heard here own _ (Follows number key version bytes h s is) quiet post i = to_data (first here.state (cell_of key)) (body.Replicated number (cell_of key)) post i refl
+quiet_data heard here own _ (Refuses to said is why) quiet post i = ap is_data (one_post to said post i).1 ∙ unended_data said (ap is_ending is)
+quiet_data heard here own _ (By_read done d) quiet post i = absurd quiet
+quiet_data heard here own _ (By_lead done d) quiet post i = lead_data heard here own done d post i
+quiet_data heard here own _ (By_second done d) quiet post i = unended_data post.body (ap is_ending ((of_second heard here own done d).says post i))
 
 -- ### Contents
 
@@ -233,7 +214,7 @@ module _ (servers slots : ℕ) (lines : List Line) (state : State) (steady : IsS
     show_told numbered queue client seq cell epoch h r none accepts =
         let bytes = bytes_of (entry_at (chain_in own.store.chains cell) epoch) in
         let done = says own (actor.Client client) (body.Data seq bytes) in
-        let d : Did hears here own done = Shows client seq cell epoch h r none in
+        let d : Did hears here own done = By_read _ (Shows client seq cell epoch h r none) in
         let letter : Letter = record { from = actor.Server n; inc = (w.servers n).life.inc; to = actor.Client client; rev = state.rev; stamp = stamp; nth = 0; body = body.Data seq bytes } in
         let read = known_of state steady lines w ground.ready ground.asking n (body.Read client seq cell epoch) h in
         let shown = show_looks numbered client seq cell epoch letter bytes read refl (λ number e. accepts letter number (inl refl) refl e) in
@@ -328,7 +309,7 @@ module _ (servers slots : ℕ) (lines : List Line) (state : State) (steady : IsS
 
       put_others : (block : ℕ) → cell_of key ≡ cell_of_block block → (b : ℕ) → b ≢ block → content_by w (cell_of_block b) 0 (second state (cell_of_block b)) ≡ content_by put_world (cell_of_block b) 0 (second state (cell_of_block b))
       put_others block is b ne = same_content put_done queue (cell_of_block b) (second state (cell_of_block b))
-          (λ own. chain_apart own.store.chains (cell_of key) _ (cell_of_block b) (λ e. ne (ap (λ (c : Cell). c.block) (e ∙ is))))
+          (λ follows. chain_apart own.store.chains (cell_of key) _ (cell_of_block b) (λ e. ne (ap (λ (c : Cell). c.block) (e ∙ is))))
 
       -- the block had these bytes before
       put_same_bytes : (f : Followed state steady lines w ground.ready ground.good ground.asking n number key bytes) (block : ℕ) → cell_of key ≡ cell_of_block block → Writes f.putting.op block bytes → content_at setting w 0 block ≡ bytes → ServerTold (done_as put_done queue)
@@ -342,7 +323,7 @@ module _ (servers slots : ℕ) (lines : List Line) (state : State) (steady : IsS
           let held : is_held m f.putting.op.client ≡ true = stands_held m name follow.blocks f.putting.op.client wr follow.only follow.mindful seat writes.disk_is (ap (content follow.blocks) writes.block_is ∙ follow.now block ∙ sym (by_second w block) ∙ had ∙ sym writes.bytes_is) in
           record {
             es = [];
-            is = (λ i. told_with [] (no_takes setting w put_world (λ b. by_second w b ∙ unchanged b ∙ sym (by_second put_world b)) i) (no_looks put_done (quiet_data hears here own put_done (Follows number key version bytes h s last_is) tt) i ++ []));
+            is = (λ i. told_with [] (no_takes setting w put_world (λ b. by_second w b ∙ unchanged b ∙ sym (by_second put_world b)) i) (no_looks put_done (quiet_data hears here own put_done (By_second _ (Follows number key version bytes h s last_is) tt) i ++ []));
             may = tt;
             follows = job_follow state steady name w m m n stamp put_done queue follow (onward_itself m) (put_job m (onward_itself m) f held)
                 (record { blocks = follow.blocks; only = follow.only; now = λ b. follow.now b ∙ unchanged b; mindful = follow.mindful });
@@ -368,7 +349,7 @@ module _ (servers slots : ℕ) (lines : List Line) (state : State) (steady : IsS
           let held : is_held k c ≡ true = stands_held k name taken.later c writes.write taken.only taken.mindful seat writes.disk_is (ap (content taken.later) writes.block_is ∙ has ∙ sym writes.bytes_is) in
           record {
             es = es ++ [];
-            is = (λ i. told_with [] (one.told i) (no_looks put_done (quiet_data hears here own put_done (Follows number key version bytes h s last_is) tt) i ++ []));
+            is = (λ i. told_with [] (one.told i) (no_looks put_done (quiet_data hears here own put_done (By_second _ (Follows number key version bytes h s last_is) tt) i ++ []));
             may = subst (Obeys m) (sym (append_nil es)) taken.may;
             follows = subst (λ xs. Follow state name put_world (replay m xs)) (sym (append_nil es))
                 (job_follow state steady name w m k n stamp put_done queue follow taken.onward (put_job k taken.onward f held)
@@ -401,17 +382,7 @@ module _ (servers slots : ℕ) (lines : List Line) (state : State) (steady : IsS
     pub did_told : n < servers → ((one other : Line) → In one lines → In other lines → one.number ≡ other.number → one ≡ other) → (done : Done) (queue : List Job) → Did hears here own done
         → ((letter : Letter) (seq : ℕ) (bytes : List ℕ) (number : ℕ) → In letter (server_moves state w n stamp done queue).sent → letter.body ≡ body.Data seq bytes → accepted later letter ≡ Some number → Accepts lines letter seq number)
         → ServerTold (done_as done queue)
-    did_told lt numbered _ queue Ignores accepts = calm_told _ queue Ignores tt tt
-    did_told lt numbered _ queue (Refuses to said is why) accepts = calm_told _ queue (Refuses to said is why) tt tt
-    did_told lt numbered _ queue (Asks_for posts h) accepts = calm_told _ queue (Asks_for posts h) tt tt
-    did_told lt numbered _ queue (Shows client seq cell epoch h r none) accepts = show_told numbered queue client seq cell epoch h r none (λ letter number sent says e. accepts letter seq _ number sent says e)
-    did_told lt numbered _ queue (Repeats want last h lead is e) accepts = calm_told _ queue (Repeats want last h lead is e) tt tt
-    did_told lt numbered _ queue (Is_full want h lead new none no_room) accepts = calm_told _ queue (Is_full want h lead new none no_room) tt tt
-    did_told lt numbered _ queue (Opens want h lead new none) accepts = calm_told _ queue (Opens want h lead new none) tt tt
-    did_told lt numbered _ queue (Puts op h is stage) accepts = calm_told _ queue (Puts op h is stage) tt tt
-    did_told lt numbered _ queue (Gives_up op h is stage) accepts = calm_told _ queue (Gives_up op h is stage) tt tt
-    did_told lt numbered _ queue (Closes op h is stage) accepts = calm_told _ queue (Closes op h is stage) tt tt
-    did_told lt numbered _ queue (Sets_apart number cell store h s e le) accepts = calm_told _ queue (Sets_apart number cell store h s e le) tt tt
-    did_told lt numbered _ queue (Promises number cell how s is) accepts = calm_told _ queue (Promises number cell how s is) tt tt
-    did_told lt numbered _ queue (Declines number cell h s no_room) accepts = calm_told _ queue (Declines number cell h s no_room) tt tt
-    did_told lt numbered _ queue (Follows number key version bytes h s is) accepts = put_told number key version bytes h s is queue lt
+    did_told lt numbered _ queue (By_read _ (Shows client seq cell epoch h r none)) accepts =
+        show_told numbered queue client seq cell epoch h r none (λ letter number sent says e. accepts letter seq _ number sent says e)
+    did_told lt numbered _ queue (By_second _ (Follows number key version bytes h s is)) accepts = put_told number key version bytes h s is queue lt
+    did_told lt numbered _ queue d accepts = calm_told _ queue d tt tt

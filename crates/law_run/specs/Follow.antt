@@ -17,7 +17,7 @@ use Rattle.petal_rules.specs.Store.{Chain, Stored, cell_cmp, chain_in}
 use Rattle.petal_rules.specs.World.{World, clock_of}
 use Rattle.petal_history.specs.Contents.{cell_of_block, content_by}
 use Rattle.petal_history.specs.Events.{open_write, same_name}
-use Rattle.law_steps.specs.Did.{progress}
+use Rattle.law_steps.specs.Operations.{progress}
 use Rattle.law_steps.specs.Ready.{Ready}
 use Rattle.law_copies.specs.Pair.{IsPair, owns_of, Good}
 use Rattle.law_requests.specs.Asked.{IsOpen}

@@ -31,7 +31,11 @@ use Rattle.petal_rules.specs.declared.job.Job.{Job}
 use Rattle.petal_rules.specs.declared.job.Job.TheVariants as job
 use Rattle.petal_rules.proofs.CellTables.{cell_same}
 use Rattle.law_steps.specs.Steady.{IsSteady}
-use Rattle.law_steps.specs.Did.{Did, Ignores, Refuses, Asks_for, Shows, Repeats, Is_full, Opens, Puts, Gives_up, Closes, Sets_apart, Promises, Declines, Follows, Asks, A_slot, A_copy, For_a_write, For_a_read, IsStaged, waiting, copying, progress, done_to}
+use Rattle.law_steps.specs.Operations.{IsStaged, waiting, copying, progress, done_to}
+use Rattle.law_steps.specs.DidRead.{DidRead, Shows}
+use Rattle.law_steps.specs.DidLead.{DidLead, Asks_for, Repeats, Is_full, Opens, Puts, Gives_up, Closes, Asks, A_slot, A_copy}
+use Rattle.law_steps.specs.DidSecond.{DidSecond, Sets_apart, Promises, Declines, Follows}
+use Rattle.law_steps.specs.Did.{Did, Ignores, Refuses, For_a_write, For_a_read, By_read, By_lead, By_second}
 use Rattle.petal_rules.proofs.Tests.{by_test, by_bool, both_true, not_true, true_false, same_numbers, same_some, none_some, only}
 
 is_waiting : (stage : Stage) → (stage ≡ waiting) ⊎ (stage ≡ copying) → stage.reserved ≡ false → stage ≡ waiting
@@ -116,8 +120,8 @@ module _ (heard : Body → Type 0) (here : Here) (own : Own) (steady : IsSteady 
       let lead : is_lead here.state here.me op.cell ≡ true = subst (λ (c : Cell). is_lead here.state here.me c ≡ true) (sym s.own) s.lead in
       let is = staged_at cell op e in
       elim s.stage [
-        | inl stage ↦ subst (λ a. D (acts here own op a)) (sym (action_is op waiting lead stage)) (Asks_for _ (asks_slot op is stage))
-        | inr stage ↦ subst (λ a. D (acts here own op a)) (sym (action_is op copying lead stage)) (Asks_for _ (asks_copy op is stage))
+        | inl stage ↦ subst (λ a. D (acts here own op a)) (sym (action_is op waiting lead stage)) (By_lead _ (Asks_for _ (asks_slot op is stage)))
+        | inr stage ↦ subst (λ a. D (acts here own op a)) (sym (action_is op copying lead stage)) (By_lead _ (Asks_for _ (asks_copy op is stage)))
       ]
 
   -- ### Writes
@@ -127,12 +131,12 @@ module _ (heard : Body → Type 0) (here : Here) (own : Own) (steady : IsSteady 
 
   did_opens : (want : Wanted) → by_write want → is_lead here.state here.me want.cell ≡ true → done_to (at nat_cmp own.pairs.finished want.client) ≤ want.seq → pending_on own want.cell ≡ None → (room : Bool) → nat_lt 0 (free_of own.store) ≡ room → D (opens here own want room)
   unfolding goes_on
-  did_opens want h lead new none false full = Is_full want h lead new none (no_free (free_of own.store) full)
+  did_opens want h lead new none false full = By_lead _ (Is_full want h lead new none (no_free (free_of own.store) full))
   did_opens want h lead new none true room =
       let op = operation here own.pairs.next want in
       let there : pending_on (opened here own want) want.cell ≡ Some op = cell_same own.pairs.pending want.cell op in
       subst (λ o. D (goes_on_with here (opened here own want) o)) (sym there)
-      (subst (λ a. D (acts here (opened here own want) op a)) (sym (action_is op waiting lead refl)) (Opens want h lead new none))
+      (subst (λ a. D (acts here (opened here own want) op a)) (sym (action_is op waiting lead refl)) (By_lead _ (Opens want h lead new none)))
 
   did_newer : (want : Wanted) → by_write want → is_lead here.state here.me want.cell ≡ true → done_to (at nat_cmp own.pairs.finished want.client) ≤ want.seq → (fenced : Bool) (o : Option Pending) → pending_on own want.cell ≡ o → is_pending_for (pending_on own want.cell) want ≡ false → D (takes_newer here own want fenced o)
   did_newer want h lead new true o e other = Refuses (actor.Client want.client) (body.Held want.seq) refl (λ seq f. not_busy (body.Held want.seq) seq f refl)
@@ -148,7 +152,7 @@ module _ (heard : Body → Type 0) (here : Here) (own : Own) (steady : IsSteady 
       (λ older. subst (λ b. D (takes here own want (if b then Older else if want.seq == last.seq then Again last.ending else Newer))) (sym older) Ignores)
       (λ not_older. subst (λ b. D (takes here own want (if b then Older else if want.seq == last.seq then Again last.ending else Newer))) (sym not_older)
       (by_bool (want.seq == last.seq)
-      (λ same. subst (λ b. D (takes here own want (if b then Again last.ending else Newer))) (sym same) (Repeats want last h lead e (same_numbers want.seq last.seq same)))
+      (λ same. subst (λ b. D (takes here own want (if b then Again last.ending else Newer))) (sym same) (By_lead _ (Repeats want last h lead e (same_numbers want.seq last.seq same))))
       (λ apart. subst (λ b. D (takes here own want (if b then Again last.ending else Newer))) (sym apart)
       (by_test D (is_pending_for (pending_on own want.cell) want) _ _ (λ t. Ignores) (λ t. did_newer want h lead (subst (λ o. done_to o ≤ want.seq) (sym e) (newer last want.seq not_older apart)) _ _ refl t)))))
 
@@ -171,7 +175,7 @@ module _ (heard : Body → Type 0) (here : Here) (own : Own) (steady : IsSteady 
       let heard_of : heard (body.Reserved op.op op.cell) = subst (λ k. heard (body.Reserved k op.cell)) (sym (same_numbers op.op number tests.0)) (subst (λ (c : Cell). heard (body.Reserved number c)) (sym s.own) h) in
       subst (λ o. D (goes_on_with here (with_pending own (with_reserved op)) o)) (sym there)
       (subst (λ a. D (acts here (with_pending own (with_reserved op)) (with_reserved op) a)) (sym (action_is (with_reserved op) (with_reserved (record op { stage = waiting })).stage lead (ap (λ (x : Stage). (record x { reserved = true })) stage)))
-      (Puts op heard_of (staged_at cell op e) stage)))
+      (By_lead _ (Puts op heard_of (staged_at cell op e) stage))))
       (λ t. Ignores)
 
   did_pair_full : (number : ℕ) (cell : Cell) (o : Option Pending) → heard (body.PairFull number cell) → pending_on own cell ≡ o → D (hears_pair_full own number o)
@@ -181,7 +185,7 @@ module _ (heard : Body → Type 0) (here : Here) (own : Own) (steady : IsSteady 
       let tests = both_true (op.op == number) (not op.stage.reserved) t in
       let s = staged cell op e in
       let heard_of : heard (body.PairFull op.op op.cell) = subst (λ k. heard (body.PairFull k op.cell)) (sym (same_numbers op.op number tests.0)) (subst (λ (c : Cell). heard (body.PairFull number c)) (sym s.own) h) in
-      Gives_up op heard_of (staged_at cell op e) (is_waiting op.stage s.stage (not_true _ tests.1)))
+      By_lead _ (Gives_up op heard_of (staged_at cell op e) (is_waiting op.stage s.stage (not_true _ tests.1))))
       (λ t. Ignores)
 
   did_replicated : (number : ℕ) (cell : Cell) (o : Option Pending) → heard (body.Replicated number cell) → pending_on own cell ≡ o → D (hears_replicated here own number o)
@@ -198,7 +202,7 @@ module _ (heard : Body → Type 0) (here : Here) (own : Own) (steady : IsSteady 
       let heard_of : heard (body.Replicated op.op op.cell) = subst (λ k. heard (body.Replicated k op.cell)) (sym (same_numbers op.op number more.0)) (subst (λ (c : Cell). heard (body.Replicated number c)) (sym s.own) h) in
       subst (λ o. D (goes_on_with here (with_pending own (with_paired op)) o)) (sym there)
       (subst (λ a. D (acts here (with_pending own (with_paired op)) (with_paired op) a)) (sym (action_is (with_paired op) (with_paired (record op { stage = copying })).stage lead (ap (λ (x : Stage). (record x { paired = true })) stage)))
-      (Closes op heard_of (staged_at cell op e) stage)))
+      (By_lead _ (Closes op heard_of (staged_at cell op e) stage))))
       (λ t. Ignores)
 
   -- ### The second server
@@ -213,21 +217,21 @@ module _ (heard : Body → Type 0) (here : Here) (own : Own) (steady : IsSteady 
   }
 
   did_reserves : (number : ℕ) (cell : Cell) (has room : Bool) → heard (body.Reserve number cell) → is_second here.state here.me cell ≡ true → IsPast own cell number has → progress (last_on own cell) ≤ number + number → nat_lt 0 (free_of own.store) ≡ room → D (reserves here own cell number has room)
-  did_reserves number cell true room h s past le e = Sets_apart number cell own.store h s refl le
-  did_reserves number cell false true h s past le e = Sets_apart number cell (with_ticket own.store) h s refl le
+  did_reserves number cell true room h s past le e = By_second _ (Sets_apart number cell own.store h s refl le)
+  did_reserves number cell false true h s past le e = By_second _ (Sets_apart number cell (with_ticket own.store) h s refl le)
   did_reserves number cell false false h s past le e =
-      Declines number cell h s (record { none_free = no_free (free_of own.store) e; newer = past.newer; none_left = λ last is. used_up last.far (past.slot last is) })
+      By_second _ (Declines number cell h s (record { none_free = no_free (free_of own.store) e; newer = past.newer; none_left = λ last is. used_up last.far (past.slot last is) }))
 
   did_reserve : (number : ℕ) (cell : Cell) (o : Option LastOp) → heard (body.Reserve number cell) → is_second here.state here.me cell ≡ true → last_on own cell ≡ o → D (hears_reserve here own cell number o)
   did_reserve number cell None h s e = did_reserves number cell false (nat_lt 0 (free_of own.store)) h s (no_past cell number e) (subst (λ o. progress o ≤ number + number) (sym e) (omega arith)) refl
   did_reserve number cell (Some last) h s e = by_test D (nat_lt number last.op) _ _ (λ t. Ignores)
       (λ older. by_test D (number == last.op) _ _
-      (λ same. Promises number cell last.far s (e ∙ λ i. Some (record { op = sym (same_numbers number last.op same) i; far = last.far })))
+      (λ same. By_second _ (Promises number cell last.far s (e ∙ λ i. Some (record { op = sym (same_numbers number last.op same) i; far = last.far }))))
       (λ apart. did_reserves number cell (has_slot last.far) (nat_lt 0 (free_of own.store)) h s (past_is cell number last e (newer_op last number older apart)) (subst (λ o. progress o ≤ number + number) (sym e) (later_op last number older apart)) refl))
 
   did_once : (number : ℕ) (key : Key) (version : ℕ) (bytes : List ℕ) (how : Far) → heard (body.Replicate number key version bytes) → is_second here.state here.me (cell_of key) ≡ true → last_on own (cell_of key) ≡ Some (record { op = number; far = how }) → D (follows_once here own number key bytes how)
-  did_once number key version bytes far.Reserved h s e = Follows number key version bytes h s e
-  did_once number key version bytes far.Replicated h s e = Promises number (cell_of key) far.Replicated s e
+  did_once number key version bytes far.Reserved h s e = By_second _ (Follows number key version bytes h s e)
+  did_once number key version bytes far.Replicated h s e = By_second _ (Promises number (cell_of key) far.Replicated s e)
 
   did_replicate : (number : ℕ) (key : Key) (version : ℕ) (bytes : List ℕ) (o : Option LastOp) → heard (body.Replicate number key version bytes) → is_second here.state here.me (cell_of key) ≡ true → last_on own (cell_of key) ≡ o → D (hears_replicate here own number key bytes o)
   did_replicate number key version bytes None h s e = Ignores
@@ -242,12 +246,12 @@ module _ (heard : Body → Type 0) (here : Here) (own : Own) (steady : IsSteady 
   shown client seq cell epoch h r true lead some e f = Refuses (actor.Client client) (body.Held seq) refl (λ k g. not_busy (body.Held seq) k g refl)
   shown client seq cell epoch h r false true true e f = let there = is_there (pending_on own cell) f in Refuses (actor.Client client) (body.BlockBusy seq) refl
       (λ k g. For_a_read client cell epoch there.0 (subst (λ i. heard (body.Read client i cell epoch)) (busy_seq g) h) e there.1)
-  shown client seq cell epoch h r false true false e f = Shows client seq cell epoch h r (λ t. is_none _ f)
+  shown client seq cell epoch h r false true false e f = By_read _ (Shows client seq cell epoch h r (λ t. is_none _ f))
     where
       is_none : (o : Option Pending) → is_some o ≡ false → o ≡ None
       is_none None e = refl
       is_none (Some op) e = let g : true ≡ false = e in absurd cc
-  shown client seq cell epoch h r false false some e f = Shows client seq cell epoch h r (λ t. true_false t e)
+  shown client seq cell epoch h r false false some e f = By_read _ (Shows client seq cell epoch h r (λ t. true_false t e))
 
   did_read : (client seq : ℕ) (cell : Cell) (epoch : ℕ) → heard (body.Read client seq cell epoch) → D (on_read here own client seq cell epoch)
   unfolding on_read

@@ -1,8 +1,10 @@
 -- The letters of a step, and what was heard, later on.
-use Rattle.std.proofs.Common.{◌≡◌, ℕ, ◌+◌, List, [], ◌∷◌, refl, ap, inl, inr}
+use Rattle.std.proofs.Common.{◌≡◌, ℕ, ◌+◌, List, [], ◌∷◌, Option, Some, None, refl, ap, inl, inr}
+use Rattle.petal_msg.specs.declared.body.Body.{Body}
+use Rattle.petal_msg.specs.declared.letter.Actor.{Actor}
 use Rattle.petal_msg.specs.declared.letter.Letter.{Letter}
 use Rattle.petal_rules.specs.Lists.{In}
-use Rattle.petal_rules.specs.Server.{Post, Sender, letters_of}
+use Rattle.petal_rules.specs.Server.{Post, Sender, letters_of, post_to}
 use Rattle.petal_rules.specs.World.{stamped}
 
 -- a letter of a step was posted in it
@@ -28,3 +30,15 @@ said who stamp nth (post ∷ posts) letter (inl e) = record {
 said who stamp nth (post ∷ posts) letter (inr h) =
     let later = said who stamp (nth + 1) posts letter h in
     record { post = later.post; there = inr later.there; to = later.to; body = later.body; from = later.from; at = later.at }
+
+-- the one letter that is posted
+pub one_post : (to : Actor) (what : Body) (post : Post) → In post (record { to = to; body = what } ∷ []) → (post.to ≡ to) × (post.body ≡ what)
+unfolding In
+one_post to what post (inl e) = (ap (λ (p : Post). p.to) e, ap (λ (p : Post). p.body) e)
+one_post to what post (inr h) = absurd h
+
+pub posted : (to : Option ℕ) (what : Body) (post : Post) → In post (post_to to what) → post.body ≡ what
+unfolding In
+posted None what post h = absurd h
+posted (Some to) what post (inl e) = ap (λ (p : Post). p.body) e
+posted (Some to) what post (inr h) = absurd h

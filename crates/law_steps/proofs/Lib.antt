@@ -1,7 +1,8 @@
 pub mod Tables
 pub mod Inversion
-pub mod Staged
 pub mod Letters
+pub mod Subjects
+pub mod Staged
 pub mod Sending
 pub mod Stepping
 pub mod Fixed

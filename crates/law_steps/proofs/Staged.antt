@@ -17,9 +17,14 @@ use Rattle.petal_rules.specs.Writes.{operation, with_reserved, with_paired, tell
 use Rattle.petal_rules.specs.declared.job.Job.{Job}
 use Rattle.petal_rules.specs.declared.job.Job.TheVariants as job
 use Rattle.petal_rules.proofs.CellTables.{cell_cmp_total, cell_same, cell_apart, cell_gone, cell_gone_apart}
-use Rattle.law_steps.specs.Did.{Did, Ignores, Refuses, Asks_for, Shows, Repeats, Is_full, Opens, Puts, Gives_up, Closes, Sets_apart, Promises, Declines, Follows, IsStaged, waiting, copying}
+use Rattle.law_steps.specs.Operations.{IsStaged, waiting, copying}
+use Rattle.law_steps.specs.DidRead.{DidRead, Shows}
+use Rattle.law_steps.specs.DidLead.{DidLead, Asks_for, Repeats, Is_full, Opens, Puts, Gives_up, Closes}
+use Rattle.law_steps.specs.DidSecond.{DidSecond, Sets_apart, Promises, Declines, Follows}
+use Rattle.law_steps.specs.Did.{Did, Ignores, Refuses, By_read, By_lead, By_second}
 use Rattle.law_steps.specs.Ready.{IsReady, IsRising}
 use Rattle.petal_rules.proofs.Tests.{same_or_apart, same_some, none_some}
+use Rattle.law_steps.proofs.Subjects.{of_read, of_second}
 use Rattle.law_steps.proofs.Tables.{put_rises, without_rises}
 
 pub same_cell_or_apart : (a b : Cell) → (a ≡ b) ⊎ (a ≢ b)
@@ -50,27 +55,16 @@ module _ (heard : Body → Type 0) (here : Here) (own : Own) (ready : IsReady he
       let s = ready.staged op.cell op is in
       record { own = cell; keyed = ap cell_of key ∙ s.keyed; lead = s.lead; stage = stage }
 
-  told : (cell : Cell) (number : ℕ) (how : Far) (own' : Own) → (tells here own' cell number how).own ≡ own'
-  told cell number far.Reserved own' = refl
-  told cell number far.Replicated own' = refl
-
-  told_jobs : (cell : Cell) (number : ℕ) (how : Far) → (tells here own cell number how).jobs ≡ []
-  told_jobs cell number far.Reserved = refl
-  told_jobs cell number far.Replicated = refl
-
-  pub did_ready : (done : Done) → Did heard here own done → IsReady here.state here.me done.own.pairs.pending
-  did_ready _ Ignores = ready
-  did_ready _ (Refuses to said is why) = ready
-  did_ready _ (Asks_for posts h) = ready
-  did_ready _ (Shows client seq cell epoch h r n) = ready
-  did_ready _ (Repeats want last h lead is e) = ready
-  did_ready _ (Is_full want h lead new none no_room) = ready
-  did_ready _ (Opens want h lead new none) =
+  lead_ready : (done : Done) → DidLead heard here own done → IsReady here.state here.me done.own.pairs.pending
+  lead_ready _ (Asks_for posts h) = ready
+  lead_ready _ (Repeats want last h lead is e) = ready
+  lead_ready _ (Is_full want h lead new none no_room) = ready
+  lead_ready _ (Opens want h lead new none) =
       let t = own.pairs.pending in
       let op = operation here own.pairs.next want in
       changed_ready here.state here.me t (put cell_cmp t want.cell op) want.cell ready (put_rises cell_cmp_total t want.cell op ready.rising) (λ q ne. cell_apart t want.cell op q ne)
       (λ o is. subst (IsStaged here.state here.me want.cell) (same_some (sym (cell_same t want.cell op) ∙ is)) (record { own = refl; keyed = refl; lead = lead; stage = inl refl }))
-  did_ready _ (Puts op h is stage) =
+  lead_ready _ (Puts op h is stage) =
       let t = own.pairs.pending in
       let one = with_reserved op in
       let two : Pending = record one { version = version_of (chain_in own.store.chains op.cell) + 1; stage = record one.stage { put = true } } in
@@ -78,35 +72,22 @@ module _ (heard : Body → Type 0) (here : Here) (own : Own) (ready : IsReady he
       (put_rises cell_cmp_total (put cell_cmp t op.cell one) op.cell two (put_rises cell_cmp_total t op.cell one ready.rising)) (λ q ne. put_put t op.cell one two q ne)
       (λ o there. subst (IsStaged here.state here.me op.cell) (same_some (sym (cell_same (put cell_cmp t op.cell one) op.cell two) ∙ there))
       (restaged op two is refl refl (inr (ap (λ (x : Stage). (record x { reserved = true; put = true })) stage))))
-  did_ready _ (Gives_up op h is stage) =
+  lead_ready _ (Gives_up op h is stage) =
       let t = own.pairs.pending in
       changed_ready here.state here.me t (without cell_cmp t op.cell) op.cell ready (without_rises cell_cmp t op.cell ready.rising) (λ q ne. cell_gone_apart t op.cell q ne) (λ o there. none_some (cell_gone t op.cell) there)
-  did_ready _ (Closes op h is stage) =
+  lead_ready _ (Closes op h is stage) =
       let t = own.pairs.pending in
       let one = with_paired op in
       changed_ready here.state here.me t (without cell_cmp (put cell_cmp t op.cell one) op.cell) op.cell ready
       (without_rises cell_cmp (put cell_cmp t op.cell one) op.cell (put_rises cell_cmp_total t op.cell one ready.rising)) (λ q ne. put_gone t op.cell one q ne)
       (λ o there. none_some (cell_gone (put cell_cmp t op.cell one) op.cell) there)
-  did_ready _ (Sets_apart number cell store h s e le) = ready
-  did_ready _ (Promises number cell how s is) = subst (λ (d : Own). IsReady here.state here.me d.pairs.pending) (sym (told cell number how own)) ready
-  did_ready _ (Declines number cell h s no_room) = ready
-  did_ready _ (Follows number key version bytes h s is) = ready
 
-  -- what follows a job up is a stage, and no letter
-  pub no_letters : (done : Done) → Did heard here own done → (letter : Letter) → In (job.Letter letter) done.jobs → ⊥
-  unfolding In
-  no_letters _ Ignores letter i = i
-  no_letters _ (Refuses to said is why) letter i = i
-  no_letters _ (Asks_for posts h) letter i = i
-  no_letters _ (Shows client seq cell epoch h r n) letter i = i
-  no_letters _ (Repeats want last h lead is e) letter i = i
-  no_letters _ (Is_full want h lead new none no_room) letter i = i
-  no_letters _ (Opens want h lead new none) letter i = i
-  no_letters _ (Puts op h is stage) letter (inl e) = cc
-  no_letters _ (Puts op h is stage) letter (inr i) = i
-  no_letters _ (Gives_up op h is stage) letter i = i
-  no_letters _ (Closes op h is stage) letter i = i
-  no_letters _ (Sets_apart number cell store h s e le) letter i = i
-  no_letters _ (Promises number cell how s is) letter i = subst (λ (jobs : List Job). In (job.Letter letter) jobs) (told_jobs cell number how) i
-  no_letters _ (Declines number cell h s no_room) letter i = i
-  no_letters _ (Follows number key version bytes h s is) letter i = i
+  still : (t : Table Cell Pending) → t ≡ own.pairs.pending → IsReady here.state here.me t
+  still t same = subst (IsReady here.state here.me) (sym same) ready
+
+  pub did_ready : (done : Done) → Did heard here own done → IsReady here.state here.me done.own.pairs.pending
+  did_ready _ Ignores = ready
+  did_ready _ (Refuses to said is why) = ready
+  did_ready _ (By_read done d) = still _ (ap (λ (o : Own). o.pairs.pending) (of_read heard here own done d).same)
+  did_ready _ (By_lead done d) = lead_ready done d
+  did_ready _ (By_second done d) = still _ (of_second heard here own done d).pending

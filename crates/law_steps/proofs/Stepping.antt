@@ -31,13 +31,16 @@ use Rattle.petal_rules.proofs.CellTables.{cell_cmp_total}
 use Rattle.petal_history.specs.Legal.{Follows, IsLegalFrom, stepped, world_after}
 use Rattle.petal_history.specs.declared.record.Record.{Record}
 use Rattle.law_steps.specs.Steady.{IsSteady}
-use Rattle.law_steps.specs.Did.{Did, Ignores, Asks_for, Asks, IsStaged, waiting, copying}
+use Rattle.law_steps.specs.Operations.{IsStaged, waiting, copying}
+use Rattle.law_steps.specs.DidLead.{Asks, Asks_for}
+use Rattle.law_steps.specs.Did.{Did, Ignores, By_lead}
 use Rattle.law_steps.specs.Happens.{IsIdle, Handled, Heard, AreQueued, Serving, served, server_moves, Turned, Rests, Sends_anew, Begins, Makes, Reads, Ends, Happens, Serves, Turns}
 use Rattle.law_steps.specs.Ready.{IsReady, Ready}
 use Rattle.petal_rules.proofs.Tests.{by_test, both_true, same_numbers, all_put}
 use Rattle.law_steps.proofs.Tables.{at_row}
 use Rattle.law_steps.proofs.Inversion.{did, asks_slot, asks_copy, action_is}
-use Rattle.law_steps.proofs.Staged.{did_ready, no_letters}
+use Rattle.law_steps.proofs.Staged.{did_ready}
+use Rattle.law_steps.proofs.Subjects.{no_letters}
 
 -- the setting of a run over one state
 abbrev pub fixed_setting : (servers slots : ℕ) → List Line → State → Setting
@@ -161,7 +164,7 @@ module _ (state : State) (steady : IsSteady state) (lines : List Line) (w : Worl
   unfolding In
   queue_left what rest done e d letter i = elim (in-append (job.Letter letter) rest done.jobs i) [
     | inl old ↦ ready.queues n letter (subst (λ (q : List Job). In (job.Letter letter) q) (sym e) (inr old))
-    | inr new ↦ absurd (no_letters hears_server here own (ready.pending n) done d letter new)
+    | inr new ↦ absurd (no_letters hears_server here own done d letter new)
   ]
 
   abbrev S : Step → Acted → Type 0
@@ -184,7 +187,7 @@ module _ (state : State) (steady : IsSteady state) (lines : List Line) (w : Worl
       by_test (λ server. S (Deliver letter) (record { server = server; letters = [] })) (w.servers n).life.running _ _
       (λ runs. record { done = silent own; queue = (w.servers n).queue ++ job.Letter letter ∷ []; did = Ignores; queued = queue_delivered letter may.sent may.own; works = inr rests_idle; is = refl })
       (λ stopped. record { done = silent own; queue = (w.servers n).queue; did = Ignores; queued = ready.queues n; works = inr rests_idle; is = refl })
-  server_serves Tick may = record { done = record { own = own; posts = tick_posts here (w.servers n); jobs = [] }; queue = (w.servers n).queue; did = Asks_for _ tick_asks; queued = ready.queues n; works = inr (record { same = refl; asks = tick_asks }); is = refl }
+  server_serves Tick may = record { done = record { own = own; posts = tick_posts here (w.servers n); jobs = [] }; queue = (w.servers n).queue; did = By_lead _ (Asks_for _ tick_asks); queued = ready.queues n; works = inr (record { same = refl; asks = tick_asks }); is = refl }
   server_serves (Work work_end.Done) may = works_serve (w.servers n).queue refl
 
   server_happens : (stamp : ℕ) (what : Step) → w.server_clocks n < stamp → MayServer what w n → Happens state lines w (acts w n stamp (server_step what state n (w.servers n))).world

@@ -23,7 +23,8 @@ use Rattle.petal_rules.specs.declared.job.Job.TheVariants as job
 use Rattle.petal_rules.specs.declared.step.Step.{Step}
 use Rattle.petal_rules.specs.declared.step.Step.TheVariants.{Work}
 use Rattle.petal_rules.specs.declared.step.WorkEnd.TheVariants as work_end
-use Rattle.law_steps.specs.Did.{Did, Asks}
+use Rattle.law_steps.specs.DidLead.{Asks}
+use Rattle.law_steps.specs.Did.{Did}
 
 -- a letter that says this was sent to this actor
 pub record Heard (w : World) (to : Actor) (said : Body) : Type 0 where

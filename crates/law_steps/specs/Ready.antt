@@ -9,7 +9,7 @@ use Rattle.petal_rules.specs.Lists.{In}
 use Rattle.petal_rules.specs.State.{State}
 use Rattle.petal_rules.specs.Store.{cell_cmp}
 use Rattle.petal_rules.specs.World.{World}
-use Rattle.law_steps.specs.Did.{IsStaged}
+use Rattle.law_steps.specs.Operations.{IsStaged}
 use Rattle.law_steps.specs.Happens.{AreQueued}
 
 -- each row is below those after it

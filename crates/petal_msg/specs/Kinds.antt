@@ -51,6 +51,15 @@ is_asked Read_asked = true
 is_asked Write_asked = true
 is_asked _ = false
 
+-- a reply that ends its request, or refuses it for a while
+abbrev pub is_ending : Subject → Bool
+is_ending Answered = true
+is_ending _ = false
+
+abbrev pub is_refused : Subject → Bool
+is_refused Refused = true
+is_refused _ = false
+
 -- between the servers of a pair
 abbrev pub is_paired : Subject → Bool
 is_paired Paired = true

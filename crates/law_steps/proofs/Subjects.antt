@@ -1,0 +1,91 @@
+-- What a job of each subject leaves as it is: a law that does not speak of the subject goes by this alone.
+use Rattle.std.proofs.Common.{◌≡◌, ℕ, List, [], inl, inr, refl, ap, subst}
+use Rattle.petal_base.specs.declared.place.Cell.{Cell}
+use Rattle.petal_msg.specs.Kinds.{Paired, subject_of}
+use Rattle.petal_msg.specs.declared.body.Body.{Body}
+use Rattle.petal_msg.specs.declared.body.Body.TheVariants as body
+use Rattle.petal_msg.specs.declared.letter.Letter.{Letter}
+use Rattle.petal_msg.specs.declared.operation.Far.{Far}
+use Rattle.petal_msg.specs.declared.operation.Far.TheVariants as far
+use Rattle.petal_rules.specs.Lists.{In}
+use Rattle.petal_rules.specs.Server.{Own, Here, Post, Done}
+use Rattle.petal_rules.specs.Writes.{tells}
+use Rattle.petal_rules.specs.declared.job.Job.{Job}
+use Rattle.petal_rules.specs.declared.job.Job.TheVariants as job
+use Rattle.law_steps.specs.DidRead.{DidRead, Shows}
+use Rattle.law_steps.specs.DidLead.{DidLead, Asks_for, Repeats, Is_full, Opens, Puts, Gives_up, Closes}
+use Rattle.law_steps.specs.DidSecond.{DidSecond, Sets_apart, Promises, Declines, Follows}
+use Rattle.law_steps.specs.Did.{Did, Ignores, Refuses, By_read, By_lead, By_second}
+use Rattle.law_steps.proofs.Letters.{one_post, posted}
+
+-- the letter is a read's answer
+pub record HasData (post : Post) : Type 0 where
+  pub seq : ℕ
+  pub bytes : List ℕ
+  pub is : post.body ≡ body.Data seq bytes
+
+-- a read's job leaves the server's own part, and sends nothing but data
+pub record ReadFrame (own : Own) (done : Done) : Type 0 where
+  pub same : done.own ≡ own
+  pub no_jobs : done.jobs ≡ []
+  pub says : (post : Post) → In post done.posts → HasData post
+
+-- a second server's job leaves what the server remembers as a lead, and speaks to the lead of the pair alone
+pub record SecondFrame (own : Own) (done : Done) : Type 0 where
+  pub pending : done.own.pairs.pending ≡ own.pairs.pending
+  pub next : done.own.pairs.next ≡ own.pairs.next
+  pub finished : done.own.pairs.finished ≡ own.pairs.finished
+  pub no_jobs : done.jobs ≡ []
+  pub says : (post : Post) → In post done.posts → subject_of post.body ≡ Paired
+
+-- a lead's job leaves what the server remembers as a second server, and no letter follows it up
+pub record LeadFrame (own : Own) (done : Done) : Type 0 where
+  pub last : done.own.pairs.last ≡ own.pairs.last
+  pub no_letters : (letter : Letter) → In (job.Letter letter) done.jobs → ⊥
+
+-- what a second server tells of an operation leaves its own part
+pub told_own : (here : Here) (new : Own) (cell : Cell) (number : ℕ) (how : Far) → (tells here new cell number how).own ≡ new
+told_own here new cell number far.Reserved = refl
+told_own here new cell number far.Replicated = refl
+
+module _ (heard : Body → Type 0) (here : Here) (own : Own) where
+  pub of_read : (done : Done) → DidRead heard here own done → ReadFrame own done
+  of_read _ (Shows client seq cell epoch h r none) = record {
+    same = refl;
+    no_jobs = refl;
+    says = λ post i. record { seq = seq; bytes = _; is = (one_post _ _ post i).1 };
+  }
+
+  pub of_lead : (done : Done) → DidLead heard here own done → LeadFrame own done
+  unfolding In
+  of_lead _ (Asks_for posts h) = record { last = refl; no_letters = λ letter i. i }
+  of_lead _ (Repeats want last h lead is e) = record { last = refl; no_letters = λ letter i. i }
+  of_lead _ (Is_full want h lead new none no_room) = record { last = refl; no_letters = λ letter i. i }
+  of_lead _ (Opens want h lead new none) = record { last = refl; no_letters = λ letter i. i }
+  of_lead _ (Puts op h is stage) = record { last = refl; no_letters = λ letter i. elim i [ inl e ↦ cc | inr none ↦ none ] }
+  of_lead _ (Gives_up op h is stage) = record { last = refl; no_letters = λ letter i. i }
+  of_lead _ (Closes op h is stage) = record { last = refl; no_letters = λ letter i. i }
+
+  -- what a second server tells the lead
+  told : (new : Own) (cell : Cell) (number : ℕ) (how : Far) → new.pairs.pending ≡ own.pairs.pending → new.pairs.next ≡ own.pairs.next → new.pairs.finished ≡ own.pairs.finished
+      → SecondFrame own (tells here new cell number how)
+  told new cell number far.Reserved pending next finished =
+      record { pending = pending; next = next; finished = finished; no_jobs = refl; says = λ post i. ap subject_of (posted _ _ post i) }
+  told new cell number far.Replicated pending next finished =
+      record { pending = pending; next = next; finished = finished; no_jobs = refl; says = λ post i. ap subject_of (posted _ _ post i) }
+
+  pub of_second : (done : Done) → DidSecond heard here own done → SecondFrame own done
+  of_second _ (Sets_apart number cell store h s e le) = told _ cell number far.Reserved refl refl refl
+  of_second _ (Promises number cell how s is) = told own cell number how refl refl refl
+  of_second _ (Declines number cell h s no_room) =
+      record { pending = refl; next = refl; finished = refl; no_jobs = refl; says = λ post i. ap subject_of (posted _ _ post i) }
+  of_second _ (Follows number key version bytes h s is) = told _ _ number far.Replicated refl refl refl
+
+  -- what follows a job up is a stage, and no letter
+  pub no_letters : (done : Done) → Did heard here own done → (letter : Letter) → In (job.Letter letter) done.jobs → ⊥
+  unfolding In
+  no_letters _ Ignores letter i = i
+  no_letters _ (Refuses to said is why) letter i = i
+  no_letters _ (By_read done d) letter i = subst (λ (jobs : List Job). In (job.Letter letter) jobs) (of_read done d).no_jobs i
+  no_letters _ (By_lead done d) letter i = (of_lead done d).no_letters letter i
+  no_letters _ (By_second done d) letter i = subst (λ (jobs : List Job). In (job.Letter letter) jobs) (of_second done d).no_jobs i

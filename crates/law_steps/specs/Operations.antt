@@ -1,0 +1,40 @@
+-- How far an operation is, at its lead and at its second server.
+use Rattle.std.specs.Prelude.{◌≡◌, ◌⊎◌, ℕ, ◌+◌, true, Option, Some, None}
+use Rattle.petal_base.specs.declared.place.Cell.{Cell}
+use Rattle.petal_base.specs.Place.{cell_of}
+use Rattle.petal_msg.specs.declared.operation.Far.{Far}
+use Rattle.petal_msg.specs.declared.operation.Far.TheVariants as far
+use Rattle.petal_msg.specs.declared.operation.Finished.{Finished}
+use Rattle.petal_msg.specs.declared.operation.LastOp.{LastOp}
+use Rattle.petal_msg.specs.declared.operation.Pending.{Pending}
+use Rattle.petal_msg.specs.declared.operation.Stage.{Stage}
+use Rattle.petal_rules.specs.State.{State, is_lead}
+use Rattle.petal_rules.specs.Writes.{first_stage}
+
+-- the stages that an operation rests in: it waits for its slot at the second server, or for the second server's copy
+abbrev pub waiting : Stage
+waiting = first_stage
+
+abbrev pub copying : Stage
+copying = record first_stage { reserved = true; put = true }
+
+-- an operation that is pending on a cell at a server
+pub record IsStaged (state : State) (me : ℕ) (cell : Cell) (op : Pending) : Type 0 where
+  pub own : op.cell ≡ cell
+  pub keyed : cell_of op.key ≡ cell
+  pub lead : is_lead state me cell ≡ true
+  pub stage : (op.stage ≡ waiting) ⊎ (op.stage ≡ copying)
+
+-- above the number of each request that is finished
+abbrev pub done_to : Option Finished → ℕ
+done_to None = 0
+done_to (Some last) = last.seq + 1
+
+-- above twice the number of the last operation, once its slot is set apart, and one more once its copy is put
+abbrev pub far_of : ℕ → Far → ℕ
+far_of number far.Reserved = number + number
+far_of number far.Replicated = number + number + 1
+
+abbrev pub progress : Option LastOp → ℕ
+progress None = 0
+progress (Some last) = far_of last.op last.far
