@@ -147,6 +147,9 @@ module _ (state : State) (steady : IsSteady state) (w : World) (ready : Ready st
   }
 
   -- a job that leaves the server's own part
+  speaks : (posts : List Post) → ((later : ℕ → Own) → Changes halves later k own → (post : Post) → In post posts → SaidOk state later post.body) → J own posts
+  speaks posts says = talks own posts (λ other q. refl) (λ other q. refl) says
+
   talked : (done : Done) → done.own ≡ own → ((later : ℕ → Own) → Changes halves later k done.own → (post : Post) → In post done.posts → SaidOk state later post.body)
       → J done.own done.posts
   talked done same says = talks done.own done.posts (λ other q. ap (λ (o : Own). pair_of o other q) same) (λ other q. ap (λ (o : Own). pair_of other o q) same) says
@@ -298,9 +301,9 @@ module _ (state : State) (steady : IsSteady state) (w : World) (ready : Ready st
 
   lead_keeps : (done : Done) → DidLead hears here own done → J done.own done.posts
   unfolding In
-  lead_keeps _ (Asks_for posts h) = talked _ refl (λ later changes post i. asks_known later changes post (h post i))
+  lead_keeps _ (Asks_for posts h) = speaks _ (λ later changes post i. asks_known later changes post (h post i))
   lead_keeps _ (Repeats want last h lead is e) =
-      talked _ refl (λ later changes post i. says_any later _ post (one_post _ _ post i).1 (λ pair. ended_known pair want.seq last.ending))
+      speaks _ (λ later changes post i. says_any later _ post (one_post _ _ post i).1 (λ pair. ended_known pair want.seq last.ending))
   lead_keeps _ (Is_full want h lead new none no_room) =
       talks _ _ (λ other q. refl) (λ other q. refl) (λ later changes post i. says_any later _ post (one_post _ _ post i).1 (λ pair. tt))
   lead_keeps _ (Opens want h lead new none) = opens_keeps want lead none
@@ -313,7 +316,7 @@ module _ (state : State) (steady : IsSteady state) (w : World) (ready : Ready st
   second_keeps : (done : Done) → DidSecond hears here own done → J done.own done.posts
   second_keeps _ (Sets_apart number cell store h s e le) = reserves_keeps number cell store h s e le _ refl refl refl refl
   second_keeps _ (Promises number cell how s is) = promises_keeps number cell how s is
-  second_keeps _ (Declines number cell h s no_room) = talked _ refl (λ later changes post i. says_any later _ post (posted _ _ post i) (λ pair. tt))
+  second_keeps _ (Declines number cell h s no_room) = speaks _ (λ later changes post i. says_any later _ post (posted _ _ post i) (λ pair. tt))
   second_keeps _ (Follows number key version bytes h s is) = follows_keeps number key version bytes h s is
 
   read_keeps : (done : Done) → DidRead hears here own done → J done.own done.posts
@@ -323,9 +326,9 @@ module _ (state : State) (steady : IsSteady state) (w : World) (ready : Ready st
 
   pub job_keeps : (done : Done) → Did hears here own done → J done.own done.posts
   unfolding In
-  job_keeps _ Ignores = talked _ refl (λ later changes post i. absurd i)
+  job_keeps _ Ignores = speaks _ (λ later changes post i. absurd i)
   job_keeps _ (Refuses to said is why) =
-      talked _ refl (λ later changes post i. says_so later said post (one_post to said post i).1 (no_cell state later said (unpaired said (ap is_paired is))))
+      speaks _ (λ later changes post i. says_so later said post (one_post to said post i).1 (no_cell state later said (unpaired said (ap is_paired is))))
   job_keeps _ (By_read done d) = read_keeps done d
   job_keeps _ (By_lead done d) = lead_keeps done d
   job_keeps _ (By_second done d) = second_keeps done d

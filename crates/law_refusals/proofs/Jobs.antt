@@ -257,13 +257,16 @@ module _ (R S : ℕ → ℕ → Type 0) (state : State) (steady : IsSteady state
       full_cell {a} {b} {c} {d} e = (cc, cc)
 
   -- a job that leaves the server's own part
+  speaks : (posts : List Post) → ((post : Post) → In post posts → is_full post.body ≡ false) → J own posts
+  speaks posts unsaid = still posts own refl refl refl unsaid
+
   talked : (done : Done) → done.own ≡ own → ((post : Post) → In post done.posts → is_full post.body ≡ false) → J done.own done.posts
   talked done same unsaid =
       still done.posts done.own (ap (λ (o : Own). o.pairs.finished) same) (ap (λ (o : Own). o.pairs.pending) same) (ap (λ (o : Own). o.pairs.next) same) unsaid
 
   lead_refuses : (done : Done) → DidLead hears here own done → J done.own done.posts
   unfolding In
-  lead_refuses _ (Asks_for posts h) = talked _ refl (λ post i. asks_not_full here own post (h post i))
+  lead_refuses _ (Asks_for posts h) = speaks _ (λ post i. asks_not_full here own post (h post i))
   lead_refuses _ (Repeats want last h lead is e) = repeats last.ending refl
     where
       repeats : (how : Ending) → last.ending ≡ how → J own (record { to = actor.Client want.client; body = ended want.seq how } ∷ [])
@@ -322,8 +325,8 @@ module _ (R S : ℕ → ℕ → Type 0) (state : State) (steady : IsSteady state
 
   pub job_refuses : (done : Done) → Did hears here own done → J done.own done.posts
   unfolding In
-  job_refuses _ Ignores = talked _ refl (λ post i. absurd i)
-  job_refuses _ (Refuses to what is why) = talked _ refl (λ post i. ap is_full (one_post to what post i).1 ∙ refusal_not_full what is)
+  job_refuses _ Ignores = speaks _ (λ post i. absurd i)
+  job_refuses _ (Refuses to what is why) = speaks _ (λ post i. ap is_full (one_post to what post i).1 ∙ refusal_not_full what is)
   job_refuses _ (By_read done d) = read_refuses done d
   job_refuses _ (By_lead done d) = lead_refuses done d
   job_refuses _ (By_second done d) = second_refuses done d

@@ -92,6 +92,9 @@ module _ (state : State) (steady : IsSteady state) (lines : List Line) (w : Worl
   nothing_said new to _ e = tt
 
   -- a job that leaves the server's own part
+  speaks : (posts : List Post) → ((post : Post) → In post posts → SaysOk state lines w n own post.to post.body) → J own posts
+  speaks posts says = calm own posts (λ c. refl) stays says
+
   talked : (done : Done) → done.own ≡ own → ((post : Post) → In post done.posts → SaysOk state lines w n done.own post.to post.body) → J done.own done.posts
   talked done same says = calm done.own done.posts (λ c. ap (λ (o : Own). done_by o c) same)
       (λ cell op is. stays cell op (ap (λ (o : Own). at cell_cmp o.pairs.pending cell) (sym same) ∙ is)) says
@@ -172,12 +175,12 @@ module _ (state : State) (steady : IsSteady state) (lines : List Line) (w : Worl
 
   -- each kind of job
   lead_tells : (done : Done) → DidLead hears here own done → J done.own done.posts
-  lead_tells _ (Asks_for posts h) = talked _ refl (λ post i. asks_says post (h post i))
+  lead_tells _ (Asks_for posts h) = speaks _ (λ post i. asks_says post (h post i))
   lead_tells _ (Repeats want last h lead is e) =
       let k = known_of _ h in
       let number = e in
       let above : done_by own want.client ≡ last.seq + 1 = ap done_to is in
-      talked _ refl (λ post i. says_as own _ _ post (one_post _ _ post i) (ended_says own want.client want.seq last.ending (record {
+      speaks _ (λ post i. says_as own _ _ post (one_post _ _ post i) (ended_says own want.client want.seq last.ending (record {
         cell = want.cell;
         epoch = want.epoch;
         bytes = want.bytes;
@@ -213,8 +216,8 @@ module _ (state : State) (steady : IsSteady state) (lines : List Line) (w : Worl
 
   pub job_tells : (done : Done) → Did hears here own done → J done.own done.posts
   unfolding In
-  job_tells _ Ignores = talked _ refl (λ post i. absurd i)
-  job_tells _ (Refuses to said is why) = talked _ refl (λ post i. says_as own to said post (one_post to said post i) (nothing_said own to said (ap tells_request is)))
+  job_tells _ Ignores = speaks _ (λ post i. absurd i)
+  job_tells _ (Refuses to said is why) = speaks _ (λ post i. says_as own to said post (one_post to said post i) (nothing_said own to said (ap tells_request is)))
   job_tells _ (By_read done d) = read_tells done d
   job_tells _ (By_lead done d) = lead_tells done d
   job_tells _ (By_second done d) = second_tells done d

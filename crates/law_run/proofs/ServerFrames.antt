@@ -24,12 +24,13 @@ use Rattle.law_steps.specs.Operations.{progress}
 use Rattle.law_steps.specs.Happens.{server_moves, served}
 use Rattle.law_steps.proofs.Letters.{said}
 use Rattle.petal_rules.proofs.Tests.{same_or_apart}
-use Rattle.law_copies.specs.Pair.{IsPair, owns_of}
+use Rattle.law_copies.specs.Pair.{IsPair, owns_of, Good}
 use Rattle.law_copies.proofs.Frames.{apart}
 use Rattle.law_requests.specs.Asked.{IsOpen}
 use Rattle.law_run.specs.Onward.{HasOnly, IsMindful, is_held, Onward}
 use Rattle.law_run.specs.Follow.{Follow}
 use Rattle.law_run.proofs.Machine.{seat_onward, held_onward}
+use Rattle.law_steps.specs.Ready.{Ready}
 
 -- the operation was pending, under this number and for this client
 pub record Was (own : Own) (cell : Cell) (op : Pending) : Type 0 where
@@ -53,7 +54,48 @@ pub record Stores (state : State) (name : List ℕ) (w : World) (k : Plain) : Ty
   pub now : (block : ℕ) → content blocks block ≡ content_by w (cell_of_block block) 0 (second state (cell_of_block block))
   pub mindful : IsMindful k
 
-module _ (state : State) (steady : IsSteady state) (name : List ℕ) (w : World) (m k : Plain) (n stamp : ℕ) (done : Done) (queue : List Job) (follow : Follow state name w m) (onward : Onward m k) (job : JobFollow state w k n done.own done.posts) where
+-- a server in a world that the machine follows, and how the machine goes on in its step
+pub record Scene : Type 0 where
+  pub state : State
+  pub steady : IsSteady state
+  pub name : List ℕ
+  pub w : World
+  pub ready : Ready state w
+  pub good : Good state w
+  pub n : ℕ
+  pub m : Plain
+  pub k : Plain
+  pub follow : Follow state name w m
+  pub onward : Onward m k
+
+module _ (scene : Scene) (stamp : ℕ) (done : Done) (queue : List Job) (job : JobFollow scene.state scene.w scene.k scene.n done.own done.posts) where
+  abbrev state : State
+  state = scene.state
+
+  abbrev steady : IsSteady state
+  steady = scene.steady
+
+  abbrev name : List ℕ
+  name = scene.name
+
+  abbrev w : World
+  w = scene.w
+
+  abbrev n : ℕ
+  n = scene.n
+
+  abbrev m : Plain
+  m = scene.m
+
+  abbrev k : Plain
+  k = scene.k
+
+  abbrev follow : Follow state name w m
+  follow = scene.follow
+
+  abbrev onward : Onward m k
+  onward = scene.onward
+
   abbrev later : World
   later = server_moves state w n stamp done queue
 

@@ -42,7 +42,7 @@ use Rattle.law_requests.specs.Asked.{IsOpen}
 use Rattle.law_run.specs.Onward.{is_held, Onward}
 use Rattle.law_run.specs.Follow.{Follow}
 use Rattle.law_run.proofs.Machine.{held_onward}
-use Rattle.law_run.proofs.ServerFrames.{JobFollow, Was}
+use Rattle.law_run.proofs.ServerFrames.{JobFollow, Was, Scene}
 use Rattle.law_steps.proofs.Letters.{one_post, posted}
 use Rattle.law_steps.proofs.Subjects.{of_read, told_own}
 
@@ -72,7 +72,40 @@ tells_unwritten : (here : Here) (new : Own) (cell : Cell) (number : ℕ) (how : 
 tells_unwritten here new cell number far.Reserved post i = ap is_written (posted _ _ post i)
 tells_unwritten here new cell number far.Replicated post i = ap is_written (posted _ _ post i)
 
-module _ (state : State) (steady : IsSteady state) (name : List ℕ) (w : World) (ready : Ready state w) (good : Good state w) (m k : Plain) (follow : Follow state name w m) (onward : Onward m k) (n : ℕ) where
+module _ (scene : Scene) where
+  abbrev state : State
+  state = scene.state
+
+  abbrev steady : IsSteady state
+  steady = scene.steady
+
+  abbrev name : List ℕ
+  name = scene.name
+
+  abbrev w : World
+  w = scene.w
+
+  abbrev ready : Ready state w
+  ready = scene.ready
+
+  abbrev good : Good state w
+  good = scene.good
+
+  abbrev n : ℕ
+  n = scene.n
+
+  abbrev m : Plain
+  m = scene.m
+
+  abbrev k : Plain
+  k = scene.k
+
+  abbrev follow : Follow state name w m
+  follow = scene.follow
+
+  abbrev onward : Onward m k
+  onward = scene.onward
+
   abbrev here : Here
   here = here_of state n (w.servers n)
 
@@ -212,6 +245,9 @@ module _ (state : State) (steady : IsSteady state) (name : List ℕ) (w : World)
   ended_seq seq ending.Full other e = true_false {b = is_written (body.Written other)} refl (ap is_written (sym e))
 
   -- a job that leaves the server's own part
+  speaks : (posts : List Post) → SaysOk posts → J own posts
+  speaks posts says = same own posts (λ c. refl) (λ cell. refl) (λ cell. refl) says
+
   talked : (done : Done) → done.own ≡ own → SaysOk done.posts → J done.own done.posts
   talked done same_own says = same done.own done.posts
       (λ c. ap (λ (o : Own). at nat_cmp o.pairs.finished c) same_own) (λ cell. ap (λ (o : Own). at cell_cmp o.pairs.pending cell) same_own)
@@ -219,7 +255,7 @@ module _ (state : State) (steady : IsSteady state) (name : List ℕ) (w : World)
 
   lead_job : (done : Done) → DidLead hears here own done → J done.own done.posts
   unfolding In
-  lead_job _ (Asks_for posts h) = talked _ refl (unwritten posts (λ post i. asks_unwritten here own post (h post i)))
+  lead_job _ (Asks_for posts h) = speaks _ (unwritten posts (λ post i. asks_unwritten here own post (h post i)))
   lead_job _ (Repeats want last h lead is e) = same own _ (λ c. refl) (λ cell. refl) (λ cell. refl)
       (λ post c seq i to says still.
       let p = one_post _ _ post i in
@@ -254,7 +290,7 @@ module _ (state : State) (steady : IsSteady state) (name : List ℕ) (w : World)
   second_job _ (Sets_apart number cell store h s e le) calm = reserves_job number cell _ h refl refl refl
   second_job _ (Promises number cell how s is) calm =
       talked (tells here own cell number how) (told_own here own cell number how) (says_far own cell number how)
-  second_job _ (Declines number cell h s no_room) calm = talked _ refl (says_to (first state cell) (body.PairFull number cell) refl)
+  second_job _ (Declines number cell h s no_room) calm = speaks _ (says_to (first state cell) (body.PairFull number cell) refl)
   second_job _ (Follows number key version bytes h s is) calm = absurd calm
 
   read_job : (done : Done) → DidRead hears here own done → J done.own done.posts
@@ -265,8 +301,8 @@ module _ (state : State) (steady : IsSteady state) (name : List ℕ) (w : World)
   -- each kind of job but a second server's put
   pub calm_job : (done : Done) (d : Did hears here own done) → IsCalm d → J done.own done.posts
   unfolding In
-  calm_job _ Ignores calm = talked _ refl (λ post c seq i to says still. absurd i)
-  calm_job _ (Refuses to said is why) calm = talked _ refl (says_one to said (refusal_unwritten said is))
+  calm_job _ Ignores calm = speaks _ (λ post c seq i to says still. absurd i)
+  calm_job _ (Refuses to said is why) calm = speaks _ (says_one to said (refusal_unwritten said is))
   calm_job _ (By_read done d) calm = read_job done d
   calm_job _ (By_lead done d) calm = lead_job done d
   calm_job _ (By_second done d) calm = second_job done d calm

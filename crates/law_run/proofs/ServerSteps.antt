@@ -58,7 +58,7 @@ use Rattle.law_run.proofs.Grounds.{Followed, followed, key_epoch}
 use Rattle.law_run.proofs.Looks.{AllLooks, looked, Accepts, letter_looks, is_data, no_look}
 use Rattle.law_run.proofs.Machine.{onward_itself, seat_onward, stands_held, takes_taken}
 use Rattle.law_run.proofs.Members.{all_empty}
-use Rattle.law_run.proofs.ServerFrames.{JobFollow, job_follow}
+use Rattle.law_run.proofs.ServerFrames.{JobFollow, job_follow, Scene}
 use Rattle.law_run.proofs.ServerJobs.{IsCalm, calm_job, calm_chains, says_far, was_same}
 use Rattle.law_run.proofs.Takes.{no_takes, block_there, one_take}
 use Rattle.law_steps.proofs.Subjects.{of_second}
@@ -133,6 +133,22 @@ module _ (servers slots : ℕ) (lines : List Line) (state : State) (steady : IsS
     abbrev done_as : Done → List Job → Acted
     done_as done queue = record { server = served (w.servers n) done queue; letters = letters_of (sender here) 0 done.posts }
 
+    -- this server, where the machine goes on to k
+    abbrev scene : (k : Plain) → Onward m k → Scene
+    scene k onward = record {
+      state = state;
+      steady = steady;
+      name = name;
+      w = w;
+      ready = ground.ready;
+      good = ground.good;
+      n = n;
+      m = m;
+      k = k;
+      follow = follow;
+      onward = onward;
+    }
+
     -- what is told of a server's step
     pub record ServerTold (acted : Acted) : Type 0 where
       pub es : List Event
@@ -157,18 +173,18 @@ module _ (servers slots : ℕ) (lines : List Line) (state : State) (steady : IsS
 
     calm_contents : (done : Done) (queue : List Job) (d : Did hears here own done) → IsCalm d → (b : ℕ) → content_at setting w 0 b ≡ content_at setting (server_moves state w n stamp done queue) 0 b
     calm_contents done queue d calm b =
-        by_second w b ∙ same_content done queue (cell_of_block b) (second state (cell_of_block b)) (calm_chains state steady name w ground.ready ground.good m m follow (onward_itself m) n done d calm (cell_of_block b))
+        by_second w b ∙ same_content done queue (cell_of_block b) (second state (cell_of_block b)) (calm_chains (scene m (onward_itself m)) done d calm (cell_of_block b))
         ∙ sym (by_second (server_moves state w n stamp done queue) b)
 
     calm_now : (done : Done) (queue : List Job) (d : Did hears here own done) → IsCalm d → (b : ℕ) → content follow.blocks b ≡ content_by (server_moves state w n stamp done queue) (cell_of_block b) 0 (second state (cell_of_block b))
-    calm_now done queue d calm b = follow.now b ∙ same_content done queue (cell_of_block b) (second state (cell_of_block b)) (calm_chains state steady name w ground.ready ground.good m m follow (onward_itself m) n done d calm (cell_of_block b))
+    calm_now done queue d calm b = follow.now b ∙ same_content done queue (cell_of_block b) (second state (cell_of_block b)) (calm_chains (scene m (onward_itself m)) done d calm (cell_of_block b))
 
     calm_told : (done : Done) (queue : List Job) (d : Did hears here own done) → IsCalm d → IsQuiet d → ServerTold (done_as done queue)
     calm_told done queue d calm quiet = record {
       es = [];
       is = (λ i. told_with [] (no_takes setting w (server_moves state w n stamp done queue) (calm_contents done queue d calm) i) (no_looks done (quiet_data hears here own done d quiet) i ++ []));
       may = tt;
-      follows = job_follow state steady name w m m n stamp done queue follow (onward_itself m) (calm_job state steady name w ground.ready ground.good m m follow (onward_itself m) n done d calm)
+      follows = job_follow (scene m (onward_itself m)) stamp done queue (calm_job (scene m (onward_itself m)) done d calm)
           (record { blocks = follow.blocks; only = follow.only; now = calm_now done queue d calm; mindful = follow.mindful });
     }
 
@@ -229,7 +245,7 @@ module _ (servers slots : ℕ) (lines : List Line) (state : State) (steady : IsS
           es = es;
           is = (λ i. told_with [] (no_takes setting w (server_moves state w n stamp done queue) (calm_contents done queue d tt) i) es);
           may = seen.may;
-          follows = job_follow state steady name w m (replay m es) n stamp done queue follow seen.onward (calm_job state steady name w ground.ready ground.good m (replay m es) follow seen.onward n done d tt)
+          follows = job_follow (scene (replay m es) seen.onward) stamp done queue (calm_job (scene (replay m es) seen.onward) done d tt)
               (record { blocks = follow.blocks; only = seen.only; now = calm_now done queue d tt; mindful = seen.mindful });
         }
 
@@ -286,7 +302,7 @@ module _ (servers slots : ℕ) (lines : List Line) (state : State) (steady : IsS
       put_job : (k : Plain) → Onward m k → (f : Followed state steady lines w ground.ready ground.good ground.asking n number key bytes) → is_held k f.putting.op.client ≡ true → JobFollow state w k n put_done.own put_done.posts
       put_job k onward f held = record {
         finished = λ c last is how still. inl is;
-        as_first = λ cell q op pair is. inl (was_same state steady name w ground.ready ground.good m k follow onward n cell op is);
+        as_first = λ cell q op pair is. inl (was_same (scene k onward) cell op is);
         as_second = λ cell p op pair is past. elim (same_cell_or_apart cell (cell_of key)) [
           | inl e ↦
               let pair' : IsPair state (cell_of key) p n = subst (λ (c : Cell). IsPair state c p n) e pair in
@@ -295,7 +311,7 @@ module _ (servers slots : ℕ) (lines : List Line) (state : State) (steady : IsS
               inr (ap (λ (o : Pending). is_held k o.client) one ∙ held)
           | inr ne ↦ inl (subst (λ o. op.op + op.op + 1 ≤ progress o) (cell_apart own.pairs.last (cell_of key) _ cell ne) past)
         ];
-        says = says_far state steady name w ground.ready ground.good m k follow onward n put_done.own (cell_of key) number far.Replicated;
+        says = says_far (scene k onward) put_done.own (cell_of key) number far.Replicated;
       }
 
       -- contents after the put
@@ -325,7 +341,7 @@ module _ (servers slots : ℕ) (lines : List Line) (state : State) (steady : IsS
             es = [];
             is = (λ i. told_with [] (no_takes setting w put_world (λ b. by_second w b ∙ unchanged b ∙ sym (by_second put_world b)) i) (no_looks put_done (quiet_data hears here own put_done (By_second _ (Follows number key version bytes h s last_is) tt) i ++ []));
             may = tt;
-            follows = job_follow state steady name w m m n stamp put_done queue follow (onward_itself m) (put_job m (onward_itself m) f held)
+            follows = job_follow (scene m (onward_itself m)) stamp put_done queue (put_job m (onward_itself m) f held)
                 (record { blocks = follow.blocks; only = follow.only; now = λ b. follow.now b ∙ unchanged b; mindful = follow.mindful });
           }
 
@@ -352,7 +368,7 @@ module _ (servers slots : ℕ) (lines : List Line) (state : State) (steady : IsS
             is = (λ i. told_with [] (one.told i) (no_looks put_done (quiet_data hears here own put_done (By_second _ (Follows number key version bytes h s last_is) tt) i ++ []));
             may = subst (Obeys m) (sym (append_nil es)) taken.may;
             follows = subst (λ xs. Follow state name put_world (replay m xs)) (sym (append_nil es))
-                (job_follow state steady name w m k n stamp put_done queue follow taken.onward (put_job k taken.onward f held)
+                (job_follow (scene k taken.onward) stamp put_done queue (put_job k taken.onward f held)
                 (record {
                   blocks = taken.later;
                   only = taken.only;
