@@ -1,5 +1,5 @@
 -- Each kind of job refuses for a reason.
-use Rattle.std.proofs.Common.{◌≡◌, ◌≢◌, ◌≤◌, ◌<◌, ◌+◌, ℕ, List, [], ◌∷◌, Bool, true, false, Option, Some, None, refl, sym, ap, ◌∙◌, subst, ◌⊎◌, inl, inr, arith}
+use Rattle.std.proofs.Common.{◌≡◌, ◌≢◌, ◌≤◌, ◌<◌, ◌+◌, ℕ, List, [], ◌∷◌, Bool, true, false, Some, None, refl, sym, ap, ◌∙◌, subst, ◌⊎◌, inl, inr, arith}
 use Rattle.std.specs.Ordering.{nat_cmp}
 use Rattle.petal_base.specs.declared.place.Cell.{Cell}
 use Rattle.petal_base.specs.Place.{cell_of}
@@ -8,9 +8,7 @@ use Rattle.petal_table.proofs.Rows.{at_same, at_apart}
 use Rattle.petal_msg.specs.Kinds.{Answered, Paired, Refused}
 use Rattle.petal_msg.specs.declared.body.Body.{Body}
 use Rattle.petal_msg.specs.declared.body.Body.TheVariants as body
-use Rattle.petal_msg.specs.declared.letter.Actor.{Actor}
 use Rattle.petal_msg.specs.declared.letter.Actor.TheVariants as actor
-use Rattle.petal_msg.specs.declared.letter.Letter.{Letter}
 use Rattle.petal_msg.specs.declared.operation.Ending.{Ending}
 use Rattle.petal_msg.specs.declared.operation.Ending.TheVariants as ending
 use Rattle.petal_msg.specs.declared.operation.Far.{Far}
@@ -19,22 +17,20 @@ use Rattle.petal_msg.specs.declared.operation.Finished.{Finished}
 use Rattle.petal_msg.specs.declared.operation.Pending.{Pending}
 use Rattle.petal_rules.specs.Lists.{In}
 use Rattle.petal_rules.specs.State.{State, first, second, is_second}
-use Rattle.petal_rules.specs.Store.{cell_cmp, chain_in, version_of, entry_at, bytes_of}
-use Rattle.petal_rules.specs.Server.{Own, Here, Post, Done, post_to, sender}
+use Rattle.petal_rules.specs.Store.{cell_cmp, chain_in, version_of}
+use Rattle.petal_rules.specs.Server.{Own, Here, Post, Done, post_to}
 use Rattle.petal_rules.specs.Writes.{operation, opened, with_reserved, with_paired, ended, tells}
 use Rattle.petal_rules.specs.Jobs.{here_of}
 use Rattle.petal_rules.specs.World.{World}
-use Rattle.petal_rules.specs.declared.job.Job.{Job}
 use Rattle.petal_rules.specs.declared.step.Step.TheVariants.{Work}
 use Rattle.petal_rules.specs.declared.step.WorkEnd.TheVariants as work_end
 use Rattle.petal_rules.proofs.CellTables.{cell_same, cell_apart, cell_gone, cell_gone_apart}
-use Rattle.petal_rules.proofs.ListLemmas.{put_same, put_apart, in-append}
 use Rattle.law_steps.specs.Steady.{IsSteady}
-use Rattle.law_steps.specs.DidRead.{DidRead, Shows}
+use Rattle.law_steps.specs.DidRead.{DidRead}
 use Rattle.law_steps.specs.DidLead.{DidLead, Asks_for, Repeats, Is_full, Opens, Puts, Gives_up, Closes, Asks, A_slot, A_copy}
 use Rattle.law_steps.specs.DidSecond.{DidSecond, Sets_apart, Promises, Declines, Follows, FoundNoSlot}
 use Rattle.law_steps.specs.Did.{Did, Ignores, Refuses, IsRefusal, By_read, By_lead, By_second}
-use Rattle.law_steps.specs.Happens.{IsIdle, Handled, server_moves, served}
+use Rattle.law_steps.specs.Happens.{IsIdle, Handled}
 use Rattle.law_steps.specs.Ready.{Ready}
 use Rattle.law_steps.proofs.Letters.{said, one_post, posted}
 use Rattle.petal_rules.proofs.Tests.{same_or_apart, same_some, none_some, true_false}
@@ -44,14 +40,7 @@ use Rattle.law_copies.proofs.Frames.{apart}
 use Rattle.law_copies.proofs.Jobs.{heard_known, lead_pair, second_pair}
 use Rattle.law_refusals.specs.Reasons.{HadNoSlot, At_the_lead, At_the_second, Refusals}
 use Rattle.law_steps.proofs.Subjects.{of_read, told_own}
-
--- the operation was pending, under this number and for this request
-pub record Was (own : Own) (cell : Cell) (op : Pending) : Type 0 where
-  pub was : Pending
-  pub is : at cell_cmp own.pairs.pending cell ≡ Some was
-  pub number : was.op ≡ op.op
-  pub client : was.client ≡ op.client
-  pub seq : was.seq ≡ op.seq
+use Rattle.law_refusals.proofs.Frames.{JobRefuses, Scene, Was}
 
 abbrev is_full : Body → Bool
 is_full (body.Full seq) = true
@@ -77,80 +66,34 @@ one_client e = cc
 full_seq : {seq other : ℕ} → body.Full seq ≡ body.Full other → seq ≡ other
 full_seq e = cc
 
--- What a job has to show: of what it remembers, of what is pending, and of what it sends.
-pub record JobRefuses (R : ℕ → ℕ → Type 0) (state : State) (w : World) (n : ℕ) (new : Own) (posts : List Post) : Type 0 where
-  pub finished : (c : ℕ) (last : Finished) → at nat_cmp new.pairs.finished c ≡ Some last → last.ending ≡ ending.Full → (at nat_cmp (owns_of w n).pairs.finished c ≡ Some last) ⊎ R c last.seq
-  pub pending : (cell : Cell) (op : Pending) → at cell_cmp new.pairs.pending cell ≡ Some op → Was (owns_of w n) cell op ⊎ (op.op ≡ (owns_of w n).pairs.next)
-  pub next : (owns_of w n).pairs.next ≤ new.pairs.next
-  pub letters : (post : Post) (c seq : ℕ) → In post posts → post.to ≡ actor.Client c → post.body ≡ body.Full seq → R c seq
-  pub numbers : (post : Post) (number p : ℕ) (cell : Cell) → In post posts → post.body ≡ body.PairFull number cell → first state cell ≡ Some p → (p ≢ n) × (number < (owns_of w p).pairs.next)
-  pub declined : (post : Post) (number p : ℕ) (cell : Cell) (op : Pending) → In post posts → post.body ≡ body.PairFull number cell → first state cell ≡ Some p → at cell_cmp (owns_of w p).pairs.pending cell ≡ Some op → op.op ≡ number → R op.client op.seq
-
-module _ (R S : ℕ → ℕ → Type 0) (state : State) (w : World) (more : (c seq : ℕ) → R c seq → S c seq) (refusals : Refusals R state w) (n stamp : ℕ) (done : Done) (queue : List Job) (job : JobRefuses S state w n done.own done.posts) where
-  abbrev later : World
-  later = server_moves state w n stamp done queue
-
-  own_now : owns_of later n ≡ done.own
-  own_now = ap (λ s. s.own) (put_same w.servers n (served (w.servers n) done queue))
-
-  own_other : (i : ℕ) → i ≢ n → owns_of later i ≡ owns_of w i
-  own_other i ne = ap (λ s. s.own) (put_apart w.servers n (served (w.servers n) done queue) i ne)
-
-  finished : (i c : ℕ) (last : Finished) → at nat_cmp (owns_of later i).pairs.finished c ≡ Some last → last.ending ≡ ending.Full → S c last.seq
-  finished i c last is how = elim (same_or_apart i n) [
-    | inl e ↦ elim (job.finished c last (sym (ap (λ h. at nat_cmp h.pairs.finished c) (ap (owns_of later) e ∙ own_now)) ∙ is) how) [
-      | inl was ↦ more c last.seq (refusals.finished n c last was how)
-      | inr now ↦ now
-    ]
-    | inr ne ↦ more c last.seq (refusals.finished i c last (sym (ap (λ h. at nat_cmp h.pairs.finished c) (own_other i ne)) ∙ is) how)
-  ]
-
-  next_later : (i number : ℕ) → number < (owns_of w i).pairs.next → number < (owns_of later i).pairs.next
-  next_later i number lt = elim (same_or_apart i n) [
-    | inl e ↦
-        let up = job.next in
-        let was : number < (owns_of w n).pairs.next = subst (λ k. number < (owns_of w k).pairs.next) e lt in
-        subst (λ h. number < h.pairs.next) (sym (ap (owns_of later) e ∙ own_now)) (omega arith)
-    | inr ne ↦ subst (λ h. number < h.pairs.next) (sym (own_other i ne)) lt
-  ]
-
-  -- what was declined is the operation that it was
-  old_declined : (letter : Letter) (number p : ℕ) (cell : Cell) (op : Pending) → In letter w.sent → letter.body ≡ body.PairFull number cell → first state cell ≡ Some p → at cell_cmp (owns_of later p).pairs.pending cell ≡ Some op → op.op ≡ number → S op.client op.seq
-  old_declined letter number p cell op h says leads is same = elim (same_or_apart p n) [
-    | inl e ↦ elim (job.pending cell op (sym (ap (λ h. at cell_cmp h.pairs.pending cell) (ap (owns_of later) e ∙ own_now)) ∙ is)) [
-      | inl was ↦
-          subst (S op.client) was.seq (subst (λ c. S c was.was.seq) was.client
-          (more was.was.client was.was.seq (refusals.declined letter number n cell was.was h says (leads ∙ ap Some e) was.is (was.number ∙ same))))
-      | inr fresh ↦ let lt = refusals.numbers letter number n cell h says (leads ∙ ap Some e) in absurd (omega arith)
-    ]
-    | inr ne ↦ more op.client op.seq (refusals.declined letter number p cell op h says leads (sym (ap (λ h. at cell_cmp h.pairs.pending cell) (own_other p ne)) ∙ is) same)
-  ]
-
-  pub job_refusals : Refusals S state later
-  job_refusals = record {
-    letters = λ letter c seq h to says. elim (in-append letter _ w.sent h) [
-      | inl new ↦ let s = said (sender (here_of state n (w.servers n))) stamp 0 done.posts letter new in job.letters s.post c seq s.there (sym s.to ∙ to) (sym s.body ∙ says)
-      | inr old ↦ more c seq (refusals.letters letter c seq old to says)
-    ];
-    finished = finished;
-    numbers = λ letter number p cell h says leads. elim (in-append letter _ w.sent h) [
-      | inl new ↦
-          let s = said (sender (here_of state n (w.servers n))) stamp 0 done.posts letter new in
-          next_later p number (job.numbers s.post number p cell s.there (sym s.body ∙ says) leads).1
-      | inr old ↦ next_later p number (refusals.numbers letter number p cell old says leads)
-    ];
-    declined = λ letter number p cell op h says leads is same. elim (in-append letter _ w.sent h) [
-      | inl new ↦
-          let s = said (sender (here_of state n (w.servers n))) stamp 0 done.posts letter new in
-          let ne = (job.numbers s.post number p cell s.there (sym s.body ∙ says) leads).0 in
-          job.declined s.post number p cell op s.there (sym s.body ∙ says) leads (sym (ap (λ h. at cell_cmp h.pairs.pending cell) (own_other p ne)) ∙ is) same
-      | inr old ↦ old_declined letter number p cell op old says leads is same
-    ];
-  }
-
 -- ### Each kind of job
 
-module _ (R S : ℕ → ℕ → Type 0) (state : State) (steady : IsSteady state) (w : World) (ready : Ready state w) (good : Good state w) (n : ℕ) (more : (c seq : ℕ) → R c seq → S c seq) (refusals : Refusals R state w) (now : (c seq : ℕ) → HadNoSlot state w (actor.Server n) (Work work_end.Done) c seq → S c seq) where
+module _ (R S : ℕ → ℕ → Type 0) (scene : Scene R S)
+    (now : (c seq : ℕ) → HadNoSlot scene.state scene.w (actor.Server scene.n) (Work work_end.Done) c seq → S c seq) where
+  abbrev state : State
+  state = scene.state
+
+  abbrev steady : IsSteady state
+  steady = scene.steady
+
+  abbrev w : World
+  w = scene.w
+
+  abbrev ready : Ready state w
+  ready = scene.ready
+
+  abbrev good : Good state w
+  good = scene.good
+
+  abbrev n : ℕ
+  n = scene.n
+
+  abbrev more : (c seq : ℕ) → R c seq → S c seq
+  more = scene.more
+
+  abbrev refusals : Refusals R state w
+  refusals = scene.refusals
+
   abbrev here : Here
   here = here_of state n (w.servers n)
 

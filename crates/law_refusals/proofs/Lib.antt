@@ -1,2 +1,4 @@
+pub mod Frames
 pub mod Jobs
+pub mod Busy
 pub mod Refusing

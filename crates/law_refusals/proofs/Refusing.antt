@@ -1,27 +1,19 @@
 -- Over every legal history, each refusal has a reason.
-use Rattle.std.proofs.Common.{◌≡◌, ℕ, List, [], ◌∷◌, ◌++◌, Bool, true, false, Option, Some, None, refl, sym, ap, ◌∙◌, subst, inl, inr, append_assoc}
+use Rattle.std.proofs.Common.{◌≡◌, ℕ, List, [], ◌∷◌, ◌++◌, Bool, true, Option, Some, refl, sym, ap, ◌∙◌, subst, inl, inr, append_assoc}
 use Rattle.std.specs.Ordering.{nat_cmp}
-use Rattle.petal_base.specs.declared.place.Cell.{Cell}
-use Rattle.petal_base.specs.Place.{cell_of}
 use Rattle.petal_table.proofs.Rows.{at-empty}
-use Rattle.petal_msg.specs.declared.body.Body.{Body}
 use Rattle.petal_msg.specs.declared.body.Body.TheVariants as body
 use Rattle.petal_msg.specs.declared.letter.Actor.{Actor}
 use Rattle.petal_msg.specs.declared.letter.Actor.TheVariants as actor
 use Rattle.petal_msg.specs.declared.letter.Letter.{Letter}
-use Rattle.petal_msg.specs.declared.operation.Ending.{Ending}
 use Rattle.petal_msg.specs.declared.operation.Ending.TheVariants as ending
-use Rattle.petal_msg.specs.declared.operation.Far.{Far}
-use Rattle.petal_msg.specs.declared.operation.Far.TheVariants as far
 use Rattle.script_lines.specs.declared.answer.Answer.{Answer}
 use Rattle.script_lines.specs.declared.answer.Answer.TheVariants as answer
 use Rattle.script_lines.specs.declared.request.Line.{Line}
 use Rattle.script_lines.specs.declared.script.Script.{Script}
 use Rattle.petal_rules.specs.Lists.{In}
-use Rattle.petal_rules.specs.State.{State, first, second}
-use Rattle.petal_rules.specs.Store.{chain_in, entry_at, bytes_of}
-use Rattle.petal_rules.specs.Server.{Own, Here, Post, Done, post_to, sender, letters_of}
-use Rattle.petal_rules.specs.Writes.{ended, tells}
+use Rattle.petal_rules.specs.State.{State}
+use Rattle.petal_rules.specs.Server.{sender, letters_of}
 use Rattle.petal_rules.specs.Jobs.{Acted, here_of}
 use Rattle.petal_rules.specs.Clients.{Asked, Reacted, client_sender}
 use Rattle.petal_rules.specs.World.{Setting, World, acts, reacts, step, stamped, start, setting_of, client_step, next_line, MayActor}
@@ -32,13 +24,9 @@ use Rattle.petal_history.specs.Legal.{Follows, IsLegal, IsLegalFrom, stepped, wo
 use Rattle.petal_history.specs.Sound.{IsSound}
 use Rattle.petal_history.specs.declared.record.Record.{Record}
 use Rattle.law_steps.specs.Steady.{IsSteady}
-use Rattle.law_steps.specs.DidRead.{DidRead, Shows}
-use Rattle.law_steps.specs.DidLead.{DidLead, Asks_for, Repeats, Is_full, Opens, Puts, Gives_up, Closes, Asks, A_slot, A_copy}
-use Rattle.law_steps.specs.DidSecond.{DidSecond, Sets_apart, Promises, Declines, Follows as Follows_up}
-use Rattle.law_steps.specs.Did.{Did, Ignores, Refuses, IsBusy, By_read, By_lead, By_second}
 use Rattle.law_steps.specs.Happens.{Heard, Handled, Turned, Rests, Sends_anew, Begins, Makes, Reads, Ends}
 use Rattle.law_steps.specs.Ready.{Ready}
-use Rattle.law_steps.proofs.Letters.{said, one_post, posted}
+use Rattle.law_steps.proofs.Letters.{said}
 use Rattle.law_steps.proofs.Scripts.{script_steady, start_ready}
 use Rattle.law_steps.proofs.Sending.{is_ask, turned_asks}
 use Rattle.law_steps.proofs.Stepping.{fixed_setting, server_serves, client_turns, is_call, happens, happens_ready}
@@ -46,48 +34,9 @@ use Rattle.petal_rules.proofs.Tests.{same_some, none_some, true_false}
 use Rattle.law_copies.specs.Pair.{Good}
 use Rattle.law_copies.proofs.Copying.{happens_good, start_good}
 use Rattle.law_refusals.specs.Reasons.{HadNoSlot, WasRefused, HasReason, FoundBusy, Refusals}
-use Rattle.law_refusals.proofs.Jobs.{job_refusals, job_refuses, idle_refuses}
-use Rattle.law_steps.proofs.Subjects.{of_read, of_second}
-use Rattle.petal_msg.specs.Kinds.{is_refused, subject_of}
-
--- ### Who says that a block is busy
-
-abbrev is_busy : Body → Bool
-is_busy (body.BlockBusy seq) = true
-is_busy _ = false
-
-asks_quiet : (here : Here) (own : Own) (post : Post) → Asks here own post → is_busy post.body ≡ false
-asks_quiet here own _ (A_slot op to is stage e) = refl
-asks_quiet here own _ (A_copy op to is stage e) = refl
-
-ended_quiet : (seq : ℕ) (how : Ending) → is_busy (ended seq how) ≡ false
-ended_quiet seq ending.Written = refl
-ended_quiet seq ending.Full = refl
-
--- what is no refusal says nothing of a busy block
-not_refused : (what : Body) → is_refused (subject_of what) ≡ false → is_busy what ≡ false
-not_refused (body.BlockBusy seq) e = true_false refl e
-not_refused _ e = refl
-
-lead_quiet : (heard : Body → Type 0) (here : Here) (own : Own) (done : Done) → DidLead heard here own done → (post : Post) → In post done.posts → is_busy post.body ≡ false
-unfolding In
-lead_quiet heard here own _ (Asks_for posts h) post i = asks_quiet here own post (h post i)
-lead_quiet heard here own _ (Repeats want last h lead is f) post i = ap is_busy (one_post _ _ post i).1 ∙ ended_quiet want.seq last.ending
-lead_quiet heard here own _ (Is_full want h lead new none no_room) post i = ap is_busy (one_post _ _ post i).1
-lead_quiet heard here own _ (Opens want h lead new none) post i = ap is_busy (posted _ _ post i)
-lead_quiet heard here own _ (Puts op h is stage) post i = absurd i
-lead_quiet heard here own _ (Gives_up op h is stage) post i = ap is_busy (one_post _ _ post i).1
-lead_quiet heard here own _ (Closes op h is stage) post i = ap is_busy (one_post _ _ post i).1
-
-did_busy : (heard : Body → Type 0) (here : Here) (own : Own) (done : Done) → Did heard here own done
-    → (post : Post) (seq : ℕ) → In post done.posts → post.body ≡ body.BlockBusy seq → IsBusy heard here own seq
-unfolding In
-did_busy heard here own _ Ignores post seq i e = absurd i
-did_busy heard here own _ (Refuses to what is why) post seq i e = why seq (sym (one_post to what post i).1 ∙ e)
-did_busy heard here own _ (By_read done d) post seq i e = true_false (ap is_busy e) (ap is_busy ((of_read heard here own done d).says post i).is)
-did_busy heard here own _ (By_lead done d) post seq i e = true_false (ap is_busy e) (lead_quiet heard here own done d post i)
-did_busy heard here own _ (By_second done d) post seq i e =
-    true_false (ap is_busy e) (not_refused post.body (ap is_refused ((of_second heard here own done d).says post i)))
+use Rattle.law_refusals.proofs.Jobs.{job_refuses, idle_refuses}
+use Rattle.law_refusals.proofs.Busy.{did_busy}
+use Rattle.law_refusals.proofs.Frames.{Scene, job_refusals}
 
 -- ### Steps
 
@@ -118,10 +67,11 @@ module _ (servers slots : ℕ) (lines : List Line) (state : State) (steady : IsS
   step_refusals : (R S : ℕ → ℕ → Type 0) (w : World) → Ready state w → Good state w → (who : Actor) (what : Step) (stamp : ℕ) → MayActor who what setting w → ((c seq : ℕ) → R c seq → S c seq) → ((c seq : ℕ) → HadNoSlot state w who what c seq → S c seq) → Refusals R state w → Refusals S state (step who what setting w stamp).world
   unfolding step
   step_refusals R S w ready good (actor.Server n) what stamp may more now refusals =
+      let scene : Scene R S = record { state = state; steady = steady; w = w; ready = ready; good = good; n = n; more = more; refusals = refusals } in
       let s = server_serves state steady lines w ready n what may.1 in
       subst (λ (x : Acted). Refusals S state (acts w n stamp x).world) (sym s.is)
-      (job_refusals R S state w more refusals n stamp s.done s.queue (elim s.works [
-        | inl works ↦ job_refuses R S state steady w ready good n more refusals (λ c seq h. now c seq (subst (λ x. HadNoSlot state w (actor.Server n) x c seq) (sym works) h)) s.done s.did
+      (job_refusals R S scene stamp s.done s.queue (elim s.works [
+        | inl works ↦ job_refuses R S scene (λ c seq h. now c seq (subst (λ x. HadNoSlot state w (actor.Server n) x c seq) (sym works) h)) s.done s.did
         | inr idle ↦ idle_refuses S state w n s.done idle
       ]))
   step_refusals R S w ready good (actor.Client c) what stamp may more now refusals =

@@ -339,7 +339,7 @@ module _ (servers slots : ℕ) (lines : List Line) (state : State) (steady : IsS
           let held : is_held m f.putting.op.client ≡ true = stands_held m name follow.blocks f.putting.op.client wr follow.only follow.mindful seat writes.disk_is (ap (content follow.blocks) writes.block_is ∙ follow.now block ∙ sym (by_second w block) ∙ had ∙ sym writes.bytes_is) in
           record {
             es = [];
-            is = (λ i. told_with [] (no_takes setting w put_world (λ b. by_second w b ∙ unchanged b ∙ sym (by_second put_world b)) i) (no_looks put_done (quiet_data hears here own put_done (By_second _ (Follows number key version bytes h s last_is) tt) i ++ []));
+            is = (λ i. told_with [] (no_takes setting w put_world (λ b. by_second w b ∙ unchanged b ∙ sym (by_second put_world b)) i) (no_looks put_done (quiet_data hears here own put_done (By_second _ (Follows number key version bytes h s last_is)) tt) i ++ []));
             may = tt;
             follows = job_follow (scene m (onward_itself m)) stamp put_done queue (put_job m (onward_itself m) f held)
                 (record { blocks = follow.blocks; only = follow.only; now = λ b. follow.now b ∙ unchanged b; mindful = follow.mindful });
@@ -365,7 +365,7 @@ module _ (servers slots : ℕ) (lines : List Line) (state : State) (steady : IsS
           let held : is_held k c ≡ true = stands_held k name taken.later c writes.write taken.only taken.mindful seat writes.disk_is (ap (content taken.later) writes.block_is ∙ has ∙ sym writes.bytes_is) in
           record {
             es = es ++ [];
-            is = (λ i. told_with [] (one.told i) (no_looks put_done (quiet_data hears here own put_done (By_second _ (Follows number key version bytes h s last_is) tt) i ++ []));
+            is = (λ i. told_with [] (one.told i) (no_looks put_done (quiet_data hears here own put_done (By_second _ (Follows number key version bytes h s last_is)) tt) i ++ []));
             may = subst (Obeys m) (sym (append_nil es)) taken.may;
             follows = subst (λ xs. Follow state name put_world (replay m xs)) (sym (append_nil es))
                 (job_follow (scene k taken.onward) stamp put_done queue (put_job k taken.onward f held)

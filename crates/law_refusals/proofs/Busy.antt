@@ -1,0 +1,54 @@
+-- A server says that a block is busy where it found another operation pending.
+use Rattle.std.proofs.Common.{◌≡◌, ℕ, Bool, true, false, refl, sym, ap, ◌∙◌}
+use Rattle.petal_msg.specs.declared.body.Body.{Body}
+use Rattle.petal_msg.specs.declared.body.Body.TheVariants as body
+use Rattle.petal_msg.specs.declared.operation.Ending.{Ending}
+use Rattle.petal_msg.specs.declared.operation.Ending.TheVariants as ending
+use Rattle.petal_rules.specs.Lists.{In}
+use Rattle.petal_rules.specs.Server.{Own, Here, Post, Done}
+use Rattle.petal_rules.specs.Writes.{ended}
+use Rattle.law_steps.specs.DidLead.{DidLead, Asks_for, Repeats, Is_full, Opens, Puts, Gives_up, Closes, Asks, A_slot, A_copy}
+use Rattle.law_steps.specs.Did.{Did, Ignores, Refuses, IsBusy, By_read, By_lead, By_second}
+use Rattle.law_steps.proofs.Letters.{one_post, posted}
+use Rattle.petal_rules.proofs.Tests.{true_false}
+use Rattle.law_steps.proofs.Subjects.{of_read, of_second}
+use Rattle.petal_msg.specs.Kinds.{is_refused, subject_of}
+
+-- ### Who says that a block is busy
+
+abbrev is_busy : Body → Bool
+is_busy (body.BlockBusy seq) = true
+is_busy _ = false
+
+asks_quiet : (here : Here) (own : Own) (post : Post) → Asks here own post → is_busy post.body ≡ false
+asks_quiet here own _ (A_slot op to is stage e) = refl
+asks_quiet here own _ (A_copy op to is stage e) = refl
+
+ended_quiet : (seq : ℕ) (how : Ending) → is_busy (ended seq how) ≡ false
+ended_quiet seq ending.Written = refl
+ended_quiet seq ending.Full = refl
+
+-- what is no refusal says nothing of a busy block
+not_refused : (what : Body) → is_refused (subject_of what) ≡ false → is_busy what ≡ false
+not_refused (body.BlockBusy seq) e = true_false refl e
+not_refused _ e = refl
+
+lead_quiet : (heard : Body → Type 0) (here : Here) (own : Own) (done : Done) → DidLead heard here own done → (post : Post) → In post done.posts → is_busy post.body ≡ false
+unfolding In
+lead_quiet heard here own _ (Asks_for posts h) post i = asks_quiet here own post (h post i)
+lead_quiet heard here own _ (Repeats want last h lead is f) post i = ap is_busy (one_post _ _ post i).1 ∙ ended_quiet want.seq last.ending
+lead_quiet heard here own _ (Is_full want h lead new none no_room) post i = ap is_busy (one_post _ _ post i).1
+lead_quiet heard here own _ (Opens want h lead new none) post i = ap is_busy (posted _ _ post i)
+lead_quiet heard here own _ (Puts op h is stage) post i = absurd i
+lead_quiet heard here own _ (Gives_up op h is stage) post i = ap is_busy (one_post _ _ post i).1
+lead_quiet heard here own _ (Closes op h is stage) post i = ap is_busy (one_post _ _ post i).1
+
+pub did_busy : (heard : Body → Type 0) (here : Here) (own : Own) (done : Done) → Did heard here own done
+    → (post : Post) (seq : ℕ) → In post done.posts → post.body ≡ body.BlockBusy seq → IsBusy heard here own seq
+unfolding In
+did_busy heard here own _ Ignores post seq i e = absurd i
+did_busy heard here own _ (Refuses to what is why) post seq i e = why seq (sym (one_post to what post i).1 ∙ e)
+did_busy heard here own _ (By_read done d) post seq i e = true_false (ap is_busy e) (ap is_busy ((of_read heard here own done d).says post i).is)
+did_busy heard here own _ (By_lead done d) post seq i e = true_false (ap is_busy e) (lead_quiet heard here own done d post i)
+did_busy heard here own _ (By_second done d) post seq i e =
+    true_false (ap is_busy e) (not_refused post.body (ap is_refused ((of_second heard here own done d).says post i)))
