@@ -193,7 +193,34 @@ pub record TurnOk (state : State) (lines : List Line) (w : World) (c : ℕ) (cli
   pub closes : (seq : ℕ) → IsOpen (w.clients c) seq → IsOpen client seq ⊎ ((cell : Cell) (epoch : ℕ) (bytes : List ℕ) → IsWrite state lines c seq cell epoch bytes → IsPast state (seen w) cell c seq)
   pub says : (v : Seen) → v.clients c ≡ client → (post : Post) → In post posts → Known state lines v post.to post.body
 
-module _ (state : State) (steady : IsSteady state) (lines : List Line) (w : World) (ready : Ready state w) (asking : Asking state lines w) (c stamp : ℕ) (reacted : Reacted) (turn : TurnOk state lines w c reacted.client reacted.posts) where
+-- a world in which requests are as they should be
+pub record Scene : Type 0 where
+  pub state : State
+  pub steady : IsSteady state
+  pub lines : List Line
+  pub w : World
+  pub ready : Ready state w
+  pub asking : Asking state lines w
+
+module _ (scene : Scene) (c stamp : ℕ) (reacted : Reacted) (turn : TurnOk scene.state scene.lines scene.w c reacted.client reacted.posts) where
+  abbrev state : State
+  state = scene.state
+
+  abbrev steady : IsSteady state
+  steady = scene.steady
+
+  abbrev lines : List Line
+  lines = scene.lines
+
+  abbrev w : World
+  w = scene.w
+
+  abbrev ready : Ready state w
+  ready = scene.ready
+
+  abbrev asking : Asking state lines w
+  asking = scene.asking
+
   abbrev after : World
   after = (reacts state w c stamp reacted).world
 

@@ -41,7 +41,7 @@ use Rattle.petal_rules.proofs.Tests.{by_bool, same_some, none_some, true_false, 
 use Rattle.law_requests.specs.Asked.{IsWrite, IsAsked, IsOpen}
 use Rattle.law_requests.specs.Known.{Seen, seen, done_by, IsPast, WriteKnown, EndKnown, Known, Asking}
 use Rattle.law_requests.proofs.Later.{one_cell}
-use Rattle.law_requests.proofs.Frames.{TurnOk, job_asking, turn_asking}
+use Rattle.law_requests.proofs.Frames.{TurnOk, job_asking, turn_asking, Scene}
 use Rattle.law_requests.proofs.Jobs.{job_tells}
 
 in_post : (o : Option ℕ) (said : Body) (post : Post) → In post (post_to o said) → post.body ≡ said
@@ -183,7 +183,8 @@ pub happens_asking : (state : State) (steady : IsSteady state) (lines : List Lin
 happens_asking state steady lines w _ ready asking (Serves n stamp done queue lt did queued) =
     job_asking state lines w asking n stamp done queue (job_tells state steady lines w ready asking n done did)
 happens_asking state steady lines w _ ready asking (Turns c stamp in_call reacted lt within turned) =
-    turn_asking state steady lines w ready asking c stamp reacted (turn_ok state lines c w asking within in_call reacted turned)
+    let scene : Scene = record { state = state; steady = steady; lines = lines; w = w; ready = ready; asking = asking } in
+    turn_asking scene c stamp reacted (turn_ok state lines c w asking within in_call reacted turned)
 
 pub start_asking : (state : State) (script : Script) → Asking state script.lines (start (setting_of script))
 unfolding In

@@ -45,7 +45,7 @@ use Rattle.law_steps.specs.Did.{Did, Ignores, Refuses, IsRefusal, By_read, By_le
 use Rattle.law_steps.specs.Happens.{Handled, line_by, served, server_moves}
 use Rattle.law_steps.proofs.Letters.{said, one_post, posted}
 use Rattle.law_steps.proofs.Stepping.{fixed_setting}
-use Rattle.petal_rules.proofs.Tests.{by_bool, is_the_so, same_or_apart, same_some, none_some, nat_lists_same}
+use Rattle.petal_rules.proofs.Tests.{by_bool, is_the_so, same_or_apart, same_some, none_some, nat_lists_same, true_false}
 use Rattle.law_steps.proofs.Staged.{same_cell_or_apart}
 use Rattle.law_copies.specs.Pair.{IsPair, AreCopies, owns_of}
 use Rattle.law_copies.proofs.Frames.{same_first}
