@@ -1,8 +1,8 @@
 use Rattle.std.proofs.Common.{◌≡◌, ap, subst, sym, ◌∙◌}
 use Rattle.petal_state.specs.Command.{act}
-use Rattle.global_state.specs.Room.{HasRoom}
-use Rattle.global_state.proofs.Rooms.{act_room}
-use Rattle.global_state.proofs.tables.Tables.next.Goals as goal
+use Rattle.state_fold.specs.Room.{HasRoom}
+use Rattle.state_fold.proofs.Rooms.{act_room}
+use Rattle.state_fold.proofs.tables.Tables.next.Goals as goal
 
 pub settle-requires : goal.settle-requires
 settle-requires c =

@@ -6,8 +6,8 @@ ghost use Rattle.global_tables.specs.Disk.{named, snapshot_named};
 ghost use Rattle.global_tables.specs.Link.{other_of};
 ghost use Rattle.petal_state.specs.Command.{may_join, join, leave, is_alone, may_catch, caught, is_new, make_disk, takes, is_taken, snap_target, snap, move_target, start_move, is_head, drained, after_region, note, mover_in, moved, act};
 
-use crate::ask::snapshot_named;
-use crate::place::{is_fenced, move_region};
+use crate::moving::{is_fenced, move_region};
+use crate::snapshot::snapshot_named;
 use crate::tables::Tables;
 use global_tables::{DiskRow, Fence, FenceKind, Latest, LinkRow, LinkState, Member, Verdict};
 use petal_base::{ClientId, DiskId, Inc, MapId, Name, NoMemory, REGIONS, Seq, ServerId, Tuple};
@@ -279,7 +279,7 @@ impl Tables {
     }
 
     /// What a command does to the tables.
-    pub fn act(&mut self, alloc: Global, command: &Command) -> Result<(), NoMemory>
+    pub(crate) fn act(&mut self, alloc: Global, command: &Command) -> Result<(), NoMemory>
         requires maps { length self.old.maps < 2 ^ 32 - 1 }
         requires made { self.old.disks.made < 2 ^ 32 - 1 }
         requires queued { self.old.view.queued < 2 ^ 32 - 1 }

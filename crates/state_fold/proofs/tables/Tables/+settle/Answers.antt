@@ -1,9 +1,9 @@
 use Rattle.std.proofs.Common.{◌≡◌, ◌<◌, Some, arith, ap, length, subst, sym, ◌∙◌}
 use Rattle.global_tables.specs.View.{ready}
 use Rattle.petal_state.specs.State.{State}
-use Rattle.global_state.specs.Room.{HasRoom}
-use Rattle.global_state.proofs.Rooms.{epochs_fit, room_behind, shorter_behind}
-use Rattle.global_state.proofs.tables.Tables.+settle.Goals as goal
+use Rattle.state_fold.specs.Room.{HasRoom}
+use Rattle.state_fold.proofs.Rooms.{epochs_fit, room_behind, shorter_behind}
+use Rattle.state_fold.proofs.tables.Tables.+settle.Goals as goal
 
 pub effect-requires : goal.effect-requires
 effect-requires t c =

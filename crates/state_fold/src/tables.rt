@@ -64,6 +64,7 @@ impl Tables {
         })
     }
 
+    /// The incarnation with which a server is In.
     pub fn inc_of(&self, server: ServerId) -> Option<Inc>
         ensures { result ≡ inc_of self.now server }
     {
@@ -73,6 +74,7 @@ impl Tables {
         }
     }
 
+    /// Whether the server is In.
     pub fn is_up(&self, server: ServerId) -> bool
         ensures { result ≡ is_up self.now server }
     {
@@ -82,7 +84,7 @@ impl Tables {
         }
     }
 
-    pub fn is_up_as(&self, server: ServerId, inc: Inc) -> bool
+    pub(crate) fn is_up_as(&self, server: ServerId, inc: Inc) -> bool
         ensures { result ≡ is_up_as self.now server inc }
     {
         match self.inc_of(server) {
@@ -91,6 +93,7 @@ impl Tables {
         }
     }
 
+    /// A client's last command.
     pub fn latest(&self, client: ClientId) -> Option<Latest>
         ensures { result ≡ latest self.now client }
     {
@@ -100,12 +103,13 @@ impl Tables {
         }
     }
 
-    pub fn told(&mut self, client: ClientId, seq: Seq, verdict: Verdict)
+    pub(crate) fn told(&mut self, client: ClientId, seq: Seq, verdict: Verdict)
         ensures { self.new ≡ told self.old client seq verdict }
     {
         set_latest(&mut self.verdicts, client, Latest { seq, verdict });
     }
 
+    /// The number of links of a map.
     pub fn links_of(&self, map: MapId) -> u8
         ensures { result ≡ links_of self.now map }
     {
@@ -115,7 +119,7 @@ impl Tables {
         }
     }
 
-    pub fn with_map(
+    pub(crate) fn with_map(
         &mut self,
         alloc: Global,
         tuple: &Tuple,
@@ -131,7 +135,12 @@ impl Tables {
         Ok(map)
     }
 
-    pub fn with_disk(&mut self, alloc: Global, name: &Name, tuple: &Tuple) -> Result<(), NoMemory>
+    pub(crate) fn with_disk(
+        &mut self,
+        alloc: Global,
+        name: &Name,
+        tuple: &Tuple,
+    ) -> Result<(), NoMemory>
         requires maps { length self.old.maps < 2 ^ 32 - 1 }
         requires made { self.old.disks.made < 2 ^ 32 - 1 }
         ensures { IfOk result (λ _. self.new ≡ with_disk self.old name.now tuple.now) }
@@ -142,7 +151,7 @@ impl Tables {
         Ok(())
     }
 
-    pub fn with_fence(&mut self, alloc: Global, kind: FenceKind) -> Result<(), NoMemory>
+    pub(crate) fn with_fence(&mut self, alloc: Global, kind: FenceKind) -> Result<(), NoMemory>
         requires { self.old.view.queued < 2 ^ 32 - 1 }
         ensures { IfOk result (λ _. self.new ≡ with_fence self.old kind) }
     {
@@ -150,7 +159,12 @@ impl Tables {
         Ok(())
     }
 
-    pub fn with_move(&mut self, alloc: Global, tuple: &Tuple, disk: DiskId) -> Result<(), NoMemory>
+    pub(crate) fn with_move(
+        &mut self,
+        alloc: Global,
+        tuple: &Tuple,
+        disk: DiskId,
+    ) -> Result<(), NoMemory>
         requires maps { length self.old.maps < 2 ^ 32 - 1 }
         requires queued { self.old.view.queued < 2 ^ 32 - 1 }
         ensures { IfOk result (λ _. self.new ≡ with_move self.old tuple.now disk) }

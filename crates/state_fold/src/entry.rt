@@ -17,7 +17,7 @@ impl Tables {
         self.rev = rev;
     }
 
-    /// The tables behind one entry more.
+    /// The tables after one entry more.
     pub fn next(&self, alloc: Global, command: &Command) -> Result<Tables, NoMemory>
         requires within { IsWithin self.now.rev self.now }
         requires room { self.now.rev < 2 ^ 32 - 1 }
@@ -31,6 +31,7 @@ impl Tables {
         Ok(next)
     }
 
+    /// The tables of a state that no entry made: one disk over these servers, and every server In.
     pub fn fixed(
         alloc: Global,
         servers: u8,

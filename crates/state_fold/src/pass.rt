@@ -5,7 +5,7 @@ ghost use Rattle.std.specs.Option.{ForSome};
 ghost use Rattle.global_tables.specs.Disk.{disk_at};
 ghost use Rattle.petal_state.specs.State.{latest};
 ghost use Rattle.petal_state.specs.Fence.{confirmed, effect, settled};
-ghost use Rattle.global_state.specs.Room.{HasRoom};
+ghost use Rattle.state_fold.specs.Room.{HasRoom};
 
 use crate::tables::Tables;
 use global_tables::{FenceKind, Verdict};
@@ -48,7 +48,7 @@ impl Tables {
     }
 
     /// While the head waits for nobody, it takes effect and leaves the queue.
-    pub fn settle(&mut self, alloc: Global) -> Result<(), NoMemory>
+    pub(crate) fn settle(&mut self, alloc: Global) -> Result<(), NoMemory>
         requires { HasRoom self.old }
         ensures { IfOk result (λ _. self.new ≡ settled self.old) }
     {

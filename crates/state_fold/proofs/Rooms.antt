@@ -11,7 +11,7 @@ use Rattle.petal_state.specs.Command.{act}
 use Rattle.petal_state.specs.Bound.{IsWithin}
 use Rattle.petal_state.proofs.Passing.{length-behind, view-effect}
 use Rattle.petal_state.proofs.Bounds.{act_within, passed_within, epoch_below}
-use Rattle.global_state.specs.Room.{HasRoom}
+use Rattle.state_fold.specs.Room.{HasRoom}
 
 pub act_room : (s : State) (command : Command) → IsWithin s.rev s → s.rev < 4294967295 → HasRoom (act command s)
 act_room s command h room = record { most = s.rev + 1; fits = omega arith; within = act_within s.rev command s h }
