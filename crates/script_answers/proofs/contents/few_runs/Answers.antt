@@ -2,8 +2,8 @@ use Rattle.std.proofs.Common.{◌≡◌, ◌<◌, ◌++◌, length, arith, sym, 
 use Rattle.std.proofs.lemmas.Bool.{eqb-true}
 use Rattle.std.proofs.lemmas.List.{append-nil}
 use Rattle.script_lines.specs.Contents.{runs}
-use Rattle.petal_script.proofs.Runs.{some_left, none_left, some_bytes}
-use Rattle.petal_script.proofs.contents.few_runs.Goals as goal
+use Rattle.script_answers.proofs.Runs.{some_left, none_left, some_bytes}
+use Rattle.script_answers.proofs.contents.few_runs.Goals as goal
 
 pub returns-then-len-eq-MOST_RUNS : goal.returns-then-len-eq-MOST_RUNS
 returns-then-len-eq-MOST_RUNS c =

@@ -13,7 +13,7 @@ use std::alloc::Global;
 const MOST_RUNS: usize = 8;
 
 /// How many bytes at the front are this one.
-#[tactic(auto, using(script_words::proofs::Kept::prefix_lens))]
+#[tactic(auto, using(crate::proofs::Kept::prefix_lens))]
 fn run_len(bytes: &[u8], byte: u8) -> usize
     ensures value { result ≡ prefix_len (λ b. b == byte) bytes.now }
     ensures bound { result ≤ length bytes.now }
@@ -21,7 +21,7 @@ fn run_len(bytes: &[u8], byte: u8) -> usize
     bytes.iter().take_while(|b| **b == byte).count()
 }
 
-/// The first run, and the bytes behind it.
+/// The first run, and the bytes after it.
 #[tactic(auto, using(crate::proofs::Runs::first_of_runs, crate::proofs::Runs::some_front))]
 fn first_run(bytes: &[u8]) -> (Run, &[u8])
     requires { 0 < length bytes.now }
@@ -76,7 +76,7 @@ fn digest_text(alloc: Global, bytes: &[u8]) -> Result<String, NoMemory>
     Ok(format!(in alloc; " sha256 {digits}")?)
 }
 
-/// The contents as they are printed behind `data`. Bytes of few runs are read once; those of more are read up to the
+/// The contents as they are printed after `data`. Bytes of few runs are read once; those of more are read up to the
 /// ninth run and then taken into the digest.
 #[tactic(auto, unfolding(script_lines::specs::Contents::contents_text))]
 pub(crate) fn contents_text(alloc: Global, bytes: &[u8]) -> Result<String, NoMemory>
