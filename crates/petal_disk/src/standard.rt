@@ -13,10 +13,18 @@ use std::io::{ErrorKind, Read, Write};
 // How often a call that was interrupted is tried.
 const TRIES: u32 = 1000;
 
-/// A reader as a source. A call that a signal interrupts is tried again, up to a thousand times.
+// How many bytes a call takes at most.
+const SCRATCH_BYTES: usize = 4096;
+
+/// A reader as a source, which takes at most 4,096 bytes a call. A call that a signal interrupts is tried again, up to a
+/// thousand times.
+///
+/// A reader may write over all of the buffer that it is lent. So it reads into a buffer of the source's own, of which only what
+/// came is handed on.
 #[derive(Drop)]
 pub struct StdSource<R: Drop> {
     reader: R,
+    scratch: [u8; SCRATCH_BYTES],
     faults: Count,
 }
 
@@ -28,6 +36,7 @@ impl<R: Read + Drop> StdSource<R> {
     {
         StdSource {
             reader,
+            scratch: [0; SCRATCH_BYTES],
             faults: Count::new(),
         }
     }
@@ -41,9 +50,13 @@ impl<R: Read + Drop> Source for StdSource<R> {
     ghost faults = { λ source. source.faults.times };
 
     fn read(&mut self, into: &mut [u8]) -> Result<usize, Failed> {
+        let room = into.len().min(SCRATCH_BYTES);
         for _ in 0..TRIES {
-            match self.reader.read(into) {
-                Ok(count) => return Ok(count),
+            match self.reader.read(&mut self.scratch[..room]) {
+                Ok(count) => {
+                    into[..count].copy_from_slice(&self.scratch[..count]);
+                    return Ok(count);
+                }
                 Err(error) if error.kind() == ErrorKind::Interrupted => {}
                 Err(_) => break,
             }
