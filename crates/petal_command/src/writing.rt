@@ -7,9 +7,9 @@ ghost use Rattle.petal_command.specs.Spelling.{spelling, HasSpelling, name_field
 ghost use Rattle.petal_command.specs.declared.command.Command.TheVariants.{Join, Leave, Caught, MakeDisk, Snap, StartMove, Drained, Moved, Witness};
 
 use crate::command::{COMMAND_BYTES, Command};
-use crate::field::{put_byte, put_flag, put_padded, put_word, put_zeros};
 use crate::number::{ClientNumber, LinkNumber, RegionNumber, ServerNumber};
 use petal_base::{Inc, MapId, NAME_BYTES, Name, Seq, Tuple};
+use record_fields::{put_byte, put_flag, put_padded, put_word, put_zeros};
 
 /// A tuple has at most so many servers.
 pub const TUPLE_BYTES: usize = 8;

@@ -4,7 +4,8 @@ use Rattle.std.specs.Prelude.{ℕ, ◌≡◌, ◌⊎◌, Bool, List, [], ◌∷�
 use Rattle.block_journal.specs.Records.{Stands}
 use Rattle.block_journal.specs.Region.{Region}
 use Rattle.store_record.specs.declared.record.StoreRecord.{StoreRecord}
-use Rattle.store_record.specs.Spelling.{spelling, HasSpelling, byte, word}
+use Rattle.record_fields.specs.Fields.{byte, word}
+use Rattle.store_record.specs.Spelling.{spelling, HasSpelling}
 use Rattle.server_store.specs.Accounts.{as_count}
 use Rattle.server_store.specs.Kept.{AllFit, formatted}
 

@@ -4,7 +4,7 @@ ghost use Rattle.std.specs.Prelude.{◌≡◌, ◌<◌, ◌^◌, ℕ, Bool, leng
 ghost use Rattle.server_store.specs.Accounts.{as_count};
 ghost use Rattle.server_store.specs.Device.{header};
 
-use store_record::field::{put, put_byte, put_word, put_zeros, word_at};
+use record_fields::{put, put_byte, put_word, put_zeros, word_at};
 
 /// How many bytes a header has.
 pub const HEADER_BYTES: usize = 64;

@@ -1,7 +1,8 @@
 -- The 127 bytes behind the gate that spell a record of the state device.
 use Rattle.std.specs.Prelude.{ℕ, ◌<◌, ◌^◌, List, ◌++◌, replicate}
 use Rattle.petal_command.specs.declared.ballot.Ballot.{Ballot}
-use Rattle.petal_command.specs.Spelling.{byte, word, spelling, HasSpelling, IsWord}
+use Rattle.petal_command.specs.Spelling.{spelling, HasSpelling}
+use Rattle.record_fields.specs.Fields.{byte, word, IsWord}
 use Rattle.state_store.specs.declared.record.StateRecord.{StateRecord}
 use Rattle.state_store.specs.declared.record.StateRecord.TheVariants.{Inc, Promise, Accepted, Chosen}
 

@@ -9,8 +9,8 @@ ghost use Rattle.state_store.specs.declared.record.StateRecord.{StateRecord};
 ghost use Rattle.state_store.specs.declared.record.StateRecord.TheVariants.{Inc, Promise, Accepted, Chosen};
 
 use petal_base::Inc;
-use petal_command::field::{put, put_byte, put_word, put_zeros, word_at};
 use petal_command::{Ballot, COMMAND_BYTES, Command, decode, encode};
+use record_fields::{put, put_byte, put_word, put_zeros, word_at};
 
 /// A record has so many bytes behind its gate.
 pub const BODY_BYTES: usize = 127;

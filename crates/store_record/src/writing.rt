@@ -4,10 +4,10 @@ ghost use Rattle.std.specs.Prelude.{◌≡◌};
 ghost use Rattle.store_record.specs.Spelling.{spelling, HasSpelling, code_of};
 ghost use Rattle.store_record.specs.declared.record.StoreRecord.TheVariants.{Put, Drop, Mark, Unmark, Settled};
 
-use crate::field::{put_byte, put_gap, put_long, put_word, put_zeros};
 use crate::record::{RECORD_BYTES, StoreRecord};
 use busy_marks::MarkKind;
 use petal_base::{Cell, Key, Version};
+use record_fields::{put_byte, put_gap, put_long, put_word, put_zeros};
 
 /// The bytes that spell the record.
 pub fn encode(entry: &StoreRecord) -> [u8; RECORD_BYTES]

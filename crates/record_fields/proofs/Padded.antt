@@ -1,7 +1,7 @@
 -- Lists with their length before them and zeros behind them.
 use Rattle.std.proofs.Common.{◌≡◌, ℕ, ◌+◌, ◌-◌, ◌≤◌, List, [], ◌∷◌, ◌++◌, length, take, drop, replicate, get_or, refl, ap, sym, ◌∙◌, append_assoc, arith, add-zero, length-append}
 use Rattle.std.proofs.lemmas.List.{take_at, drop_at, drop-drop, get_or-drop, length-replicate}
-use Rattle.petal_command.specs.Spelling.{padded}
+use Rattle.record_fields.specs.Fields.{padded}
 
 -- the length, the bytes and the zeros, written one after the other
 pub padded_parts : (before xs : List ℕ) (room : ℕ) → before ++ length xs ∷ [] ++ xs ++ replicate (room - length xs) 0 ≡ before ++ padded room xs

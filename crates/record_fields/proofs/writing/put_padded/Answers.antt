@@ -1,6 +1,6 @@
 use Rattle.std.proofs.Common.{◌≡◌, ◌+◌, ◌-◌, length, take, arith}
-use Rattle.petal_command.proofs.Padded.{padded_parts}
-use Rattle.petal_command.proofs.field.put_padded.Goals as goal
+use Rattle.record_fields.proofs.Padded.{padded_parts}
+use Rattle.record_fields.proofs.writing.put_padded.Goals as goal
 
 pub returns : goal.returns
 returns c =

@@ -1,11 +1,11 @@
-//! Fields of records at fixed places: numbers with the highest byte first, lists with their length before them.
+//! Writing fields, each behind what is written already.
 
-ghost use Rattle.std.specs.Prelude.{◌≡◌, ℕ, List, ◌+◌, ◌-◌, ◌≤◌, ◌<◌, ◌^◌, ◌++◌, length, take, drop, replicate, Bool};
-ghost use Rattle.petal_command.specs.Spelling.{byte, word, flag, padded};
+ghost use Rattle.std.specs.Prelude.{◌≡◌, ◌+◌, ◌-◌, ◌≤◌, ◌<◌, ◌++◌, length, take, replicate};
+ghost use Rattle.record_fields.specs.Fields.{byte, word, long, flag, padded};
 
 use byteorder::{BigEndian, ByteOrder};
 
-/// Writes bytes from a place on.
+/// Writes these bytes.
 pub fn put(out: &mut [u8], at: usize, bytes: &[u8])
     requires { at + length bytes.now ≤ length out.old }
     ensures { take (at + length bytes.now) out.new ≡ take at out.old ++ bytes.now }
@@ -31,6 +31,16 @@ pub fn put_word(out: &mut [u8], at: usize, n: u32)
     put(out, at, &bytes);
 }
 
+/// Writes a number of eight bytes.
+pub fn put_long(out: &mut [u8], at: usize, n: u64)
+    requires { at + 8 ≤ length out.old }
+    ensures { take (at + 8) out.new ≡ take at out.old ++ long n }
+{
+    let mut bytes = [0; 8];
+    BigEndian::write_u64(&mut bytes, n);
+    put(out, at, &bytes);
+}
+
 /// Writes 0 for no and 1 for yes.
 pub fn put_flag(out: &mut [u8], at: usize, b: bool)
     requires { at + 1 ≤ length out.old }
@@ -39,20 +49,20 @@ pub fn put_flag(out: &mut [u8], at: usize, b: bool)
     put_byte(out, at, if b { 1 } else { 0 });
 }
 
+/// Writes so many zeros.
+pub fn put_gap(out: &mut [u8], at: usize, count: usize)
+    requires { at + count ≤ length out.old }
+    ensures { take (at + count) out.new ≡ take at out.old ++ replicate count 0 }
+{
+    out[at..at + count].fill(0);
+}
+
 /// Writes zeros up to the end.
 pub fn put_zeros(out: &mut [u8], at: usize)
     requires { at ≤ length out.old }
     ensures { out.new ≡ take at out.old ++ replicate (length out.old - at) 0 }
 {
     out[at..].fill(0);
-}
-
-/// Writes so many zeros.
-fn put_gap(out: &mut [u8], at: usize, count: usize)
-    requires { at + count ≤ length out.old }
-    ensures { take (at + count) out.new ≡ take at out.old ++ replicate count 0 }
-{
-    out[at..at + count].fill(0);
 }
 
 /// Writes a list of at most `room` bytes.
@@ -65,29 +75,4 @@ pub fn put_padded(out: &mut [u8], at: usize, room: usize, bytes: &[u8])
     put_byte(out, at, bytes.len() as u8);
     put(out, at + 1, bytes);
     put_gap(out, at + 1 + bytes.len(), room - bytes.len());
-}
-
-/// The number of four bytes at a place.
-pub fn word_at(bytes: &[u8], at: usize) -> u32
-    requires { at + 4 ≤ length bytes.now }
-    ensures { (n : ℕ) (rest : List ℕ) → n < 2 ^ 32 → drop at bytes.now ≡ word n ++ rest → result ≡ n }
-{
-    BigEndian::read_u32(&bytes[at..])
-}
-
-/// Whether the byte at a place is 1.
-pub fn flag_at(bytes: &[u8], at: usize) -> bool
-    requires { at < length bytes.now }
-    ensures { (b : Bool) (rest : List ℕ) → drop at bytes.now ≡ flag b ++ rest → result ≡ b }
-{
-    bytes[at] == 1
-}
-
-/// The list of at most `room` bytes at a place.
-pub fn padded_at(bytes: &[u8], at: usize, room: usize) -> &[u8]
-    requires { at + 1 + room ≤ length bytes.now }
-    ensures { (xs rest : List ℕ) → length xs ≤ room → drop at bytes.now ≡ padded room xs ++ rest → result.now ≡ xs }
-{
-    let len = room.min(bytes[at] as usize);
-    &bytes[at + 1..at + 1 + len]
 }

@@ -1,6 +1,6 @@
 use Rattle.std.proofs.Common.{◌≡◌, ◌+◌, ◌-◌, length, arith}
-use Rattle.petal_command.proofs.Padded.{padded-length, padded-items}
-use Rattle.petal_command.proofs.field.padded_at.Goals as goal
+use Rattle.record_fields.proofs.Padded.{padded-length, padded-items}
+use Rattle.record_fields.proofs.reading.padded_at.Goals as goal
 
 pub returns : goal.returns
 returns c xs rest fits is =
