@@ -28,7 +28,7 @@ at_map f (x ∷ xs) (suc i) v d lt e = at_map f xs i v d (omega arith) e
 -- one body more is read
 pub next_read : (slots : ℕ) (fresh : Bool) (bodies : List (List ℕ)) (i : ℕ) (old new : Replay) (body : List ℕ) → i < length bodies → get_or bodies i [] ≡ body → IsRead slots fresh (take i bodies) old → Reads old new body → IsRead slots fresh (take (i + 1) bodies) new
 next_read slots fresh bodies i old new body lt here so_far read =
-    let past = old.history.records in
+    let past = old.history.items in
     let kept : kept_by new ≡ kept_of fresh (past ++ read.entry ∷ []) = read.kept ∙ ap (λ k. kept_after k read.entry) so_far.kept ∙ sym (kept_more fresh past read.entry) in
     let fits : Fits slots (kept_of fresh past) read.entry = subst (λ k. Fits slots k read.entry) so_far.kept (subst (λ n. Fits n (kept_by old) read.entry) so_far.slots_are read.fits) in
     record {
@@ -53,7 +53,7 @@ found (r ∷ rs) zero lt sp = record { entry = r; fits = sp.0; body = refl; more
 found (r ∷ rs) (suc i) lt sp = let f = found rs i (omega arith) sp.1 in record { entry = f.entry; fits = f.fits; body = f.body; more = ap (λ l. r ∷ l) f.more }
 
 -- what is read of the bodies of records is these
-pub next_same : (records : List StoreRecord) (bodies : List (List ℕ)) (i : ℕ) (old new : Replay) (body : List ℕ) → AreSpelled records → bodies ≡ bodies_of records → i < length bodies → get_or bodies i [] ≡ body → old.history.records ≡ take i records → Reads old new body → new.history.records ≡ take (i + 1) records
+pub next_same : (records : List StoreRecord) (bodies : List (List ℕ)) (i : ℕ) (old new : Replay) (body : List ℕ) → AreSpelled records → bodies ≡ bodies_of records → i < length bodies → get_or bodies i [] ≡ body → old.history.items ≡ take i records → Reads old new body → new.history.items ≡ take (i + 1) records
 next_same records bodies i old new body sp is lt here so_far read =
     let f = found records i (subst (λ (l : List (List ℕ)). i < length l) is lt) sp in
     let same : f.entry ≡ read.entry = read.only f.entry f.fits (sym here ∙ ap (λ (l : List (List ℕ)). get_or l i []) is ∙ f.body) in
@@ -63,10 +63,10 @@ next_same records bodies i old new body sp is lt here so_far read =
 pub not_read : (slots : ℕ) (fresh : Bool) (bodies : List (List ℕ)) (i : ℕ) (old : Replay) (body : List ℕ) → i < length bodies → get_or bodies i [] ≡ body → IsRead slots fresh (take i bodies) old → ((r : StoreRecord) → HasSpelling r → body ≡ spelling r → ¬ Fits old.ledger.slots (kept_by old) r) → IsBad slots fresh bodies i
 not_read slots fresh bodies i old body lt here so_far refused = record {
   within = lt;
-  records = old.history.records;
+  records = old.history.items;
   spelled = so_far.spelled;
   before = so_far.found;
-  bad = λ r spelled is fits. refused r spelled (sym here ∙ is) (subst (λ k. Fits old.ledger.slots k r) (sym so_far.kept) (subst (λ n. Fits n (kept_of fresh old.history.records) r) (sym so_far.slots_are) fits));
+  bad = λ r spelled is fits. refused r spelled (sym here ∙ is) (subst (λ k. Fits old.ledger.slots k r) (sym so_far.kept) (subst (λ n. Fits n (kept_of fresh old.history.items) r) (sym so_far.slots_are) fits));
 }
 
 -- a record among those that all fit fits behind those before it
@@ -79,7 +79,7 @@ fits_at slots kept (x ∷ xs) (suc i) r fit lt is =
 
 -- so it is read
 pub is_read : (slots : ℕ) (fresh : Bool) (records : List StoreRecord) (bodies : List (List ℕ)) (i : ℕ) (old : Replay) (body : List ℕ) → AreSpelled records → AllFit slots (formatted fresh) records → bodies ≡ bodies_of records → i < length bodies → get_or bodies i [] ≡ body
-    → old.history.records ≡ take i records → IsRead slots fresh (take i bodies) old → ((r : StoreRecord) → HasSpelling r → body ≡ spelling r → ¬ Fits old.ledger.slots (kept_by old) r) → ⊥
+    → old.history.items ≡ take i records → IsRead slots fresh (take i bodies) old → ((r : StoreRecord) → HasSpelling r → body ≡ spelling r → ¬ Fits old.ledger.slots (kept_by old) r) → ⊥
 is_read slots fresh records bodies i old body sp fit is lt here so_far read refused =
     let f = found records i (subst (λ (l : List (List ℕ)). i < length l) is lt) sp in
     let within : i < length records = omega (arith, lt, ap length is, length-map records spelling) in

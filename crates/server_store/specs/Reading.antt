@@ -38,16 +38,16 @@ pub record Reads (old new : Replay) (body : List ℕ) : Type 0 where
   pub only : (r : StoreRecord) → HasSpelling r → body ≡ spelling r → r ≡ entry
   pub fits : Fits old.ledger.slots (kept_by old) entry
   pub kept : kept_by new ≡ kept_after (kept_by old) entry
-  pub records : new.history.records ≡ old.history.records ++ entry ∷ []
+  pub records : new.history.items ≡ old.history.items ++ entry ∷ []
   pub slots : new.ledger.slots ≡ old.ledger.slots
   pub tickets : new.ledger.tickets ≡ []
 
 -- the bodies are read
 pub record IsRead (slots : ℕ) (fresh : Bool) (bodies : List (List ℕ)) (replay : Replay) : Type 0 where
-  pub found : bodies_of replay.history.records ≡ bodies
-  pub spelled : AreSpelled replay.history.records
-  pub fit : AllFit slots (formatted fresh) replay.history.records
-  pub kept : kept_by replay ≡ kept_of fresh replay.history.records
+  pub found : bodies_of replay.history.items ≡ bodies
+  pub spelled : AreSpelled replay.history.items
+  pub fit : AllFit slots (formatted fresh) replay.history.items
+  pub kept : kept_by replay ≡ kept_of fresh replay.history.items
   pub slots_are : replay.ledger.slots ≡ slots
   pub tickets : replay.ledger.tickets ≡ []
 

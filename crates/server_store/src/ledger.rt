@@ -8,8 +8,9 @@ ghost use Rattle.server_store.specs.Accounts.{given};
 ghost use Rattle.server_store.specs.Errors.{IsReserveError};
 ghost use Rattle.server_store.specs.Tickets.{without};
 
-use crate::tickets::Tickets;
+use crate::ticket::Spent;
 use crate::{DATA_START, StoreError, Ticket};
+use ghost_list::GhostList;
 use petal_base::{BlockNo, Epoch, Key, MapId, NoMemory, Version};
 use physical_map::{Entry, PhysicalMap};
 use slot_store::SlotStore;
@@ -21,7 +22,7 @@ use std::marker::Model;
 pub struct Ledger {
     map: PhysicalMap,
     slots: SlotStore,
-    tickets: Tickets,
+    tickets: GhostList<Ticket>,
     // how many tickets are out
     out: u32,
 }
@@ -32,9 +33,9 @@ impl Model for Ledger {
 
     ghost Value = { Book };
 
-    ghost view = { λ l. record { entries = l.map.entries; tickets = l.tickets.out; slots = length l.slots.used } };
+    ghost view = { λ l. record { entries = l.map.entries; tickets = l.tickets.items; slots = length l.slots.used } };
 
-    ghost invariant = { λ l. Sound l.map.entries l.tickets.out l.slots.used l.map.spare l.out × (l.slots.base ≡ 4198400) };
+    ghost invariant = { λ l. Sound l.map.entries l.tickets.items l.slots.used l.map.spare l.out × (l.slots.base ≡ 4198400) };
 }
 
 impl Ledger {
@@ -45,7 +46,7 @@ impl Ledger {
         Ok(Ledger {
             map: PhysicalMap::new(alloc),
             slots: SlotStore::new(alloc, DATA_START, slots)?,
-            tickets: Tickets::new(),
+            tickets: GhostList::new(),
             out: 0,
         })
     }
@@ -91,7 +92,7 @@ impl Ledger {
         match self.slots.take() {
             Some(slot) => {
                 let ticket = Ticket::new(slot);
-                self.tickets = Tickets::with(&self.tickets, &ticket);
+                self.tickets = self.tickets.with(&ticket);
                 self.out += 1;
                 Ok(ticket)
             }
@@ -105,7 +106,7 @@ impl Ledger {
         ensures { self.new ≡ record self.old { tickets = without self.old.tickets ticket } }
     {
         self.slots.give(ticket.slot());
-        self.tickets = Tickets::without(&self.tickets, &ticket);
+        self.tickets = self.tickets.changed::<Spent>(&ticket);
         self.out -= 1;
     }
 
@@ -117,7 +118,7 @@ impl Ledger {
         let slot = ticket.slot();
         let replaced = self.map.put(Entry { key, slot, version });
         give_if_any(&mut self.slots, replaced);
-        self.tickets = Tickets::without(&self.tickets, &ticket);
+        self.tickets = self.tickets.changed::<Spent>(&ticket);
         self.out -= 1;
     }
 

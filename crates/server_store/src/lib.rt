@@ -8,7 +8,6 @@
 mod commit;
 mod error;
 mod header;
-mod history;
 mod ledger;
 mod opened;
 mod opening;
@@ -16,7 +15,6 @@ mod record_log;
 mod replay;
 mod store;
 mod ticket;
-mod tickets;
 
 pub use error::StoreError;
 pub use opened::Opened;

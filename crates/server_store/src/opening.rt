@@ -57,7 +57,7 @@ fn read_journal<D: Disk>(alloc: Global, disk: &mut D, said: Header) -> Result<Fo
 
 fn put_together(journal: Journal<64>, replay: Replay, fresh: bool) -> Found
     requires { (journal.base ≡ 4096) × (journal.limit ≡ 65536) }
-    ensures log { result.log ≡ record { fresh = fresh; records = replay.history.records; region = journal } }
+    ensures log { result.log ≡ record { fresh = fresh; records = replay.history.items; region = journal } }
     ensures ledger { result.ledger ≡ replay.ledger }
     ensures marks { result.marks ≡ replay.marks }
     ensures fresh { result.fresh ≡ replay.fresh }

@@ -9,8 +9,8 @@ ghost use Rattle.server_store.specs.Reading.{LeftByFormat};
 
 use crate::StoreError;
 use crate::header::{Header, spell};
-use crate::history::History;
 use block_journal::{Journal, JournalError, write_header};
+use ghost_list::GhostList;
 use petal_disk::Disk;
 use std::alloc::Global;
 use std::marker::Model;
@@ -27,7 +27,7 @@ pub const JOURNAL_RECORDS: u32 = 65_536;
 #[derive(Drop)]
 pub struct RecordLog {
     journal: Journal<64>,
-    history: History,
+    history: GhostList<StoreRecord>,
     fresh: bool,
 }
 
@@ -37,7 +37,7 @@ impl Model for RecordLog {
 
     ghost Value = { Log };
 
-    ghost view = { λ l. record { fresh = l.fresh; records = l.history.records; region = l.journal } };
+    ghost view = { λ l. record { fresh = l.fresh; records = l.history.items; region = l.journal } };
 
     ghost invariant = { λ l. (l.journal.base ≡ 4096) × (l.journal.limit ≡ 65536) };
 }
@@ -64,15 +64,19 @@ impl RecordLog {
         write_header(disk, &spell(said))?;
         Ok(RecordLog {
             journal,
-            history: History::new(),
+            history: GhostList::new(),
             fresh: said.fresh,
         })
     }
 
     /// The log of a journal that was opened.
-    pub fn of(journal: Journal<64>, history: History, fresh: bool) -> RecordLog
+    pub fn of(
+        journal: Journal<64>,
+        history: GhostList<StoreRecord>,
+        fresh: bool,
+    ) -> RecordLog
         requires { (journal.base ≡ 4096) × (journal.limit ≡ 65536) }
-        ensures { result ≡ record { fresh = fresh; records = history.records; region = journal } }
+        ensures { result ≡ record { fresh = fresh; records = history.items; region = journal } }
     {
         RecordLog {
             journal,
@@ -112,7 +116,7 @@ impl RecordLog {
     {
         match self.journal.append(disk, &encode(entry)) {
             Ok(()) => {
-                self.history = History::with(&self.history, entry);
+                self.history = self.history.with(entry);
                 Ok(())
             },
             Err(JournalError::Full) => Err(StoreError::JournalFull),

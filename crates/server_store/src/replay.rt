@@ -11,10 +11,10 @@ ghost use Rattle.server_store.specs.Reading.{kept_by, Reads, IsRead, IsBad, IsRe
 ghost use Rattle.server_store.specs.declared.error.StoreError.TheVariants as error;
 
 use crate::header::Header;
-use crate::history::History;
 use crate::ledger::Ledger;
 use crate::{Entry, StoreError};
 use busy_marks::Marks;
+use ghost_list::GhostList;
 use petal_base::NoMemory;
 use std::alloc::Global;
 use store_record::{StoreRecord, decode};
@@ -25,20 +25,20 @@ pub struct Replay {
     pub ledger: Ledger,
     pub marks: Marks,
     pub fresh: bool,
-    pub history: History,
+    pub history: GhostList<StoreRecord>,
 }
 
 /// Before the first record.
 fn begin(alloc: Global, said: Header) -> Result<Replay, NoMemory>
     ensures kept { IfOk result (λ r. kept_by r ≡ formatted said.fresh) }
-    ensures none { IfOk result (λ r. r.history.records ≡ []) }
+    ensures none { IfOk result (λ r. r.history.items ≡ []) }
     ensures slots { IfOk result (λ r. (r.ledger.slots ≡ said.slots) × (r.ledger.tickets ≡ [])) }
 {
     Ok(Replay {
         ledger: Ledger::new(alloc, said.slots)?,
         marks: Marks::new(alloc),
         fresh: said.fresh,
-        history: History::new(),
+        history: GhostList::new(),
     })
 }
 
@@ -88,7 +88,7 @@ fn step(replay: &mut Replay, body: &[u8]) -> Result<bool, NoMemory>
     if !apply(replay, &entry)? {
         return Ok(false);
     }
-    replay.history = History::with(&replay.history, &entry);
+    replay.history = replay.history.with(&entry);
     Ok(true)
 }
 
@@ -99,7 +99,7 @@ fn step(replay: &mut Replay, body: &[u8]) -> Result<bool, NoMemory>
 pub fn read_records(alloc: Global, bodies: &[Vec<u8>], said: Header) -> Result<Replay, StoreError>
     requires { length bodies.now < 2 ^ 32 }
     ensures read { IfOk result (λ r. IsRead said.slots said.fresh (contents bodies.now) r) }
-    ensures same { (records : List StoreRecord) → AreSpelled records → contents bodies.now ≡ bodies_of records → IfOk result (λ r. r.history.records ≡ records) }
+    ensures same { (records : List StoreRecord) → AreSpelled records → contents bodies.now ≡ bodies_of records → IfOk result (λ r. r.history.items ≡ records) }
     ensures bad { (index : ℕ) → IfErr result (λ e. e ≡ error.BadRecord index → IsBad said.slots said.fresh (contents bodies.now) index) }
     ensures good { (records : List StoreRecord) → AreSpelled records → AllFit said.slots (formatted said.fresh) records → contents bodies.now ≡ bodies_of records → IfErr result (λ e. e ≡ error.NoMemory) }
     ensures errors { IfErr result IsReadError }

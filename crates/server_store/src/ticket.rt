@@ -1,7 +1,9 @@
 //! The right to one put.
 
 ghost use Rattle.std.specs.Prelude.{◌≡◌};
+ghost use Rattle.server_store.specs.Tickets.{without};
 
+use ghost_list::Change;
 use std::marker::Model;
 
 /// A free slot that a store has set aside for one put. Contracts see the slot's number. A ticket that is dropped keeps its
@@ -31,4 +33,11 @@ impl Ticket {
     {
         self.slot
     }
+}
+
+// A ticket is spent or handed back: of those out it is none any more.
+pub(crate) struct Spent;
+
+impl Change<Ticket> for Spent {
+    ghost changed = { λ out ticket. without out ticket };
 }

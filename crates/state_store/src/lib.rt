@@ -7,7 +7,6 @@
 
 mod device;
 mod error;
-mod history;
 mod places;
 mod record;
 mod register;

@@ -12,16 +12,16 @@ ghost use Rattle.state_store.specs.declared.error.StateError.TheVariants as erro
 ghost use Rattle.state_store.specs.Errors.{IsReadError};
 
 use crate::error::StateError;
-use crate::history::History;
 use crate::places::Places;
 use crate::record::{StateRecord, record_of};
+use ghost_list::GhostList;
 use petal_base::{Inc, NoMemory};
 use std::alloc::Global;
 
 /// The records, and what they give.
 #[derive(Drop)]
 pub struct Register {
-    pub history: History,
+    pub history: GhostList<StateRecord>,
     pub places: Places,
     pub inc: Inc,
 }
@@ -29,15 +29,15 @@ pub struct Register {
 /// Reads the records of the bodies.
 pub fn read_records(alloc: Global, bodies: &[Vec<u8>]) -> Result<Register, StateError>
     requires { length bodies.now < 2 ^ 32 }
-    ensures found { IfOk result (λ r. bodies_of r.history.records ≡ contents bodies.now) }
-    ensures spelled { IfOk result (λ r. AreSpelled r.history.records) }
-    ensures same { (records : List StateRecord) → AreSpelled records → contents bodies.now ≡ bodies_of records → IfOk result (λ r. r.history.records ≡ records) }
-    ensures rows { IfOk result (λ r. (place : ℕ) → row_at r.places place ≡ row_of r.history.records place) }
-    ensures inc { IfOk result (λ r. r.inc ≡ inc_of r.history.records) }
+    ensures found { IfOk result (λ r. bodies_of r.history.items ≡ contents bodies.now) }
+    ensures spelled { IfOk result (λ r. AreSpelled r.history.items) }
+    ensures same { (records : List StateRecord) → AreSpelled records → contents bodies.now ≡ bodies_of records → IfOk result (λ r. r.history.items ≡ records) }
+    ensures rows { IfOk result (λ r. (place : ℕ) → row_at r.places place ≡ row_of r.history.items place) }
+    ensures inc { IfOk result (λ r. r.inc ≡ inc_of r.history.items) }
     ensures bad { (index : ℕ) → IfErr result (λ e. e ≡ error.BadRecord index → (index < length bodies.now) × ((r : StateRecord) → HasBody r → slice_index_or (contents bodies.now) index [] ≡ body_of r → ⊥)) }
     ensures errors { IfErr result IsReadError }
 {
-    let mut history = History::new();
+    let mut history = GhostList::new();
     let mut places = Places::new(alloc);
     let mut inc = 0;
     for index in 0..bodies.len() {
@@ -48,7 +48,7 @@ pub fn read_records(alloc: Global, bodies: &[Vec<u8>]) -> Result<Register, State
         };
         inc = inc_noted(inc, &entry);
         places = noted(places, &entry)?;
-        history = History::with(&history, &entry);
+        history = history.with(&entry);
     }
     Ok(Register {
         history,

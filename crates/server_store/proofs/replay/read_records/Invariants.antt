@@ -8,5 +8,5 @@ use Rattle.server_store.proofs.replay.read_records.Given as goal
 abbrev pub invariant-loop-index : goal.invariant-loop-index
 invariant-loop-index l = record {
   read : IsRead l.fn.said.slots l.fn.said.fresh (take l.index (contents l.bodies)) l.replay;
-  same : (records : List StoreRecord) → AreSpelled records → contents l.bodies ≡ bodies_of records → l.replay.history.records ≡ take l.index records;
+  same : (records : List StoreRecord) → AreSpelled records → contents l.bodies ≡ bodies_of records → l.replay.history.items ≡ take l.index records;
 }

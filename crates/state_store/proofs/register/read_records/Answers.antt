@@ -11,7 +11,7 @@ pub loop-index-preserved : goal.loop-index-preserved
 loop-index-preserved c =
     let i = c.loop-index.index in
     let all = contents c.args.bodies.now in
-    let past = c.loop-index.history.records in
+    let past = c.loop-index.history.items in
     let kept = c.loop-index.invariant in
     let lt : i < length c.args.bodies.now = omega arith in
     let inside : i < length all = omega (arith, length-map c.args.bodies.now (λ body. body.items)) in

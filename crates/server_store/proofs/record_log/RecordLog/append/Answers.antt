@@ -9,7 +9,7 @@ returns-in-Ok-clause-outside g c told = in_journal c.self.inside.journal _ _ (re
 
 pub returns-in-Ok-clause-logs : goal.returns-in-Ok-clause-logs
 returns-in-Ok-clause-logs g c told slots = rw (← c.self.view_is, c.with-self-inside.ensures) (λ h fits.
-    let log : Log = record { fresh = c.self.inside.fresh; records = c.self.inside.history.records; region = c.self.inside.journal } in
+    let log : Log = record { fresh = c.self.inside.fresh; records = c.self.inside.history.items; region = c.self.inside.journal } in
     let at : IsPlaced log.region = record { base = c.self.invariant.0; limit = c.self.invariant.1 } in
     let one : One slots log c.args.entry.now c.encode.result = record { spelled = c.encode.ensures.spelled; has_spelling = c.encode.ensures.has_spelling; fits = fits } in
     let st = stored slots log _ _ at h in
@@ -22,7 +22,7 @@ returns-in-Ok-clause-logs g c told slots = rw (← c.self.view_is, c.with-self-i
 
 pub returns-in-Ok-clause-crash : goal.returns-in-Ok-clause-crash
 returns-in-Ok-clause-crash g c told slots = rw (← c.self.view_is) (λ h fits x i.
-    let log : Log = record { fresh = c.self.inside.fresh; records = c.self.inside.history.records; region = c.self.inside.journal } in
+    let log : Log = record { fresh = c.self.inside.fresh; records = c.self.inside.history.items; region = c.self.inside.journal } in
     let at : IsPlaced log.region = record { base = c.self.invariant.0; limit = c.self.invariant.1 } in
     let one : One slots log c.args.entry.now c.encode.result = record { spelled = c.encode.ensures.spelled; has_spelling = c.encode.ensures.has_spelling; fits = fits } in
     let st = stored slots log _ _ at h in
@@ -33,7 +33,7 @@ returns-in-Ok-clause-crash g c told slots = rw (← c.self.view_is) (λ h fits x
 
 pub returns-in-Ok-clause-any_moment : goal.returns-in-Ok-clause-any_moment
 returns-in-Ok-clause-any_moment g c told slots = rw (← c.self.view_is) (λ h fits.
-    let log : Log = record { fresh = c.self.inside.fresh; records = c.self.inside.history.records; region = c.self.inside.journal } in
+    let log : Log = record { fresh = c.self.inside.fresh; records = c.self.inside.history.items; region = c.self.inside.journal } in
     let at : IsPlaced log.region = record { base = c.self.invariant.0; limit = c.self.invariant.1 } in
     let one : One slots log c.args.entry.now c.encode.result = record { spelled = c.encode.ensures.spelled; has_spelling = c.encode.ensures.has_spelling; fits = fits } in
     let st = stored slots log _ _ at h in
@@ -41,7 +41,7 @@ returns-in-Ok-clause-any_moment g c told slots = rw (← c.self.view_is) (λ h f
 
 pub returns-in-Ok-clause-either : goal.returns-in-Ok-clause-either
 returns-in-Ok-clause-either g c told slots = rw (← c.self.view_is) (λ h fits.
-    let log : Log = record { fresh = c.self.inside.fresh; records = c.self.inside.history.records; region = c.self.inside.journal } in
+    let log : Log = record { fresh = c.self.inside.fresh; records = c.self.inside.history.items; region = c.self.inside.journal } in
     let at : IsPlaced log.region = record { base = c.self.invariant.0; limit = c.self.invariant.1 } in
     let one : One slots log c.args.entry.now c.encode.result = record { spelled = c.encode.ensures.spelled; has_spelling = c.encode.ensures.has_spelling; fits = fits } in
     let st = stored slots log _ _ at h in
@@ -52,7 +52,7 @@ returns-in-Err-Failed-clause-outside g c told = in_journal c.self.inside.journal
 
 pub returns-in-Err-Failed-clause-crash : goal.returns-in-Err-Failed-clause-crash
 returns-in-Err-Failed-clause-crash g c told slots = rw (← c.self.view_is) (λ h fits x i.
-    let log : Log = record { fresh = c.self.inside.fresh; records = c.self.inside.history.records; region = c.self.inside.journal } in
+    let log : Log = record { fresh = c.self.inside.fresh; records = c.self.inside.history.items; region = c.self.inside.journal } in
     let at : IsPlaced log.region = record { base = c.self.invariant.0; limit = c.self.invariant.1 } in
     let one : One slots log c.args.entry.now c.encode.result = record { spelled = c.encode.ensures.spelled; has_spelling = c.encode.ensures.has_spelling; fits = fits } in
     let st = stored slots log _ _ at h in
@@ -63,7 +63,7 @@ returns-in-Err-Failed-clause-crash g c told slots = rw (← c.self.view_is) (λ 
 
 pub returns-in-Err-Failed-clause-any_moment : goal.returns-in-Err-Failed-clause-any_moment
 returns-in-Err-Failed-clause-any_moment g c told slots = rw (← c.self.view_is) (λ h fits.
-    let log : Log = record { fresh = c.self.inside.fresh; records = c.self.inside.history.records; region = c.self.inside.journal } in
+    let log : Log = record { fresh = c.self.inside.fresh; records = c.self.inside.history.items; region = c.self.inside.journal } in
     let at : IsPlaced log.region = record { base = c.self.invariant.0; limit = c.self.invariant.1 } in
     let one : One slots log c.args.entry.now c.encode.result = record { spelled = c.encode.ensures.spelled; has_spelling = c.encode.ensures.has_spelling; fits = fits } in
     let st = stored slots log _ _ at h in
@@ -71,7 +71,7 @@ returns-in-Err-Failed-clause-any_moment g c told slots = rw (← c.self.view_is)
 
 pub returns-in-Err-Failed-clause-either : goal.returns-in-Err-Failed-clause-either
 returns-in-Err-Failed-clause-either g c told slots = rw (← c.self.view_is) (λ h fits.
-    let log : Log = record { fresh = c.self.inside.fresh; records = c.self.inside.history.records; region = c.self.inside.journal } in
+    let log : Log = record { fresh = c.self.inside.fresh; records = c.self.inside.history.items; region = c.self.inside.journal } in
     let at : IsPlaced log.region = record { base = c.self.invariant.0; limit = c.self.invariant.1 } in
     let one : One slots log c.args.entry.now c.encode.result = record { spelled = c.encode.ensures.spelled; has_spelling = c.encode.ensures.has_spelling; fits = fits } in
     let st = stored slots log _ _ at h in
