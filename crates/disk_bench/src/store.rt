@@ -1,13 +1,9 @@
-//! What a store costs, on a device in memory with 1,024 slots: `put COUNT` formats a store and puts blocks so often, over all
-//! its slots in turn; `open COUNT` opens it again behind that. Prints how many slots are free then. bench/store.py times both.
-#![tactic(auto)]
+//! A store of 1,024 slots.
 
 use petal_base::{Block, Key};
 use petal_disk::{Disk, MemDisk};
 use server_store::{DATA_START, Opened, SLOT_BYTES, Store, StoreError};
 use std::alloc::Global;
-use std::process::ExitCode;
-use std::{env, io};
 
 const SLOTS: u32 = 1_024;
 
@@ -52,7 +48,9 @@ fn formatted(alloc: Global) -> Option<Store<MemDisk>> {
     }
 }
 
-fn on_memory(alloc: Global, count: u32, opens: bool) -> Option<u32> {
+/// Formats a store and puts a block so often, over all its slots in turn, and opens it again where it is asked to. Gives how many
+/// slots are free then.
+pub fn run(alloc: Global, count: u32, opens: bool) -> Option<u32> {
     let mut store = formatted(alloc)?;
     let block = Block::fill(alloc, 7).ok()?;
     put_all(&mut store, &block, count).ok()?;
@@ -60,31 +58,4 @@ fn on_memory(alloc: Global, count: u32, opens: bool) -> Option<u32> {
         return Some(store.free());
     }
     Some(opened(alloc, store.into_disk())?.free())
-}
-
-fn words(rt: &HostRuntime) -> io::Result<Vec<String>> {
-    Ok(env::args(rt)?.skip(1).collect(rt.alloc())?)
-}
-
-fn run(rt: &HostRuntime) -> Option<u32> {
-    let words = words(rt).ok()?;
-    let [what, count] = words.as_slice() else {
-        return None;
-    };
-    let count = count.as_str().parse::<u32>().ok()?;
-    match what.as_str() {
-        "put" => on_memory(rt.alloc(), count, false),
-        "open" => on_memory(rt.alloc(), count, true),
-        _ => None,
-    }
-}
-
-fn main(rt: HostRuntime) -> ExitCode {
-    match run(&rt) {
-        Some(free) => {
-            let _ = println!(rt; "{free}");
-            ExitCode::from(0)
-        }
-        None => ExitCode::from(1),
-    }
 }

@@ -1,14 +1,10 @@
-//! What a journal costs: `append COUNT` formats a journal of records of 64 bytes on a disk in memory and appends so many;
-//! `open COUNT` opens it again behind that. Prints how many bodies there are then. bench/journal.py times both.
-#![tactic(auto)]
+//! A journal of records of 64 bytes.
 
 ghost use Rattle.std.specs.Prelude.{◌≡◌, ◌≤◌, ◌+◌, ◌*◌, length};
 
 use block_journal::{Journal, JournalError};
 use petal_disk::{Disk, MemDisk};
 use std::alloc::Global;
-use std::process::ExitCode;
-use std::{env, io};
 
 /// The records of a data device.
 const LIMIT: u32 = 65_536;
@@ -56,34 +52,8 @@ fn appended<D: Disk>(
     Ok(journal.count())
 }
 
-fn on_memory(alloc: Global, limit: u32, count: u32, opens: bool) -> Option<u32> {
-    let mut disk = MemDisk::new(alloc, 64 * u64::from(limit)).ok()?;
-    appended(alloc, &mut disk, limit, count, opens).ok()
-}
-
-fn words(rt: &HostRuntime) -> io::Result<Vec<String>> {
-    Ok(env::args(rt)?.skip(1).collect(rt.alloc())?)
-}
-
-fn run(rt: &HostRuntime) -> Option<u32> {
-    let words = words(rt).ok()?;
-    let [what, count] = words.as_slice() else {
-        return None;
-    };
-    let count = count.as_str().parse::<u32>().ok()?;
-    match what.as_str() {
-        "append" => on_memory(rt.alloc(), LIMIT, count, false),
-        "open" => on_memory(rt.alloc(), LIMIT, count, true),
-        _ => None,
-    }
-}
-
-fn main(rt: HostRuntime) -> ExitCode {
-    match run(&rt) {
-        Some(count) => {
-            let _ = println!(rt; "{count}");
-            ExitCode::from(0)
-        }
-        None => ExitCode::from(1),
-    }
+/// Formats a journal and appends so many bodies, and opens it again where it is asked to. Gives how many bodies there are then.
+pub fn run(alloc: Global, count: u32, opens: bool) -> Option<u32> {
+    let mut disk = MemDisk::new(alloc, 64 * u64::from(LIMIT)).ok()?;
+    appended(alloc, &mut disk, LIMIT, count, opens).ok()
 }

@@ -1,5 +1,5 @@
 use Rattle.std.proofs.Common.{◌≡◌}
-use Rattle.journal_bench.proofs.append_all.Given as goal
+use Rattle.disk_bench.proofs.journal.append_all.Given as goal
 
 abbrev pub invariant-loop : goal.invariant-loop
 invariant-loop g l =
