@@ -8,20 +8,19 @@ ghost use Rattle.block_journal.specs.Gate.{IsShut};
 ghost use Rattle.block_journal.specs.Records.{Counts, Stands};
 ghost use Rattle.state_store.specs.Device.{header, bodies_of, AreSpelled, Holds, WithOrWithout, StandsFor, LeftByFormat, IsBadOn};
 ghost use Rattle.state_store.specs.Errors.{IsAppendError};
-ghost use Rattle.state_store.specs.Kept.{row_of, inc_of};
-ghost use Rattle.state_store.specs.Rows.{row_at};
-ghost use Rattle.state_store.specs.declared.record.StateRecord.{StateRecord};
-ghost use Rattle.state_store.specs.declared.record.StateRecord.TheVariants as kind;
+ghost use Rattle.state_record.specs.Kept.{row_of, inc_of};
+ghost use Rattle.state_record.specs.Rows.{row_at};
+ghost use Rattle.state_record.specs.declared.record.StateRecord.{StateRecord};
+ghost use Rattle.state_record.specs.declared.record.StateRecord.TheVariants as kind;
 ghost use Rattle.state_store.specs.declared.error.StateError.TheVariants as error;
 
 use crate::error::StateError;
-use crate::places::Places;
-use crate::record::{StateRecord, body_of};
 use crate::register::{Register, read_records};
 use block_journal::{Journal, JournalError, write_header};
 use ghost_list::GhostList;
 use petal_base::Inc;
 use petal_disk::{Disk, Plan, Planned};
+use state_record::{Places, StateRecord, body_of};
 use std::alloc::Global;
 use std::marker::Model;
 

@@ -2,8 +2,8 @@
 
 ghost use Rattle.std.specs.Prelude.{◌≡◌, ℕ, [], ◌==◌, if◌then◌else◌, ◌≢◌, true, false, IsSome, OnOk};
 ghost use Rattle.std.specs.Option.{option_copied};
-ghost use Rattle.state_store.specs.Kept.{row_after, empty_row};
-ghost use Rattle.state_store.specs.Rows.{found_row, row_at};
+ghost use Rattle.state_record.specs.Kept.{row_after, empty_row};
+ghost use Rattle.state_record.specs.Rows.{found_row, row_at};
 
 use crate::record::StateRecord;
 use crate::row::{Row, accept_row, choose_row, empty_row, promise_row, row_again};
@@ -21,7 +21,7 @@ pub struct Places {
 
 impl Model for Places {
     ghost use Rattle.std.specs.Prelude.{List, ℕ};
-    ghost use Rattle.state_store.specs.declared.row.Row.{Row};
+    ghost use Rattle.state_record.specs.declared.row.Row.{Row};
 
     ghost Value = { List (ℕ × Row) };
 

@@ -4,9 +4,9 @@ use Rattle.petal_command.specs.declared.ballot.Ballot.{Ballot}
 use Rattle.petal_command.specs.declared.command.Command.{Command}
 use Rattle.petal_command.specs.Ballot.{number}
 use Rattle.petal_paxos.specs.Acceptor.{Acceptor, rank}
-use Rattle.state_store.specs.declared.record.StateRecord.{StateRecord}
-use Rattle.state_store.specs.declared.record.StateRecord.TheVariants.{Inc, Promise, Accepted, Chosen}
-use Rattle.state_store.specs.declared.row.Row.{Row}
+use Rattle.state_record.specs.declared.record.StateRecord.{StateRecord}
+use Rattle.state_record.specs.declared.record.StateRecord.TheVariants.{Inc, Promise, Accepted, Chosen}
+use Rattle.state_record.specs.declared.row.Row.{Row}
 
 abbrev pub empty_row : Row
 empty_row = record { promised = None; accepted = None; chosen = None }

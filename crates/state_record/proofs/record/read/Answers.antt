@@ -1,9 +1,9 @@
 use Rattle.std.proofs.Common.{◌≡◌, Some, ap, arith}
-use Rattle.state_store.specs.Body.{body_of, HasBody}
-use Rattle.state_store.specs.declared.record.StateRecord.{StateRecord}
-use Rattle.state_store.specs.declared.record.StateRecord.TheVariants.{Inc}
-use Rattle.state_store.proofs.Records.{kind_of-body}
-use Rattle.state_store.proofs.record.read.Goals as goal
+use Rattle.state_record.specs.Body.{body_of, HasBody}
+use Rattle.state_record.specs.declared.record.StateRecord.{StateRecord}
+use Rattle.state_record.specs.declared.record.StateRecord.TheVariants.{Inc}
+use Rattle.state_record.proofs.Bodies.{kind_of-body}
+use Rattle.state_record.proofs.record.read.Goals as goal
 
 pub returns-in-1 : goal.returns-in-1
 returns-in-1 c r = elim r as (λ d. HasBody d → c.args.body.now ≡ body_of d → Some c.read_inc.result ≡ Some d) [

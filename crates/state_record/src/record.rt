@@ -4,9 +4,9 @@ ghost use Rattle.std.specs.Prelude.{◌≡◌, ℕ, List, ◌++◌, length, take
 ghost use Rattle.petal_command.specs.Spelling.{spelling, HasSpelling};
 ghost use Rattle.petal_command.specs.declared.ballot.Ballot.{Ballot};
 ghost use Rattle.petal_command.specs.declared.command.Command.{Command};
-ghost use Rattle.state_store.specs.Body.{body_of, HasBody};
-ghost use Rattle.state_store.specs.declared.record.StateRecord.{StateRecord};
-ghost use Rattle.state_store.specs.declared.record.StateRecord.TheVariants.{Inc, Promise, Accepted, Chosen};
+ghost use Rattle.state_record.specs.Body.{body_of, HasBody};
+ghost use Rattle.state_record.specs.declared.record.StateRecord.{StateRecord};
+ghost use Rattle.state_record.specs.declared.record.StateRecord.TheVariants.{Inc, Promise, Accepted, Chosen};
 
 use petal_base::Inc;
 use petal_command::{Ballot, COMMAND_BYTES, Command, decode, encode};

@@ -1,7 +1,7 @@
 //! What is kept for one place.
 
 ghost use Rattle.std.specs.Prelude.{◌≡◌};
-ghost use Rattle.state_store.specs.Kept.{empty_row, greater, promise_row, accept_row, choose_row};
+ghost use Rattle.state_record.specs.Kept.{empty_row, greater, promise_row, accept_row, choose_row};
 
 use petal_command::{Ballot, Command};
 

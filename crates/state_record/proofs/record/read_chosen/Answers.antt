@@ -1,6 +1,6 @@
 use Rattle.std.proofs.Common.{ap, drop, List, ℕ, sym, ◌∙◌}
-use Rattle.state_store.proofs.Records.{some_chosen}
-use Rattle.state_store.proofs.record.read_chosen.Goals as goal
+use Rattle.state_record.proofs.Bodies.{some_chosen}
+use Rattle.state_record.proofs.record.read_chosen.Goals as goal
 
 pub returns-in_err-command : goal.returns-in_err-command
 returns-in_err-command c place command fits is = absurd (cc (c.command_at.ensures command _ fits.1 (ap (λ (l : List ℕ). drop 10 l) is), c.in_err-command.was))
