@@ -1,17 +1,12 @@
 -- `changed` makes the struct without bytes, with the items that its clause names.
 use Rattle.std.proofs.Common.{List, [], ◌∷◌, ◌++◌, refl}
-use seplogic.Ra.Ura.{Ura}
-use mir.Syntax.{Fn, Args, a_type, dcons, dnil}
+use mir.Syntax.{a_type, dcons, dnil}
 use mir.Val.{Val, vptr}
 use mir.MapTy.{inst_fn}
-use base.Logic.{SProp, ent}
-use prog.Memory.{Memory}
-use prog.Routine.{Routine}
-use prog.Wp.{Calls, Loops, WpFn, Tables}
-use contract.Monad.{Fun}
+use base.Logic.{SProp}
+use prog.Wp.{WpFn, Tables}
 use contract.Running.{tables, tables_of}
 use sound.WpLaws.{WpFn-mono}
-use types.Logic.{Logic}
 use types.Kit.{‵, raw, ◌⊛◌, prop, ◌$◌, ◌∵◌, !, qed, move, keep, drop, split, fsplit, fjoin, feq_l, regoal, suffices, done}
 use types.Part.{agg}
 use types.Run.{enter, returns, and_then, no_more}
@@ -24,9 +19,9 @@ use denote.Param.{param, bounded}
 use denote.Signature.{plain, types_at}
 use denote.Steps.{nothing, owned}
 use denote.Struct.Laws.{makes}
-use denote.Triple.Clauses.{Clauses, Ended, closing}
+use denote.Triple.Clauses.{closing}
 use denote.Triple.Entry.{alive}
-use denote.Triple.Spec.{Meets, triple_of}
+use denote.Triple.Spec.{triple_of}
 use denote.Triple.Table.{entered}
 use denote.Triple.Walked.{says, Stays, stay_dropped, walk_of, ends_at, walk_Meets, Goes-dropped}
 use Rattle.std.specs.contracts.marker.PhantomData as Mark
