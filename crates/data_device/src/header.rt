@@ -3,7 +3,7 @@
 ghost use Rattle.std.specs.Prelude.{◌≡◌, ◌<◌, ◌^◌, ℕ, Bool, length, Some, IfSome};
 ghost use Rattle.data_device.specs.Device.{header};
 
-use record_fields::{flag_at, put, put_flag, put_word, put_zeros, word_at};
+use record_fields::{put, put_flag, put_word, put_zeros, word_at};
 
 /// How many bytes a header has.
 pub const HEADER_BYTES: usize = 64;
@@ -41,7 +41,7 @@ pub fn read(bytes: &[u8]) -> Option<Header>
 {
     let said = Header {
         slots: word_at(bytes, 13),
-        fresh: flag_at(bytes, 17),
+        fresh: bytes[17] == 1,
     };
     if spell(said).as_slice() == bytes {
         Some(said)

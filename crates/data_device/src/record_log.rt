@@ -70,11 +70,7 @@ impl RecordLog {
     }
 
     /// The log of a journal that was opened.
-    pub fn of(
-        journal: Journal<64>,
-        history: GhostList<StoreRecord>,
-        fresh: bool,
-    ) -> RecordLog
+    pub fn of(journal: Journal<64>, history: GhostList<StoreRecord>, fresh: bool) -> RecordLog
         requires { (journal.base ≡ 4096) × (journal.limit ≡ 65536) }
         ensures { result ≡ record { fresh = fresh; records = history.items; region = journal } }
     {

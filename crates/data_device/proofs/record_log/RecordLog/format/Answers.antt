@@ -10,7 +10,7 @@ returns-clause-logs g c told =
     let at : IsPlaced j = record { base = ap (λ r. r.base) c.in_ok-journal.ensures.region; limit = ap (λ r. r.limit) c.in_ok-journal.ensures.region } in
     let whole = (g.met.D.Disk g.world.𝓛 g.world.𝓜 g.world.𝓡 ((λ s x. x), (λ x. x), (λ x. x), λ x. x)).whole c.format_behind_gate.new.disk told in
     let fits : 64 ≤ length (g.D.Disk.seen c.format_behind_gate.new.disk) = omega (arith, whole, c.format_behind_gate.ensures.size, c.requires) in
-    let log : Log = record { fresh = c.args.said.fresh; records = c.new.result.records; region = j } in
+    let log : Log = record { fresh = c.args.said.fresh; records = c.new.result.items; region = j } in
     let stands = headed_device c.args.said.slots c.args.said.fresh j _ _ at fits (c.in_ok-journal.ensures.stored told).now ((rw c.spell.ensures at c.in_ok-write_header.ensures.written) told) in
     formatted_device c.args.said.slots log _ _ (ap (λ r. r.count) c.in_ok-journal.ensures.region) c.new.ensures stands (c.in_ok-write_header.ensures.durable told)
 

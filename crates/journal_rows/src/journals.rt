@@ -7,20 +7,48 @@ use petal_disk::{CallKind, Disk, MemDisk, Plan, Planned};
 use std::alloc::Global;
 use std::test::Fail;
 
+// Makes a journal of two records, and appends the first.
+fn one_of_two<D: Disk>(alloc: Global, disk: &mut D) -> Result<Journal<4>, JournalError>
+    requires { 12 ≤ D.size disk.old }
+    ensures size { D.size disk.new ≡ D.size disk.old }
+    ensures place { IfOk result (λ journal. (journal.base ≡ 4) × (journal.limit ≡ 2)) }
+{
+    let mut journal = Journal::<4>::format(alloc, disk, 4, 2)?;
+    journal.append(disk, b"abc")?;
+    Ok(journal)
+}
+
+// Whether there is room for one body more and for no other.
+fn fills<D: Disk>(journal: &mut Journal<4>, disk: &mut D) -> bool
+    requires place { (journal.old.base ≡ 4) × (journal.old.limit ≡ 2) }
+    requires size { 12 ≤ D.size disk.old }
+    ensures { D.size disk.new ≡ D.size disk.old }
+{
+    journal.append(disk, b"def").is_ok() && journal.append(disk, b"ghi") == Err(JournalError::Full)
+}
+
+// How many bodies are there, and the last one.
+fn last_there<D: Disk>(alloc: Global, disk: &mut D) -> Result<(u32, Vec<u8>), Fail>
+    requires { 12 ≤ D.size disk.old }
+{
+    let (opened, bodies) = Journal::<4>::open(alloc, disk, 4, 2)?;
+    let mut last = Vec::new(alloc);
+    for body in bodies.as_slice() {
+        last = body.clone()?;
+    }
+    Ok((opened.count(), last))
+}
+
 #[test]
 fn a_record_is_a_gate_and_a_body(rt: HostRuntime) -> Result<(), Fail> {
     let mut disk = MemDisk::new(rt.alloc(), 12)?;
-    let mut journal = Journal::<4>::format(rt.alloc(), &mut disk, 4, 2)?;
-    journal.append(&mut disk, b"abc")?;
+    let mut journal = one_of_two(rt.alloc(), &mut disk)?;
     let mut bytes = [9; 12];
-    let read = disk.read(0, &mut bytes);
-    assert_eq!(rt; read, Ok(()));
+    assert_eq!(rt; disk.read(0, &mut bytes), Ok(()));
     assert_eq!(rt; &bytes, b"\0\0\0\0\xa5abc\0\0\0\0");
-    journal.append(&mut disk, b"def")?;
-    assert_eq!(rt; journal.append(&mut disk, b"ghi"), Err(JournalError::Full));
-    let (opened, bodies) = Journal::<4>::open(rt.alloc(), &mut disk, 4, 2)?;
-    assert_eq!(rt; opened.count(), 2);
-    assert_eq!(rt; bodies[1].as_slice(), b"def".as_slice());
+    assert!(rt; fills(&mut journal, &mut disk));
+    let (count, last) = last_there(rt.alloc(), &mut disk)?;
+    assert_eq!(rt; (count, last.as_slice()), (2, b"def".as_slice()));
     Ok(())
 }
 
