@@ -6,7 +6,6 @@
 #![tactic(auto)]
 
 mod journal_use;
-mod past;
 mod remembering;
 
 pub use journal_use::{append_body, with_a_past};

@@ -3,15 +3,22 @@
 ghost use Rattle.std.specs.Prelude.{◌≡◌, ◌∷◌, replicate, IfOk};
 ghost use Rattle.petal_disk.specs.Disk.{Only};
 
-use crate::past::Past;
+use ghost_list::{Change, GhostList};
 use petal_disk::{Disk, Failed, MemDisk, NoMemory};
 use std::alloc::Global;
+
+// The last disk comes first.
+struct LastFirst;
+
+impl Change<MemDisk> for LastFirst {
+    ghost changed = { λ disks disk. disk ∷ disks };
+}
 
 /// A disk in memory that remembers, for contracts alone, what it was before each call. Each call is a moment.
 #[derive(Drop)]
 pub struct Remembering {
     disk: MemDisk,
-    past: Past,
+    past: GhostList<MemDisk>,
 }
 
 impl Remembering {
@@ -24,16 +31,16 @@ impl Remembering {
     {
         Ok(Remembering {
             disk: MemDisk::new(alloc, len)?,
-            past: Past::new(),
+            past: GhostList::new(),
         })
     }
 
     // One moment more.
     fn note(&mut self)
         ensures disk { self.new.disk ≡ self.old.disk }
-        ensures past { self.new.past.disks ≡ self.old.disk ∷ self.old.past.disks }
+        ensures past { self.new.past.items ≡ self.old.disk ∷ self.old.past.items }
     {
-        self.past = Past::with(&self.past, &self.disk);
+        self.past = self.past.changed::<LastFirst>(&self.disk);
     }
 }
 
@@ -51,13 +58,13 @@ impl Disk for Remembering {
 
     ghost may_leave = { λ r c. ⟦<MemDisk as Disk>⟧.may_leave r.disk c };
 
-    ghost moment = { λ r. length r.past.disks };
+    ghost moment = { λ r. length r.past.items };
 
-    ghost left_since = { λ r t c. LeftSince ⟦<MemDisk as Disk>⟧.may_leave r.past.disks r.disk t c };
+    ghost left_since = { λ r t c. LeftSince ⟦<MemDisk as Disk>⟧.may_leave r.past.items r.disk t c };
 
     ghost faults = { λ r. 0 };
 
-    ghost came_to = { λ first last. Remembers first.past.disks first.disk last.past.disks last.disk };
+    ghost came_to = { λ first last. Remembers first.past.items first.disk last.past.items last.disk };
 
     ghost whole = { λ r told. refl };
 
@@ -65,11 +72,11 @@ impl Disk for Remembering {
 
     ghost counts_now = { λ r t c le now. inl now };
 
-    ghost only_now = { λ r c left. only_here ⟦<MemDisk as Disk>⟧.may_leave r.past.disks r.disk c left };
+    ghost only_now = { λ r c left. only_here ⟦<MemDisk as Disk>⟧.may_leave r.past.items r.disk c left };
 
     ghost stays = { λ r. inl (refl, refl) };
 
-    ghost goes_on = { λ first mid last a b. remembers_on first.past.disks mid.past.disks last.past.disks first.disk mid.disk last.disk a b };
+    ghost goes_on = { λ first mid last a b. remembers_on first.past.items mid.past.items last.past.items first.disk mid.disk last.disk a b };
 
     fn len(&self) -> u64 {
         self.disk.len()

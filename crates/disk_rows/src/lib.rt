@@ -1,4 +1,4 @@
-//! Tests of devices in memory and of what is kept on them: journals, slots, entries, marks and the bytes of records.
+//! Tests of devices in memory and of what is kept on them: slots, entries, marks and the bytes of records.
 //! The crate itself has no code.
 #![tactic(auto)]
 
@@ -6,8 +6,6 @@
 mod adapters;
 #[cfg(test)]
 mod entries;
-#[cfg(test)]
-mod journals;
 #[cfg(test)]
 mod marks;
 #[cfg(test)]

@@ -1,5 +1,7 @@
 //! Each kind of outside once: what its failures look like, and what a crash leaves.
 
+ghost use Rattle.std.specs.Prelude.{◌≡◌, ◌≤◌};
+
 use petal_disk::{
     CallKind, Disk, Failed, MemDisk, MemShelf, MemSink, MemSource, Plan, Planned, Shelf,
     ShelfError, Sink, Source, Which, read_full, write_all, write_kept,
@@ -31,34 +33,47 @@ fn listed_calls_of_streams_fail(rt: HostRuntime) -> Result<(), Fail> {
     Ok(())
 }
 
-#[test]
-fn a_plan_is_met_once(rt: HostRuntime) -> Result<(), Fail> {
-    let mut disk = Planned::new(MemDisk::new(rt.alloc(), 8)?);
+// Of three calls of the device the second one meets a plan.
+fn meet_plan<D: Disk>(disk: &mut Planned<D>) -> bool
+    requires { 8 ≤ ⟦<Planned<D> as Disk>⟧.size disk.old }
+    ensures { ⟦<Planned<D> as Disk>⟧.size disk.new ≡ ⟦<Planned<D> as Disk>⟧.size disk.old }
+{
     disk.arm(Plan {
         kind: CallKind::Write,
         at: 2,
         stop: true,
     });
-    let first = write_kept(&mut disk, 0, b"abcd");
+    let first = write_kept(disk, 0, b"abcd");
     let second = disk.write_at(4, b"efgh");
     let third = disk.sync();
-    assert_eq!(rt; (first, second, third), (Ok(()), Err(Failed), Ok(())));
-    assert_eq!(rt; disk.stopped(), true);
+    (first, second, third) == (Ok(()), Err(Failed), Ok(())) && disk.stopped()
+}
+
+#[test]
+fn a_plan_is_met_once(rt: HostRuntime) -> Result<(), Fail> {
+    let mut disk = Planned::new(MemDisk::new(rt.alloc(), 8)?);
+    assert!(rt; meet_plan(&mut disk));
     let mut seen = [0; 8];
     assert_eq!(rt; disk.into_disk().read(0, &mut seen), Ok(()));
     assert_eq!(rt; &seen, b"abcdef\0\0");
     Ok(())
 }
 
+fn write_and_crash<D: Disk>(disk: &mut D) -> Result<[u8; 4], Failed>
+    requires { 4 ≤ D.size disk.old }
+{
+    write_kept(disk, 1, b"ab")?;
+    disk.write_at(2, b"xy")?;
+    disk.crash();
+    let mut seen = [0; 4];
+    disk.read(0, &mut seen)?;
+    Ok(seen)
+}
+
 #[test]
 fn a_crash_loses_what_was_not_synced(rt: HostRuntime) -> Result<(), Fail> {
     let mut disk = MemDisk::new(rt.alloc(), 4)?;
-    let _ = write_kept(&mut disk, 1, b"ab");
-    let _ = disk.write_at(2, b"xy");
-    disk.crash();
-    let mut seen = [0; 4];
-    assert_eq!(rt; disk.read(0, &mut seen), Ok(()));
-    assert_eq!(rt; &seen, b"\0ab\0");
+    assert_eq!(rt; write_and_crash(&mut disk), Ok(*b"\0ab\0"));
     Ok(())
 }
 

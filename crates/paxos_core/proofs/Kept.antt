@@ -6,10 +6,10 @@ use Rattle.petal_command.specs.declared.command.Command.{Command}
 use Rattle.petal_paxos.specs.Member.{put}
 use Rattle.petal_paxos.specs.Acceptor.{Acceptor, rank, is_open, promise, accept}
 use Rattle.law_agreement.proofs.Members.{put_cases}
-use Rattle.state_store.specs.declared.record.StateRecord.{StateRecord}
-use Rattle.state_store.specs.declared.record.StateRecord.TheVariants.{Promise, Accepted}
-use Rattle.state_store.specs.declared.row.Row.{Row}
-use Rattle.state_store.specs.Kept.{row_after, row_of, acceptor_of, empty_row, promise_row, accept_row, Commits}
+use Rattle.state_record.specs.declared.record.StateRecord.{StateRecord}
+use Rattle.state_record.specs.declared.record.StateRecord.TheVariants.{Promise, Accepted}
+use Rattle.state_record.specs.declared.row.Row.{Row}
+use Rattle.state_record.specs.Kept.{row_after, row_of, acceptor_of, empty_row, promise_row, accept_row, Commits}
 use Rattle.state_store.proofs.Records.{fold_more}
 
 -- what an acceptor keeps is a part of the row

@@ -7,8 +7,8 @@ ghost use Rattle.petal_paxos.specs.Member.{put};
 ghost use Rattle.petal_paxos.specs.Acceptor.{is_open, on_prepare, prepare_reply, on_accept, accept_reply};
 ghost use Rattle.state_store.specs.Device.{Holds, WithOrWithout};
 ghost use Rattle.state_store.specs.Errors.{IsCommitError};
-ghost use Rattle.state_store.specs.Kept.{acceptor_of};
-ghost use Rattle.state_store.specs.declared.record.StateRecord.TheVariants as kind;
+ghost use Rattle.state_record.specs.Kept.{acceptor_of};
+ghost use Rattle.state_record.specs.declared.record.StateRecord.TheVariants as kind;
 ghost use Rattle.state_store.specs.declared.error.StateError.TheVariants as error;
 
 use petal_command::{Ballot, Command, Pax};

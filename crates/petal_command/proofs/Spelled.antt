@@ -10,7 +10,7 @@ use Rattle.petal_base.specs.Tuple.{is_tuple, tuple_of, distinct}
 use Rattle.petal_command.specs.declared.command.Command.{Command}
 use Rattle.petal_command.specs.declared.command.Command.TheVariants.{Join, Leave, Caught, MakeDisk, Snap, StartMove, Drained, Moved, Witness}
 use Rattle.petal_command.specs.Spelling.{spelling, HasSpelling, name_field, tuple_field}
-use Rattle.petal_command.proofs.Padded.{padded-behind, padded-total}
+use Rattle.record_fields.proofs.Padded.{padded-behind, padded-total}
 
 and_left : (a b : Bool) → (a && b) ≡ true → a ≡ true
 and_left true b e = refl

@@ -1,26 +1,10 @@
 -- The 64 bytes that spell a command: its kind, its fields in order, zeros.
-use Rattle.std.specs.Prelude.{ℕ, ◌<◌, ◌^◌, ◌-◌, ◌≡◌, Bool, true, if◌then◌else◌, List, [], ◌∷◌, ◌++◌, length, replicate}
-use Rattle.byteorder.specs.Endian.{big_bytes}
+use Rattle.std.specs.Prelude.{ℕ, ◌<◌, ◌≡◌, true, List, ◌++◌, replicate}
 use Rattle.petal_base.specs.Name.{is_name}
 use Rattle.petal_base.specs.Tuple.{is_tuple}
 use Rattle.petal_command.specs.declared.command.Command.{Command}
 use Rattle.petal_command.specs.declared.command.Command.TheVariants.{Join, Leave, Caught, MakeDisk, Snap, StartMove, Drained, Moved, Witness}
-
--- a number in one byte
-abbrev pub byte : ℕ → List ℕ
-byte n = n ∷ []
-
--- a number in four bytes, the highest first
-abbrev pub word : ℕ → List ℕ
-word n = big_bytes 4 n
-
--- 0 for no, 1 for yes
-abbrev pub flag : Bool → List ℕ
-flag b = byte (if b then 1 else 0)
-
--- a list of at most `room` bytes: its length, its bytes, zeros
-unfoldable pub padded : ℕ → List ℕ → List ℕ
-padded room xs = length xs ∷ (xs ++ replicate (room - length xs) 0)
+use Rattle.record_fields.specs.Fields.{byte, word, flag, padded, IsWord}
 
 abbrev pub name_field : List ℕ → List ℕ
 name_field name = padded 16 name
@@ -51,9 +35,6 @@ IsLink n = n < 8
 
 abbrev pub IsRegion : ℕ → Type 0
 IsRegion n = n < 16
-
-abbrev pub IsWord : ℕ → Type 0
-IsWord n = n < 2 ^ 32
 
 abbrev pub IsName : List ℕ → Type 0
 IsName name = is_name name ≡ true

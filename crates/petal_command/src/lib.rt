@@ -7,7 +7,6 @@
 
 mod ballot;
 mod command;
-pub mod field;
 mod number;
 mod pax;
 mod reading;

@@ -9,10 +9,10 @@ ghost use Rattle.petal_command.specs.declared.command.Command.{Command};
 ghost use Rattle.petal_command.specs.declared.command.Command.TheVariants.{Join, Leave, Caught, MakeDisk, Snap, StartMove, Drained, Moved, Witness};
 
 use crate::command::{COMMAND_BYTES, Command};
-use crate::field::{flag_at, padded_at, word_at};
 use crate::number::Below;
 use crate::writing::{TUPLE_BYTES, encode};
 use petal_base::{MAX_SERVERS, NAME_BYTES, Name, Tuple};
+use record_fields::{flag_at, padded_at, word_at};
 
 /// The command that the bytes spell; None exactly where they spell none.
 pub fn decode(bytes: &[u8]) -> Option<Command>

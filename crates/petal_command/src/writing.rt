@@ -1,15 +1,16 @@
 //! From a command to its spelling: one function for each kind.
 
-ghost use Rattle.std.specs.Prelude.{◌≡◌, ◌+◌, ◌≤◌, ◌++◌, length, take, true};
+ghost use Rattle.std.specs.Prelude.{◌≡◌, ◌+◌, ◌≤◌, ◌<◌, ◌++◌, length, take, true, replicate};
 ghost use Rattle.petal_base.specs.Name.{is_name};
 ghost use Rattle.petal_base.specs.Tuple.{is_tuple};
-ghost use Rattle.petal_command.specs.Spelling.{spelling, HasSpelling, name_field, tuple_field};
-ghost use Rattle.petal_command.specs.declared.command.Command.TheVariants.{Join, Leave, Caught, MakeDisk, Snap, StartMove, Drained, Moved, Witness};
+ghost use Rattle.petal_command.specs.Spelling.{spelling, HasSpelling, IsClient, IsName, IsTuple, name_field, tuple_field};
+ghost use Rattle.record_fields.specs.Fields.{byte, word, IsWord};
+ghost use Rattle.petal_command.specs.declared.command.Command.TheVariants.{Join, Leave, Caught, Snap, Moved};
 
 use crate::command::{COMMAND_BYTES, Command};
-use crate::field::{put_byte, put_flag, put_padded, put_word, put_zeros};
-use crate::number::{ClientNumber, LinkNumber, RegionNumber, ServerNumber};
+use crate::number::{Below, ClientNumber, LinkNumber, RegionNumber, ServerNumber};
 use petal_base::{Inc, MapId, NAME_BYTES, Name, Seq, Tuple};
+use record_fields::{put_byte, put_flag, put_padded, put_word, put_zeros};
 
 /// A tuple has at most so many servers.
 pub const TUPLE_BYTES: usize = 8;
@@ -35,7 +36,7 @@ pub fn encode(command: &Command) -> [u8; COMMAND_BYTES]
             seq,
             name,
             tuple,
-        } => spell_make_disk(*client, *seq, name, tuple),
+        } => spell_tuple(4, *client, *seq, name, tuple),
         Command::Snap {
             client,
             seq,
@@ -47,10 +48,10 @@ pub fn encode(command: &Command) -> [u8; COMMAND_BYTES]
             seq,
             disk,
             tuple,
-        } => spell_start_move(*client, *seq, disk, tuple),
-        Command::Drained { server, inc, fence } => spell_drained(*server, *inc, *fence),
+        } => spell_tuple(6, *client, *seq, disk, tuple),
+        Command::Drained { server, inc, fence } => spell_words(7, *server, *inc, *fence),
         Command::Moved { map, region, link } => spell_moved(*map, *region, *link),
-        Command::Witness { client, seq, turn } => spell_witness(*client, *seq, *turn),
+        Command::Witness { client, seq, turn } => spell_words(9, *client, *seq, *turn),
     }
 }
 
@@ -102,22 +103,43 @@ fn spell_caught(
     out
 }
 
-fn spell_make_disk(
+/// A command of a client with a name and a tuple.
+fn spell_tuple(
+    kind: u8,
     client: ClientNumber,
     seq: Seq,
     name: &Name,
     tuple: &Tuple,
 ) -> [u8; COMMAND_BYTES]
-    ensures spelled { result ≡ spelling (MakeDisk client seq name.now tuple.now) }
-    ensures has_spelling { HasSpelling (MakeDisk client seq name.now tuple.now) }
+    ensures spelled { result ≡ byte kind ++ byte client ++ word seq ++ name_field name.now ++ tuple_field tuple.now ++ replicate 32 0 }
+    ensures fits { IsClient client × IsWord seq × IsName name.now × IsTuple tuple.now }
 {
     let mut out = [0; COMMAND_BYTES];
-    put_byte(&mut out, 0, 4);
+    put_byte(&mut out, 0, kind);
     put_byte(&mut out, 1, client.get());
     put_word(&mut out, 2, seq);
     put_name(&mut out, 6, name);
     put_tuple(&mut out, 23, tuple);
     put_zeros(&mut out, 32);
+    out
+}
+
+/// A command with a small number and two others.
+fn spell_words<const LIMIT: u8>(
+    kind: u8,
+    number: Below<LIMIT>,
+    first: u32,
+    second: u32,
+) -> [u8; COMMAND_BYTES]
+    ensures spelled { result ≡ byte kind ++ byte number.entry ++ word first ++ word second ++ replicate 54 0 }
+    ensures fits { (number.entry < LIMIT) × IsWord first × IsWord second }
+{
+    let mut out = [0; COMMAND_BYTES];
+    put_byte(&mut out, 0, kind);
+    put_byte(&mut out, 1, number.get());
+    put_word(&mut out, 2, first);
+    put_word(&mut out, 6, second);
+    put_zeros(&mut out, 10);
     out
 }
 
@@ -135,38 +157,6 @@ fn spell_snap(client: ClientNumber, seq: Seq, disk: &Name, name: &Name) -> [u8; 
     out
 }
 
-fn spell_start_move(
-    client: ClientNumber,
-    seq: Seq,
-    disk: &Name,
-    tuple: &Tuple,
-) -> [u8; COMMAND_BYTES]
-    ensures spelled { result ≡ spelling (StartMove client seq disk.now tuple.now) }
-    ensures has_spelling { HasSpelling (StartMove client seq disk.now tuple.now) }
-{
-    let mut out = [0; COMMAND_BYTES];
-    put_byte(&mut out, 0, 6);
-    put_byte(&mut out, 1, client.get());
-    put_word(&mut out, 2, seq);
-    put_name(&mut out, 6, disk);
-    put_tuple(&mut out, 23, tuple);
-    put_zeros(&mut out, 32);
-    out
-}
-
-fn spell_drained(server: ServerNumber, inc: Inc, fence: u32) -> [u8; COMMAND_BYTES]
-    ensures spelled { result ≡ spelling (Drained server inc fence) }
-    ensures has_spelling { HasSpelling (Drained server inc fence) }
-{
-    let mut out = [0; COMMAND_BYTES];
-    put_byte(&mut out, 0, 7);
-    put_byte(&mut out, 1, server.get());
-    put_word(&mut out, 2, inc);
-    put_word(&mut out, 6, fence);
-    put_zeros(&mut out, 10);
-    out
-}
-
 fn spell_moved(map: MapId, region: RegionNumber, link: LinkNumber) -> [u8; COMMAND_BYTES]
     ensures spelled { result ≡ spelling (Moved map region link) }
     ensures has_spelling { HasSpelling (Moved map region link) }
@@ -177,19 +167,6 @@ fn spell_moved(map: MapId, region: RegionNumber, link: LinkNumber) -> [u8; COMMA
     put_byte(&mut out, 5, region.get());
     put_byte(&mut out, 6, link.get());
     put_zeros(&mut out, 7);
-    out
-}
-
-fn spell_witness(client: ClientNumber, seq: Seq, turn: u32) -> [u8; COMMAND_BYTES]
-    ensures spelled { result ≡ spelling (Witness client seq turn) }
-    ensures has_spelling { HasSpelling (Witness client seq turn) }
-{
-    let mut out = [0; COMMAND_BYTES];
-    put_byte(&mut out, 0, 9);
-    put_byte(&mut out, 1, client.get());
-    put_word(&mut out, 2, seq);
-    put_word(&mut out, 6, turn);
-    put_zeros(&mut out, 10);
     out
 }
 

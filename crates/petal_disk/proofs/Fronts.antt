@@ -1,14 +1,13 @@
 -- The front of a buffer as it fills, and the front of a piece as it is written.
-use Rattle.std.proofs.Common.{◌≡◌, ℕ, ◌+◌, ◌-◌, ◌≤◌, List, ◌++◌, length, take, drop, sym, ◌∙◌, ap, arith, append_assoc, length-drop, take-append-drop}
-use Rattle.std.proofs.lemmas.List.{take-append-le, take-take, drop-take, drop-drop, length-take-le, take_all}
-use Rattle.std.proofs.Math.Seq.{take-append-add}
+use Rattle.std.proofs.Common.{◌≡◌, ℕ, ◌+◌, ◌-◌, ◌≤◌, List, [], ◌++◌, length, take, drop, sym, ◌∙◌, ap, arith, append_assoc, append-nil, length-drop, take-append-drop}
+use Rattle.std.proofs.lemmas.List.{take_at, drop_at, take-take, drop-take, drop-drop, length-take-le, take_all, drop_all}
 use borrow.Rule.Slice.PartMut.{put_mid, post_of}
 use Rattle.petal_disk.specs.Streams.{Takes}
 
 -- the first bytes came, and stand at the front of the buffer
-pub record TakenSoFar (left rest new : List ℕ) (done : ℕ) : Type 0 where
+pub record TakenSoFar (left rest old new : List ℕ) (done : ℕ) : Type 0 where
   pub enough : done ≤ length left
-  pub front : take done new ≡ take done left
+  pub buffer : new ≡ take done left ++ drop done old
   pub rest_is : rest ≡ drop done left
 
 -- one piece behind another
@@ -18,21 +17,30 @@ joined done count bytes =
     ∙ ap (λ (l : List ℕ). take done (take (done + count) bytes) ++ l) (sym (drop-take done count bytes))
     ∙ take-append-drop done (take (done + count) bytes)
 
-pub more_taken : (left rest rest' into new : List ℕ) (done count k : ℕ) → done ≤ length into → count ≤ length new → TakenSoFar left rest into done → Takes rest rest' (take k (drop done into)) new count
-    → TakenSoFar left rest' (put_mid done k into new) (done + count)
-more_taken left rest rest' into new done count k within fits so_far takes =
-    let long : length (take done into) ≡ done = length-take-le done into within in
-    let behind = post_of done k into in
-    let piece : take count (new ++ behind) ≡ take count (drop done left) =
-    take-append-le count new behind fits ∙ takes.front ∙ ap (take count) so_far.rest_is in
+append_nil_then : {xs : List ℕ} (new : List ℕ) → new ≡ xs → new ++ [] ≡ xs
+append_nil_then new e = append-nil new ∙ e
+
+pub more_taken : (left rest rest' old into new : List ℕ) (done count k : ℕ) → done ≤ length into → k ≡ length into - done → TakenSoFar left rest old into done → Takes rest rest' (take k (drop done into)) new count
+    → TakenSoFar left rest' old (put_mid done k into new) (done + count)
+more_taken left rest rest' old into new done count k within wide so_far takes =
+    let long : length (take done left) ≡ done = length-take-le done left so_far.enough in
+    let front : take done into ≡ take done left = ap (λ (l : List ℕ). take done l) so_far.buffer ∙ take_at (take done left) (drop done old) done long in
+    let behind : drop done into ≡ drop done old = ap (λ (l : List ℕ). drop done l) so_far.buffer ∙ drop_at (take done left) (drop done old) done long in
+    let part : take k (drop done into) ≡ drop done old = take_all k (drop done into) (omega (arith, length-drop done into)) ∙ behind in
+    let none : post_of done k into ≡ [] = drop_all k (drop done into) (omega (arith, length-drop done into)) in
+    let came : new ≡ take count (drop done left) ++ drop (done + count) old =
+    takes.buffer
+    ∙ ap (λ (l : List ℕ). take count l ++ drop count (take k (drop done into))) so_far.rest_is
+    ∙ ap (λ (l : List ℕ). take count (drop done left) ++ drop count l) part
+    ∙ ap (λ (l : List ℕ). take count (drop done left) ++ l) (drop-drop count done old) in
     record {
       enough = omega (arith, takes.enough, ap length so_far.rest_is, length-drop done left, so_far.enough);
-      front =
-          ap (λ (n : ℕ). take (n + count) (take done into ++ (new ++ behind))) (sym long)
-          ∙ take-append-add (take done into) (new ++ behind) count
-          ∙ ap (λ (l : List ℕ). take done into ++ l) piece
-          ∙ ap (λ (l : List ℕ). l ++ take count (drop done left)) so_far.front
-          ∙ joined done count left;
+      buffer =
+          ap (λ (l : List ℕ). l ++ (new ++ post_of done k into)) front
+          ∙ ap (λ (l : List ℕ). take done left ++ (new ++ l)) none
+          ∙ ap (λ (l : List ℕ). take done left ++ l) (append_nil_then new came)
+          ∙ sym (append_assoc (take done left) (take count (drop done left)) (drop (done + count) old))
+          ∙ ap (λ (l : List ℕ). l ++ drop (done + count) old) (joined done count left);
       rest_is = takes.rest_is ∙ ap (λ (l : List ℕ). drop count l) so_far.rest_is ∙ drop-drop count done left;
     }
 

@@ -1,11 +1,11 @@
 -- What a call takes from a source, and what it adds to a sink.
 use Rattle.std.specs.Prelude.{◌≡◌, ◌≤◌, ◌<◌, ℕ, true, List, [], ◌++◌, length, take, drop, Option, Some, None, is_some}
 
--- the first n of the bytes left came, and stand at the front of the buffer; none came only at the end. What stands in the
--- buffer after them is open
+-- the first n of the bytes left came, and stand at the front of the buffer, the rest of which stays as it was; none came only
+-- at the end
 pub record Takes (left rest old new : List ℕ) (n : ℕ) : Type 0 where
   pub enough : n ≤ length left
-  pub front : take n new ≡ take n left
+  pub buffer : new ≡ take n left ++ drop n old
   pub rest_is : rest ≡ drop n left
   pub ends : n ≡ 0 → 0 < length old → left ≡ []
 

@@ -3,20 +3,29 @@
 //! Where every reader or writer of a type tells its bytes, as slices and vectors do, the adapter tells the same bytes. The
 //! standard streams of a process tell none.
 
-ghost use Rattle.std.specs.Prelude.{◌≡◌, ◌≤◌, ◌<◌, ◌+◌, IfOk};
-ghost use Rattle.petal_disk.specs.Streams.{AreKnown, known};
+ghost use Rattle.std.specs.Prelude.{◌≡◌, ◌≤◌, ◌<◌, ◌+◌, length, IfOk, OnErr};
+ghost use Rattle.petal_disk.specs.Streams.{AreKnown, Takes, known};
 
 use crate::count::Count;
 use crate::{Failed, Sink, Source};
+use std::io;
 use std::io::{ErrorKind, Read, Write};
 
 // How often a call that was interrupted is tried.
 const TRIES: u32 = 1000;
 
-/// A reader as a source. A call that a signal interrupts is tried again, up to a thousand times.
+// How many bytes a call takes at most.
+const SCRATCH_BYTES: usize = 4096;
+
+/// A reader as a source, which takes at most 4,096 bytes a call. A call that a signal interrupts is tried again, up to a
+/// thousand times.
+///
+/// A reader may write over all of the buffer that it is lent. So it reads into a buffer of the source's own, of which only what
+/// came is handed on.
 #[derive(Drop)]
 pub struct StdSource<R: Drop> {
     reader: R,
+    scratch: [u8; SCRATCH_BYTES],
     faults: Count,
 }
 
@@ -28,6 +37,7 @@ impl<R: Read + Drop> StdSource<R> {
     {
         StdSource {
             reader,
+            scratch: [0; SCRATCH_BYTES],
             faults: Count::new(),
         }
     }
@@ -42,7 +52,7 @@ impl<R: Read + Drop> Source for StdSource<R> {
 
     fn read(&mut self, into: &mut [u8]) -> Result<usize, Failed> {
         for _ in 0..TRIES {
-            match self.reader.read(into) {
+            match read_once(&mut self.reader, &mut self.scratch, into) {
                 Ok(count) => return Ok(count),
                 Err(error) if error.kind() == ErrorKind::Interrupted => {}
                 Err(_) => break,
@@ -51,6 +61,20 @@ impl<R: Read + Drop> Source for StdSource<R> {
         self.faults.rise();
         Err(Failed)
     }
+}
+
+// One call of a reader. Of the scratch only what came is handed on.
+fn read_once<R: Read>(reader: &mut R, scratch: &mut [u8], into: &mut [u8]) -> io::Result<usize>
+    requires { 0 < length scratch.old }
+    ensures fits { IfOk result (λ n. n ≤ length into.old) }
+    ensures takes { IfOk result (λ n. AreKnown R.remaining → Takes (known (R.remaining reader.old)) (known (R.remaining reader.new)) into.old into.new n) }
+    ensures keeps { OnErr result (AreKnown R.remaining → known (R.remaining reader.new) ≡ known (R.remaining reader.old)) }
+    ensures buffer { OnErr result (into.new ≡ into.old) }
+{
+    let room = into.len().min(scratch.len());
+    let count = reader.read(&mut scratch[..room])?;
+    into[..count].copy_from_slice(&scratch[..count]);
+    Ok(count)
 }
 
 /// A writer as a sink. A call that a signal interrupts is tried again, up to a thousand times; a writer that takes none of the

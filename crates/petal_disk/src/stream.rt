@@ -17,8 +17,8 @@ pub trait Source {
     /// How often the source has failed.
     ghost faults: { Self → ℕ };
 
-    /// Takes some of the bytes left into the front of `into`, and answers how many; the rest of `into` may be written over.
-    /// It answers 0 for a buffer that is not empty only at the end of input. A call that fails takes nothing.
+    /// Takes some of the bytes left into the front of `into`, and answers how many. It answers 0 for a buffer that is not
+    /// empty only at the end of input. A call that fails takes nothing.
     fn read(&mut self, into: &mut [u8]) -> Result<usize, Failed>
         ensures fits { IfOk result (λ n. n ≤ length into.old) }
         ensures takes { IfOk result (λ n. told → Takes (left self.old) (left self.new) into.old into.new n) }

@@ -12,7 +12,7 @@ use Rattle.physical_map.specs.declared.entry.Entry.{Entry}
 use Rattle.physical_map.specs.Entries.{key_of, slot_of, without_key}
 use Rattle.physical_map.specs.Keys.{placed, same_key}
 use Rattle.server_store.specs.Holdings.{Held, held_in, key_held, listed, without_held}
-use Rattle.server_store.specs.Slots.{slot_bytes}
+use Rattle.data_device.specs.Slots.{slot_bytes}
 use Rattle.server_store.proofs.Contents.{listed-held, is_listed, map-placed}
 
 -- entries do not depend on contents

@@ -8,11 +8,12 @@ use Rattle.block_journal.proofs.Frame.{stands_outside}
 use Rattle.physical_map.specs.declared.entry.Entry.{Entry}
 use Rattle.store_record.specs.declared.record.StoreRecord.{StoreRecord}
 use Rattle.store_record.specs.declared.record.StoreRecord.TheVariants as kind
-use Rattle.server_store.specs.Device.{StandsFor, Log, Logs, WithOrWithout}
+use Rattle.data_device.specs.Device.{StandsFor, Log, Logs, WithOrWithout}
 use Rattle.server_store.specs.Holdings.{Held, held_in}
-use Rattle.server_store.specs.Kept.{Kept, Fits, kept_of, kept_after, formatted}
+use Rattle.data_device.specs.Kept.{Kept, Fits, kept_of, kept_after, formatted}
 use Rattle.server_store.specs.Shown.{Picture, picture_in, picture_after, PutsNothing, Shows, Keeps, ShowsEither}
-use Rattle.server_store.specs.Slots.{slot_start, slot_bytes}
+use Rattle.data_device.specs.Slots.{slot_start, slot_bytes}
+use Rattle.data_device.proofs.Readings.{kept_more}
 use Rattle.server_store.proofs.Contents.{part-behind, held-apart, map-placed, map-without}
 
 -- Slots lie behind the journal.
@@ -26,14 +27,6 @@ held-behind (e ∷ es) x y torn = rw (slot-behind e.slot x y torn, held-behind e
 
 pub same_in : (kept : Kept) (x y : List ℕ) → Torn 4096 4194304 x y → picture_in y kept ≡ picture_in x kept
 same_in kept x y torn = ap (λ (hs : List Held). record { entries = hs; marks = kept.marks; fresh = kept.fresh }) (held-behind kept.entries x y torn)
-
--- What one record more keeps.
-
-pub kept_more : (fresh : Bool) (records : List StoreRecord) (r : StoreRecord) → kept_of fresh (records ++ r ∷ []) ≡ kept_after (kept_of fresh records) r
-kept_more fresh records r = more (formatted fresh) records where
-  more : (kept : Kept) (rs : List StoreRecord) → fold kept_after kept (rs ++ r ∷ []) ≡ kept_after (fold kept_after kept rs) r
-  more kept [] = refl
-  more kept (s ∷ rs) = more (kept_after kept s) rs
 
 -- a record shows its change in this content
 abbrev pub ShowsChange : List ℕ → Kept → StoreRecord → List ℕ → Type 0

@@ -10,7 +10,7 @@ use Rattle.physical_map.specs.declared.entry.Entry.{Entry}
 use Rattle.physical_map.specs.Entries.{key_of, without_key}
 use Rattle.physical_map.specs.Keys.{placed, newest, later, sees, key_below, same_key, IsAbove, IsInOrder}
 use Rattle.server_store.specs.Holdings.{held_in, key_held, listed, content_of, without_held}
-use Rattle.server_store.specs.Slots.{slot_start, slot_bytes}
+use Rattle.data_device.specs.Slots.{slot_start, slot_bytes}
 
 -- a range that lies before or behind another
 part-apart : (at n low m : ℕ) (x y : List ℕ) → Torn at n x y → low + m ≤ at → part y low m ≡ part x low m

@@ -7,8 +7,8 @@ use Rattle.petal_base.specs.declared.place.Key.{Key}
 use Rattle.physical_map.specs.declared.entry.Entry.{Entry}
 use Rattle.physical_map.specs.Entries.{lesser, next_map_of}
 use Rattle.physical_map.specs.Keys.{same_key}
-use Rattle.server_store.specs.Device.{Log}
-use Rattle.server_store.specs.Slots.{slot_bytes}
+use Rattle.data_device.specs.Device.{Log}
+use Rattle.data_device.specs.Slots.{slot_bytes}
 
 -- an entry and its content
 pub record Held : Type 0 where

@@ -5,9 +5,9 @@ use Rattle.busy_marks.specs.Marks.{with_mark, without_mark}
 use Rattle.physical_map.specs.Keys.{placed}
 use Rattle.store_record.specs.declared.record.StoreRecord.{StoreRecord}
 use Rattle.store_record.specs.declared.record.StoreRecord.TheVariants as kind
-use Rattle.server_store.specs.Device.{StandsFor, Log}
+use Rattle.data_device.specs.Device.{StandsFor, Log}
 use Rattle.server_store.specs.Holdings.{Held, Holdings, held_in, key_held, without_held}
-use Rattle.server_store.specs.Kept.{Kept, kept_of}
+use Rattle.data_device.specs.Kept.{Kept, kept_of}
 
 -- what of a store stands on its device
 pub record Picture : Type 0 where

@@ -4,16 +4,16 @@ ghost use Rattle.std.specs.Prelude.{◌≡◌, ◌≢◌, ◌≤◌, ◌<◌, �
 ghost use Rattle.petal_disk.specs.Disk.{LeavesOnly};
 ghost use Rattle.physical_map.specs.declared.entry.Entry.{Entry};
 ghost use Rattle.store_record.specs.declared.record.StoreRecord.TheVariants as kind;
-ghost use Rattle.server_store.specs.Errors.{IsCommitError, HasFault};
+ghost use Rattle.data_device.specs.Errors.{IsCommitError, HasFault};
 ghost use Rattle.server_store.specs.Holdings.{held_in};
-ghost use Rattle.server_store.specs.Kept.{kept_of};
+ghost use Rattle.data_device.specs.Kept.{kept_of};
 ghost use Rattle.server_store.specs.Shown.{Picture, PutsNothing, Keeps, ShowsEither, picture_after};
-ghost use Rattle.server_store.specs.Slots.{slot_start, slot_bytes};
+ghost use Rattle.data_device.specs.Slots.{slot_start, slot_bytes};
 
-use crate::record_log::RecordLog;
-use crate::{Entry, StoreError};
+use data_device::{RecordLog, StoreError};
 use petal_base::Block;
 use petal_disk::Disk;
+use physical_map::Entry;
 use slot_store::SlotStore;
 use store_record::StoreRecord;
 

@@ -6,21 +6,12 @@
 #![tactic(auto)]
 
 mod commit;
-mod error;
-mod header;
-mod history;
-mod ledger;
 mod opened;
-mod opening;
-mod record_log;
-mod replay;
 mod store;
-mod ticket;
-mod tickets;
 
-pub use error::StoreError;
+pub use data_device::StoreError;
 pub use opened::Opened;
 pub use physical_map::Entry;
+pub use slot_ledger::{DATA_START, Ticket};
 pub use slot_store::SLOT_BYTES;
-pub use store::{DATA_START, Store};
-pub use ticket::Ticket;
+pub use store::Store;

@@ -10,34 +10,30 @@ ghost use Rattle.petal_disk.specs.Keeping.{KeepsDevice};
 ghost use Rattle.petal_disk.specs.Plans.{beneath, plan_state};
 ghost use Rattle.physical_map.specs.Entries.{key_of, slot_of, without_key, chain_of, top_of, version_of, next_block_of, lesser};
 ghost use Rattle.physical_map.specs.Keys.{placed, newest, IsInOrder};
-ghost use Rattle.server_store.specs.Device.{header, bodies_of, AreSpelled, StandsFor, Logs};
-ghost use Rattle.server_store.specs.Errors.{IsFormatError, IsReserveError, IsCommitError, IsMarkError, HasFault};
+ghost use Rattle.data_device.specs.Device.{header, bodies_of, AreSpelled, StandsFor, Logs};
+ghost use Rattle.data_device.specs.Errors.{IsFormatError, IsReserveError, IsCommitError, IsMarkError, HasFault};
 ghost use Rattle.server_store.specs.Holdings.{key_held, listed, free_slots, without_held, content_of, next_map_in};
-ghost use Rattle.server_store.specs.Found.{IsOpenError, IsGoodError};
-ghost use Rattle.server_store.specs.Kept.{AllFit, formatted, kept_of};
+ghost use Rattle.data_device.specs.Found.{IsOpenError, IsGoodError};
+ghost use Rattle.data_device.specs.Kept.{AllFit, formatted, kept_of};
 ghost use Rattle.server_store.specs.Opening.{IfStore, IfBlank, IsStore, Reopened};
-ghost use Rattle.server_store.specs.Reading.{IsBadOn, IsBlank, LeftByFormat};
+ghost use Rattle.data_device.specs.Reading.{IsBadOn, IsBlank, LeftByFormat};
 ghost use Rattle.server_store.specs.Shown.{Picture, picture_of, picture_in, Shows, Holds, BeforeOrAfter};
-ghost use Rattle.server_store.specs.Slots.{slot_start};
-ghost use Rattle.server_store.specs.Tickets.{without};
+ghost use Rattle.data_device.specs.Slots.{slot_start};
+ghost use Rattle.slot_ledger.specs.Tickets.{without};
 ghost use Rattle.store_record.specs.declared.record.StoreRecord.{StoreRecord};
 ghost use Rattle.store_record.specs.declared.record.StoreRecord.TheVariants as records;
 
 use crate::commit::{commit, commit_put};
-use crate::header::Header;
-use crate::ledger::Ledger;
-use crate::opening::read_device;
-use crate::record_log::RecordLog;
-use crate::{Entry, Opened, StoreError, Ticket};
+use crate::Opened;
 use busy_marks::{MarkKind, Marks};
+use data_device::{Header, RecordLog, StoreError, read_device, write_format};
 use petal_base::{Block, BlockNo, Cell, Epoch, Key, MapId, NoMemory, Sequence, Version};
 use petal_disk::{Disk, Failed, Plan, Planned};
+use physical_map::Entry;
+use slot_ledger::{Ledger, Ticket};
 use std::alloc::Global;
 use std::marker::Model;
 use store_record::StoreRecord;
-
-/// The first byte of slot 0 on a device: the bytes before it are left to a header and a journal.
-pub const DATA_START: u64 = 4_198_400;
 
 /// The entries of one server with their contents, and its marks. Contracts see the entries in the order of their keys, each
 /// with its content, the slots of the tickets out, the marks, the number of slots, whether the store is still to be filled
@@ -54,8 +50,8 @@ pub struct Store<D: Disk> {
 impl<D: Disk> Model for Store<D> {
     ghost use Rattle.std.specs.Prelude.{map, ◌≤◌, ◌≡◌};
     ghost use Rattle.server_store.specs.Holdings.{Holdings, held_in};
-    ghost use Rattle.server_store.specs.Kept.{kept_of};
-    ghost use Rattle.server_store.specs.Slots.{slot_start};
+    ghost use Rattle.data_device.specs.Kept.{kept_of};
+    ghost use Rattle.data_device.specs.Slots.{slot_start};
 
     ghost Value = { Holdings D };
 
@@ -167,7 +163,10 @@ impl<D: Disk> Store<D> {
         ensures errors { IfErr result IsReserveError }
         ensures no_space { (result ≡ Err StoreError.NoSpace) ↔ (free_slots self.old ≡ 0) }
     {
-        self.ledger.reserve()
+        match self.ledger.reserve()? {
+            Some(ticket) => Ok(ticket),
+            None => Err(StoreError::NoSpace),
+        }
     }
 
     /// Puts a block at a key. It writes the ticket's slot, and only then the key's entry takes that slot and the one that it
@@ -528,29 +527,6 @@ impl<E: Disk> Store<Planned<E>> {
     {
         self.disk.stopped()
     }
-}
-
-// A ledger of free slots, and a device that stands for no record.
-fn write_format<D: Disk>(
-    alloc: Global,
-    disk: &mut D,
-    said: Header,
-) -> Result<(Ledger, RecordLog), StoreError>
-    requires { 4198400 ≤ D.size disk.old }
-    ensures ledger { IfOk result (λ out. out.0 ≡ record { entries = []; tickets = []; slots = said.slots }) }
-    ensures log { IfOk result (λ out. (out.1.fresh ≡ said.fresh) × (out.1.records ≡ [])) }
-    ensures logs { IfOk result (λ out. D.told → Logs said.slots out.1 (D.seen disk.new) (D.may_leave disk.new)) }
-    ensures errors { IfErr result IsFormatError }
-    ensures any_moment { D.told → LeavesOnly D.moment D.left_since disk.old disk.new (LeftByFormat (D.may_leave disk.old) (D.size disk.old) said.slots said.fresh) }
-    ensures either { D.told → LeftByFormat (λ file. file ≡ D.seen disk.old) (D.size disk.old) said.slots said.fresh (D.seen disk.new) }
-    ensures memory { IsErrOf result StoreError.NoMemory → disk.new ≡ disk.old }
-    ensures cause { HasFault (D.faults disk.old) (D.faults disk.new) result }
-    ensures size { D.size disk.new ≡ D.size disk.old }
-    ensures run { D.came_to disk.old disk.new }
-{
-    let ledger = Ledger::new(alloc, said.slots)?;
-    let log = RecordLog::format(alloc, disk, said)?;
-    Ok((ledger, log))
 }
 
 // The lesser of two numbers, where there are two.

@@ -1,7 +1,7 @@
 -- What an append to the journal leaves of a state device.
 use Rattle.std.proofs.Common.{◌≡◌, ◌⊎◌, inl, inr, ℕ, ◌*◌, ◌≤◌, List, [], ◌∷◌, ◌++◌, length, take, refl, sym, ◌∙◌, ap, subst, arith}
 use Rattle.std.proofs.lemmas.List.{map-append, length-map, take-take}
-use Rattle.petal_command.specs.Spelling.{IsWord}
+use Rattle.record_fields.specs.Fields.{IsWord}
 use Rattle.petal_disk.specs.Disk.{Torn, Only, LeavesOnly, written}
 use Rattle.petal_disk.proofs.Moments.{joined, weaker}
 use Rattle.petal_disk.proofs.Tearing.{torn_front, torn_written}
@@ -11,9 +11,9 @@ use Rattle.block_journal.specs.Records as journal
 use Rattle.block_journal.specs.Region.{Region}
 use Rattle.block_journal.proofs.Frame.{stands_outside}
 use Rattle.block_journal.proofs.Gates.{shut_still}
-use Rattle.state_store.specs.declared.record.StateRecord.{StateRecord}
-use Rattle.state_store.specs.declared.record.StateRecord.TheVariants.{Inc}
-use Rattle.state_store.specs.Body.{body_of, HasBody}
+use Rattle.state_record.specs.declared.record.StateRecord.{StateRecord}
+use Rattle.state_record.specs.declared.record.StateRecord.TheVariants.{Inc}
+use Rattle.state_record.specs.Body.{body_of, HasBody}
 use Rattle.state_store.specs.Device.{header, bodies_of, AreSpelled, StandsFor, WithOrWithout, Holds, IsBlank, LeftByFormat}
 
 -- the journal of a state device

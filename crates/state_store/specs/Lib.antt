@@ -1,5 +1,5 @@
-pub mod Body
-pub mod Kept
-pub mod Rows
+pub use Rattle.state_record.specs.Body
+pub use Rattle.state_record.specs.Kept
+pub use Rattle.state_record.specs.Rows
 pub mod Device
 pub mod Errors

@@ -8,20 +8,19 @@ ghost use Rattle.block_journal.specs.Gate.{IsShut};
 ghost use Rattle.block_journal.specs.Records.{Counts, Stands};
 ghost use Rattle.state_store.specs.Device.{header, bodies_of, AreSpelled, Holds, WithOrWithout, StandsFor, LeftByFormat, IsBadOn};
 ghost use Rattle.state_store.specs.Errors.{IsAppendError};
-ghost use Rattle.state_store.specs.Kept.{row_of, inc_of};
-ghost use Rattle.state_store.specs.Rows.{row_at};
-ghost use Rattle.state_store.specs.declared.record.StateRecord.{StateRecord};
-ghost use Rattle.state_store.specs.declared.record.StateRecord.TheVariants as kind;
+ghost use Rattle.state_record.specs.Kept.{row_of, inc_of};
+ghost use Rattle.state_record.specs.Rows.{row_at};
+ghost use Rattle.state_record.specs.declared.record.StateRecord.{StateRecord};
+ghost use Rattle.state_record.specs.declared.record.StateRecord.TheVariants as kind;
 ghost use Rattle.state_store.specs.declared.error.StateError.TheVariants as error;
 
 use crate::error::StateError;
-use crate::history::History;
-use crate::places::Places;
-use crate::record::{StateRecord, body_of};
 use crate::register::{Register, read_records};
 use block_journal::{Journal, JournalError, write_header};
+use ghost_list::GhostList;
 use petal_base::Inc;
 use petal_disk::{Disk, Plan, Planned};
+use state_record::{Places, StateRecord, body_of};
 use std::alloc::Global;
 use std::marker::Model;
 
@@ -39,7 +38,7 @@ pub const DEVICE_BYTES: u64 = 8_392_704;
 pub struct Device<D: Disk> {
     disk: D,
     journal: Journal<128>,
-    history: History,
+    history: GhostList<StateRecord>,
 }
 
 impl<D: Disk> Model for Device<D> {
@@ -48,7 +47,7 @@ impl<D: Disk> Model for Device<D> {
 
     ghost Value = { Keeping D };
 
-    ghost view = { λ s. record { records = s.history.records; region = s.journal; disk = s.disk } };
+    ghost view = { λ s. record { records = s.history.items; region = s.journal; disk = s.disk } };
 
     ghost invariant = { λ s. (s.journal.base ≡ 4096) × (s.journal.limit ≡ 65536) × (8392704 ≤ D.size s.disk) };
 }
@@ -82,7 +81,7 @@ impl<D: Disk> Device<D> {
             Ok(journal) => Ok(Device {
                 disk,
                 journal,
-                history: History::with(&History::new(), &StateRecord::Inc { inc }),
+                history: GhostList::new().with(&StateRecord::Inc { inc }),
             }),
             Err(error) => Err((disk, error)),
         }
@@ -142,7 +141,7 @@ impl<D: Disk> Device<D> {
     {
         match self.journal.append(&mut self.disk, &body_of(entry)) {
             Ok(()) => {
-                self.history = History::with(&self.history, entry);
+                self.history = self.history.with(entry);
                 Ok(())
             },
             Err(JournalError::Full) => Err(StateError::JournalFull),
@@ -210,12 +209,12 @@ fn write_first<D: Disk>(alloc: Global, disk: &mut D, inc: Inc) -> Result<Journal
 fn read_device<D: Disk>(alloc: Global, disk: &mut D) -> Result<(Journal<128>, Register), StateError>
     ensures region { IfOk result (λ o. (o.0.base ≡ 4096) × (o.0.limit ≡ 65536)) }
     ensures size { IfOk result (λ o. 8392704 ≤ D.size disk.new) }
-    ensures found { IfOk result (λ o. D.told → (take 64 (D.seen disk.old) ≡ header) × Counts 128 4096 65536 (D.seen disk.old) (bodies_of o.1.history.records)) }
-    ensures spelled { IfOk result (λ o. AreSpelled o.1.history.records) }
-    ensures same { (records : List StateRecord) → IfOk result (λ o. D.told → StandsFor (D.seen disk.old) records → o.1.history.records ≡ records) }
-    ensures holds { (records : List StateRecord) → IfOk result (λ o. D.told → StandsFor (D.seen disk.old) records → Holds o.0 (D.seen disk.new) (D.may_leave disk.new) o.1.history.records) }
-    ensures rows { IfOk result (λ o. (place : ℕ) → row_at o.1.places place ≡ row_of o.1.history.records place) }
-    ensures inc { IfOk result (λ o. o.1.inc ≡ inc_of o.1.history.records) }
+    ensures found { IfOk result (λ o. D.told → (take 64 (D.seen disk.old) ≡ header) × Counts 128 4096 65536 (D.seen disk.old) (bodies_of o.1.history.items)) }
+    ensures spelled { IfOk result (λ o. AreSpelled o.1.history.items) }
+    ensures same { (records : List StateRecord) → IfOk result (λ o. D.told → StandsFor (D.seen disk.old) records → o.1.history.items ≡ records) }
+    ensures holds { (records : List StateRecord) → IfOk result (λ o. D.told → StandsFor (D.seen disk.old) records → Holds o.0 (D.seen disk.new) (D.may_leave disk.new) o.1.history.items) }
+    ensures rows { IfOk result (λ o. (place : ℕ) → row_at o.1.places place ≡ row_of o.1.history.items place) }
+    ensures inc { IfOk result (λ o. o.1.inc ≡ inc_of o.1.history.items) }
     ensures blank { IsErrOf result error.Blank → D.told → 8392704 ≤ D.size disk.old → take 64 (D.seen disk.old) ≢ header }
     ensures bad { (index : ℕ) → IfErr result (λ e. e ≡ error.BadRecord index → D.told → IsBadOn (D.seen disk.old) index) }
     ensures failed { IsErrOf result error.Failed → D.faults disk.old < D.faults disk.new }

@@ -7,15 +7,10 @@
 
 mod device;
 mod error;
-mod history;
-mod places;
-mod record;
 mod register;
-mod row;
-mod same;
 mod store;
 
 pub use device::DEVICE_BYTES;
 pub use error::StateError;
-pub use record::StateRecord;
+pub use state_record::StateRecord;
 pub use store::StateStore;

@@ -2,26 +2,25 @@
 
 ghost use Rattle.std.specs.Prelude.{◌≡◌, ◌<◌, ◌^◌, ◌==◌, ℕ, List, [], length, slice_index_or, if◌then◌else◌, IfOk, IfErr};
 ghost use Rattle.block_journal.specs.Records.{contents};
-ghost use Rattle.state_store.specs.Body.{body_of, HasBody};
+ghost use Rattle.state_record.specs.Body.{body_of, HasBody};
 ghost use Rattle.state_store.specs.Device.{bodies_of, AreSpelled};
-ghost use Rattle.state_store.specs.Kept.{row_of, inc_of, row_after, inc_after};
-ghost use Rattle.state_store.specs.Rows.{row_at};
-ghost use Rattle.state_store.specs.declared.record.StateRecord.{StateRecord};
-ghost use Rattle.state_store.specs.declared.row.Row.{Row};
+ghost use Rattle.state_record.specs.Kept.{row_of, inc_of, row_after, inc_after};
+ghost use Rattle.state_record.specs.Rows.{row_at};
+ghost use Rattle.state_record.specs.declared.record.StateRecord.{StateRecord};
+ghost use Rattle.state_record.specs.declared.row.Row.{Row};
 ghost use Rattle.state_store.specs.declared.error.StateError.TheVariants as error;
 ghost use Rattle.state_store.specs.Errors.{IsReadError};
 
 use crate::error::StateError;
-use crate::history::History;
-use crate::places::Places;
-use crate::record::{StateRecord, record_of};
+use ghost_list::GhostList;
 use petal_base::{Inc, NoMemory};
+use state_record::{Places, StateRecord, record_of};
 use std::alloc::Global;
 
 /// The records, and what they give.
 #[derive(Drop)]
 pub struct Register {
-    pub history: History,
+    pub history: GhostList<StateRecord>,
     pub places: Places,
     pub inc: Inc,
 }
@@ -29,15 +28,15 @@ pub struct Register {
 /// Reads the records of the bodies.
 pub fn read_records(alloc: Global, bodies: &[Vec<u8>]) -> Result<Register, StateError>
     requires { length bodies.now < 2 ^ 32 }
-    ensures found { IfOk result (λ r. bodies_of r.history.records ≡ contents bodies.now) }
-    ensures spelled { IfOk result (λ r. AreSpelled r.history.records) }
-    ensures same { (records : List StateRecord) → AreSpelled records → contents bodies.now ≡ bodies_of records → IfOk result (λ r. r.history.records ≡ records) }
-    ensures rows { IfOk result (λ r. (place : ℕ) → row_at r.places place ≡ row_of r.history.records place) }
-    ensures inc { IfOk result (λ r. r.inc ≡ inc_of r.history.records) }
+    ensures found { IfOk result (λ r. bodies_of r.history.items ≡ contents bodies.now) }
+    ensures spelled { IfOk result (λ r. AreSpelled r.history.items) }
+    ensures same { (records : List StateRecord) → AreSpelled records → contents bodies.now ≡ bodies_of records → IfOk result (λ r. r.history.items ≡ records) }
+    ensures rows { IfOk result (λ r. (place : ℕ) → row_at r.places place ≡ row_of r.history.items place) }
+    ensures inc { IfOk result (λ r. r.inc ≡ inc_of r.history.items) }
     ensures bad { (index : ℕ) → IfErr result (λ e. e ≡ error.BadRecord index → (index < length bodies.now) × ((r : StateRecord) → HasBody r → slice_index_or (contents bodies.now) index [] ≡ body_of r → ⊥)) }
     ensures errors { IfErr result IsReadError }
 {
-    let mut history = History::new();
+    let mut history = GhostList::new();
     let mut places = Places::new(alloc);
     let mut inc = 0;
     for index in 0..bodies.len() {
@@ -48,7 +47,7 @@ pub fn read_records(alloc: Global, bodies: &[Vec<u8>]) -> Result<Register, State
         };
         inc = inc_noted(inc, &entry);
         places = noted(places, &entry)?;
-        history = History::with(&history, &entry);
+        history = history.with(&entry);
     }
     Ok(Register {
         history,

@@ -1,22 +1,10 @@
 -- The 63 bytes that spell a record: its kind, its fields at their places, zeros.
-use Rattle.std.specs.Prelude.{ℕ, ◌<◌, ◌^◌, List, [], ◌∷◌, ◌++◌, replicate}
-use Rattle.byteorder.specs.Endian.{big_bytes}
+use Rattle.std.specs.Prelude.{ℕ, List, ◌++◌, replicate}
 use Rattle.busy_marks.specs.declared.marks.MarkKind.{MarkKind}
 use Rattle.busy_marks.specs.declared.marks.MarkKind.TheVariants.{Busy, Stale}
+use Rattle.record_fields.specs.Fields.{byte, word, long, IsWord, IsLong}
 use Rattle.store_record.specs.declared.record.StoreRecord.{StoreRecord}
 use Rattle.store_record.specs.declared.record.StoreRecord.TheVariants.{Put, Drop, Mark, Unmark, Settled}
-
--- a number in one byte
-abbrev pub byte : ℕ → List ℕ
-byte n = n ∷ []
-
--- a number in four bytes, the highest first
-abbrev pub word : ℕ → List ℕ
-word n = big_bytes 4 n
-
--- a number in eight bytes, the highest first
-abbrev pub long : ℕ → List ℕ
-long n = big_bytes 8 n
 
 -- the number of a kind of mark
 abbrev pub code_of : MarkKind → ℕ
@@ -30,12 +18,6 @@ spelling (Drop key) = byte 2 ++ word key.map ++ long key.block ++ word key.epoch
 spelling (Mark kind cell) = byte 3 ++ word cell.map ++ long cell.block ++ replicate 16 0 ++ byte (code_of kind) ++ replicate 33 0
 spelling (Unmark kind cell) = byte 4 ++ word cell.map ++ long cell.block ++ replicate 16 0 ++ byte (code_of kind) ++ replicate 33 0
 spelling Settled = byte 5 ++ replicate 62 0
-
-abbrev pub IsWord : ℕ → Type 0
-IsWord n = n < 2 ^ 32
-
-abbrev pub IsLong : ℕ → Type 0
-IsLong n = n < 2 ^ 64
 
 -- the numbers that fit their places
 abbrev pub HasSpelling : StoreRecord → Type 0

@@ -4,7 +4,6 @@
 //! the journal that keeps the bytes, nor of the store that the records change.
 #![tactic(auto)]
 
-pub mod field;
 mod reading;
 mod record;
 mod writing;

@@ -9,11 +9,11 @@ ghost use Rattle.store_record.specs.Spelling.{spelling, HasSpelling};
 ghost use Rattle.store_record.specs.declared.record.StoreRecord.{StoreRecord};
 ghost use Rattle.store_record.specs.declared.record.StoreRecord.TheVariants.{Put, Drop, Mark, Unmark, Settled};
 
-use crate::field::{long_at, word_at};
 use crate::record::{RECORD_BYTES, StoreRecord};
 use crate::writing::encode;
 use busy_marks::MarkKind;
 use petal_base::{Cell, Key};
+use record_fields::{long_at, word_at};
 
 /// The record that the bytes spell; None exactly where they spell none.
 pub fn decode(bytes: &[u8]) -> Option<StoreRecord>

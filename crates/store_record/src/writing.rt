@@ -1,13 +1,14 @@
 //! From a record to its spelling: one function for each kind.
 
-ghost use Rattle.std.specs.Prelude.{◌≡◌};
+ghost use Rattle.std.specs.Prelude.{◌≡◌, ◌++◌, replicate};
+ghost use Rattle.record_fields.specs.Fields.{byte, word, long, IsWord, IsLong};
 ghost use Rattle.store_record.specs.Spelling.{spelling, HasSpelling, code_of};
-ghost use Rattle.store_record.specs.declared.record.StoreRecord.TheVariants.{Put, Drop, Mark, Unmark, Settled};
+ghost use Rattle.store_record.specs.declared.record.StoreRecord.TheVariants.{Put, Drop, Settled};
 
-use crate::field::{put_byte, put_gap, put_long, put_word, put_zeros};
 use crate::record::{RECORD_BYTES, StoreRecord};
 use busy_marks::MarkKind;
 use petal_base::{Cell, Key, Version};
+use record_fields::{put_byte, put_gap, put_long, put_word, put_zeros};
 
 /// The bytes that spell the record.
 pub fn encode(entry: &StoreRecord) -> [u8; RECORD_BYTES]
@@ -17,8 +18,8 @@ pub fn encode(entry: &StoreRecord) -> [u8; RECORD_BYTES]
     match entry {
         StoreRecord::Put { key, version, slot } => spell_put(*key, *version, *slot),
         StoreRecord::Drop { key } => spell_drop(*key),
-        StoreRecord::Mark { kind, cell } => spell_mark(*kind, *cell),
-        StoreRecord::Unmark { kind, cell } => spell_unmark(*kind, *cell),
+        StoreRecord::Mark { kind, cell } => spell_mark(3, *kind, *cell),
+        StoreRecord::Unmark { kind, cell } => spell_mark(4, *kind, *cell),
         StoreRecord::Settled => spell_settled(),
     }
 }
@@ -60,26 +61,13 @@ fn code_of(kind: MarkKind) -> u8
     }
 }
 
-fn spell_mark(kind: MarkKind, cell: Cell) -> [u8; RECORD_BYTES]
-    ensures spelled { result ≡ spelling (Mark kind cell) }
-    ensures has_spelling { HasSpelling (Mark kind cell) }
+/// A record of this number about a mark.
+fn spell_mark(number: u8, kind: MarkKind, cell: Cell) -> [u8; RECORD_BYTES]
+    ensures spelled { result ≡ byte number ++ word cell.map ++ long cell.block ++ replicate 16 0 ++ byte (code_of kind) ++ replicate 33 0 }
+    ensures fits { IsWord cell.map × IsLong cell.block }
 {
     let mut out = [0; RECORD_BYTES];
-    put_byte(&mut out, 0, 3);
-    put_word(&mut out, 1, cell.map);
-    put_long(&mut out, 5, cell.block);
-    put_gap(&mut out, 13, 16);
-    put_byte(&mut out, 29, code_of(kind));
-    put_zeros(&mut out, 30);
-    out
-}
-
-fn spell_unmark(kind: MarkKind, cell: Cell) -> [u8; RECORD_BYTES]
-    ensures spelled { result ≡ spelling (Unmark kind cell) }
-    ensures has_spelling { HasSpelling (Unmark kind cell) }
-{
-    let mut out = [0; RECORD_BYTES];
-    put_byte(&mut out, 0, 4);
+    put_byte(&mut out, 0, number);
     put_word(&mut out, 1, cell.map);
     put_long(&mut out, 5, cell.block);
     put_gap(&mut out, 13, 16);

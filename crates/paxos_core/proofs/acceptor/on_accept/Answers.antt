@@ -1,6 +1,6 @@
 use Rattle.std.proofs.Common.{◌≡◌, true, false, sym, ◌∙◌}
 use Rattle.petal_paxos.specs.Acceptor.{is_open}
-use Rattle.state_store.specs.Kept.{acceptor_of}
+use Rattle.state_record.specs.Kept.{acceptor_of}
 use Rattle.paxos_core.proofs.Kept.{closed, opened, same_rows, accepted_rows}
 use Rattle.paxos_core.proofs.acceptor.on_accept.Goals as goal
 

@@ -1,4 +1,4 @@
-use Rattle.std.proofs.Common.{◌≡◌, ◌<◌, ◌-◌, [], length, take, drop, ◌∙◌, sym, ap, arith, length-take, length-drop, rules}
+use Rattle.std.proofs.Common.{◌≡◌, ◌<◌, ◌-◌, [], refl, length, take, drop, ◌∙◌, sym, ap, arith, length-take, length-drop, rules}
 use Rattle.petal_disk.proofs.Fronts.{more_taken}
 use Rattle.petal_disk.proofs.stream.read_full.Goals as goal
 
@@ -8,7 +8,7 @@ loop-done-preserved g c =
     record {
       within = search rules;
       same_length = search rules;
-      so_far = λ told. more_taken _ _ _ _ _ _ _ _ inv.within (search rules) (inv.so_far told) (c.in_ok-count.ensures.takes told);
+      so_far = λ told. more_taken _ _ _ _ _ _ _ _ _ inv.within refl (inv.so_far told) (c.in_ok-count.ensures.takes told);
       later = omega (arith, inv.later, c.read.ensures.cause.later);
     }
 

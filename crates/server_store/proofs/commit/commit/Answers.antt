@@ -1,6 +1,6 @@
 use Rattle.std.proofs.Common.{[]}
 use Rattle.petal_disk.proofs.Moments.{weaker}
-use Rattle.server_store.specs.Kept.{kept_of}
+use Rattle.data_device.specs.Kept.{kept_of}
 use Rattle.server_store.proofs.Commits.{held-behind, keeps_after, committed, logs_of, shows-other, fits-other, on_ok}
 use Rattle.server_store.proofs.commit.commit.Goals as goal
 

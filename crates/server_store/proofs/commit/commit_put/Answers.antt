@@ -3,9 +3,9 @@ use Rattle.petal_disk.specs.Disk.{Torn, Follows, LeavesOnly, LeftByWrite, writte
 use Rattle.petal_disk.proofs.Moments.{weaker, joined}
 use Rattle.store_record.specs.declared.record.StoreRecord.{StoreRecord}
 use Rattle.store_record.specs.declared.record.StoreRecord.TheVariants as kind
-use Rattle.server_store.specs.Kept.{kept_of}
+use Rattle.data_device.specs.Kept.{kept_of}
 use Rattle.server_store.specs.Shown.{ShowsEither}
-use Rattle.server_store.specs.Slots.{slot_start, slot_bytes}
+use Rattle.data_device.specs.Slots.{slot_start, slot_bytes}
 use Rattle.server_store.proofs.Commits.{held-behind, slot-behind, keeps_after, keeps-still, shows-still, committed, logs_of, shows-put, ShowsChange, on_ok}
 use Rattle.server_store.proofs.Contents.{held-apart, slot-written}
 use Rattle.server_store.proofs.commit.commit_put.Goals as goal

@@ -1,8 +1,8 @@
 use Rattle.std.proofs.Common.{◌≡◌, ◌++◌, ◌∷◌, [], ◌<◌, List, ℕ, length, take, get_or, arith, ap, sym, ◌∙◌}
 use Rattle.std.proofs.lemmas.List.{length-map}
 use Rattle.block_journal.specs.Records.{contents}
-use Rattle.state_store.specs.Body.{body_of}
-use Rattle.state_store.specs.Kept.{row_after, inc_after, empty_row}
+use Rattle.state_record.specs.Body.{body_of}
+use Rattle.state_record.specs.Kept.{row_after, inc_after, empty_row}
 use Rattle.state_store.proofs.Devices.{bodies_one_more, spelled_more}
 use Rattle.state_store.proofs.Records.{read_same, take_next, at_map, fold_more}
 use Rattle.state_store.proofs.register.read_records.Goals as goal
@@ -11,7 +11,7 @@ pub loop-index-preserved : goal.loop-index-preserved
 loop-index-preserved c =
     let i = c.loop-index.index in
     let all = contents c.args.bodies.now in
-    let past = c.loop-index.history.records in
+    let past = c.loop-index.history.items in
     let kept = c.loop-index.invariant in
     let lt : i < length c.args.bodies.now = omega arith in
     let inside : i < length all = omega (arith, length-map c.args.bodies.now (λ body. body.items)) in

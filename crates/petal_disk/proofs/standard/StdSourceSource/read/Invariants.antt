@@ -7,6 +7,7 @@ invariant-loop g l =
     let left = g.R.Read.remaining in
     record {
       faults : l.self.faults.times ≡ l.fn.self.faults.times;
-      size : length l.into ≡ length l.fn.into;
+      size : length l.self.scratch ≡ length l.fn.self.scratch;
+      buffer : l.into ≡ l.fn.into;
       same : AreKnown left → known (left l.self.reader) ≡ known (left l.fn.self.reader);
     }

@@ -1,6 +1,6 @@
 use Rattle.std.proofs.Common.{◌≡◌, ◌∙◌, Bool, List, ℕ, sym, ap, arith}
 use Rattle.store_record.specs.declared.record.StoreRecord.{StoreRecord}
-use Rattle.server_store.specs.Kept.{Kept, kept_of}
+use Rattle.data_device.specs.Kept.{Kept, kept_of}
 use Rattle.server_store.specs.Shown.{picture_in}
 use Rattle.server_store.proofs.store.Store.open.Goals as goal
 

@@ -3,10 +3,10 @@ use Rattle.std.specs.List.{All, Contains}
 use Rattle.physical_map.specs.declared.entry.Entry.{Entry}
 use Rattle.physical_map.specs.Entries.{key_of}
 use Rattle.physical_map.specs.Keys.{placed}
-use Rattle.server_store.specs.Kept.{Kept}
+use Rattle.data_device.specs.Kept.{Kept}
 use Rattle.server_store.proofs.Changes.{listed_still, put_shown}
 use Rattle.server_store.proofs.Contents.{listed-held, is_listed}
-use Rattle.server_store.proofs.Ledgers.{of-all}
+use Rattle.slot_ledger.proofs.Ledgers.{of-all}
 use Rattle.server_store.proofs.store.Store.put.Goals as goal
 
 pub returns-in-Ok-clause-put : goal.returns-in-Ok-clause-put

@@ -1,6 +1,6 @@
 use Rattle.std.proofs.Common.{◌∙◌, ◌≡◌, sym, Some, None}
 use Rattle.petal_disk.specs.Disk.{part}
-use Rattle.server_store.specs.Slots.{slot_start}
+use Rattle.data_device.specs.Slots.{slot_start}
 use Rattle.server_store.proofs.Contents.{found-listed, found-content}
 use Rattle.server_store.proofs.store.Store.read.Goals as goal
 

@@ -1,0 +1,44 @@
+-- What a data device stands for: a header of 64 bytes, behind 4,096 bytes a journal of 65,536 records of 64 bytes, and behind
+-- that the slots.
+use Rattle.std.specs.Prelude.{ℕ, ◌≡◌, ◌⊎◌, Bool, List, [], ◌∷◌, ◌++◌, map, length, take, replicate, ⊤}
+use Rattle.block_journal.specs.Records.{Stands}
+use Rattle.block_journal.specs.Region.{Region}
+use Rattle.store_record.specs.declared.record.StoreRecord.{StoreRecord}
+use Rattle.record_fields.specs.Fields.{word, flag}
+use Rattle.store_record.specs.Spelling.{spelling, HasSpelling}
+use Rattle.data_device.specs.Kept.{AllFit, formatted}
+
+-- the gate, PETALDAT, version 1, the number of slots, 1 where the store is to be filled again and else 0, zeros
+abbrev pub header : ℕ → Bool → List ℕ
+header slots fresh = (165 ∷ 80 ∷ 69 ∷ 84 ∷ 65 ∷ 76 ∷ 68 ∷ 65 ∷ 84 ∷ []) ++ word 1 ++ word slots ++ flag fresh ++ replicate 46 0
+
+abbrev pub bodies_of : List StoreRecord → List (List ℕ)
+bodies_of records = map spelling records
+
+-- each of the records has a spelling
+abbrev pub AreSpelled : List StoreRecord → Type 0
+AreSpelled [] = ⊤
+AreSpelled (r ∷ rs) = HasSpelling r × AreSpelled rs
+
+-- the device stands for these records since it was formatted
+pub record StandsFor (file : List ℕ) (slots : ℕ) (fresh : Bool) (records : List StoreRecord) : Type 0 where
+  pub headed : take 64 file ≡ header slots fresh
+  pub spelled : AreSpelled records
+  pub fit : AllFit slots (formatted fresh) records
+  pub stands : Stands 64 4096 65536 file (bodies_of records)
+
+-- what was committed: whether the store was formatted to be filled again, the records since, and the region of their journal
+pub record Log : Type 0 where
+  pub fresh : Bool
+  pub records : List StoreRecord
+  pub region : Region
+
+-- the device stands for the records of the log, now and after any crash, and the journal counts them
+pub record Logs (slots : ℕ) (log : Log) (seen : List ℕ) (may_leave : List ℕ → Type 0) : Type 0 where
+  pub count : log.region.count ≡ length log.records
+  pub now : StandsFor seen slots log.fresh log.records
+  pub left : (c : List ℕ) → may_leave c → StandsFor c slots log.fresh log.records
+
+-- the device stands for the records of the log, with one more or without it
+abbrev pub WithOrWithout : List ℕ → ℕ → Log → StoreRecord → Type 0
+WithOrWithout file slots log entry = StandsFor file slots log.fresh log.records ⊎ StandsFor file slots log.fresh (log.records ++ entry ∷ [])

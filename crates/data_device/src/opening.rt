@@ -1,0 +1,139 @@
+//! What stands on a device.
+
+ghost use Rattle.std.specs.Prelude.{◌≡◌, ◌≤◌, ◌<◌, ◌^◌, ℕ, Bool, List, [], take, IfOk, IfErr, IfSome, IfNone};
+ghost use Rattle.block_journal.specs.Records.{Counts, Stands};
+ghost use Rattle.petal_disk.specs.Disk.{Only};
+ghost use Rattle.petal_disk.specs.Faults.{HasCause};
+ghost use Rattle.petal_disk.specs.Keeping.{KeepsDevice};
+ghost use Rattle.store_record.specs.declared.record.StoreRecord.{StoreRecord};
+ghost use Rattle.data_device.specs.Device.{header, bodies_of, AreSpelled, StandsFor, Logs};
+ghost use Rattle.data_device.specs.Errors.{HasFault};
+ghost use Rattle.data_device.specs.Found.{IsFound, IsOpenError, IsGoodError};
+ghost use Rattle.data_device.specs.Reading.{IsBadOn, IsBlank};
+ghost use Rattle.data_device.specs.Slots.{slot_start};
+ghost use Rattle.data_device.specs.declared.error.StoreError.TheVariants as error;
+
+use crate::error::StoreError;
+use crate::header::{self, HEADER_BYTES, Header};
+use crate::record_log::{JOURNAL_BASE, JOURNAL_RECORDS, RecordLog};
+use crate::replay::{Replay, read_records};
+use block_journal::Journal;
+use busy_marks::Marks;
+use petal_disk::{Disk, Failed};
+use slot_ledger::{DATA_START, Ledger};
+use slot_store::SLOT_BYTES;
+use std::alloc::Global;
+
+/// The records of a device, and what they give.
+#[derive(Drop)]
+pub struct Found {
+    pub log: RecordLog,
+    pub ledger: Ledger,
+    pub marks: Marks,
+    pub fresh: bool,
+}
+
+/// Reads the journal of a device that has this header.
+fn read_journal<D: Disk>(alloc: Global, disk: &mut D, said: Header) -> Result<Found, StoreError>
+    requires { 4198400 ≤ D.size disk.old }
+    ensures found { IfOk result (λ f. IsFound said.slots said.fresh f) }
+    ensures counts { IfOk result (λ f. D.told → Counts 64 4096 65536 (D.seen disk.old) (bodies_of f.log.records)) }
+    ensures same { (records : List StoreRecord) → AreSpelled records → IfOk result (λ f. D.told → Stands 64 4096 65536 (D.seen disk.old) (bodies_of records) → f.log.records ≡ records) }
+    ensures logs { (records : List StoreRecord) → IfOk result (λ f. D.told → Only (D.seen disk.old) (D.may_leave disk.old) → StandsFor (D.seen disk.old) said.slots said.fresh records
+        → Logs said.slots f.log (D.seen disk.new) (D.may_leave disk.new)) }
+    ensures bad { (index : ℕ) → IfErr result (λ e. e ≡ error.BadRecord index → D.told → IsBadOn (D.seen disk.old) said.slots said.fresh index) }
+    ensures good { (records : List StoreRecord) → IfErr result (λ e. D.told → StandsFor (D.seen disk.old) said.slots said.fresh records → IsGoodError e) }
+    ensures errors { IfErr result IsOpenError }
+    ensures device { KeepsDevice D.size D.seen D.may_leave D.moment D.left_since disk.old disk.new }
+    ensures cause { HasFault (D.faults disk.old) (D.faults disk.new) result }
+    ensures run { D.came_to disk.old disk.new }
+{
+    let (journal, bodies) = Journal::open(alloc, disk, JOURNAL_BASE, JOURNAL_RECORDS)?;
+    let _count = journal.count();
+    match read_records(alloc, &bodies, said) {
+        Ok(replay) => Ok(put_together(journal, replay, said.fresh)),
+        Err(error) => Err(error),
+    }
+}
+
+fn put_together(journal: Journal<64>, replay: Replay, fresh: bool) -> Found
+    requires { (journal.base ≡ 4096) × (journal.limit ≡ 65536) }
+    ensures log { result.log ≡ record { fresh = fresh; records = replay.history.items; region = journal } }
+    ensures ledger { result.ledger ≡ replay.ledger }
+    ensures marks { result.marks ≡ replay.marks }
+    ensures fresh { result.fresh ≡ replay.fresh }
+{
+    let Replay {
+        ledger,
+        marks,
+        fresh: still_fresh,
+        history,
+    } = replay;
+    Found {
+        log: RecordLog::of(journal, history, fresh),
+        ledger,
+        marks,
+        fresh: still_fresh,
+    }
+}
+
+// Where the slots of a device end.
+fn end_of(slots: u32) -> u64
+    ensures { result ≡ slot_start slots }
+{
+    DATA_START + SLOT_BYTES * u64::from(slots)
+}
+
+/// What the header of a device says, whose journal and slots fit it; None where there is no such header.
+fn read_header<D: Disk>(disk: &mut D) -> Result<Option<Header>, Failed>
+    ensures found { IfOk result (λ o. IfSome o (λ said. D.told → take 64 (D.seen disk.old) ≡ header said.slots said.fresh)) }
+    ensures only { (slots : ℕ) (fresh : Bool) → IfOk result (λ o. IfSome o (λ said. D.told → slots < 2 ^ 32 → take 64 (D.seen disk.old) ≡ header slots fresh → (said.slots ≡ slots) × (said.fresh ≡ fresh))) }
+    ensures room { IfOk result (λ o. IfSome o (λ said. slot_start said.slots ≤ D.size disk.old)) }
+    ensures small { IfOk result (λ o. IfSome o (λ said. said.slots < 2 ^ 32)) }
+    ensures blank { IfOk result (λ o. IfNone o (D.told → IsBlank (D.seen disk.old) (D.size disk.old))) }
+    ensures durable { IfOk result (λ o. IfSome o (λ _. D.told → Only (D.seen disk.new) (D.may_leave disk.new))) }
+    ensures device { KeepsDevice D.size D.seen D.may_leave D.moment D.left_since disk.old disk.new }
+    ensures cause { HasCause (D.faults disk.old) (D.faults disk.new) result }
+    ensures run { D.came_to disk.old disk.new }
+{
+    if disk.len() < DATA_START {
+        return Ok(None);
+    }
+    disk.sync()?;
+    let mut head = [0; HEADER_BYTES];
+    disk.read(0, &mut head)?;
+    let Some(said) = header::read(&head) else {
+        return Ok(None);
+    };
+    if disk.len() < end_of(said.slots) {
+        return Ok(None);
+    }
+    Ok(Some(said))
+}
+
+/// What stands on a device; None where it is blank.
+pub fn read_device<D: Disk>(alloc: Global, disk: &mut D) -> Result<Option<Found>, StoreError>
+    ensures found { IfOk result (λ o. IfSome o (λ f. IsFound f.ledger.slots f.log.fresh f)) }
+    ensures headed { IfOk result (λ o. IfSome o (λ f. D.told → take 64 (D.seen disk.old) ≡ header f.ledger.slots f.log.fresh)) }
+    ensures counts { IfOk result (λ o. IfSome o (λ f. D.told → Counts 64 4096 65536 (D.seen disk.old) (bodies_of f.log.records))) }
+    ensures room { IfOk result (λ o. IfSome o (λ f. slot_start f.ledger.slots ≤ D.size disk.new)) }
+    ensures blank { IfOk result (λ o. IfNone o (D.told → IsBlank (D.seen disk.old) (D.size disk.old))) }
+    ensures same { (slots : ℕ) (fresh : Bool) (records : List StoreRecord) → IfOk result (λ o. IfSome o (λ f. D.told → slots < 2 ^ 32 → StandsFor (D.seen disk.old) slots fresh records
+        → (f.ledger.slots ≡ slots) × (f.log.fresh ≡ fresh) × (f.log.records ≡ records) × Logs slots f.log (D.seen disk.new) (D.may_leave disk.new))) }
+    ensures durable { IfOk result (λ o. IfSome o (λ _. D.told → Only (D.seen disk.new) (D.may_leave disk.new))) }
+    ensures bad { (index slots : ℕ) (fresh : Bool) → IfErr result (λ e. e ≡ error.BadRecord index → D.told → slots < 2 ^ 32 → take 64 (D.seen disk.old) ≡ header slots fresh → IsBadOn (D.seen disk.old) slots fresh index) }
+    ensures bad_headed { (index : ℕ) → IfErr result (λ e. e ≡ error.BadRecord index → D.told → ¬ IsBlank (D.seen disk.old) (D.size disk.old)) }
+    ensures good { (slots : ℕ) (fresh : Bool) (records : List StoreRecord) → IfErr result (λ e. D.told → slots < 2 ^ 32 → StandsFor (D.seen disk.old) slots fresh records → IsGoodError e) }
+    ensures errors { IfErr result IsOpenError }
+    ensures device { KeepsDevice D.size D.seen D.may_leave D.moment D.left_since disk.old disk.new }
+    ensures cause { HasFault (D.faults disk.old) (D.faults disk.new) result }
+    ensures run { D.came_to disk.old disk.new }
+{
+    let Some(said) = read_header(disk)? else {
+        return Ok(None);
+    };
+    match read_journal(alloc, disk, said) {
+        Ok(found) => Ok(Some(found)),
+        Err(error) => Err(error),
+    }
+}

@@ -1,0 +1,117 @@
+//! What the records of a journal give, read in order.
+
+ghost use Rattle.std.specs.Prelude.{◌≡◌, ◌<◌, ◌^◌, ◌++◌, ◌∷◌, ℕ, List, [], length, IfOk, IfErr};
+ghost use Rattle.std.specs.Bool.{OnTrue, OnFalse};
+ghost use Rattle.block_journal.specs.Records.{contents};
+ghost use Rattle.store_record.specs.Spelling.{spelling, HasSpelling};
+ghost use Rattle.store_record.specs.declared.record.StoreRecord.{StoreRecord};
+ghost use Rattle.data_device.specs.Device.{bodies_of, AreSpelled};
+ghost use Rattle.data_device.specs.Kept.{Fits, AllFit, formatted, kept_after};
+ghost use Rattle.data_device.specs.Reading.{kept_by, Reads, IsRead, IsBad, IsReadError};
+ghost use Rattle.data_device.specs.declared.error.StoreError.TheVariants as error;
+
+use crate::error::StoreError;
+use crate::header::Header;
+use busy_marks::Marks;
+use ghost_list::GhostList;
+use petal_base::NoMemory;
+use physical_map::Entry;
+use slot_ledger::Ledger;
+use std::alloc::Global;
+use store_record::{StoreRecord, decode};
+
+/// The records so far, and what they give.
+#[derive(Drop)]
+pub struct Replay {
+    pub ledger: Ledger,
+    pub marks: Marks,
+    pub fresh: bool,
+    pub history: GhostList<StoreRecord>,
+}
+
+/// Before the first record.
+fn begin(alloc: Global, said: Header) -> Result<Replay, NoMemory>
+    ensures kept { IfOk result (λ r. kept_by r ≡ formatted said.fresh) }
+    ensures none { IfOk result (λ r. r.history.items ≡ []) }
+    ensures slots { IfOk result (λ r. (r.ledger.slots ≡ said.slots) × (r.ledger.tickets ≡ [])) }
+{
+    Ok(Replay {
+        ledger: Ledger::new(alloc, said.slots)?,
+        marks: Marks::new(alloc),
+        fresh: said.fresh,
+        history: GhostList::new(),
+    })
+}
+
+/// Does what a record says; false where it puts into a slot that is in use or not there.
+fn apply(replay: &mut Replay, entry: &StoreRecord) -> Result<bool, NoMemory>
+    requires { replay.old.ledger.tickets ≡ [] }
+    ensures kept { IfOk result (λ done. OnTrue done (kept_by replay.new ≡ kept_after (kept_by replay.old) entry.now)) }
+    ensures fits { IfOk result (λ done. OnTrue done (Fits replay.old.ledger.slots (kept_by replay.old) entry.now)) }
+    ensures refused { IfOk result (λ done. OnFalse done (¬ Fits replay.old.ledger.slots (kept_by replay.old) entry.now)) }
+    ensures slots { IfOk result (λ done. OnTrue done ((replay.new.ledger.slots ≡ replay.old.ledger.slots) × (replay.new.ledger.tickets ≡ []))) }
+    ensures history { replay.new.history ≡ replay.old.history }
+{
+    match entry {
+        StoreRecord::Put { key, version, slot } => replay.ledger.replay(Entry {
+            key: *key,
+            slot: *slot,
+            version: *version,
+        }),
+        StoreRecord::Drop { key } => {
+            replay.ledger.drop_key(*key);
+            Ok(true)
+        }
+        StoreRecord::Mark { kind, cell } => {
+            replay.marks.set(*kind, *cell)?;
+            Ok(true)
+        }
+        StoreRecord::Unmark { kind, cell } => {
+            replay.marks.clear(*kind, *cell);
+            Ok(true)
+        }
+        StoreRecord::Settled => {
+            replay.fresh = false;
+            Ok(true)
+        }
+    }
+}
+
+/// Reads the next body; false where it spells no record that fits.
+fn step(replay: &mut Replay, body: &[u8]) -> Result<bool, NoMemory>
+    requires { replay.old.ledger.tickets ≡ [] }
+    ensures next { IfOk result (λ done. OnTrue done (Reads replay.old replay.new body.now)) }
+    ensures refused { IfOk result (λ done. OnFalse done ((r : StoreRecord) → HasSpelling r → body.now ≡ spelling r → ¬ Fits replay.old.ledger.slots (kept_by replay.old) r)) }
+{
+    let Some(entry) = decode(body) else {
+        return Ok(false);
+    };
+    if !apply(replay, &entry)? {
+        return Ok(false);
+    }
+    replay.history = replay.history.with(&entry);
+    Ok(true)
+}
+
+/// Reads the records of the bodies, in order.
+///
+/// # Errors
+/// `BadRecord` at the first body that spells no record, or a put into a slot that is in use or not there; `NoMemory`.
+pub fn read_records(alloc: Global, bodies: &[Vec<u8>], said: Header) -> Result<Replay, StoreError>
+    requires { length bodies.now < 2 ^ 32 }
+    ensures read { IfOk result (λ r. IsRead said.slots said.fresh (contents bodies.now) r) }
+    ensures same { (records : List StoreRecord) → AreSpelled records → contents bodies.now ≡ bodies_of records → IfOk result (λ r. r.history.items ≡ records) }
+    ensures bad { (index : ℕ) → IfErr result (λ e. e ≡ error.BadRecord index → IsBad said.slots said.fresh (contents bodies.now) index) }
+    ensures good { (records : List StoreRecord) → AreSpelled records → AllFit said.slots (formatted said.fresh) records → contents bodies.now ≡ bodies_of records → IfErr result (λ e. e ≡ error.NoMemory) }
+    ensures errors { IfErr result IsReadError }
+{
+    let mut replay = begin(alloc, said)?;
+    for index in 0..bodies.len() {
+        if !step(&mut replay, &bodies[index])? {
+            return Err(StoreError::BadRecord {
+                index: index as u32,
+            });
+        }
+    }
+    Ok(replay)
+}

@@ -1,0 +1,3 @@
+pub mod Body
+pub mod Kept
+pub mod Rows
