@@ -5,7 +5,7 @@ ghost use Rattle.petal_rules.specs.Jobs.{ticks};
 ghost use Rattle.petal_rules.specs.Store as stores;
 ghost use Rattle.petal_rules.specs.World.{greatest_u64};
 ghost use Rattle.petal_rules.specs.declared.job.Job.TheVariants as job;
-ghost use Rattle.kept_chains.specs.Kept.{kept_of};
+ghost use Rattle.kept_chains.specs.Kept.{store_of};
 ghost use Rattle.write_pair.specs.declared.error.WorkError.TheVariants as error;
 ghost use Rattle.write_pair.specs.Desk.{HasFault, HasTicketsAt, HasVersions, HoldsAt};
 ghost use Rattle.server_core.specs.Core.{IsWork, acted, desk_of, here_in, is_spent, server_of};
@@ -49,7 +49,7 @@ impl Model for ServerCore {
 
 // What the store promises of its greatest version tells the proof that it can be counted up.
 fn has_versions<D: Disk>(store: &Store<D>)
-    requires { stores.top_of (kept_of store.now).chains ≢ greatest_u64 }
+    requires { stores.top_of (store_of store.now).chains ≢ greatest_u64 }
     ensures { HasVersions store.now }
 {
     let _ = store.free();
@@ -119,7 +119,7 @@ impl ServerCore {
 
     /// Whether a number of the server is the greatest of its type, so that a job could not count on.
     pub fn spent<D: Disk>(&self, store: &Store<D>) -> bool
-        ensures { result ≡ is_spent self.now (kept_of store.now) }
+        ensures { result ≡ is_spent self.now (store_of store.now) }
     {
         let _ = store.free();
         either(self.next == u64::MAX, store.top() == u64::MAX)
@@ -136,10 +136,10 @@ impl ServerCore {
         alloc: Global,
         store: &mut Store<D>,
     ) -> Result<Worked, WorkError>
-        requires goes_on { is_spent self.old (kept_of store.old) ≡ false }
+        requires goes_on { is_spent self.old (store_of store.old) ≡ false }
         requires tickets { HasTicketsAt (desk_of self.old store.old) }
         ensures idle { (result ≡ Ok Worked.Idle) ↔ (self.old.queue ≡ []) }
-        ensures work { IfOk result (λ worked. D.told → IsWork self.old (kept_of store.old) self.new (kept_of store.new) worked) }
+        ensures work { IfOk result (λ worked. D.told → IsWork self.old (store_of store.old) self.new (store_of store.new) worked) }
         ensures place { here_in self.new ≡ here_in self.old }
         ensures keeps { OnOk result (HasTicketsAt (desk_of self.new store.new)) }
         ensures holds { D.told → HoldsAt D.seen D.may_leave store.old → OnOk result (HoldsAt D.seen D.may_leave store.new) }

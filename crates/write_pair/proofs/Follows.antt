@@ -17,7 +17,7 @@ use Rattle.petal_rules.specs.Writes.{hears_reserve, last_on, on_reserve, reserve
 use Rattle.petal_rules.proofs.CellTables.{cell_cmp_total}
 use Rattle.server_store.specs.Holdings.{Holdings}
 use Rattle.server_store.specs.Tickets as lists
-use Rattle.kept_chains.specs.Kept.{chains_of, kept_of}
+use Rattle.kept_chains.specs.Kept.{chains_of, store_of}
 use Rattle.kept_chains.proofs.Puts.{without_new}
 use Rattle.write_pair.specs.declared.outcome.Outcome.{Outcome}
 use Rattle.write_pair.specs.Books.{Books, HasTickets, needs_apart}
@@ -93,13 +93,13 @@ module _ {D : Type 0} (here : Here) (next : ℕ) (pending : Table Cell Pending) 
 
   pub follows_done : (key : Key) (bytes : List ℕ) (last : Table Cell LastOp) (apart : Table Cell ℕ) (after : Holdings D) (version : ℕ) (out : Outcome) → last ≡ put cell_cmp books.last cell (replicated number)
       → version ≡ version_of (chain_in (chains_of store.entries) cell) + 1
-      → kept_of after ≡ with_entry (kept_of store) key (record { version = version; bytes = bytes })
+      → store_of after ≡ with_entry (store_of store) key (record { version = version; bytes = bytes })
       → out ≡ only (letters_of (sender here) 0 (post_to (first here.state cell) (body.Replicated number cell)))
       → left_with next (desk pending (record books { last = last; apart = apart }) after) out ≡ left_by here (follows_in here (own_at next (desk pending books store)) number key bytes cell)
   follows_done key bytes last apart after version out table counted kept said =
       rw (table, said)
       (ap (λ (s : Store). left_by here (says_to (with_last (record (own_at next (desk pending books store)) { store = s }) cell number far.Replicated) (first here.state cell) (body.Replicated number cell)))
-      (kept ∙ ap (λ (v : ℕ). with_entry (kept_of store) key (record { version = v; bytes = bytes })) counted))
+      (kept ∙ ap (λ (v : ℕ). with_entry (store_of store) key (record { version = v; bytes = bytes })) counted))
 
   pub follows_keeps : (last : Table Cell LastOp) (apart : Table Cell ℕ) (slot : ℕ) (tickets : List ℕ) → last ≡ put cell_cmp books.last cell (replicated number) → IsStrictlySortedBy cell_cmp (keys_of books.apart)
       → at cell_cmp books.apart cell ≡ Some slot → apart ≡ without cell_cmp books.apart cell → tickets ≡ lists.without store.tickets slot

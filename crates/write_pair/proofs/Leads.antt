@@ -14,7 +14,7 @@ use Rattle.petal_rules.specs.Writes.{acts, finishes, gives_back, goes_on, goes_o
 use Rattle.petal_rules.proofs.CellTables.{cell_same}
 use Rattle.server_store.specs.Holdings.{Holdings}
 use Rattle.server_store.specs.Tickets as lists
-use Rattle.kept_chains.specs.Kept.{kept_of}
+use Rattle.kept_chains.specs.Kept.{store_of}
 use Rattle.write_pair.specs.declared.outcome.Outcome.{Outcome}
 use Rattle.write_pair.specs.Books.{Books, HasTickets, needs_own, in_stages}
 use Rattle.write_pair.specs.Desk.{Desk, Left, desk, own_at, left_by, left_with, IsSaid}
@@ -67,7 +67,7 @@ module _ {D : Type 0} (here : Here) (next : ℕ) (pending : Table Cell Pending) 
   full_is new after own left out slot table sorted has gone rest said =
       rw (table, gone, rest) (record {
         done = ap (λ (s : Store). re_ended (without cell_cmp pending op.cell) s (left_with next (desk pending after store) out)) (given_is store _ slot (own_out pending after store.tickets said.keeps op.cell slot has) refl)
-            ∙ ap (re_ended (without cell_cmp pending op.cell) (without_ticket (kept_of store))) said.done;
+            ∙ ap (re_ended (without cell_cmp pending op.cell) (without_ticket (store_of store))) said.done;
         keeps = kept_dropped pending after store.tickets said.keeps op.cell slot sorted has;
         err = tt;
         store = refl;

@@ -18,7 +18,7 @@ use Rattle.petal_rules.proofs.CellTables.{cell_cmp_total}
 use Rattle.pair_lock.specs.Pairs.{at_stage, staged, at_version, versioned}
 use Rattle.server_store.specs.Holdings.{Holdings}
 use Rattle.server_store.specs.Tickets as lists
-use Rattle.kept_chains.specs.Kept.{chains_of, kept_of}
+use Rattle.kept_chains.specs.Kept.{chains_of, store_of}
 use Rattle.kept_chains.proofs.Puts.{put_over, put_same, without_put}
 use Rattle.write_pair.specs.declared.outcome.Outcome.{Outcome}
 use Rattle.write_pair.specs.Books.{Books, HasTickets, needs_own, in_stages}
@@ -103,7 +103,7 @@ module _ {D : Type 0} (here : Here) (next : ℕ) (pending : Table Cell Pending) 
 
   pub puts_done : (new : Table Cell Pending) (own : Table Cell ℕ) (after : Holdings D) (version : ℕ) (out : Outcome) → new ≡ versioned pending op.cell version (record op.stage { put = true }) (at cell_cmp pending op.cell)
       → version ≡ version_of (chain_in (chains_of store.entries) op.cell) + 1
-      → kept_of after ≡ with_entry (kept_of store) op.key (record { version = version; bytes = op.bytes })
+      → store_of after ≡ with_entry (store_of store) op.key (record { version = version; bytes = op.bytes })
       → out ≡ record { letters = []; follow = Some op.cell; opened = false }
       → left_with next (desk new (record books { own = own }) after) out ≡ left_by here (acts here (with_pending (own_at next (desk pending books store)) op) op action.Put)
   puts_done new own after version out table counted kept is =
@@ -112,7 +112,7 @@ module _ {D : Type 0} (here : Here) (next : ℕ) (pending : Table Cell Pending) 
       ∙ ap (λ (v : ℕ). record {
         own = record {
           pairs = record (own_at next (desk pending books store)).pairs { pending = put cell_cmp pending op.cell (record op { version = v; stage = record op.stage { put = true } }) };
-          store = with_entry (kept_of store) op.key (record { version = v; bytes = op.bytes });
+          store = with_entry (store_of store) op.key (record { version = v; bytes = op.bytes });
         };
         letters = [];
         jobs = job.Stage op.cell ∷ [];
@@ -120,7 +120,7 @@ module _ {D : Type 0} (here : Here) (next : ℕ) (pending : Table Cell Pending) 
       ∙ ap (λ (t : Table Cell Pending). record {
         own = record {
           pairs = record (own_at next (desk pending books store)).pairs { pending = t };
-          store = with_entry (kept_of store) op.key (record { version = version_of (chain_in (chains_of store.entries) op.cell) + 1; bytes = op.bytes });
+          store = with_entry (store_of store) op.key (record { version = version_of (chain_in (chains_of store.entries) op.cell) + 1; bytes = op.bytes });
         };
         letters = [];
         jobs = job.Stage op.cell ∷ [];

@@ -14,7 +14,7 @@ use Rattle.petal_rules.specs.Store.{Store, cell_cmp, free_of}
 use Rattle.petal_rules.specs.Writes.{Wanted, acts, both_action, first_stage, goes_on, goes_on_with, opened, opens, operation}
 use Rattle.petal_rules.proofs.CellTables.{cell_cmp_total, cell_same}
 use Rattle.server_store.specs.Holdings.{Holdings}
-use Rattle.kept_chains.specs.Kept.{kept_of}
+use Rattle.kept_chains.specs.Kept.{store_of}
 use Rattle.kept_chains.proofs.Puts.{without_new}
 use Rattle.write_pair.specs.declared.error.WorkError.TheVariants.{NoMemory}
 use Rattle.write_pair.specs.declared.outcome.Outcome.{Outcome}

@@ -23,7 +23,7 @@ use Rattle.physical_map.specs.Keys.{placed}
 use Rattle.petal_rules.specs.Store.{with_entry, with_ticket, without_ticket}
 use Rattle.petal_rules.specs.Store as rules
 use Rattle.server_store.specs.Holdings.{Holdings, key_held}
-use Rattle.kept_chains.specs.Kept.{chains_of, kept_of}
+use Rattle.kept_chains.specs.Kept.{chains_of, store_of}
 use Rattle.kept_chains.proofs.Kept.{placed_is}
 use Rattle.server_store.specs.Tickets as store
 use Rattle.kept_chains.proofs.Chains.{cell_cases}
@@ -285,7 +285,7 @@ pub spent_is : {D : Type 0} (old new : Holdings D) (key : Key) (version slot : �
     → new.entries ≡ placed key_held old.entries (record { entry = record { key = key; slot = slot; version = version }; content = bytes })
     → new ≡ record old { entries = new.entries; tickets = store.without old.tickets slot; log = new.log; disk = new.disk }
     → length new.log.records ≡ length old.log.records + 1
-    → kept_of new ≡ with_entry (kept_of old) key (record { version = version; bytes = bytes })
+    → store_of new ≡ with_entry (store_of old) key (record { version = version; bytes = bytes })
 spent_is {D = D} old new key version slot bytes has entries rest recorded =
     let fewer : length new.tickets ≡ length old.tickets - 1 =
     (let gone = length_less slot old.tickets (contained slot old.tickets has) in
@@ -299,15 +299,15 @@ spent_is {D = D} old new key version slot bytes has entries rest recorded =
 
 -- the store with so many slots set apart
 abbrev with_tickets : {D : Type 0} → Holdings D → ℕ → rules.Store
-with_tickets old tickets = record (kept_of old) { tickets = tickets }
+with_tickets old tickets = record (store_of old) { tickets = tickets }
 
 -- a slot that is free again, as the rules see the store
-pub given_is : {D : Type 0} (old new : Holdings D) (slot : ℕ) → Contains old.tickets slot → new ≡ record old { tickets = store.without old.tickets slot } → kept_of new ≡ without_ticket (kept_of old)
+pub given_is : {D : Type 0} (old new : Holdings D) (slot : ℕ) → Contains old.tickets slot → new ≡ record old { tickets = store.without old.tickets slot } → store_of new ≡ without_ticket (store_of old)
 given_is {D = D} old new slot has is =
     let gone = length_less slot old.tickets (contained slot old.tickets has) in
     let fewer : length (store.without old.tickets slot) ≡ length old.tickets - 1 = omega (arith, gone) in
-    ap (λ (s : Holdings D). kept_of s) is ∙ ap (with_tickets old) fewer
+    ap (λ (s : Holdings D). store_of s) is ∙ ap (with_tickets old) fewer
 
 -- a slot that is set apart, as the rules see the store
-pub kept_is : {D : Type 0} (old new : Holdings D) (slot : ℕ) → new ≡ record old { tickets = old.tickets ++ slot ∷ [] } → kept_of new ≡ with_ticket (kept_of old)
-kept_is {D = D} old new slot is = ap (λ (s : Holdings D). kept_of s) is ∙ ap (with_tickets old) (length-append old.tickets (slot ∷ []))
+pub kept_is : {D : Type 0} (old new : Holdings D) (slot : ℕ) → new ≡ record old { tickets = old.tickets ++ slot ∷ [] } → store_of new ≡ with_ticket (store_of old)
+kept_is {D = D} old new slot is = ap (λ (s : Holdings D). store_of s) is ∙ ap (with_tickets old) (length-append old.tickets (slot ∷ []))

@@ -12,7 +12,7 @@ use Rattle.petal_rules.specs.declared.job.Job.{Job}
 use Rattle.petal_rules.specs.declared.job.Job.TheVariants as job
 use Rattle.server_store.specs.Holdings.{Holdings, listed}
 use Rattle.server_store.specs.Shown.{Holds}
-use Rattle.kept_chains.specs.Kept.{kept_of}
+use Rattle.kept_chains.specs.Kept.{store_of}
 use Rattle.write_pair.specs.declared.error.WorkError.{WorkError}
 use Rattle.write_pair.specs.declared.error.WorkError.TheVariants.{Failed, JournalFull, NoMemory}
 use Rattle.write_pair.specs.declared.outcome.Outcome.{Outcome}
@@ -28,7 +28,7 @@ pub record Desk (D : Type 0) : Type 0 where
 abbrev pub own_at : {D : Type 0} → ℕ → Desk D → Own
 own_at next desk = record {
   pairs = record { pending = desk.pending; next = next; finished = desk.books.finished; last = desk.books.last };
-  store = kept_of desk.store;
+  store = store_of desk.store;
 }
 
 -- a own behind a job, with the letters that it sends and the jobs that follow it up

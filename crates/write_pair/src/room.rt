@@ -6,7 +6,7 @@ ghost use Rattle.std.specs.Map.{keys_of};
 ghost use Rattle.petal_table.specs.Table.{at, put, without};
 ghost use Rattle.petal_rules.specs.Store.{cell_cmp, free_of, with_entry};
 ghost use Rattle.server_store.specs.Tickets as lists;
-ghost use Rattle.kept_chains.specs.Kept.{kept_of};
+ghost use Rattle.kept_chains.specs.Kept.{store_of};
 ghost use Rattle.write_pair.specs.declared.error.WorkError.TheVariants as error;
 ghost use Rattle.write_pair.specs.Desk.{HasFault, HoldsAt};
 ghost use Rattle.write_pair.specs.Slots.{IsKept, IsStop, IsOutAt};
@@ -24,7 +24,7 @@ pub fn keep<D: Disk>(
     store: &mut Store<D>,
     cell: Cell,
 ) -> Result<bool, NoMemory>
-    ensures room { IfOk result (λ kept. kept ≡ nat_lt 0 (free_of (kept_of store.old))) }
+    ensures room { IfOk result (λ kept. kept ≡ nat_lt 0 (free_of (store_of store.old))) }
     ensures yes { IfOk result (λ kept. kept ≡ true → IsKept table.old table.new store.old store.new cell) }
     ensures no { IfOk result (λ kept. kept ≡ false → (table.new ≡ table.old) × (store.new ≡ store.old)) }
     ensures err { OnErr result ((table.new ≡ table.old) × (store.new ≡ store.old)) }
@@ -52,7 +52,7 @@ pub fn spend<D: Disk>(
 ) -> Result<(), WorkError>
     requires some { IsSome (at cell_cmp table.old cell) }
     requires out { IsOutAt table.old cell store.old.tickets }
-    ensures ok { OnOk result (D.told → kept_of store.new ≡ with_entry (kept_of store.old) key (record { version = version; bytes = block.now })) }
+    ensures ok { OnOk result (D.told → store_of store.new ≡ with_entry (store_of store.old) key (record { version = version; bytes = block.now })) }
     ensures table { table.new ≡ without cell_cmp table.old cell }
     ensures tickets { (slot : ℕ) → at cell_cmp table.old cell ≡ Some slot → store.new.tickets ≡ lists.without store.old.tickets slot }
     ensures sorted { IsStrictlySortedBy cell_cmp (keys_of table.old) }

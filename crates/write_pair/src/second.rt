@@ -7,7 +7,7 @@ ghost use Rattle.petal_rules.specs.State.{is_second};
 ghost use Rattle.petal_rules.specs.Store.{cell_cmp, free_of};
 ghost use Rattle.petal_rules.specs.Writes as writes;
 ghost use Rattle.petal_msg.specs.declared.operation.Far.TheVariants as far;
-ghost use Rattle.kept_chains.specs.Kept.{kept_of};
+ghost use Rattle.kept_chains.specs.Kept.{store_of};
 ghost use Rattle.write_pair.specs.Books.{needs_apart};
 ghost use Rattle.write_pair.specs.Desk.{desk, own_at, HasTicketsAt, HasVersions, IsDone, IsSaid};
 ghost use Rattle.write_pair.specs.Jobs.{place};
@@ -62,7 +62,7 @@ fn reserves_again<D: Disk>(
     requires tickets { HasTicketsAt (desk locks.now tables.old store.now) }
     requires has { needs_apart (at cell_cmp tables.old.last cell) ≡ true }
     ensures { IsSaid (place here.now) here.now.next (desk locks.now tables.old store.now) (desk locks.now tables.new store.now) result
-        (writes.reserves (place here.now) (own_at here.now.next (desk locks.now tables.old store.now)) cell op true (nat_lt 0 (free_of (kept_of store.now)))) }
+        (writes.reserves (place here.now) (own_at here.now.next (desk locks.now tables.old store.now)) cell op true (nat_lt 0 (free_of (store_of store.now)))) }
 {
     let outcome = tells(here, tables, locks, store, cell, op, Far::Reserved)?;
     let last = LastOp {
@@ -85,7 +85,7 @@ fn reserves_anew<D: Disk>(
     requires tickets { HasTicketsAt (desk locks.now tables.old store.old) }
     requires has { needs_apart (at cell_cmp tables.old.last cell) ≡ false }
     ensures { IsSaid (place here.now) here.now.next (desk locks.now tables.old store.old) (desk locks.now tables.new store.new) result
-        (writes.reserves (place here.now) (own_at here.now.next (desk locks.now tables.old store.old)) cell op false (nat_lt 0 (free_of (kept_of store.old)))) }
+        (writes.reserves (place here.now) (own_at here.now.next (desk locks.now tables.old store.old)) cell op false (nat_lt 0 (free_of (store_of store.old)))) }
 {
     let outcome = tells(here, tables, locks, store, cell, op, Far::Reserved)?;
     if !keep(&mut tables.apart, store, cell)? {
@@ -127,7 +127,7 @@ fn reserves<D: Disk>(
     requires tickets { HasTicketsAt (desk locks.now tables.old store.old) }
     requires has { needs_apart (at cell_cmp tables.old.last cell) ≡ has }
     ensures { IsSaid (place here.now) here.now.next (desk locks.now tables.old store.old) (desk locks.now tables.new store.new) result
-        (writes.reserves (place here.now) (own_at here.now.next (desk locks.now tables.old store.old)) cell op has (nat_lt 0 (free_of (kept_of store.old)))) }
+        (writes.reserves (place here.now) (own_at here.now.next (desk locks.now tables.old store.old)) cell op has (nat_lt 0 (free_of (store_of store.old)))) }
 {
     if has {
         reserves_again(here, tables, locks, store, cell, op)

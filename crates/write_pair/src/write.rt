@@ -5,7 +5,7 @@ ghost use Rattle.petal_table.specs.Table.{at};
 ghost use Rattle.petal_rules.specs.State.{is_lead};
 ghost use Rattle.petal_rules.specs.Store.{cell_cmp, free_of};
 ghost use Rattle.petal_rules.specs.Writes as writes;
-ghost use Rattle.kept_chains.specs.Kept.{kept_of};
+ghost use Rattle.kept_chains.specs.Kept.{store_of};
 ghost use Rattle.write_pair.specs.Desk.{desk, own_at, HasTicketsAt, IsSaid};
 ghost use Rattle.write_pair.specs.Jobs.{place, wanted};
 
@@ -92,7 +92,7 @@ fn opens<D: Disk>(
     requires lead { is_lead here.now.state.now here.now.me want.now.cell ≡ true }
     requires none { at cell_cmp locks.old want.now.cell ≡ None }
     ensures { IsSaid (place here.now) here.now.next (desk locks.old tables.old store.old) (desk locks.new tables.new store.new) result
-        (writes.opens (place here.now) (own_at here.now.next (desk locks.old tables.old store.old)) (wanted want.now) (nat_lt 0 (free_of (kept_of store.old)))) }
+        (writes.opens (place here.now) (own_at here.now.next (desk locks.old tables.old store.old)) (wanted want.now) (nat_lt 0 (free_of (store_of store.old)))) }
 {
     let body = Body::Reserve {
         op: here.next,

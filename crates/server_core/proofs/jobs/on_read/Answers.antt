@@ -1,6 +1,6 @@
 use Rattle.std.proofs.Common.{◌≡◌, true, refl, sym, ap, ◌∙◌}
 use Rattle.petal_rules.specs.State.{readable}
-use Rattle.kept_chains.specs.Kept.{kept_of}
+use Rattle.kept_chains.specs.Kept.{store_of}
 use Rattle.write_pair.specs.Desk.{desk, own_at}
 use Rattle.write_pair.specs.Jobs.{place}
 use Rattle.server_core.proofs.Reading.{behind_read, told_is}
