@@ -1,24 +1,26 @@
 -- What the lead does with the letters of its second server.
-use Rattle.std.proofs.Common.{◌≡◌, ℕ, Bool, true, false, not, ◌||◌, List, [], Option, Some, None, Ok, is_some, refl, sym, ap, ◌∙◌, arith}
+use Rattle.std.proofs.Common.{◌≡◌, ℕ, Bool, true, false, not, ◌||◌, Some, Ok, refl, sym, ap, ◌∙◌, arith}
 use Rattle.std.proofs.lemmas.Bool.Decides.{nat_tests}
 use Rattle.std.specs.Prelude.{if◌then◌else◌}
 use Rattle.std.specs.List.Sorted.{IsStrictlySortedBy}
 use Rattle.std.specs.Map.{keys_of}
 use Rattle.petal_base.specs.declared.place.Cell.{Cell}
-use Rattle.petal_table.specs.Table.{Table, at, put, without}
+use Rattle.petal_table.specs.Table.{Table, at, without}
 use Rattle.petal_msg.specs.declared.operation.Ending.TheVariants.{Full}
 use Rattle.petal_msg.specs.declared.operation.Pending.{Pending}
-use Rattle.petal_rules.specs.Server.{Own, Here, Done, silent}
+use Rattle.petal_rules.specs.Server.{Own, Here, silent}
 use Rattle.petal_rules.specs.Store.{Store, cell_cmp, without_ticket}
-use Rattle.petal_rules.specs.Writes.{acts, finishes, gives_back, goes_on, goes_on_with, hears_reserved, hears_replicated, hears_pair_full, is_reserving, is_replicating, next_stage, on_reserved, on_replicated, on_pair_full, with_pending, with_paired, with_reserved, without_pending}
+use Rattle.petal_rules.specs.Writes.{acts, finishes, gives_back, goes_on, goes_on_with, next_stage, without_pending}
+use Rattle.petal_rules.specs.Writes.{hears_reserved, hears_replicated, is_reserving, is_replicating, on_reserved, on_replicated}
+use Rattle.petal_rules.specs.Writes.{with_pending, with_paired, with_reserved}
 use Rattle.petal_rules.proofs.CellTables.{cell_same}
 use Rattle.server_store.specs.Holdings.{Holdings}
 use Rattle.server_store.specs.Tickets as lists
 use Rattle.kept_chains.specs.Kept.{store_of}
-use Rattle.write_pair.specs.declared.outcome.Outcome.{Outcome}
-use Rattle.write_pair.specs.Books.{Books, HasTickets, needs_own, in_stages}
-use Rattle.write_pair.specs.Desk.{Desk, Left, desk, own_at, left_by, left_with, IsSaid}
-use Rattle.write_pair.proofs.Tickets.{kept_dropped, own_out, given_is}
+use Rattle.pair_side.specs.declared.done.Done.{Done}
+use Rattle.pair_side.specs.Side.{Side, HasTicketsAt, needs_own, in_stages, own_of}
+use Rattle.pair_side.specs.Done.{IsSaid}
+use Rattle.pair_side.proofs.Tickets as tickets
 
 pub reserving : (op : Pending) (number : ℕ) → op.op ≡ number → op.stage.reserved ≡ false → is_reserving op number ≡ true
 reserving op number same waits = grind (arith, nat_tests, same, waits)
@@ -46,29 +48,38 @@ not_put : (put reserved : Bool) → (not put || reserved) ≡ true → reserved 
 not_put true reserved is waits = absurd (cc)
 not_put false reserved is waits = refl
 
-slot_of : (o : Option ℕ) → is_some o ≡ true → (slot : ℕ) × (o ≡ Some slot)
-slot_of None is = absurd (cc)
-slot_of (Some slot) is = (slot, refl)
+-- an operation that waits for its slot at the second server has its own
+pub full_slot : {D : Type 0} (side : Side) (store : Holdings D) (op : Pending) → HasTicketsAt side store → at cell_cmp side.pending op.cell ≡ Some op
+    → op.stage.reserved ≡ false → (slot : ℕ) × (at cell_cmp side.own op.cell ≡ Some slot)
+full_slot side store op h there waits =
+    let unused = not_put op.stage.put op.stage.reserved (sym (ap in_stages there) ∙ h.stages op.cell) waits in
+    tickets.own_slot side.pending side.last side.own side.apart store.tickets h op.cell (ap needs_own there ∙ ap not unused)
 
--- a own behind a job with something else pending and a slot less that is set apart
-abbrev re_ended : Table Cell Pending → Store → Left → Left
-re_ended t s left = record left { own = record { pairs = record left.own.pairs { pending = t }; store = s } }
+-- the own part with nothing pending on a cell, and with this store
+abbrev ended_own : Cell → Store → Own → Own
+ended_own cell s own = record { pairs = record own.pairs { pending = without cell_cmp own.pairs.pending cell }; store = s }
 
-module _ {D : Type 0} (here : Here) (next : ℕ) (pending : Table Cell Pending) (books : Books) (store : Holdings D) (op : Pending) (h : HasTickets pending books store.tickets) (there : at cell_cmp pending op.cell ≡ Some op) (waits : op.stage.reserved ≡ false) where
-  pub full_slot : (slot : ℕ) × (at cell_cmp books.own op.cell ≡ Some slot)
-  full_slot =
-      let unused = not_put op.stage.put op.stage.reserved (sym (ap in_stages there) ∙ h.stages op.cell) waits in
-      slot_of (at cell_cmp books.own op.cell) (h.own op.cell ∙ ap needs_own there ∙ ap not unused)
+module _ {D : Type 0} (here : Here) (side after : Side) (store : Holdings D) (op : Pending) (done : Done) where
+  -- nothing else is pending where a request was done with
+  pub finished_pending : IsSaid here side after store store (Ok done) (finishes (own_of side store) op.client op.seq Full) → after.pending ≡ side.pending
+  finished_pending said = ap (λ (own : Own). own.pairs.pending) said.done.own
 
-  pub full_is : (new : Table Cell Pending) (after : Books) (own : Table Cell ℕ) (left : Holdings D) (out : Outcome) (slot : ℕ) → new ≡ without cell_cmp pending op.cell → IsStrictlySortedBy cell_cmp (keys_of after.own)
-      → at cell_cmp after.own op.cell ≡ Some slot → own ≡ without cell_cmp after.own op.cell → left ≡ record store { tickets = lists.without store.tickets slot }
-      → IsSaid here next (desk pending books store) (desk pending after store) (Ok out) (finishes (own_at next (desk pending books store)) op.client op.seq Full)
-      → IsSaid here next (desk pending books store) (desk new (record after { own = own }) left) (Ok out) (finishes (gives_back (without_pending (own_at next (desk pending books store)) op.cell)) op.client op.seq Full)
-  full_is new after own left out slot table sorted has gone rest said =
+  pub full_is : (new : Table Cell Pending) (own : Table Cell ℕ) (left : Holdings D) (slot : ℕ) → new ≡ without cell_cmp after.pending op.cell
+      → IsStrictlySortedBy cell_cmp (keys_of after.own) → at cell_cmp after.own op.cell ≡ Some slot → own ≡ without cell_cmp after.own op.cell
+      → left ≡ record store { tickets = lists.without store.tickets slot }
+      → IsSaid here side after store store (Ok done) (finishes (own_of side store) op.client op.seq Full)
+      → IsSaid here side (record after { pending = new; own = own }) store left (Ok done) (finishes (gives_back (without_pending (own_of side store) op.cell)) op.client op.seq Full)
+  full_is new own left slot table sorted has gone rest said =
+      let out = tickets.own_out after.pending after.last after.own after.apart store.tickets said.keeps op.cell slot has in
+      let given = tickets.given_is store (record store { tickets = lists.without store.tickets slot }) slot out refl in
       rw (table, gone, rest) (record {
-        done = ap (λ (s : Store). re_ended (without cell_cmp pending op.cell) s (left_with next (desk pending after store) out)) (given_is store _ slot (own_out pending after store.tickets said.keeps op.cell slot has) refl)
-            ∙ ap (re_ended (without cell_cmp pending op.cell) (without_ticket (store_of store))) said.done;
-        keeps = kept_dropped pending after store.tickets said.keeps op.cell slot sorted has;
+        done = record {
+          own = ap (λ (s : Store). ended_own op.cell s (own_of after store)) given
+              ∙ ap (ended_own op.cell (without_ticket (store_of store))) said.done.own;
+          letters = said.done.letters;
+          jobs = said.done.jobs;
+        };
+        keeps = tickets.kept_dropped after.pending after.last after.own after.apart store.tickets said.keeps op.cell slot sorted has;
         err = tt;
         store = refl;
       })

@@ -31,6 +31,9 @@ fn with_paired(mut op: Pending) -> Pending
 }
 
 /// The second server has set its slot apart.
+///
+/// # Errors
+/// As of [`goes_on`](crate::goes_on).
 #[tactic(auto, unfolding(petal_rules::specs::Writes::on_reserved))]
 pub fn on_reserved<D: Disk>(
     here: &Here,
@@ -72,6 +75,9 @@ fn ends_full<D: Disk>(
 }
 
 /// Only an operation that still waits for its reservation is refused.
+///
+/// # Errors
+/// Out of memory, which changed nothing.
 #[tactic(auto, unfolding(petal_rules::specs::Writes::on_pair_full))]
 pub fn on_pair_full<D: Disk>(
     here: &Here,
@@ -92,6 +98,9 @@ pub fn on_pair_full<D: Disk>(
 }
 
 /// The second server has put its copy.
+///
+/// # Errors
+/// As of [`goes_on`](crate::goes_on).
 #[tactic(auto, unfolding(petal_rules::specs::Writes::on_replicated))]
 pub fn on_replicated<D: Disk>(
     here: &Here,

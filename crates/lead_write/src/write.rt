@@ -175,6 +175,9 @@ fn takes_newer<D: Disk>(
 }
 
 /// A write is taken by the cell's lead, once.
+///
+/// # Errors
+/// Out of memory, which changed nothing.
 #[tactic(auto, unfolding(petal_rules::specs::Writes::on_write))]
 pub fn on_write<D: Disk>(
     here: &Here,

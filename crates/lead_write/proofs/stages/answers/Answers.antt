@@ -1,8 +1,8 @@
-use Rattle.write_pair.specs.Jobs.{place}
-use Rattle.write_pair.proofs.Moves.{answers_is}
-use Rattle.write_pair.proofs.stages.answers.Goals as goal
+use Rattle.lead_write.proofs.Moves.{answers_is}
+use Rattle.lead_write.proofs.stages.answers.Goals as goal
 
 pub returns : goal.returns
 returns g c =
-    answers_is (place c.args.here.now) c.args.here.now.next c.args.locks.now c.args.tables.now c.args.store.now c.args.op.now c.requires.tickets c.requires.moved c.close.new.self c.finishes.new.tables c.in_ok-outcome.outcome
-    c.requires.put c.close.ensures.table c.in_ok-outcome.ensures
+    let said = rw (← c.side.view_is) at c.in_ok-done.ensures in
+    answers_is c.args.here.now c.args.side.now c.args.store.now c.args.op.now c.requires.tickets c.requires.moved _ c.close.new.self c.in_ok-done.done
+    c.requires.put c.close.ensures.table said
