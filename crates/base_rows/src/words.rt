@@ -1,7 +1,16 @@
 //! Names, tuples, blocks and lists: happy paths, and values from outside the definitions.
 
-use petal_base::{BLOCK_BYTES, Block, Name, Sequence, SharedBlock, Tuple};
+use petal_base::{BLOCK_BYTES, Block, Name, NoMemory, Sequence, ServerId, SharedBlock, Tuple};
+use std::alloc::{AllocError, Global};
 use std::test::Fail;
+
+/// Whether the text is a name, with these bytes.
+fn is_name(text: &str) -> bool {
+    match Name::read(text.as_bytes()) {
+        Some(name) => name.again().bytes() == text.as_bytes(),
+        None => false,
+    }
+}
 
 #[test]
 fn names(rt: HostRuntime) {
@@ -15,12 +24,16 @@ fn names(rt: HostRuntime) {
         ("a_9", true),
         ("aB", false),
     ];
-    for (text, is_name) in cases {
-        let name = Name::read(text.as_bytes());
-        assert_eq!(rt; name.is_some(), is_name, "at {text}");
-        if let Some(name) = name {
-            assert_eq!(rt; name.again().bytes(), text.as_bytes());
-        }
+    for (text, want) in cases {
+        assert!(rt; is_name(text) == want, "at {text}");
+    }
+}
+
+/// Whether the numbers are a tuple, of these servers.
+fn is_tuple(ids: &[ServerId], servers: u8) -> bool {
+    match Tuple::new(ids, servers) {
+        Some(tuple) => tuple.again().ids() == ids,
+        None => false,
     }
 }
 
@@ -36,44 +49,84 @@ fn tuples(rt: HostRuntime) {
         (&[0, 8], 9, false),
         (&[0, 1, 2, 3, 4, 5, 6, 7, 0], 8, false),
     ];
-    for (ids, servers, is_tuple) in cases {
-        let tuple = Tuple::new(ids, servers);
-        assert_eq!(rt; tuple.is_some(), is_tuple, "at {ids:?}");
-        if let Some(tuple) = tuple {
-            assert_eq!(rt; tuple.again().ids(), ids);
-        }
+    for (ids, servers, want) in cases {
+        assert!(rt; is_tuple(ids, servers) == want, "at {ids:?}");
     }
+}
+
+fn has(bytes: &[u8], at: usize, byte: u8) -> bool {
+    bytes.get(at).copied() == Some(byte)
+}
+
+fn zero_is_whole(alloc: Global) -> Result<bool, NoMemory> {
+    let zero = Block::zero(alloc)?;
+    Ok(zero.bytes().len() == BLOCK_BYTES)
+}
+
+fn halves_meet(alloc: Global) -> Result<bool, NoMemory> {
+    let halves = Block::halves(alloc, 1, 2)?;
+    Ok(has(halves.bytes(), 32_767, 1) && has(halves.bytes(), 32_768, 2))
+}
+
+fn ramp_goes_round(alloc: Global) -> Result<bool, NoMemory> {
+    let ramp = Block::ramp(alloc, 250)?;
+    Ok(has(ramp.bytes(), 5, 255) && has(ramp.bytes(), 6, 0))
 }
 
 #[test]
 fn blocks(rt: HostRuntime) -> Result<(), Fail> {
-    let zero = Block::zero(rt.alloc())?;
-    assert_eq!(rt; zero.bytes().len(), BLOCK_BYTES);
-    let mut halves = Block::halves(rt.alloc(), 1, 2)?;
-    assert_eq!(rt; halves.bytes().get(32_767).copied(), Some(1));
-    assert_eq!(rt; halves.bytes().get(32_768).copied(), Some(2));
-    let ramp = Block::ramp(rt.alloc(), 250)?;
-    assert_eq!(rt; ramp.bytes().get(5).copied(), Some(255));
-    assert_eq!(rt; ramp.bytes().get(6).copied(), Some(0));
-    halves.write(ramp.bytes());
-    let shared = SharedBlock::new(rt.alloc(), halves)?;
-    let other = shared.share()?;
-    assert!(rt; other == shared);
-    assert_eq!(rt; other.bytes().get(6).copied(), Some(0));
+    assert!(rt; zero_is_whole(rt.alloc())?);
+    assert!(rt; halves_meet(rt.alloc())?);
+    assert!(rt; ramp_goes_round(rt.alloc())?);
     Ok(())
+}
+
+/// A block of two halves, over which a ramp is written.
+fn written(alloc: Global) -> Result<SharedBlock, NoMemory> {
+    let ramp = Block::ramp(alloc, 250)?;
+    let mut block = Block::halves(alloc, 1, 2)?;
+    block.write(ramp.bytes());
+    SharedBlock::new(alloc, block)
+}
+
+fn shares(one: &SharedBlock) -> Result<bool, NoMemory> {
+    let other = one.share()?;
+    Ok(other == *one && has(other.bytes(), 6, 0))
+}
+
+#[test]
+fn a_block_is_written_and_shared(rt: HostRuntime) -> Result<(), Fail> {
+    let block = written(rt.alloc())?;
+    assert!(rt; shares(&block)?);
+    Ok(())
+}
+
+fn four_and_five(alloc: Global) -> Result<Sequence<u8>, NoMemory> {
+    let mut numbers = Sequence::one(alloc, 4u8)?;
+    numbers.push(5)?;
+    Ok(numbers)
+}
+
+/// Whether a copy stays as it is when the last number goes.
+fn copy_stays(numbers: &mut Sequence<u8>) -> Result<bool, AllocError> {
+    let same = numbers.clone()?;
+    let was_same = same == *numbers;
+    let has_gone = numbers.pop() == Some(5);
+    let differs = same != *numbers;
+    let count = Sequence::of(same.into_vec()).len();
+    Ok(was_same && has_gone && differs && count == 2)
 }
 
 #[test]
 fn sequences(rt: HostRuntime) -> Result<(), Fail> {
-    let mut numbers = Sequence::one(rt.alloc(), 4u8)?;
-    numbers.push(5)?;
-    assert_eq!(rt; numbers.as_slice(), [4, 5].as_slice());
-    let same = numbers.clone()?;
-    assert!(rt; same == numbers);
-    assert_eq!(rt; numbers.pop(), Some(5));
-    assert!(rt; same != numbers);
+    let mut numbers = four_and_five(rt.alloc())?;
+    assert!(rt; numbers.as_slice() == [4, 5].as_slice());
+    assert!(rt; copy_stays(&mut numbers)?);
+    Ok(())
+}
+
+#[test]
+fn an_empty_sequence(rt: HostRuntime) {
     let none: Sequence<u8> = Sequence::new(rt.alloc());
     assert!(rt; none.is_empty());
-    assert_eq!(rt; Sequence::of(same.into_vec()).len(), 2);
-    Ok(())
 }

@@ -6,11 +6,11 @@ ghost use Rattle.global_tables.specs.Link.{link_at};
 ghost use Rattle.petal_state.specs.State.{latest};
 ghost use Rattle.petal_state.specs.Place.{view_of, owner, region_at, cell_link, link_of_row, snapshot, least, next_epoch, next_snapshot};
 
-use crate::place::move_region;
-use crate::tables::Tables;
+use crate::state::GlobalState;
 use global_tables::{DiskRow, LinkRow, RegionState, Snapshot, Verdict};
 use petal_base::{Cell, ClientId, DiskId, Epoch, MapId, Name, Seq};
 use petal_state::{DiskView, Link};
+use state_fold::{move_region, snapshot_named};
 
 fn view_of(row: &DiskRow) -> DiskView
     ensures { result ≡ view_of row.now }
@@ -59,25 +59,28 @@ fn next_epoch(from: Epoch, snaps: &[Snapshot]) -> Option<Epoch>
     }
 }
 
-impl Tables {
+impl GlobalState {
+    /// The disk of a name.
     pub fn find(&self, name: &Name) -> Option<DiskView>
         ensures { result ≡ option_map view_of (named self.now.disks.rows name.now) }
     {
-        match self.disks.find(name) {
+        match self.tables.disks.find(name) {
             Some(row) => Some(view_of(row)),
             None => None,
         }
     }
 
+    /// The disk of a number.
     pub fn disk(&self, disk: DiskId) -> Option<DiskView>
         ensures { result ≡ option_map view_of (disk_at self.now.disks.rows disk) }
     {
-        match self.disks.row(disk) {
+        match self.tables.disks.row(disk) {
             Some(row) => Some(view_of(row)),
             None => None,
         }
     }
 
+    /// The disk whose map or old map it is.
     pub fn disk_of(&self, map: MapId) -> Option<DiskView>
         ensures { result ≡ option_map view_of (owner self.now map) }
     {
@@ -87,55 +90,61 @@ impl Tables {
         }
     }
 
+    /// The least epoch of a snapshot of the disk that is not below `from`.
     pub fn next_snapshot(&self, disk: DiskId, from: Epoch) -> Option<Epoch>
         ensures { result ≡ next_snapshot self.now disk from }
     {
-        match self.disks.row(disk) {
+        match self.tables.disks.row(disk) {
             Some(row) => next_epoch(from, row.snaps.as_slice()),
             None => None,
         }
     }
 
+    /// The epoch of the disk's snapshot of this name.
     pub fn snapshot(&self, disk: DiskId, name: &Name) -> Option<Epoch>
         ensures { result ≡ snapshot self.now disk name.now }
     {
-        match self.disks.row(disk) {
+        match self.tables.disks.row(disk) {
             Some(row) => epoch_named(row.snaps.as_slice(), name),
             None => None,
         }
     }
 
+    /// How far a region of the disk has moved; `New` without a move.
     pub fn region_state(&self, disk: DiskId, region: u8) -> RegionState
         ensures { result ≡ region_at (disk_at self.now.disks.rows disk) region }
     {
-        match self.disks.row(disk) {
+        match self.tables.disks.row(disk) {
             Some(row) => move_region(region, &row.moving),
             None => RegionState::New,
         }
     }
 
+    /// A link of a live map.
     pub fn link(&self, map: MapId, link: u8) -> Option<Link>
         ensures { result ≡ option_map link_of_row (link_at self.now.links map link) }
     {
-        match self.links.get(map, link) {
+        match self.tables.links.get(map, link) {
             Some(row) => Some(link_of_row(row)),
             None => None,
         }
     }
 
-    pub fn link_at(&self, cell: Cell) -> Option<Link>
+    /// The link of a cell of a live map.
+    pub fn cell_link(&self, cell: Cell) -> Option<Link>
         ensures { result ≡ option_map link_of_row (cell_link self.now cell) }
     {
-        match self.cell_link(cell) {
+        match self.row_of(cell) {
             Some(row) => Some(link_of_row(row)),
             None => None,
         }
     }
 
+    /// The client's last command and what became of it.
     pub fn verdict(&self, client: ClientId) -> Option<(Seq, Verdict)>
         ensures { result ≡ option_map (λ last. (last.seq, last.verdict)) (latest self.now client) }
     {
-        match self.latest(client) {
+        match self.tables.latest(client) {
             Some(last) => Some((last.seq, last.verdict)),
             None => None,
         }
@@ -149,10 +158,4 @@ fn epoch_named(snaps: &[Snapshot], name: &Name) -> Option<Epoch>
         Some(snap) => Some(snap.epoch),
         None => None,
     }
-}
-
-pub fn snapshot_named<'a>(snaps: &'a [Snapshot], name: &Name) -> Option<&'a Snapshot>
-    ensures { option_copied result ≡ snapshot_named snaps.now name.now }
-{
-    snaps.iter().find(|snap| snap.name == *name)
 }

@@ -1,18 +1,14 @@
 //! The global state: what the entries of the agreed log have made, applied one at a time.
 //!
-//! To the layer above it promises that the state behind `apply` is the fold of the log with one entry more, and that each
+//! To the layer above it promises that the state after `apply` is the fold of the log with one entry more, and that each
 //! reader gives that fold's value. It knows nothing of how entries are chosen, of letters, and of what any server stores.
 #![tactic(auto)]
 
 mod ask;
-mod command;
-mod entry;
-mod pass;
 mod place;
 mod role;
 mod settled;
 mod state;
-mod tables;
 
 pub use global_tables::{Fence, FenceKind, Latest, LinkState, Member, RegionState, Verdict};
 pub use petal_state::{DiskView, Hold, Link};

@@ -2,44 +2,14 @@
 
 ghost use Rattle.std.specs.Prelude.{◌≡◌, Option, option_and_then, option_copied};
 ghost use Rattle.global_tables.specs.Disk.{has_link};
-ghost use Rattle.petal_state.specs.State.{leaves, mover};
-ghost use Rattle.petal_state.specs.Place.{move_region, has_map, owner, live_new, live_old, live_under, live, is_fenced, leaving, cell_link, state_lead, row_lead, link_lead, lead, serves, readable, is_of, holds, held, noted_in, noted};
+ghost use Rattle.petal_state.specs.Place.{has_map, owner, live_new, live_old, live_under, live, leaving, cell_link, state_lead, row_lead, link_lead, lead, serves, readable, is_of, holds, held, noted_in, noted};
 
-use crate::tables::Tables;
+use crate::state::GlobalState;
 use chain_place::{link_of, region};
 use global_tables::{DiskRow, FenceKind, LinkRow, LinkState, Move, RegionState};
 use petal_base::{Cell, DiskId, MapId, ServerId};
 use petal_state::Hold;
-
-pub fn move_region(region: u8, moving: &Option<Move>) -> RegionState
-    ensures { result ≡ move_region region moving.now }
-{
-    match moving {
-        Some(moving) => match moving.regions.as_slice().get(region as usize) {
-            Some(state) => *state,
-            None => RegionState::New,
-        },
-        None => RegionState::New,
-    }
-}
-
-pub fn is_fenced(state: RegionState) -> bool
-    ensures { result ≡ is_fenced state }
-{
-    match state {
-        RegionState::Fenced => true,
-        RegionState::Old | RegionState::New => false,
-    }
-}
-
-fn leaves(map: MapId, moving: &Option<Move>) -> bool
-    ensures { result ≡ leaves map moving.now }
-{
-    match moving {
-        Some(moving) => moving.old_map == map,
-        None => false,
-    }
-}
+use state_fold::{is_fenced, leaves, move_region};
 
 fn has_map(map: MapId, row: &DiskRow) -> bool
     ensures { result ≡ has_map map row.now }
@@ -97,24 +67,19 @@ fn noted_in(region: u8, link: u8, moving: &Option<Move>) -> bool
     }
 }
 
-impl Tables {
-    /// The disk that is on its way from this map.
-    pub fn mover(&self, map: MapId) -> Option<&DiskRow>
-        ensures { option_copied result ≡ mover self.now map }
-    {
-        self.disks
-            .rows()
-            .iter()
-            .find(|row| leaves(map, &row.moving))
-    }
-
+impl GlobalState {
     /// The disk whose map or old map it is.
-    pub fn owner(&self, map: MapId) -> Option<&DiskRow>
+    pub(crate) fn owner(&self, map: MapId) -> Option<&DiskRow>
         ensures { option_copied result ≡ owner self.now map }
     {
-        self.disks.rows().iter().find(|row| has_map(map, row))
+        self.tables
+            .disks
+            .rows()
+            .iter()
+            .find(|row| has_map(map, row))
     }
 
+    /// Whether the cell is one of those that hold its disk's contents.
     pub fn live(&self, cell: Cell) -> bool
         ensures { result ≡ live self.now cell }
     {
@@ -127,17 +92,19 @@ impl Tables {
     fn leaving(&self, cell: Cell) -> bool
         ensures { result ≡ leaving self.now cell }
     {
-        match self.mover(cell.map) {
+        match self.tables.mover(cell.map) {
             Some(row) => is_fenced(move_region(region(cell.block), &row.moving)),
             None => false,
         }
     }
 
-    pub fn cell_link(&self, cell: Cell) -> Option<&LinkRow>
+    /// The row of a cell's link.
+    pub(crate) fn row_of(&self, cell: Cell) -> Option<&LinkRow>
         ensures { option_copied result ≡ cell_link self.now cell }
     {
-        match self.maps.tuple(cell.map) {
+        match self.tables.maps.tuple(cell.map) {
             Some(tuple) => self
+                .tables
                 .links
                 .get(cell.map, link_of(tuple.ids().len() as u8, cell.block)),
             None => None,
@@ -150,7 +117,7 @@ impl Tables {
         match state {
             LinkState::Both => Some(primary),
             LinkState::Only { holder, whole: _ } => {
-                if self.is_up(holder) {
+                if self.tables.is_up(holder) {
                     Some(holder)
                 } else {
                     None
@@ -160,24 +127,27 @@ impl Tables {
         }
     }
 
+    /// The server that leads the cell's link, whatever its region.
     pub fn cell_lead(&self, cell: Cell) -> Option<ServerId>
         ensures { result ≡ option_and_then (row_lead self.now) (cell_link self.now cell) }
     {
-        match self.cell_link(cell) {
+        match self.row_of(cell) {
             Some(row) => self.state_lead(row.primary, row.state),
             None => None,
         }
     }
 
+    /// The server that leads the link, whatever its regions.
     pub fn link_lead(&self, map: MapId, link: u8) -> Option<ServerId>
         ensures { result ≡ link_lead self.now map link }
     {
-        match self.links.get(map, link) {
+        match self.tables.links.get(map, link) {
             Some(row) => self.state_lead(row.primary, row.state),
             None => None,
         }
     }
 
+    /// The server that takes writes of the cell.
     pub fn lead(&self, cell: Cell) -> Option<ServerId>
         ensures { result ≡ lead self.now cell }
     {
@@ -190,13 +160,14 @@ impl Tables {
         self.cell_lead(cell)
     }
 
+    /// Whether the server may answer reads of the cell.
     pub fn readable(&self, server: ServerId, cell: Cell) -> bool
         ensures { result ≡ readable self.now server cell }
     {
-        if !self.live(cell) || !self.is_up(server) {
+        if !self.live(cell) || !self.tables.is_up(server) {
             return false;
         }
-        match self.cell_link(cell) {
+        match self.row_of(cell) {
             Some(row) => serves(server, row, row.state),
             None => false,
         }
@@ -240,19 +211,21 @@ impl Tables {
         }
     }
 
+    /// What the active fence holds of the cell.
     pub fn held(&self, cell: Cell) -> Hold
         ensures { result ≡ held self.now cell }
     {
-        match self.view.head() {
+        match self.tables.view.head() {
             Some(fence) => self.holds(cell, &fence.kind),
             None => Hold::No,
         }
     }
 
+    /// Whether the region of this old map is `Fenced` and the link is noted for it.
     pub fn noted(&self, map: MapId, region: u8, link: u8) -> bool
         ensures { result ≡ noted self.now map region link }
     {
-        match self.mover(map) {
+        match self.tables.mover(map) {
             Some(row) => noted_in(region, link, &row.moving),
             None => false,
         }

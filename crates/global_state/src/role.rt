@@ -1,13 +1,13 @@
 //! What a server is to a cell.
 
 ghost use Rattle.std.specs.Prelude.{◌≡◌, option_copied};
-ghost use Rattle.petal_state.specs.Role.{is_the, row_in_both, both, first, second};
+ghost use Rattle.petal_state.specs.Role.{is_the, is_lead, leads_link, row_in_both, both, first, second, is_second};
 
-use crate::tables::Tables;
+use crate::state::GlobalState;
 use global_tables::{LinkRow, LinkState};
 use petal_base::{Cell, ServerId};
 
-pub fn is_the(found: Option<ServerId>, server: ServerId) -> bool
+fn is_the(found: Option<ServerId>, server: ServerId) -> bool
     ensures { result ≡ is_the found server }
 {
     match found {
@@ -25,19 +25,34 @@ fn in_both(row: &LinkRow) -> Option<&LinkRow>
     }
 }
 
-impl Tables {
+impl GlobalState {
+    /// Whether the server takes the cell's writes.
+    pub fn is_lead(&self, server: ServerId, cell: Cell) -> bool
+        ensures { result ≡ is_lead self.now server cell }
+    {
+        is_the(self.lead(cell), server)
+    }
+
+    /// Whether the server leads the cell's link, whatever its region.
+    pub fn leads_link(&self, server: ServerId, cell: Cell) -> bool
+        ensures { result ≡ leads_link self.now server cell }
+    {
+        is_the(self.cell_lead(cell), server)
+    }
+
     fn both(&self, cell: Cell) -> Option<&LinkRow>
         ensures { option_copied result ≡ both self.now cell }
     {
         if !self.live(cell) {
             return None;
         }
-        match self.cell_link(cell) {
+        match self.row_of(cell) {
             Some(row) => in_both(row),
             None => None,
         }
     }
 
+    /// The server that puts the cell first, in Both.
     pub fn first(&self, cell: Cell) -> Option<ServerId>
         ensures { result ≡ first self.now cell }
     {
@@ -47,6 +62,7 @@ impl Tables {
         }
     }
 
+    /// The server that follows on the cell, in Both.
     pub fn second(&self, cell: Cell) -> Option<ServerId>
         ensures { result ≡ second self.now cell }
     {
@@ -54,5 +70,12 @@ impl Tables {
             Some(row) => Some(row.secondary),
             None => None,
         }
+    }
+
+    /// Whether the server follows on the cell.
+    pub fn is_second(&self, server: ServerId, cell: Cell) -> bool
+        ensures { result ≡ is_second self.now server cell }
+    {
+        is_the(self.second(cell), server)
     }
 }

@@ -4,7 +4,7 @@ ghost use Rattle.std.specs.Prelude.{◌≡◌};
 ghost use Rattle.std.specs.List.{list_all};
 ghost use Rattle.petal_state.specs.Settled.{agrees, all_agree, is_only, link_settled, lacks_lead, move_settled, is_settled};
 
-use crate::tables::Tables;
+use crate::state::GlobalState;
 use global_tables::{LinkRow, LinkState, Member, Move};
 use petal_base::{Inc, MapId};
 
@@ -39,23 +39,27 @@ fn is_only(state: LinkState) -> bool
     }
 }
 
-impl Tables {
+impl GlobalState {
     fn link_settled(&self, row: &LinkRow) -> bool
         ensures { result ≡ link_settled self.now row.now }
     {
-        !(self.is_up(row.primary) && self.is_up(row.secondary) && is_only(row.state))
+        !(self.tables.is_up(row.primary) && self.tables.is_up(row.secondary) && is_only(row.state))
     }
 
     fn links_settled(&self) -> bool
         ensures { result ≡ list_all (link_settled self.now) self.now.links }
     {
-        self.links.rows().iter().all(|row| self.link_settled(row))
+        self.tables
+            .links
+            .rows()
+            .iter()
+            .all(|row| self.link_settled(row))
     }
 
     fn lacks_lead(&self, map: MapId) -> bool
         ensures { result ≡ lacks_lead self.now map }
     {
-        (0..self.links_of(map)).any(|link| self.link_lead(map, link).is_none())
+        (0..self.tables.links_of(map)).any(|link| self.link_lead(map, link).is_none())
     }
 
     fn move_settled(&self, map: MapId, moving: &Option<Move>) -> bool
@@ -70,17 +74,20 @@ impl Tables {
     fn moves_settled(&self) -> bool
         ensures { result ≡ list_all (λ row. move_settled self.now row.map row.moving) self.now.disks.rows }
     {
-        self.disks
+        self.tables
+            .disks
             .rows()
             .iter()
             .all(|row| self.move_settled(row.map, &row.moving))
     }
 
-    pub fn is_settled(&self, running: &[Option<Inc>]) -> bool
+    /// Whether nothing is under way: the view is that of the servers as they run (`None` for one that is stopped), no fence
+    /// waits, no link is left to catch up, and no move can go on.
+    pub fn settled(&self, running: &[Option<Inc>]) -> bool
         ensures { result ≡ is_settled self.now running.now }
     {
-        all_agree(self.view.members(), running)
-            && self.view.queue().is_empty()
+        all_agree(self.tables.view.members(), running)
+            && self.tables.view.queue().is_empty()
             && self.links_settled()
             && self.moves_settled()
     }

@@ -1,30 +1,23 @@
 //! The state as the layers above see it.
 
-ghost use Rattle.std.specs.Prelude.{◌≡◌, ◌<◌, ◌-◌, ◌^◌, IfOk, OnOk, OnErr, IsTrue, option_and_then, option_map, option_copied};
+ghost use Rattle.std.specs.Prelude.{◌≡◌, ◌<◌, ◌-◌, ◌^◌, IfOk, OnOk, OnErr, IsTrue, option_copied};
 ghost use Rattle.petal_base.specs.Tuple.{is_tuple};
-ghost use Rattle.global_tables.specs.Disk.{disk_at, named};
-ghost use Rattle.global_tables.specs.Link.{link_at};
 ghost use Rattle.global_tables.specs.View.{head};
-ghost use Rattle.petal_state.specs.State.{start, inc_of, latest};
-ghost use Rattle.petal_state.specs.Place.{view_of, owner, region_at, link_of_row, snapshot, next_snapshot, live, cell_link, row_lead, lead, link_lead, readable, held, noted};
-ghost use Rattle.petal_state.specs.Role.{is_lead, leads_link, first, second, is_second};
+ghost use Rattle.petal_state.specs.State.{start, inc_of};
 ghost use Rattle.petal_state.specs.Command.{after, fixed};
-ghost use Rattle.petal_state.specs.Settled.{is_settled};
 ghost use Rattle.petal_state.specs.Bound.{IsWithin};
 
-use crate::role::is_the;
-use crate::tables::Tables;
-use global_tables::{Fence, RegionState, Verdict};
-use petal_base::{Cell, ClientId, DiskId, Epoch, Inc, MapId, Name, NoMemory, Rev, Seq, ServerId};
+use global_tables::Fence;
+use petal_base::{Inc, Name, NoMemory, Rev, ServerId};
 use petal_command::Command;
-use petal_state::{DiskView, Hold, Link};
+use state_fold::Tables;
 use std::alloc::Global;
 use std::marker::Model;
 
 /// What the entries applied so far have made. Contracts see the fold of these entries.
 #[derive(Drop)]
 pub struct GlobalState {
-    tables: Tables,
+    pub(crate) tables: Tables,
 }
 
 impl Model for GlobalState {
@@ -98,165 +91,10 @@ impl GlobalState {
         self.tables.inc_of(server)
     }
 
-    /// The disk of a name.
-    pub fn find(&self, name: &Name) -> Option<DiskView>
-        ensures { result ≡ option_map view_of (named self.now.disks.rows name.now) }
-    {
-        self.tables.find(name)
-    }
-
-    /// The disk of a number.
-    pub fn disk(&self, disk: DiskId) -> Option<DiskView>
-        ensures { result ≡ option_map view_of (disk_at self.now.disks.rows disk) }
-    {
-        self.tables.disk(disk)
-    }
-
-    /// The disk whose map or old map it is.
-    pub fn disk_of(&self, map: MapId) -> Option<DiskView>
-        ensures { result ≡ option_map view_of (owner self.now map) }
-    {
-        self.tables.disk_of(map)
-    }
-
-    /// The least epoch of a snapshot of the disk that is not below `from`.
-    pub fn next_snapshot(&self, disk: DiskId, from: Epoch) -> Option<Epoch>
-        ensures { result ≡ next_snapshot self.now disk from }
-    {
-        self.tables.next_snapshot(disk, from)
-    }
-
-    /// The epoch of the disk's snapshot of this name.
-    pub fn snapshot(&self, disk: DiskId, name: &Name) -> Option<Epoch>
-        ensures { result ≡ snapshot self.now disk name.now }
-    {
-        self.tables.snapshot(disk, name)
-    }
-
-    /// How far a region of the disk has moved; `New` without a move.
-    pub fn region_state(&self, disk: DiskId, region: u8) -> RegionState
-        ensures { result ≡ region_at (disk_at self.now.disks.rows disk) region }
-    {
-        self.tables.region_state(disk, region)
-    }
-
-    /// Whether the cell is one of those that hold its disk's contents.
-    pub fn live(&self, cell: Cell) -> bool
-        ensures { result ≡ live self.now cell }
-    {
-        self.tables.live(cell)
-    }
-
-    /// A link of a live map.
-    pub fn link(&self, map: MapId, link: u8) -> Option<Link>
-        ensures { result ≡ option_map link_of_row (link_at self.now.links map link) }
-    {
-        self.tables.link(map, link)
-    }
-
-    /// The link of a cell of a live map.
-    pub fn cell_link(&self, cell: Cell) -> Option<Link>
-        ensures { result ≡ option_map link_of_row (cell_link self.now cell) }
-    {
-        self.tables.link_at(cell)
-    }
-
-    /// The server that leads the cell's link, whatever its region.
-    pub fn cell_lead(&self, cell: Cell) -> Option<ServerId>
-        ensures { result ≡ option_and_then (row_lead self.now) (cell_link self.now cell) }
-    {
-        self.tables.cell_lead(cell)
-    }
-
-    /// The server that takes writes of the cell.
-    pub fn lead(&self, cell: Cell) -> Option<ServerId>
-        ensures { result ≡ lead self.now cell }
-    {
-        self.tables.lead(cell)
-    }
-
-    /// The server that leads the link, whatever its regions.
-    pub fn link_lead(&self, map: MapId, link: u8) -> Option<ServerId>
-        ensures { result ≡ link_lead self.now map link }
-    {
-        self.tables.link_lead(map, link)
-    }
-
-    /// Whether the server takes the cell's writes.
-    pub fn is_lead(&self, server: ServerId, cell: Cell) -> bool
-        ensures { result ≡ is_lead self.now server cell }
-    {
-        is_the(self.lead(cell), server)
-    }
-
-    /// Whether the server leads the cell's link, whatever its region.
-    pub fn leads_link(&self, server: ServerId, cell: Cell) -> bool
-        ensures { result ≡ leads_link self.now server cell }
-    {
-        is_the(self.cell_lead(cell), server)
-    }
-
-    /// The server that puts the cell first, in Both.
-    pub fn first(&self, cell: Cell) -> Option<ServerId>
-        ensures { result ≡ first self.now cell }
-    {
-        self.tables.first(cell)
-    }
-
-    /// The server that follows on the cell, in Both.
-    pub fn second(&self, cell: Cell) -> Option<ServerId>
-        ensures { result ≡ second self.now cell }
-    {
-        self.tables.second(cell)
-    }
-
-    /// Whether the server follows on the cell.
-    pub fn is_second(&self, server: ServerId, cell: Cell) -> bool
-        ensures { result ≡ is_second self.now server cell }
-    {
-        is_the(self.second(cell), server)
-    }
-
-    /// Whether the server may answer reads of the cell.
-    pub fn readable(&self, server: ServerId, cell: Cell) -> bool
-        ensures { result ≡ readable self.now server cell }
-    {
-        self.tables.readable(server, cell)
-    }
-
-    /// What the active fence holds of the cell.
-    pub fn held(&self, cell: Cell) -> Hold
-        ensures { result ≡ held self.now cell }
-    {
-        self.tables.held(cell)
-    }
-
     /// The active fence.
     pub fn fence(&self) -> Option<&Fence>
         ensures { option_copied result ≡ head self.now.view.queue }
     {
         self.tables.view.head()
-    }
-
-    /// The client's last command and what became of it.
-    pub fn verdict(&self, client: ClientId) -> Option<(Seq, Verdict)>
-        ensures { result ≡ option_map (λ last. (last.seq, last.verdict)) (latest self.now client) }
-    {
-        self.tables.verdict(client)
-    }
-
-    /// Whether the region of this old map is `Fenced` and the link is noted for it.
-    pub fn noted(&self, map: MapId, region: u8, link: u8) -> bool
-        ensures { result ≡ noted self.now map region link }
-    {
-        self.tables.noted(map, region, link)
-    }
-
-    /// Whether nothing is under way: the view is that of the servers as they run (`None` for one that is stopped), no fence
-    /// waits, no link is left to catch up, and no move can go on.
-    pub fn settled(&self, running: &[Option<Inc>]) -> bool
-        ensures { result ≡ is_settled self.now running.now }
-    {
-        self.tables.is_settled(running)
     }
 }

@@ -1,8 +1,9 @@
 -- The first refused line.
 use Rattle.std.proofs.Common.{◌≡◌, ◌≢◌, ℕ, zero, suc, ◌+◌, ◌-◌, ◌<◌, List, [], ◌∷◌, ◌++◌, length, get_or, slice_get, refl, ap, sym, ◌∙◌, arith, Option, Some, None, Result, Ok, Err, ◌⊎◌, inl, inr, ◌↔◌}
 use Rattle.std.proofs.lemmas.Bool.{cases_eq, eq-eqb, ne_eqb}
-use Rattle.std.specs.List.{concat, onto_first}
+use Rattle.std.specs.List.{onto_first}
 use Rattle.script_words.specs.Text.{pieces, without_end}
+pub use Rattle.script_words.proofs.Pieces.{concat-pieces}
 use Rattle.script_lines.specs.declared.script.Script.{Script}
 use Rattle.petal_script.specs.Script.{lines_behind, TextLine, Refusal, line_verdict, script_from, script_of, text_lines, goes_on, ended}
 use Rattle.law_script.specs.Laws.{Taken, IsFirstRefused, IsWithoutLines, IsPiece, AreLines}
@@ -91,19 +92,6 @@ unfolding script_of
 is_refused text r = (λ e. at_front (text_lines text) r (script_refused (text_lines text) None r e), from_front (text_lines text) r)
 
 -- ### Lines
-
-concat_onto : (b : ℕ) (parts : List (List ℕ)) → concat (onto_first b parts) ≡ b ∷ concat parts
-concat_onto b [] = refl
-concat_onto b (part ∷ parts) = refl
-
-pub concat-pieces : (text : List ℕ) → concat (pieces text) ≡ text
-concat-pieces [] = refl
-concat-pieces (b ∷ bs) =
-    let rest : concat (pieces bs) ≡ bs = concat-pieces bs in
-    elim (cases_eq b 10) [
-      | inl e ↦ rw (eq-eqb b 10 e) (ap (λ t. 10 ∷ t) rest ∙ ap (λ c. c ∷ bs) (sym e))
-      | inr ne ↦ rw (ne_eqb b 10 ne) (concat_onto b (pieces bs) ∙ ap (λ t. b ∷ t) rest)
-    ]
 
 one_piece : (b : ℕ) → IsPiece (b ∷ [])
 one_piece b = record { some = omega arith; none = λ k below. absurd (omega arith) }

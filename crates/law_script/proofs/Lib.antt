@@ -1,3 +1,4 @@
 pub mod Firsts
 pub mod Doing
 pub mod Faulting
+pub mod Runs

@@ -9,11 +9,11 @@ use Rattle.std.specs.List.{count_by, range_with_len, fold}
 use Rattle.script_lines.specs.declared.script.Script.{Script}
 use Rattle.script_lines.specs.Requests.{is_disk, is_snap, is_move, is_boot}
 use Rattle.petal_script.specs.Script.{adds, too_many, no_majority, is_down, count, down_after}
-use Rattle.petal_script.specs.Tally.{Tallies, tally_with}
+use Rattle.petal_script.specs.Tally.{Tallies, one_more, down_with, tally_with}
 use Rattle.petal_script.specs.declared.tally.Tally.{Tally}
 use Rattle.script_lines.specs.declared.request.Line.{Line}
 use Rattle.script_lines.specs.declared.request.Request.{Request}
-use Rattle.script_lines.specs.declared.request.Request.TheVariants.{Disk, Write, Read, Snap, Move, Stop, StopAt, Fault, Start, Blank, Settle}
+use Rattle.script_lines.specs.declared.request.Request.TheVariants.{Stop, StopAt, Fault, Start, Blank}
 
 count_from : (g : ℕ → Bool) (n i a : ℕ) (ys : List Bool) → n ≤ length ys → ((k : ℕ) → k < n → not (get_or ys k false) ≡ g (i + k)) → fold (λ m x. m + cond (not x) 1 0) a (take n ys) ≡ fold (λ m x. m + cond (g x) 1 0) a (range_with_len i n)
 count_from g zero i a ys room same = refl
@@ -70,18 +70,27 @@ goes_down ds server s was now eight below is e = at_set ds server s true eight b
 comes_up : (ds : List Bool) (server s : ℕ) (was now : Bool) → length ds ≡ 8 → s < 8 → get_or ds s false ≡ was → now ≡ (was && not (server == s)) → get_or (set ds server false) s false ≡ now
 comes_up ds server s was now eight below is e = at_set ds server s false eight below ∙ ap (cond (server == s) false) is ∙ up_if (server == s) was ∙ sym e
 
+counts_more : (is : Bool) (n old new : ℕ) → n ≡ old → new ≡ old + cond is 1 0 → one_more n is ≡ new
+counts_more true n old new told e = omega (arith, told, e)
+counts_more false n old new told e = omega (arith, told, e)
+
+marks_more : (r : Request) (ds : List Bool) (s : ℕ) (was now : Bool) → length ds ≡ 8 → s < 8 → get_or ds s false ≡ was → now ≡ down_after s was r → get_or (down_with ds r) s false ≡ now
+marks_more (Stop server) ds s was now eight below is e = goes_down ds server s was now eight below is e
+marks_more (StopAt server at) ds s was now eight below is e = goes_down ds server s was now eight below is e
+marks_more (Fault server which kind at) ds s was now eight below is e = goes_down ds server s was now eight below is e
+marks_more (Start server) ds s was now eight below is e = comes_up ds server s was now eight below is e
+marks_more (Blank server) ds s was now eight below is e = comes_up ds server s was now eight below is e
+marks_more _ ds s was now eight below is e = is ∙ sym e
+
 more : (old new : List Line) (r : Request) (t : Tally) → length t.down ≡ 8 → Tallies old t → More old new r → Tallies new (tally_with t r)
-more old new (Disk name tuple) t eight told m = record { requests = omega (arith, told.requests, m.len); disks = omega (arith, told.disks, m.counts is_disk); snaps = omega (arith, told.snaps, m.counts is_snap); moves = omega (arith, told.moves, m.counts is_move); boots = omega (arith, told.boots, m.counts is_boot); down = λ s below. told.down s below ∙ sym (m.downs s) }
-more old new (Snap name snap) t eight told m = record { requests = omega (arith, told.requests, m.len); disks = omega (arith, told.disks, m.counts is_disk); snaps = omega (arith, told.snaps, m.counts is_snap); moves = omega (arith, told.moves, m.counts is_move); boots = omega (arith, told.boots, m.counts is_boot); down = λ s below. told.down s below ∙ sym (m.downs s) }
-more old new (Move name tuple) t eight told m = record { requests = omega (arith, told.requests, m.len); disks = omega (arith, told.disks, m.counts is_disk); snaps = omega (arith, told.snaps, m.counts is_snap); moves = omega (arith, told.moves, m.counts is_move); boots = omega (arith, told.boots, m.counts is_boot); down = λ s below. told.down s below ∙ sym (m.downs s) }
-more old new (Write name block pattern) t eight told m = record { requests = omega (arith, told.requests, m.len); disks = omega (arith, told.disks, m.counts is_disk); snaps = omega (arith, told.snaps, m.counts is_snap); moves = omega (arith, told.moves, m.counts is_move); boots = omega (arith, told.boots, m.counts is_boot); down = λ s below. told.down s below ∙ sym (m.downs s) }
-more old new (Read name snap block) t eight told m = record { requests = omega (arith, told.requests, m.len); disks = omega (arith, told.disks, m.counts is_disk); snaps = omega (arith, told.snaps, m.counts is_snap); moves = omega (arith, told.moves, m.counts is_move); boots = omega (arith, told.boots, m.counts is_boot); down = λ s below. told.down s below ∙ sym (m.downs s) }
-more old new Settle t eight told m = record { requests = omega (arith, told.requests, m.len); disks = omega (arith, told.disks, m.counts is_disk); snaps = omega (arith, told.snaps, m.counts is_snap); moves = omega (arith, told.moves, m.counts is_move); boots = omega (arith, told.boots, m.counts is_boot); down = λ s below. told.down s below ∙ sym (m.downs s) }
-more old new (Stop server) t eight told m = record { requests = omega (arith, told.requests, m.len); disks = omega (arith, told.disks, m.counts is_disk); snaps = omega (arith, told.snaps, m.counts is_snap); moves = omega (arith, told.moves, m.counts is_move); boots = omega (arith, told.boots, m.counts is_boot); down = λ s below. goes_down t.down server s (is_down old s) (is_down new s) eight below (told.down s below) (m.downs s) }
-more old new (StopAt server at) t eight told m = record { requests = omega (arith, told.requests, m.len); disks = omega (arith, told.disks, m.counts is_disk); snaps = omega (arith, told.snaps, m.counts is_snap); moves = omega (arith, told.moves, m.counts is_move); boots = omega (arith, told.boots, m.counts is_boot); down = λ s below. goes_down t.down server s (is_down old s) (is_down new s) eight below (told.down s below) (m.downs s) }
-more old new (Fault server which kind at) t eight told m = record { requests = omega (arith, told.requests, m.len); disks = omega (arith, told.disks, m.counts is_disk); snaps = omega (arith, told.snaps, m.counts is_snap); moves = omega (arith, told.moves, m.counts is_move); boots = omega (arith, told.boots, m.counts is_boot); down = λ s below. goes_down t.down server s (is_down old s) (is_down new s) eight below (told.down s below) (m.downs s) }
-more old new (Start server) t eight told m = record { requests = omega (arith, told.requests, m.len); disks = omega (arith, told.disks, m.counts is_disk); snaps = omega (arith, told.snaps, m.counts is_snap); moves = omega (arith, told.moves, m.counts is_move); boots = omega (arith, told.boots, m.counts is_boot); down = λ s below. comes_up t.down server s (is_down old s) (is_down new s) eight below (told.down s below) (m.downs s) }
-more old new (Blank server) t eight told m = record { requests = omega (arith, told.requests, m.len); disks = omega (arith, told.disks, m.counts is_disk); snaps = omega (arith, told.snaps, m.counts is_snap); moves = omega (arith, told.moves, m.counts is_move); boots = omega (arith, told.boots, m.counts is_boot); down = λ s below. comes_up t.down server s (is_down old s) (is_down new s) eight below (told.down s below) (m.downs s) }
+more old new r t eight told m = record {
+  requests = omega (arith, told.requests, m.len);
+  disks = counts_more (is_disk r) t.disks (count is_disk old) (count is_disk new) told.disks (m.counts is_disk);
+  snaps = counts_more (is_snap r) t.snaps (count is_snap old) (count is_snap new) told.snaps (m.counts is_snap);
+  moves = counts_more (is_move r) t.moves (count is_move old) (count is_move new) told.moves (m.counts is_move);
+  boots = counts_more (is_boot r) t.boots (count is_boot old) (count is_boot new) told.boots (m.counts is_boot);
+  down = λ s below. marks_more r t.down s (is_down old s) (is_down new s) eight below (told.down s below) (m.downs s);
+}
 
 is_more : (lines : List Line) (line : Line) → More lines (lines ++ line ∷ []) line.request
 is_more lines line = record {

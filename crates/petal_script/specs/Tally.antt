@@ -1,12 +1,12 @@
 -- The counts that the code keeps beside the lines.
-use Rattle.std.specs.Prelude.{◌≡◌, ℕ, ◌+◌, ◌<◌, ◌≤◌, true, false, List, length, get_or, slice_set}
+use Rattle.std.specs.Prelude.{◌≡◌, ℕ, ◌+◌, ◌<◌, ◌≤◌, Bool, true, false, List, length, get_or, slice_set}
 use Rattle.script_lines.specs.Requests.{is_disk, is_snap, is_move, is_boot}
 use Rattle.petal_script.specs.Script.{count, is_down}
 use Rattle.script_lines.specs.declared.script.Script.{Script}
 use Rattle.petal_script.specs.declared.tally.Tally.{Tally}
 use Rattle.script_lines.specs.declared.request.Line.{Line}
 use Rattle.script_lines.specs.declared.request.Request.{Request}
-use Rattle.script_lines.specs.declared.request.Request.TheVariants.{Disk, Snap, Move, Stop, StopAt, Fault, Start, Blank}
+use Rattle.script_lines.specs.declared.request.Request.TheVariants.{Stop, StopAt, Fault, Start, Blank}
 
 pub record Tallies (lines : List Line) (t : Tally) : Type 0 where
   pub requests : t.requests ≡ length lines
@@ -30,14 +30,27 @@ pub record IsDraft (s : Script) (t : Tally) : Type 0 where
   pub most : s.servers ≤ 8
   pub begun : 1 ≤ s.phases
 
+-- one more where it is of the kind
+abbrev pub one_more : ℕ → Bool → ℕ
+one_more n true = n + 1
+one_more n false = n
+
+-- which servers are possibly down after one request more
+abbrev pub down_with : List Bool → Request → List Bool
+down_with down (Stop server) = slice_set down server true
+down_with down (StopAt server at) = slice_set down server true
+down_with down (Fault server which kind at) = slice_set down server true
+down_with down (Start server) = slice_set down server false
+down_with down (Blank server) = slice_set down server false
+down_with down _ = down
+
 -- one request more
 abbrev pub tally_with : Tally → Request → Tally
-tally_with t (Disk name tuple) = record t { requests = t.requests + 1; disks = t.disks + 1 }
-tally_with t (Snap name snap) = record t { requests = t.requests + 1; snaps = t.snaps + 1 }
-tally_with t (Move name tuple) = record t { requests = t.requests + 1; moves = t.moves + 1 }
-tally_with t (Stop server) = record t { requests = t.requests + 1; down = slice_set t.down server true }
-tally_with t (StopAt server at) = record t { requests = t.requests + 1; down = slice_set t.down server true }
-tally_with t (Fault server which kind at) = record t { requests = t.requests + 1; down = slice_set t.down server true }
-tally_with t (Start server) = record t { requests = t.requests + 1; boots = t.boots + 1; down = slice_set t.down server false }
-tally_with t (Blank server) = record t { requests = t.requests + 1; boots = t.boots + 1; down = slice_set t.down server false }
-tally_with t _ = record t { requests = t.requests + 1 }
+tally_with t request = record {
+  requests = t.requests + 1;
+  disks = one_more t.disks (is_disk request);
+  snaps = one_more t.snaps (is_snap request);
+  moves = one_more t.moves (is_move request);
+  boots = one_more t.boots (is_boot request);
+  down = down_with t.down request;
+}

@@ -6,16 +6,14 @@
 #![tactic(auto)]
 
 mod client;
-mod contents;
 mod draft;
 mod error;
 mod operator;
-mod print;
 mod reading;
 mod tally;
 
 pub use error::ScriptError;
-pub use print::{write_answer, write_refusal};
 pub use reading::read_script;
+pub use script_answers::{write_answer, write_refusal};
 pub use script_lines::{Answer, Line, Pattern, Request, Script};
 pub use script_words::Cause;

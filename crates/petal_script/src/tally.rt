@@ -1,10 +1,10 @@
 //! How many requests there are of each kind, and which servers are possibly down.
 
-ghost use Rattle.std.specs.Prelude.{◌≡◌, ◌+◌, ◌≤◌, ◌<◌, ◌++◌, [], ◌∷◌, ℕ, List, IsTrue, ◌/◌, slice_set, take, not, length, IsFalse, get_or, false, if◌then◌else◌};
+ghost use Rattle.std.specs.Prelude.{◌≡◌, ◌+◌, ◌≤◌, ◌<◌, ◌-◌, ◌^◌, ◌++◌, [], ◌∷◌, ℕ, List, IsTrue, ◌/◌, slice_set, take, not, length, IsFalse, get_or, false, if◌then◌else◌};
 ghost use Rattle.std.specs.List.{count_by};
 ghost use Rattle.script_lines.specs.Requests.{is_disk, is_snap, is_move, is_boot};
 ghost use Rattle.petal_script.specs.Script.{too_many, no_majority};
-ghost use Rattle.petal_script.specs.Tally.{Tallies, IsSmall, tally_with};
+ghost use Rattle.petal_script.specs.Tally.{Tallies, IsSmall, one_more, down_with, tally_with};
 ghost use Rattle.script_lines.specs.declared.request.Line.{Line};
 
 use script_lines::Request;
@@ -17,6 +17,14 @@ pub(crate) struct Tally {
     pub(crate) moves: u32,
     pub(crate) boots: u32,
     pub(crate) down: [bool; 8],
+}
+
+/// One more where it is of the kind.
+fn one_more(count: u32, is_of_kind: bool) -> u32
+    requires { count < 2 ^ 32 - 1 }
+    ensures { result ≡ one_more count is_of_kind }
+{
+    if is_of_kind { count + 1 } else { count }
 }
 
 impl Tally {
@@ -41,24 +49,25 @@ impl Tally {
     {
         let mut tally = *self;
         tally.requests += 1;
-        match request {
-            Request::Disk { .. } => tally.disks += 1,
-            Request::Snap { .. } => tally.snaps += 1,
-            Request::Move { .. } => tally.moves += 1,
-            Request::Stop { server } => tally.mark(*server, true),
-            Request::StopAt { server, .. } => tally.mark(*server, true),
-            Request::Fault { server, .. } => tally.mark(*server, true),
-            Request::Start { server } => {
-                tally.boots += 1;
-                tally.mark(*server, false);
-            }
-            Request::Blank { server } => {
-                tally.boots += 1;
-                tally.mark(*server, false);
-            }
-            Request::Write { .. } | Request::Read { .. } | Request::Settle => {}
-        }
+        tally.disks = one_more(self.disks, request.is_disk());
+        tally.snaps = one_more(self.snaps, request.is_snap());
+        tally.moves = one_more(self.moves, request.is_move());
+        tally.boots = one_more(self.boots, request.is_boot());
+        tally.mark_by(request);
         tally
+    }
+
+    fn mark_by(&mut self, request: &Request)
+        ensures { self.new ≡ record self.old { down = down_with self.old.down request.now } }
+    {
+        match request {
+            Request::Stop { server } => self.mark(*server, true),
+            Request::StopAt { server, .. } => self.mark(*server, true),
+            Request::Fault { server, .. } => self.mark(*server, true),
+            Request::Start { server } => self.mark(*server, false),
+            Request::Blank { server } => self.mark(*server, false),
+            _ => {}
+        }
     }
 
     fn mark(&mut self, server: u8, down: bool)

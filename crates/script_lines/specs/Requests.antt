@@ -46,3 +46,8 @@ names (Fault server which kind at) = record { disk = None; block = None; server 
 names (Start server) = record { disk = None; block = None; server = Some server }
 names (Blank server) = record { disk = None; block = None; server = Some server }
 names Settle = record { disk = None; block = None; server = None }
+
+-- the name and the servers of the disk that is made
+abbrev pub disk_of : Request → Option (List ℕ × List ℕ)
+disk_of (Disk name tuple) = Some (name, tuple)
+disk_of _ = None

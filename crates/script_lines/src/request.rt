@@ -1,7 +1,8 @@
 //! What a line asks for.
 
-ghost use Rattle.std.specs.Prelude.{◌≡◌, IfOk};
+ghost use Rattle.std.specs.Prelude.{◌≡◌, None, Some, IfOk, MatchOption};
 ghost use Rattle.script_lines.specs.Pattern.{pattern_block};
+ghost use Rattle.script_lines.specs.Requests.{is_disk, is_write, is_read, is_snap, is_move, is_boot, disk_of};
 
 use petal_base::{Block, BlockNo, ClientId, Name, NoMemory, ServerId, Tuple};
 use petal_disk::{CallKind, Which};
@@ -87,6 +88,78 @@ pub enum Request {
     },
     /// The operator waits until all is settled.
     Settle,
+}
+
+impl Request {
+    /// Whether a disk is to be made.
+    pub fn is_disk(&self) -> bool
+        ensures { result ≡ is_disk self.now }
+    {
+        match self {
+            Request::Disk { .. } => true,
+            _ => false,
+        }
+    }
+
+    /// Whether a block is to be written.
+    pub fn is_write(&self) -> bool
+        ensures { result ≡ is_write self.now }
+    {
+        match self {
+            Request::Write { .. } => true,
+            _ => false,
+        }
+    }
+
+    /// Whether a block is to be read.
+    pub fn is_read(&self) -> bool
+        ensures { result ≡ is_read self.now }
+    {
+        match self {
+            Request::Read { .. } => true,
+            _ => false,
+        }
+    }
+
+    /// Whether a snapshot is to be taken.
+    pub fn is_snap(&self) -> bool
+        ensures { result ≡ is_snap self.now }
+    {
+        match self {
+            Request::Snap { .. } => true,
+            _ => false,
+        }
+    }
+
+    /// Whether a disk is to move.
+    pub fn is_move(&self) -> bool
+        ensures { result ≡ is_move self.now }
+    {
+        match self {
+            Request::Move { .. } => true,
+            _ => false,
+        }
+    }
+
+    /// Whether a server is to start.
+    pub fn is_boot(&self) -> bool
+        ensures { result ≡ is_boot self.now }
+    {
+        match self {
+            Request::Start { .. } | Request::Blank { .. } => true,
+            _ => false,
+        }
+    }
+
+    /// The name and the servers of the disk that is to be made.
+    pub fn disk(&self) -> Option<(&Name, &Tuple)>
+        ensures { MatchOption result (disk_of self.now ≡ None) (λ disk. disk_of self.now ≡ Some (disk.0.now, disk.1.now)) }
+    {
+        match self {
+            Request::Disk { name, tuple } => Some((name, tuple)),
+            _ => None,
+        }
+    }
 }
 
 /// A request, where it stands, and who makes it.

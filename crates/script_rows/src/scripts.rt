@@ -1,10 +1,11 @@
 //! Scripts that are accepted or refused, and texts of answers.
 
-use petal_base::SharedBlock;
+use petal_base::{NoMemory, SharedBlock};
 use petal_script::{
-    Answer, Cause, Pattern, Request, ScriptError, read_script, write_answer, write_refusal,
+    Answer, Cause, Line, Pattern, Request, Script, ScriptError, read_script, write_answer,
+    write_refusal,
 };
-use std::alloc::Global;
+use std::alloc::{AllocError, Global};
 use std::process::Abort;
 use std::test::*;
 
@@ -18,6 +19,11 @@ fn verdict(alloc: Global, text: &[u8]) -> Result<String, Fail> {
         }
         Err(ScriptError::NoMemory) => Err("out of memory".into()),
     }
+}
+
+/// Whether this becomes of a script.
+fn is_told(alloc: Global, text: &[u8], want: &str) -> Result<bool, Fail> {
+    Ok(verdict(alloc, text)?.as_str() == want)
 }
 
 /// Whole scripts: lines, ends of lines, words, and the first line that counts.
@@ -165,7 +171,7 @@ fn check_rows(rt: &impl Abort, alloc: Global, before: &str, rows: &str) -> Resul
     for row in rows.split('\n') {
         let (text, want) = row.split_once(" | ").ok_or("a row")?;
         let bytes = spelled(alloc, before, text)?;
-        assert_eq!(rt; verdict(alloc, &bytes)?.as_str(), want, "at {text}");
+        assert!(rt; is_told(alloc, &bytes, want)?, "at {text}");
     }
     Ok(())
 }
@@ -177,13 +183,13 @@ fn scripts_are_accepted_or_refused(rt: HostRuntime) -> Result<(), Fail> {
     check_rows(&rt, rt.alloc(), BEFORE, LAST_LINES)
 }
 
-/// A servers line and then so many lines.
-fn repeated(alloc: Global, line: &str, count: u32) -> Result<String, Fail> {
+/// Whether this becomes of a servers line and then so many lines.
+fn repeated(alloc: Global, line: &str, count: u32, want: &str) -> Result<bool, Fail> {
     let mut text = String::from_str(alloc, "servers 2 slots 4\n")?;
     for _ in 0..count {
         text.push_str(line)?;
     }
-    verdict(alloc, text.as_str().as_bytes())
+    is_told(alloc, text.as_str().as_bytes(), want)
 }
 
 /// Each kind of line as often as a script may have it, and what is told of one more.
@@ -198,49 +204,112 @@ fn as_many_as_may_be(rt: HostRuntime) -> Result<(), Fail> {
         ("op blank 1\nop start 1\n", 32, "66: too many"),
     ];
     for (line, most, want) in cases {
-        assert_eq!(rt;
-            repeated(rt.alloc(), line, most)?.as_str(),
-            "accepted",
-            "at {line}"
-        );
-        assert_eq!(rt;
-            repeated(rt.alloc(), line, most + 1)?.as_str(),
-            want,
-            "at {line}"
+        assert!(rt; repeated(rt.alloc(), line, most, "accepted")?, "at {line}");
+        assert!(rt;
+            repeated(rt.alloc(), line, most + 1, want)?,
+            "one more at {line}"
         );
     }
     Ok(())
 }
 
-/// 256 bytes make a line and 1,048,576 a script; one more is refused in the line that has it.
-#[test]
-fn as_long_as_may_be(rt: HostRuntime) -> Result<(), Fail> {
-    let mut line = Vec::new(rt.alloc());
-    line.extend_from_slice(b"servers 2 slots 4\n")?;
+/// A servers line, and a line of 256 bytes without its end.
+fn long_line(alloc: Global) -> Result<Vec<u8>, AllocError> {
+    let mut text = Vec::new(alloc);
+    text.extend_from_slice(b"servers 2 slots 4\n")?;
     for _ in 0..256 {
-        line.push(b'#')?;
+        text.push(b'#')?;
     }
-    assert_eq!(rt; verdict(rt.alloc(), &line)?.as_str(), "accepted");
-    line.extend_from_slice(b"\r\nx\n")?;
-    assert_eq!(rt; verdict(rt.alloc(), &line)?.as_str(), "3: bad line");
-    line.truncate(274);
-    line.push(b'#')?;
-    assert_eq!(rt; verdict(rt.alloc(), &line)?.as_str(), "2: too long");
-    line.push(0x80)?;
-    assert_eq!(rt; verdict(rt.alloc(), &line)?.as_str(), "2: not ascii");
-    let mut text = Vec::new(rt.alloc());
+    Ok(text)
+}
+
+fn line_is_refused_past_its_length(alloc: Global, text: &mut Vec<u8>) -> Result<bool, Fail> {
+    let as_long = is_told(alloc, text, "accepted")?;
+    text.extend_from_slice(b"\r\nx\n")?;
+    let with_end = is_told(alloc, text, "3: bad line")?;
+    text.truncate(274);
+    text.push(b'#')?;
+    let longer = is_told(alloc, text, "2: too long")?;
+    text.push(0x80)?;
+    let not_ascii = is_told(alloc, text, "2: not ascii")?;
+    Ok(as_long && with_end && longer && not_ascii)
+}
+
+/// 256 bytes make a line; one more is refused.
+#[test]
+fn a_line_as_long_as_may_be(rt: HostRuntime) -> Result<(), Fail> {
+    let mut text = long_line(rt.alloc())?;
+    assert!(rt; line_is_refused_past_its_length(rt.alloc(), &mut text)?);
+    Ok(())
+}
+
+/// A script of 1,048,576 bytes.
+fn long_script(alloc: Global) -> Result<Vec<u8>, AllocError> {
+    let mut text = Vec::new(alloc);
     text.extend_from_slice(b"servers 2 slots 4\n#############\n")?;
     for _ in 0..32_767 {
         text.extend_from_slice(b"# 345678901234567890123456789 1\n")?;
     }
-    assert_eq!(rt; text.len(), 1_048_576);
-    assert_eq!(rt; verdict(rt.alloc(), &text)?.as_str(), "accepted");
+    Ok(text)
+}
+
+fn script_is_refused_past_its_length(alloc: Global, text: &mut Vec<u8>) -> Result<bool, Fail> {
+    let as_long = text.len() == 1_048_576 && is_told(alloc, text, "accepted")?;
     text.push(b'\n')?;
-    assert_eq!(rt; verdict(rt.alloc(), &text)?.as_str(), "32770: too long");
+    let longer = is_told(alloc, text, "32770: too long")?;
     text.truncate(1_048_575);
     text.extend_from_slice(b"x\n")?;
-    assert_eq!(rt; verdict(rt.alloc(), &text)?.as_str(), "32769: too long");
+    let last_line = is_told(alloc, text, "32769: too long")?;
+    Ok(as_long && longer && last_line)
+}
+
+/// 1,048,576 bytes make a script; one more is refused in the line that has it.
+#[test]
+fn a_script_as_long_as_may_be(rt: HostRuntime) -> Result<(), Fail> {
+    let mut text = long_script(rt.alloc())?;
+    assert!(rt; script_is_refused_past_its_length(rt.alloc(), &mut text)?);
     Ok(())
+}
+
+/// Whether the line stands there: its number, phase and client.
+fn stands(line: Option<&Line>, want: (u32, u32, u8)) -> bool {
+    match line {
+        Some(line) => (line.number, line.phase, line.client) == want,
+        None => false,
+    }
+}
+
+fn makes_vol(line: Option<&Line>) -> bool {
+    match line {
+        Some(line) => match &line.request {
+            Request::Disk { name, tuple } => {
+                name.bytes() == b"vol".as_slice() && tuple.ids() == [0, 4, 2].as_slice()
+            }
+            _ => false,
+        },
+        None => false,
+    }
+}
+
+fn writes_halves(line: Option<&Line>) -> bool {
+    match line {
+        Some(line) => match &line.request {
+            Request::Write { pattern, .. } => *pattern == Pattern::Halves(1, 2),
+            _ => false,
+        },
+        None => false,
+    }
+}
+
+fn is_as_read(script: &Script) -> bool {
+    let lines = script.lines.as_slice();
+    (script.servers, script.slots, script.phases) == (5, 16, 2)
+        && lines.len() == 3
+        && stands(lines.get(0), (3, 0, 1))
+        && stands(lines.get(1), (5, 1, 7))
+        && stands(lines.get(2), (7, 1, 8))
+        && makes_vol(lines.get(0))
+        && writes_halves(lines.get(1))
 }
 
 #[test]
@@ -248,62 +317,48 @@ fn what_is_read(rt: HostRuntime) -> Result<(), Fail> {
     let text =
         b"servers 5 slots 16\r\n# c\r\nb disk vol on 0 4 2\r\nwait\r\nh write vol 5 halves 1 2\r\n\r\nop start 3";
     let script = read_script(rt.alloc(), text).ok().ok_or("a script")?;
-    assert_eq!(rt; (script.servers, script.slots, script.phases), (5, 16, 2));
-    let places: [(u32, u32, u8); 3] = [(3, 0, 1), (5, 1, 7), (7, 1, 8)];
-    let lines = script.lines.as_slice();
-    assert_eq!(rt; lines.len(), 3);
-    for (line, want) in lines.iter().zip(places.iter()) {
-        assert_eq!(rt; (line.number, line.phase, line.client), *want);
-    }
-    match &lines[0].request {
-        Request::Disk { name, tuple } => {
-            assert_eq!(rt; name.bytes(), b"vol".as_slice());
-            assert_eq!(rt; tuple.ids(), [0, 4, 2].as_slice());
-        }
-        _ => return Err("a disk line".into()),
-    }
-    match &lines[1].request {
-        Request::Write { pattern, .. } => assert_eq!(rt; *pattern, Pattern::Halves(1, 2)),
-        _ => return Err("a write line".into()),
-    }
+    assert!(rt; is_as_read(&script));
     Ok(())
 }
 
-fn block(alloc: Global, pattern: Pattern) -> Result<Answer, Fail> {
-    match pattern.block(alloc) {
-        Ok(block) => match SharedBlock::new(alloc, block) {
-            Ok(block) => Ok(Answer::Data(block)),
-            Err(_) => Err("out of memory".into()),
-        },
-        Err(_) => Err("out of memory".into()),
-    }
+/// Prints the answer of a read that found such a block.
+fn print_block(alloc: Global, out: &mut Vec<u8>, pattern: Pattern) -> Result<(), NoMemory> {
+    let block = SharedBlock::new(alloc, pattern.block(alloc)?)?;
+    write_answer(alloc, out, 4, &Answer::Data(block))
 }
 
 /// The digest is that of the 65,536 bytes 7, 8, .., 255, 0, .., as another program computes it.
 #[test]
-fn what_is_printed(rt: HostRuntime) -> Result<(), Fail> {
+fn contents_are_printed(rt: HostRuntime) -> Result<(), Fail> {
     let mut out = Vec::new(rt.alloc());
-    let answers = [
-        Answer::Ok,
-        block(rt.alloc(), Pattern::Fill(0))?,
-        block(rt.alloc(), Pattern::Halves(1, 200))?,
-        block(rt.alloc(), Pattern::Ramp(7))?,
-        Answer::NoSpace,
-        Answer::Unavailable,
-        Answer::NoDisk,
-        Answer::NoSnap,
-        Answer::Exists,
-        Answer::Moving,
-        Answer::Failed,
-    ];
-    for answer in &answers {
-        assert!(rt; write_answer(rt.alloc(), &mut out, 4, answer).is_ok());
-    }
-    assert!(rt; write_refusal(rt.alloc(), &mut out, 20, Cause::NoMajority.text()).is_ok());
-    let want = b"4: ok
-4: data 65536x0
+    print_block(rt.alloc(), &mut out, Pattern::Fill(0))?;
+    print_block(rt.alloc(), &mut out, Pattern::Halves(1, 200))?;
+    print_block(rt.alloc(), &mut out, Pattern::Ramp(7))?;
+    let want = b"4: data 65536x0
 4: data 32768x1 32768x200
 4: data sha256 05373b6763f8979c496c184b7a0eac637558f4ee4b7b17a0449afa72410a93b5
+";
+    assert!(rt; out.as_slice() == want.as_slice());
+    Ok(())
+}
+
+fn print_words(alloc: Global, out: &mut Vec<u8>) -> Result<(), NoMemory> {
+    write_answer(alloc, out, 4, &Answer::Ok)?;
+    write_answer(alloc, out, 4, &Answer::NoSpace)?;
+    write_answer(alloc, out, 4, &Answer::Unavailable)?;
+    write_answer(alloc, out, 4, &Answer::NoDisk)?;
+    write_answer(alloc, out, 4, &Answer::NoSnap)?;
+    write_answer(alloc, out, 4, &Answer::Exists)?;
+    write_answer(alloc, out, 4, &Answer::Moving)?;
+    write_answer(alloc, out, 4, &Answer::Failed)?;
+    write_refusal(alloc, out, 20, Cause::NoMajority.text())
+}
+
+#[test]
+fn words_are_printed(rt: HostRuntime) -> Result<(), Fail> {
+    let mut out = Vec::new(rt.alloc());
+    print_words(rt.alloc(), &mut out)?;
+    let want = b"4: ok
 4: nospace
 4: unavailable
 4: nodisk
@@ -313,6 +368,6 @@ fn what_is_printed(rt: HostRuntime) -> Result<(), Fail> {
 4: failed
 refused line 20: no majority
 ";
-    assert_eq!(rt; out.as_slice(), want.as_slice());
+    assert!(rt; out.as_slice() == want.as_slice());
     Ok(())
 }

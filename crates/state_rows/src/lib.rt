@@ -1,16 +1,5 @@
-//! Tests of the global state and of its tables, with values worked by hand from the rules. The crate itself has no
-//! code.
+//! Tests of the global state, with runs of the log worked by hand from the rules. The crate itself has no code.
 #![tactic(auto)]
 
 #[cfg(test)]
-mod disks;
-#[cfg(test)]
-mod fences;
-#[cfg(test)]
-mod links;
-#[cfg(test)]
 mod logs;
-#[cfg(test)]
-mod maps;
-#[cfg(test)]
-mod places;

@@ -1,4 +1,5 @@
-use Rattle.law_script.proofs.Firsts.{concat-pieces, pieces_are, number_at}
+use Rattle.script_words.proofs.Pieces.{concat-pieces}
+use Rattle.law_script.proofs.Firsts.{pieces_are, number_at}
 use Rattle.law_script.proofs.lines_are_the_text.Goals as goal
 
 pub returns-clause-whole : goal.returns-clause-whole
