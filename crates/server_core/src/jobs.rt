@@ -92,13 +92,7 @@ fn on_read<D: Disk>(
         return silent(here, side, store);
     }
     match answer_read(here, side, store, cell, epoch) {
-        Ok(reply) => says(
-            here,
-            side,
-            store,
-            Actor::Client(client),
-            said(seq, reply),
-        ),
+        Ok(reply) => says(here, side, store, Actor::Client(client), said(seq, reply)),
         Err(ReadError::Failed) => Err(WorkError::Failed),
         Err(ReadError::NoMemory) => Err(WorkError::NoMemory),
     }

@@ -8,4 +8,4 @@ use Rattle.lead_write.proofs.anew.all_anew.Given as goal
 abbrev pub invariant-loop-op : goal.invariant-loop-op
 invariant-loop-op l = (own : Own)
     → l.letters ++ letters_of (sender l.here) l.nth (flat_map (λ row. sent_anew l.here own row.1) l.op-iterator)
-        ≡ letters_of (sender l.here) 0 (flat_map (λ row. sent_anew l.here own row.1) l.locks)
+    ≡ letters_of (sender l.here) 0 (flat_map (λ row. sent_anew l.here own row.1) l.locks)

@@ -34,7 +34,7 @@ returns-clause-job g c =
     let said = ap (λ (to : Option ℕ). letters_of (sender here) 0 (post_to to (body.Replicated c.args.op c.cell-cell.result))) c.first.ensures in
     rw (← c.side.view_is)
     (subst (λ (cell : Cell). IsDone g.D.Disk here side new c.args.store.now c.spend.new.store (Ok c.only.result)
-        (follows_in here (own_of side c.args.store.now) c.args.op c.args.key c.args.bytes.now cell)) c.cell-cell.ensures
+    (follows_in here (own_of side c.args.store.now) c.args.op c.args.key c.args.bytes.now cell)) c.cell-cell.ensures
     (record {
       done = λ told.
           follows_done here side c.args.store.now c.cell-cell.result c.args.op h c.args.key c.args.bytes.now c.replace.new.self c.spend.new.table c.spend.new.store

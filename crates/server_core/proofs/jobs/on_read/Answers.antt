@@ -16,5 +16,5 @@ returns-in-Ok g c =
     after_read g.D.Disk here side old new c.says.result _ _ same
     c.answer_read.ensures.holds c.answer_read.ensures.cause.later c.answer_read.ensures.run
     (λ told. told_is here (own_of side new) (own_of side old) c.args.client c.args.seq c.args.cell c.args.epoch c.in-Ok.reply c.said.result
-        (ap (λ store. own_of side store) same) may (c.in-Ok.ensures.reply told) c.said.ensures)
+    (ap (λ store. own_of side store) same) may (c.in-Ok.ensures.reply told) c.said.ensures)
     c.says.ensures
