@@ -1,7 +1,7 @@
 //! A read of a block that was put, and of one that was not.
 
 use global_state::GlobalState;
-use pair_lock::PairLock;
+use pair_side::{Here, Side};
 use petal_base::{Block, Cell, Key, Name, Tuple};
 use petal_disk::{Disk, MemDisk};
 use petal_msg::Body;
@@ -57,8 +57,9 @@ fn read<D: Disk>(
     if !state.readable(1, cell) {
         return Ok(None);
     }
-    let locks = PairLock::new(alloc);
-    let reply = answer_read(alloc, state, 1, &locks, store, cell, 0)?;
+    let here = Here::new(alloc, state, 1, 1);
+    let side = Side::new(alloc);
+    let reply = answer_read(&here, &side, store, cell, 0)?;
     Ok(byte_of(said(3, reply)))
 }
 

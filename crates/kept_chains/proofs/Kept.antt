@@ -10,7 +10,7 @@ use Rattle.physical_map.specs.Entries.{in_cell, version_of, top_of}
 use Rattle.physical_map.specs.Keys.{placed, newest, IsInOrder}
 use Rattle.server_store.specs.Holdings.{Held, Holdings, key_held, listed, free_slots, content_of}
 use Rattle.kept_chains.specs.Chains.{chain_by}
-use Rattle.kept_chains.specs.Kept.{stored_of, chains_of, kept_of}
+use Rattle.kept_chains.specs.Kept.{stored_of, chains_of, store_of}
 use Rattle.kept_chains.proofs.Chains.{chains_placed}
 use Rattle.kept_chains.proofs.InOrder.{chain_is, top_is, count_is, entry_is, version_le_top}
 
@@ -34,7 +34,7 @@ pub version_below : (es : List Held) (cell : Cell) → IsInOrder key_held es →
 version_below es cell order = rw (version_is es cell order) (version_le_top (chains_of es) cell)
 
 -- how many slots are free
-pub free_is : {D : Type 0} (s : Holdings D) → IsInOrder key_held s.entries → free_slots s ≡ rules.free_of (kept_of s)
+pub free_is : {D : Type 0} (s : Holdings D) → IsInOrder key_held s.entries → free_slots s ≡ rules.free_of (store_of s)
 free_is s order = let n : rules.entries_of (chains_of s.entries) ≡ length s.entries = count_is key_held stored_of s.entries order in omega (arith, n)
 
 bytes_are : (found : Option Held) → rules.bytes_of (option_map stored_of found) ≡ content_of found

@@ -16,8 +16,8 @@ chains_of entries = chains_by key_held stored_of entries
 
 -- the slots, the chains, how many slots are set apart, the marks, whether it is still to be filled, and how many records its
 -- journal has
-abbrev pub kept_of : {D : Type 0} → Holdings D → Store
-kept_of store = record {
+abbrev pub store_of : {D : Type 0} → Holdings D → Store
+store_of store = record {
   slots = store.slots;
   chains = chains_of store.entries;
   tickets = length store.tickets;

@@ -7,7 +7,7 @@ ghost use Rattle.petal_rules.specs.Store.{bytes_of, chain_in, entry_at, free_of,
 ghost use Rattle.physical_map.specs.Entries as map;
 ghost use Rattle.server_store.specs.Holdings.{listed};
 ghost use Rattle.server_store.specs.Shown.{Holds};
-ghost use Rattle.kept_chains.specs.Kept.{chains_of, kept_of};
+ghost use Rattle.kept_chains.specs.Kept.{chains_of, store_of};
 ghost use Rattle.kept_chains.specs.Reading.{IsReadFault};
 
 use crate::ReadError;
@@ -31,7 +31,7 @@ pub fn next_version<D: Disk>(store: &Store<D>, cell: Cell) -> Version
 /// # Errors
 /// Out of memory, which changed nothing.
 pub fn set_apart<D: Disk>(store: &mut Store<D>) -> Result<Option<Ticket>, NoMemory>
-    ensures room { IfOk result (λ found. is_some found ≡ nat_lt 0 (free_of (kept_of store.old))) }
+    ensures room { IfOk result (λ found. is_some found ≡ nat_lt 0 (free_of (store_of store.old))) }
     ensures some { IfOk result (λ found. IfSome found (λ ticket. store.new ≡ record store.old { tickets = store.old.tickets ++ ticket ∷ [] })) }
     ensures other { IfOk result (λ found. IfSome found (λ ticket. ¬ Contains store.old.tickets ticket)) }
     ensures out { IfOk result (λ found. IfSome found (λ ticket. Contains store.new.tickets ticket)) }

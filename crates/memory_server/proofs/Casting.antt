@@ -14,16 +14,7 @@ use Rattle.memory_server.specs.Members.{first_site}
 
 by_request : (servers : ℕ) (asked : Request) (other : State) → other.rev ≡ 1 → (state_by servers asked other).rev ≡ 1
 by_request servers (request.Disk name tuple) other is = refl
-by_request servers (request.Write name block pattern) other is = is
-by_request servers (request.Read name snap block) other is = is
-by_request servers (request.Snap name snap) other is = is
-by_request servers (request.Move name tuple) other is = is
-by_request servers (request.Stop server) other is = is
-by_request servers (request.StopAt server at) other is = is
-by_request servers (request.Fault server which kind at) other is = is
-by_request servers (request.Start server) other is = is
-by_request servers (request.Blank server) other is = is
-by_request servers request.Settle other is = is
+by_request servers _ other is = is
 
 -- the fixed state is of revision 1
 pub state_rev : (servers : ℕ) (lines : List Line) → (state_of servers lines).rev ≡ 1

@@ -6,14 +6,14 @@ ghost use Rattle.petal_rules.specs.declared.step.Step.TheVariants.{Work};
 ghost use Rattle.petal_rules.specs.declared.step.WorkEnd.TheVariants.{Done};
 ghost use Rattle.world_desks.specs.Desks.{acted_at};
 ghost use Rattle.server_store.specs.Slots.{slot_start};
-ghost use Rattle.memory_server.specs.Server.{Place, site_of};
+ghost use Rattle.memory_server.specs.Server.{site_of};
 
 use global_state::GlobalState;
 use petal_base::{NoMemory, Rev, Sequence, ServerId};
 use petal_disk::{Disk, MemDisk};
 use petal_msg::Letter;
 use petal_rules::{Step, WorkEnd};
-use server_core::{ServerCore, Worked};
+use server_core::ServerCore;
 use server_store::{DATA_START, SLOT_BYTES, Store};
 use std::alloc::Global;
 use std::marker::Model;
@@ -30,15 +30,14 @@ pub struct MemServer {
 impl Model for MemServer {
     ghost use Rattle.std.specs.Prelude.{◌≡◌, false};
     ghost use Rattle.petal_disk.specs.declared.memory_disk.MemDisk.{MemDisk};
-    ghost use Rattle.write_pair.specs.Desk.{HasTicketsAt};
-    ghost use Rattle.server_core.specs.Core.{desk_of};
-    ghost use Rattle.memory_server.specs.Server.{Place};
+    ghost use Rattle.pair_side.specs.Side.{HasTicketsAt};
+    ghost use Rattle.memory_server.specs.Server.{Mounted};
 
-    ghost Value = { Place MemDisk };
+    ghost Value = { Mounted MemDisk };
 
     ghost view = { λ s. record { core = s.core; store = s.store } };
 
-    ghost invariant = { λ s. s.over ≡ false → HasTicketsAt (desk_of s.core s.store) };
+    ghost invariant = { λ s. s.over ≡ false → HasTicketsAt s.core.side s.store };
 }
 
 impl MemServer {
@@ -74,8 +73,8 @@ impl MemServer {
             return Err(NoMemory);
         }
         match self.core.work(alloc, &mut self.store) {
-            Ok(Worked::Did(letters)) => Ok(letters),
-            Ok(Worked::Idle) => Ok(Sequence::new(alloc)),
+            Ok(Some(letters)) => Ok(letters),
+            Ok(None) => Ok(Sequence::new(alloc)),
             Err(_) => {
                 self.over = true;
                 Err(NoMemory)

@@ -1,22 +1,20 @@
 //! The reply to a read.
 
-ghost use Rattle.std.specs.Prelude.{◌≡◌, ℕ, true, IfOk};
+ghost use Rattle.std.specs.Prelude.{◌≡◌, true, IfOk};
 ghost use Rattle.petal_disk.specs.Keeping.{KeepsDevice};
 ghost use Rattle.petal_rules.specs.Reads as reads;
-ghost use Rattle.petal_rules.specs.Server.{Pairs};
-ghost use Rattle.petal_rules.specs.State.{is_lead, readable};
-ghost use Rattle.server_store.specs.Shown.{Holds};
+ghost use Rattle.petal_rules.specs.State.{readable};
 ghost use Rattle.kept_chains.specs.Reading.{IsReadFault};
-ghost use Rattle.read_either.specs.Owns.{own_with};
+ghost use Rattle.pair_side.specs.Side.{own_of};
+ghost use Rattle.pair_side.specs.Done.{HoldsAt};
 
-use global_state::{GlobalState, Hold};
+use global_state::Hold;
 use kept_chains::{ReadError, read_at};
-use pair_lock::PairLock;
-use petal_base::{Cell, Epoch, Seq, ServerId};
+use pair_side::{Here, Side};
+use petal_base::{Cell, Epoch, Seq};
 use petal_disk::Disk;
 use petal_msg::{Body, Reply};
 use server_store::Store;
-use std::alloc::Global;
 
 fn is_all_held(held: Hold) -> bool
     ensures { result ≡ reads.is_all_held held }
@@ -27,15 +25,6 @@ fn is_all_held(held: Hold) -> bool
     }
 }
 
-fn is_lead(state: &GlobalState, me: ServerId, cell: Cell) -> bool
-    ensures { result ≡ is_lead state.now me cell }
-{
-    match state.lead(cell) {
-        Some(lead) => lead == me,
-        None => false,
-    }
-}
-
 /// What a server that may read the cell says: a fence, or at the lead an operation on the block, keeps the read back; else it
 /// gives the bytes of the entry of the greatest epoch not above, or zeros where there is none. Nothing of the store changes,
 /// and the device keeps it as before.
@@ -43,30 +32,27 @@ fn is_lead(state: &GlobalState, me: ServerId, cell: Cell) -> bool
 /// # Errors
 /// `Failed` where the device failed, and out of memory.
 pub fn answer_read<D: Disk>(
-    alloc: Global,
-    state: &GlobalState,
-    me: ServerId,
-    locks: &PairLock,
+    here: &Here,
+    side: &Side,
     store: &mut Store<D>,
     cell: Cell,
     epoch: Epoch,
 ) -> Result<Reply, ReadError>
-    requires { readable state.now me cell ≡ true }
-    ensures reply { IfOk result (λ reply. D.told → (inc : ℕ) (pairs : Pairs) → pairs.pending ≡ locks.now → reply ≡ reads.reply_to (record { state = state.now; me = me; inc = inc }) (own_with pairs store.old) cell epoch) }
+    requires { readable here.now.state here.now.me cell ≡ true }
+    ensures reply { IfOk result (λ reply. D.told → reply ≡ reads.reply_to here.now (own_of side.now store.old) cell epoch) }
     ensures same { store.new ≡ record store.old { disk = store.new.disk } }
     ensures device { KeepsDevice D.size D.seen D.may_leave D.moment D.left_since store.old.disk store.new.disk }
-    ensures holds { D.told → Holds store.old (D.seen store.old.disk) (D.may_leave store.old.disk)
-        → Holds store.new (D.seen store.new.disk) (D.may_leave store.new.disk) }
+    ensures holds { D.told → HoldsAt D.Disk store.old → HoldsAt D.Disk store.new }
     ensures cause { IsReadFault (D.faults store.old.disk) (D.faults store.new.disk) result }
     ensures run { D.came_to store.old.disk store.new.disk }
 {
-    if is_all_held(state.held(cell)) {
+    if is_all_held(here.held(cell)) {
         return Ok(Reply::Held);
     }
-    if is_lead(state, me, cell) && locks.is_busy(cell) {
+    if here.is_lead(cell) && side.is_busy(cell) {
         return Ok(Reply::BlockBusy);
     }
-    Ok(Reply::Data(read_at(alloc, store, cell, epoch)?))
+    Ok(Reply::Data(read_at(here.alloc(), store, cell, epoch)?))
 }
 
 /// The reply as a letter's content.

@@ -1,44 +1,46 @@
 -- A read leaves all but the device's state as it was.
-use Rattle.std.proofs.Common.{◌≡◌, ◌≤◌, ◌<◌, ℕ, List, Result, Ok, Err, true, refl, sym, ap, ◌∙◌, arith}
+use Rattle.std.proofs.Common.{◌≡◌, ◌≤◌, ℕ, Result, Ok, Err, true, refl, sym, ap, subst, ◌∙◌}
 use Rattle.petal_base.specs.declared.place.Cell.{Cell}
+use Rattle.petal_disk.specs.declared.disk.Disk.{Ghosts}
 use Rattle.petal_msg.specs.declared.body.Body.{Body}
 use Rattle.petal_msg.specs.declared.letter.Actor.TheVariants as actor
 use Rattle.petal_msg.specs.declared.operation.Reply.{Reply}
 use Rattle.petal_rules.specs.State.{readable}
-use Rattle.petal_rules.specs.Server.{Own, Here, Done, says}
+use Rattle.petal_rules.specs.Server.{Own, Here, says}
+use Rattle.petal_rules.specs.Server as rules
 use Rattle.petal_rules.specs.Reads.{on_read, reply_to, said}
 use Rattle.server_store.specs.Holdings.{Holdings}
-use Rattle.write_pair.specs.declared.error.WorkError.{WorkError}
-use Rattle.write_pair.specs.declared.error.WorkError.TheVariants.{Failed, JournalFull, NoMemory}
-use Rattle.write_pair.specs.declared.outcome.Outcome.{Outcome}
-use Rattle.write_pair.specs.Desk.{Desk, HasFault, HasTicketsAt, HoldsAt, left_by, left_with}
-use Rattle.server_core.specs.Job.{IsJob, with_disk}
+use Rattle.pair_side.specs.declared.error.WorkError.{WorkError}
+use Rattle.pair_side.specs.declared.error.WorkError.TheVariants.{Failed, JournalFull, NoMemory}
+use Rattle.pair_side.specs.declared.done.Done.{Done}
+use Rattle.pair_side.specs.Side.{Side, own_of}
+use Rattle.pair_side.specs.Done.{HoldsAt, IsBy, IsDone, IsSaid}
 
-module _ {D : Type 0} (told : Type 0) (seen : D → List ℕ) (may_leave : D → List ℕ → Type 0) (faults : D → ℕ) (came_to : D → D → Type 0) (here : Here) (next : ℕ) (old new : Desk D) where
-  -- a job behind a read is one from before it
-  pub behind_read : (result : Result Outcome WorkError) (rule rule' : Done) → new ≡ with_disk old new.store.disk
-      → (told → HoldsAt seen may_leave old.store → HoldsAt seen may_leave new.store) → faults old.store.disk ≤ faults new.store.disk → came_to old.store.disk new.store.disk
-      → (told → rule ≡ rule') → IsJob told seen may_leave faults came_to here next new new result rule → IsJob told seen may_leave faults came_to here next old new result rule'
-  behind_read (Ok out) rule rule' same shown later run is job = record {
-    done = λ t. job.done t ∙ ap (left_by here) (is t);
-    keeps = job.keeps;
+module _ {D : Type 0} (device : Ghosts D) (here : Here) (side : Side) (old new : Holdings D) where
+  -- what is said after a read is a job from before it
+  pub after_read : (result : Result Done WorkError) (rule rule' : rules.Done) → new ≡ record old { disk = new.disk }
+      → (device.told → HoldsAt device old → HoldsAt device new) → device.faults old.disk ≤ device.faults new.disk → device.came_to old.disk new.disk
+      → (device.told → rule ≡ rule') → IsSaid here side side new new result rule → IsDone device here side side old new result rule'
+  after_read (Ok out) rule rule' same shown later run is said = record {
+    done = λ t. subst (λ (r : rules.Done). IsBy here (own_of side new) out r) (is t) said.done;
+    keeps = said.keeps;
     holds = shown;
-    still = λ e. cc;
-    same = λ e. cc;
+    still = λ no. absurd (cc);
+    same = λ no. absurd (cc);
     kept = tt;
     full = λ no. absurd (cc);
-    cause = record { later = later; failed = λ e. cc };
+    cause = record { later = later; failed = λ no. absurd (cc) };
     run = run;
   }
-  behind_read (Err e) rule rule' same shown later run is job = record {
+  after_read (Err e) rule rule' same shown later run is said = record {
     done = tt;
     keeps = tt;
     holds = λ _ _. tt;
     still = λ _. shown;
-    same = λ n. same;
-    kept = λ t. ap (λ (d : Desk D). d.store.entries) same;
-    full = λ f. ap (λ (d : Desk D). d.store.log.region.count) (sym same) ∙ job.full f;
-    cause = record { later = later; failed = λ f. (let r = job.cause.failed f in omega arith) };
+    same = λ _. (refl, same);
+    kept = λ _. ap (λ (s : Holdings D). s.entries) same;
+    full = λ f. absurd (let e_is : e ≡ NoMemory = said.err.0 in cc);
+    cause = record { later = later; failed = λ f. absurd (let e_is : e ≡ NoMemory = said.err.0 in cc) };
     run = run;
   }
 

@@ -1,2 +1,1 @@
 pub mod Core
-pub mod Job

@@ -9,8 +9,6 @@ mod jobs;
 mod queue;
 mod recent;
 mod server;
-mod worked;
 
 pub use server::ServerCore;
-pub use worked::Worked;
 pub use write_pair::WorkError;

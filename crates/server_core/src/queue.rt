@@ -2,7 +2,7 @@
 
 ghost use Rattle.std.specs.Prelude.{◌≡◌, ◌<◌, ◌++◌, ◌∷◌, [], length, drop, slice_get, IsTrue, ◌↔◌, OnOk, OnErr};
 ghost use Rattle.std.specs.Option.{option_copied};
-ghost use Rattle.write_pair.specs.Desk.{follow_up};
+ghost use Rattle.pair_side.specs.Done.{follow_up};
 
 use petal_base::{Cell, NoMemory};
 use petal_rules::Job;

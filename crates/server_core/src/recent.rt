@@ -64,7 +64,7 @@ impl RecentBlocks {
     }
 
     /// The letters that a job sent, with kept blocks in the place of equal ones; a block that the job brought is kept.
-    pub fn behind(&mut self, job: &Job, letters: Sequence<Letter>) -> Sequence<Letter>
+    pub fn after(&mut self, job: &Job, letters: Sequence<Letter>) -> Sequence<Letter>
         ensures { result ≡ letters }
     {
         let Job::Letter(letter) = job else {

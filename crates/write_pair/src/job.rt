@@ -1,58 +1,37 @@
 //! The jobs of writes.
 
-ghost use Rattle.std.specs.Prelude.{◌≡◌, true};
+ghost use Rattle.std.specs.Prelude.{◌≡◌, true, Err};
+ghost use Rattle.petal_msg.specs.Kinds.{is_of_write, subject_of};
 ghost use Rattle.petal_rules.specs.Jobs.{handles};
-ghost use Rattle.petal_rules.specs.Writes as writes;
-ghost use Rattle.write_pair.specs.Desk.{desk, own_at, HasTicketsAt, HasVersions, IsDone};
-ghost use Rattle.write_pair.specs.Jobs.{is_pair_letter};
+ghost use Rattle.pair_side.specs.declared.error.WorkError.TheVariants as error;
+ghost use Rattle.pair_side.specs.Side.{own_of, HasTicketsAt};
+ghost use Rattle.pair_side.specs.Done.{HasVersions, IsDone};
 
-use crate::acts::goes_on;
-use crate::answer::silent;
-use crate::here::Here;
-use crate::lead::{on_pair_full, on_replicated, on_reserved};
-use crate::second::{on_replicate, on_reserve};
-use crate::write::{Wanted, on_write};
-use crate::{Outcome, Tables, WorkError};
-use global_state::GlobalState;
-use pair_lock::PairLock;
-use petal_base::{Cell, Inc, Op, ServerId};
+use lead_write::{Wanted, on_pair_full, on_replicated, on_reserved, on_write};
+use pair_side::{Done, Here, Side, WorkError, silent};
 use petal_disk::Disk;
 use petal_msg::{Body, Letter};
+use second_write::{on_replicate, on_reserve};
 use server_store::Store;
-use std::alloc::Global;
 
-/// What a letter of writes does at a server whose state is this one: at most one put. `op` is the number of an operation that
-/// it opens. Behind Ok all is as the rule `handles` says, where the device tells its bytes.
+/// What a letter of writes does: at most one put. After Ok all is as the rule `handles` says, where the device tells its bytes.
 ///
 /// # Errors
 /// `NoMemory`, and then nothing changed; `Failed` where the device failed, and `JournalFull` only where the store's journal had
 /// all its records: the entries are as they were, and the server is to be stopped.
 #[tactic(auto, unfolding(petal_rules::specs::Jobs::handles))]
 pub fn on_letter<D: Disk>(
-    alloc: Global,
-    state: &GlobalState,
-    me: ServerId,
-    inc: Inc,
-    op: Op,
-    tables: &mut Tables,
-    locks: &mut PairLock,
+    here: &Here,
+    side: &mut Side,
     store: &mut Store<D>,
     letter: &Letter,
-) -> Result<Outcome, WorkError>
-    requires letter { is_pair_letter letter.now.body ≡ true }
-    requires tickets { HasTicketsAt (desk locks.old tables.old store.old) }
+) -> Result<Done, WorkError>
+    requires letter { is_of_write (subject_of letter.now.body) ≡ true }
+    requires tickets { HasTicketsAt side.old store.old }
     requires versions { HasVersions store.old }
-    ensures job { IsDone D.told D.seen D.may_leave D.faults D.came_to (record { state = state.now; me = me; inc = inc }) op
-        (desk locks.old tables.old store.old) (desk locks.new tables.new store.new) result
-        (handles (record { state = state.now; me = me; inc = inc }) (own_at op (desk locks.old tables.old store.old)) letter.now.body) }
+    ensures job { IsDone D.Disk here.now side.old side.new store.old store.new result (handles here.now (own_of side.old store.old) letter.now.body) }
+    ensures same { result ≡ Err error.NoMemory → store.new ≡ store.old }
 {
-    let here = &Here {
-        alloc,
-        state,
-        me,
-        inc,
-        next: op,
-    };
     match &letter.body {
         Body::Write {
             client,
@@ -68,18 +47,18 @@ pub fn on_letter<D: Disk>(
                 epoch: *epoch,
                 bytes,
             };
-            on_write(here, tables, locks, store, &want)
+            on_write(here, side, store, &want)
         }
-        Body::Reserve { op, cell } => on_reserve(here, tables, locks, store, *op, *cell),
-        Body::Reserved { op, cell } => on_reserved(here, tables, locks, store, *op, *cell),
-        Body::PairFull { op, cell } => on_pair_full(here, tables, locks, store, *op, *cell),
+        Body::Reserve { op, cell } => on_reserve(here, side, store, *op, *cell),
+        Body::Reserved { op, cell } => on_reserved(here, side, store, *op, *cell),
+        Body::PairFull { op, cell } => on_pair_full(here, side, store, *op, *cell),
         Body::Replicate {
             op,
             key,
             version: _,
             bytes,
-        } => on_replicate(here, tables, locks, store, *op, *key, bytes),
-        Body::Replicated { op, cell } => on_replicated(here, tables, locks, store, *op, *cell),
+        } => on_replicate(here, side, store, *op, *key, bytes),
+        Body::Replicated { op, cell } => on_replicated(here, side, store, *op, *cell),
         Body::Read { .. }
         | Body::Data { .. }
         | Body::NotHere { .. }
@@ -87,37 +66,6 @@ pub fn on_letter<D: Disk>(
         | Body::Held { .. }
         | Body::WrongRev { .. }
         | Body::Written { .. }
-        | Body::Full { .. } => silent(here, tables, locks, store),
+        | Body::Full { .. } => silent(here, side, store),
     }
-}
-
-/// The operation that is pending on the cell does its next stage, with at most one put.
-///
-/// # Errors
-/// As of [`on_letter`].
-pub fn on_stage<D: Disk>(
-    alloc: Global,
-    state: &GlobalState,
-    me: ServerId,
-    inc: Inc,
-    op: Op,
-    tables: &mut Tables,
-    locks: &mut PairLock,
-    store: &mut Store<D>,
-    cell: Cell,
-) -> Result<Outcome, WorkError>
-    requires tickets { HasTicketsAt (desk locks.old tables.old store.old) }
-    requires versions { HasVersions store.old }
-    ensures job { IsDone D.told D.seen D.may_leave D.faults D.came_to (record { state = state.now; me = me; inc = inc }) op
-        (desk locks.old tables.old store.old) (desk locks.new tables.new store.new) result
-        (writes.goes_on (record { state = state.now; me = me; inc = inc }) (own_at op (desk locks.old tables.old store.old)) cell) }
-{
-    let here = &Here {
-        alloc,
-        state,
-        me,
-        inc,
-        next: op,
-    };
-    goes_on(here, tables, locks, store, cell)
 }

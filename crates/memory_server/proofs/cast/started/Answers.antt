@@ -2,12 +2,12 @@ use Rattle.std.proofs.Common.{◌≡◌, ℕ, [], ap, length, ◌∙◌}
 use Rattle.std.proofs.lemmas.List.Elements.{All-append, All-cons, All-nil}
 use Rattle.petal_disk.specs.declared.memory_disk.MemDisk.{MemDisk}
 use Rattle.server_store.specs.Slots.{slot_start}
-use Rattle.memory_server.specs.Server.{Place, site_of}
+use Rattle.memory_server.specs.Server.{Mounted, site_of}
 use Rattle.memory_server.specs.Members.{first_site}
 use Rattle.memory_server.proofs.Casting.{cast_more}
 use Rattle.memory_server.proofs.cast.started.Goals as goal
 
-abbrev fits : ℕ → Place MemDisk → Type 0
+abbrev fits : ℕ → Mounted MemDisk → Type 0
 fits slots server = length server.store.disk.now.items ≡ slot_start slots
 
 pub loop-me-preserved : goal.loop-me-preserved

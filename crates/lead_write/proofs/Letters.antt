@@ -1,0 +1,26 @@
+-- The letters of one step, one operation after the other.
+use Rattle.std.proofs.Common.{◌≡◌, ℕ, suc, ◌+◌, List, [], ◌∷◌, ◌++◌, length, append_assoc, refl, sym, ap, ◌∙◌, arith}
+use Rattle.std.proofs.lemmas.List.{append-nil}
+use Rattle.std.specs.List.{flat_map}
+use Rattle.petal_msg.specs.declared.letter.Letter.{Letter}
+use Rattle.petal_rules.specs.Server.{Post, Sender, letters_of}
+
+pub letters_append : (who : Sender) (n : ℕ) (ps qs : List Post) → letters_of who n (ps ++ qs) ≡ letters_of who n ps ++ letters_of who (n + length ps) qs
+letters_append who n [] qs = ap (λ (m : ℕ). letters_of who m qs) (omega arith)
+letters_append who n (p ∷ ps) qs =
+    let rest = letters_append who (n + 1) ps qs in
+    let count : n + 1 + length ps ≡ n + length (p ∷ ps) = omega arith in
+    ap (λ (more : List Letter). record { from = who.from; inc = who.inc; to = p.to; rev = who.rev; stamp = 0; nth = n; body = p.body } ∷ more)
+    (rest ∙ ap (λ (m : ℕ). letters_of who (n + 1) ps ++ letters_of who m qs) count)
+
+pub next_letters : {X : Type 0} (who : Sender) (f : X → List Post) (letters more all : List Letter) (nth next : ℕ) (x : X) (left rest : List X)
+    → left ≡ x ∷ rest → more ≡ letters ++ letters_of who nth (f x) → next ≡ nth + length (f x)
+    → letters ++ letters_of who nth (flat_map f left) ≡ all → more ++ letters_of who next (flat_map f rest) ≡ all
+next_letters who f letters more all nth next x left rest here is count invariant =
+    rw (is, count) (append_assoc letters (letters_of who nth (f x)) (letters_of who (nth + length (f x)) (flat_map f rest))
+    ∙ ap (λ (ls : List Letter). letters ++ ls) (sym (letters_append who nth (f x) (flat_map f rest)))
+    ∙ rw here at invariant)
+
+pub last_letters : {X : Type 0} (who : Sender) (f : X → List Post) (letters all : List Letter) (nth : ℕ) (left : List X)
+    → left ≡ [] → letters ++ letters_of who nth (flat_map f left) ≡ all → letters ≡ all
+last_letters who f letters all nth left none invariant = sym (append-nil letters) ∙ rw none at invariant

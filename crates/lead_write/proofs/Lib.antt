@@ -1,0 +1,4 @@
+pub mod Moves
+pub mod Opens
+pub mod Leads
+pub mod Letters

@@ -1,0 +1,80 @@
+//! What a tick sends again.
+
+ghost use Rattle.std.specs.Prelude.{◌≡◌, ◌+◌, ◌++◌, length, IfOk};
+ghost use Rattle.std.specs.List.{flat_map};
+ghost use Rattle.petal_rules.specs.Server.{Own, letters_of, sender};
+ghost use Rattle.petal_rules.specs.Jobs.{sent_anew};
+ghost use Rattle.lead_write.specs.Anew.{posts_of};
+
+use crate::stage::next_stage;
+use pair_lock::PairLock;
+use pair_side::{Here, Side};
+use petal_base::{NoMemory, Sequence, ServerId};
+use petal_msg::{Action, Actor, Body, Letter, Pending};
+
+/// The letter that an operation sends, with its content, if it waits for an answer.
+fn awaited(here: &Here, op: &Pending) -> Result<Option<(ServerId, Body)>, NoMemory>
+    ensures { IfOk result (λ found. (own : Own) → posts_of found ≡ sent_anew here.now own op.now) }
+{
+    match (next_stage(here, op), here.second(op.cell)) {
+        (Action::Reserve, Some(to)) => {
+            let body = Body::Reserve {
+                op: op.op,
+                cell: op.cell,
+            };
+            Ok(Some((to, body)))
+        }
+        (Action::Replicate, Some(to)) => {
+            let body = Body::Replicate {
+                op: op.op,
+                key: op.key,
+                version: op.version,
+                bytes: op.bytes.share()?,
+            };
+            Ok(Some((to, body)))
+        }
+        (Action::Reserve | Action::Replicate, None)
+        | (Action::Put | Action::Answer | Action::Drop, _) => Ok(None),
+    }
+}
+
+/// The letters of the step so far with those of one operation more, and the number of the next letter.
+fn with_awaited(
+    here: &Here,
+    mut letters: Sequence<Letter>,
+    nth: u32,
+    op: &Pending,
+) -> Result<(Sequence<Letter>, u32), NoMemory>
+    ensures { IfOk result (λ more. (own : Own) → (more.0 ≡ letters ++ letters_of (sender here.now) nth (sent_anew here.now own op.now)) × (more.1 ≡ nth + length (sent_anew here.now own op.now))) }
+{
+    match awaited(here, op)? {
+        None => Ok((letters, nth)),
+        Some((to, body)) => {
+            letters.push(here.letter(Actor::Server(to), nth, body))?;
+            Ok((letters, nth.checked_add(1).ok_or(NoMemory)?))
+        }
+    }
+}
+
+fn all_anew(here: &Here, locks: &PairLock) -> Result<Sequence<Letter>, NoMemory>
+    ensures { IfOk result (λ letters. (own : Own) → letters ≡ letters_of (sender here.now) 0 (flat_map (λ row. sent_anew here.now own row.1) locks.now)) }
+{
+    let mut letters = Sequence::new(here.alloc());
+    let mut nth = 0;
+    for (_, op) in locks.iter() {
+        let more = with_awaited(here, letters, nth, op)?;
+        letters = more.0;
+        nth = more.1;
+    }
+    Ok(letters)
+}
+
+/// The letters of all pending operations that wait for an answer.
+///
+/// # Errors
+/// Out of memory.
+pub fn letters_anew(here: &Here, side: &Side) -> Result<Sequence<Letter>, NoMemory>
+    ensures { IfOk result (λ letters. (own : Own) → letters ≡ letters_of (sender here.now) 0 (flat_map (λ row. sent_anew here.now own row.1) side.now.pending)) }
+{
+    all_anew(here, &side.locks)
+}

@@ -1,0 +1,123 @@
+//! What the lead does with the letters of its second server.
+
+ghost use Rattle.std.specs.Prelude.{◌≡◌, false, Some, Err};
+ghost use Rattle.petal_table.specs.Table.{at};
+ghost use Rattle.petal_rules.specs.Store.{cell_cmp};
+ghost use Rattle.petal_rules.specs.Writes as writes;
+ghost use Rattle.petal_msg.specs.declared.operation.Ending.TheVariants as ending;
+ghost use Rattle.pair_side.specs.declared.error.WorkError.TheVariants as error;
+ghost use Rattle.pair_side.specs.Side.{own_of, HasTicketsAt};
+ghost use Rattle.pair_side.specs.Done.{HasVersions, IsDone, IsSaid};
+
+use crate::acts::acts;
+use pair_side::{Done, Here, Side, WorkError, finishes, give_back, silent};
+use petal_base::{Cell, Op};
+use petal_disk::Disk;
+use petal_msg::{Ending, Pending};
+use server_store::Store;
+
+fn with_reserved(mut op: Pending) -> Pending
+    ensures { result ≡ writes.with_reserved op }
+{
+    op.stage.reserved = true;
+    op
+}
+
+fn with_paired(mut op: Pending) -> Pending
+    ensures { result ≡ writes.with_paired op }
+{
+    op.stage.paired = true;
+    op
+}
+
+/// The second server has set its slot apart.
+///
+/// # Errors
+/// As of [`goes_on`](crate::goes_on).
+#[tactic(auto, unfolding(petal_rules::specs::Writes::on_reserved))]
+pub fn on_reserved<D: Disk>(
+    here: &Here,
+    side: &mut Side,
+    store: &mut Store<D>,
+    op: Op,
+    cell: Cell,
+) -> Result<Done, WorkError>
+    requires tickets { HasTicketsAt side.old store.old }
+    requires versions { HasVersions store.old }
+    ensures job { IsDone D.Disk here.now side.old side.new store.old store.new result (writes.on_reserved here.now (own_of side.old store.old) op cell) }
+    ensures same { result ≡ Err error.NoMemory → store.new ≡ store.old }
+{
+    match side.pending_on(cell)? {
+        Some(pending) if pending.op == op && !pending.stage.reserved => {
+            acts(here, side, store, &with_reserved(pending))
+        }
+        _ => silent(here, side, store),
+    }
+}
+
+/// The second server has no slot: the operation gives its own back and ends.
+fn ends_full<D: Disk>(
+    here: &Here,
+    side: &mut Side,
+    store: &mut Store<D>,
+    op: &Pending,
+) -> Result<Done, WorkError>
+    requires tickets { HasTicketsAt side.old store.old }
+    requires there { at cell_cmp side.old.pending op.now.cell ≡ Some op.now }
+    requires waits { op.now.stage.reserved ≡ false }
+    ensures { IsSaid here.now side.old side.new store.old store.new result
+        (writes.finishes (writes.gives_back (writes.without_pending (own_of side.old store.old) op.now.cell)) op.now.client op.now.seq ending.Full) }
+{
+    let done = finishes(here, side, store, op.client, op.seq, Ending::Full)?;
+    side.locks.close(op.cell);
+    give_back(&mut side.own, store, op.cell);
+    Ok(done)
+}
+
+/// Only an operation that still waits for its reservation is refused.
+///
+/// # Errors
+/// Out of memory, which changed nothing.
+#[tactic(auto, unfolding(petal_rules::specs::Writes::on_pair_full))]
+pub fn on_pair_full<D: Disk>(
+    here: &Here,
+    side: &mut Side,
+    store: &mut Store<D>,
+    op: Op,
+    cell: Cell,
+) -> Result<Done, WorkError>
+    requires tickets { HasTicketsAt side.old store.old }
+    ensures { IsSaid here.now side.old side.new store.old store.new result (writes.on_pair_full (own_of side.old store.old) op cell) }
+{
+    match side.pending_on(cell)? {
+        Some(pending) if pending.op == op && !pending.stage.reserved => {
+            ends_full(here, side, store, &pending)
+        }
+        _ => silent(here, side, store),
+    }
+}
+
+/// The second server has put its copy.
+///
+/// # Errors
+/// As of [`goes_on`](crate::goes_on).
+#[tactic(auto, unfolding(petal_rules::specs::Writes::on_replicated))]
+pub fn on_replicated<D: Disk>(
+    here: &Here,
+    side: &mut Side,
+    store: &mut Store<D>,
+    op: Op,
+    cell: Cell,
+) -> Result<Done, WorkError>
+    requires tickets { HasTicketsAt side.old store.old }
+    requires versions { HasVersions store.old }
+    ensures job { IsDone D.Disk here.now side.old side.new store.old store.new result (writes.on_replicated here.now (own_of side.old store.old) op cell) }
+    ensures same { result ≡ Err error.NoMemory → store.new ≡ store.old }
+{
+    match side.pending_on(cell)? {
+        Some(pending) if pending.op == op && pending.stage.put && !pending.stage.paired => {
+            acts(here, side, store, &with_paired(pending))
+        }
+        _ => silent(here, side, store),
+    }
+}

@@ -1,0 +1,4 @@
+pub mod Tickets
+pub mod Said
+pub mod Kept
+pub mod Blank

@@ -1,0 +1,59 @@
+-- A job without a call of the device is one that may have made one.
+use Rattle.std.proofs.Common.{◌≡◌, ℕ, List, Result, Ok, Err, refl, sym, subst, ap, ◌∙◌, arith}
+use Rattle.petal_disk.specs.declared.disk.Disk.{Ghosts}
+use Rattle.petal_rules.specs.Server.{Here}
+use Rattle.petal_rules.specs.Server as rules
+use Rattle.server_store.specs.Holdings.{Holdings}
+use Rattle.pair_side.specs.declared.error.WorkError.{WorkError}
+use Rattle.pair_side.specs.declared.error.WorkError.TheVariants.{Failed, JournalFull, NoMemory}
+use Rattle.pair_side.specs.declared.done.Done.{Done}
+use Rattle.pair_side.specs.Side.{Side}
+use Rattle.pair_side.specs.Done.{HoldsAt, IsSaid, IsDone}
+
+module _ {D : Type 0} (device : Ghosts D) (stays : (d : D) → device.came_to d d) where
+  -- where the device is as it was
+  run_same : (old new : Holdings D) → new.disk ≡ old.disk → device.came_to old.disk new.disk
+  run_same old new same = subst (device.came_to old.disk) (sym same) (stays old.disk)
+
+  disk_is : (old new : Holdings D) → new ≡ record old { tickets = new.tickets } → new.disk ≡ old.disk
+  disk_is old new is = ap (λ (s : Holdings D). s.disk) is
+
+  entries_are : (old new : Holdings D) → new ≡ record old { tickets = new.tickets } → new.entries ≡ old.entries
+  entries_are old new is = ap (λ (s : Holdings D). s.entries) is
+
+  -- what the device shows is what it showed
+  shown_still : (old new : Holdings D) → new ≡ record old { tickets = new.tickets } → HoldsAt device old → HoldsAt device new
+  shown_still old new is holds = subst (HoldsAt device) (sym is) holds
+
+  pub said_done : (here : Here) (old new : Side) (old_store new_store : Holdings D) (answer : Result Done WorkError) (rule : rules.Done)
+      → IsSaid here old new old_store new_store answer rule → IsDone device here old new old_store new_store answer rule
+  said_done here old new old_store new_store (Ok out) rule said = record {
+    done = λ _. said.done;
+    keeps = said.keeps;
+    holds = λ _. shown_still old_store new_store said.store;
+    still = λ no. absurd (cc);
+    same = λ no. absurd (cc);
+    kept = tt;
+    full = λ no. absurd (cc);
+    cause = record { later = let same = ap device.faults (disk_is old_store new_store said.store) in omega (arith, same); failed = λ no. absurd (cc) };
+    run = run_same old_store new_store (disk_is old_store new_store said.store);
+  }
+  said_done here old new old_store new_store (Err e) rule said = record {
+    done = tt;
+    keeps = tt;
+    holds = λ _ _. tt;
+    still = λ _ _. shown_still old_store new_store said.store;
+    same = λ _. (said.err.1, said.err.2 ∙ ap (λ (s : Holdings D). record old_store { disk = s.disk }) (sym said.err.2));
+    kept = λ _. entries_are old_store new_store said.store;
+    full = λ is. absurd (let e_is : e ≡ NoMemory = said.err.0 in cc);
+    cause = record {
+      later = let same = ap device.faults (disk_is old_store new_store said.store) in omega (arith, same);
+      failed = λ is. absurd (let e_is : e ≡ NoMemory = said.err.0 in cc);
+    };
+    run = run_same old_store new_store (disk_is old_store new_store said.store);
+  }
+
+-- what was refused for memory left all as it was
+pub all_same : {D : Type 0} (here : Here) (old new : Side) (old_store new_store : Holdings D) (rule : rules.Done) → new ≡ old → new_store ≡ old_store
+    → IsSaid here old new old_store new_store (Err NoMemory) rule
+all_same here old new old_store new_store rule same held = rw (same, held) (record { done = tt; keeps = tt; err = (refl, refl, refl); store = refl })

@@ -1,0 +1,26 @@
+-- Tickets by the cells for whose puts they are.
+use Rattle.std.specs.Prelude.{◌≡◌, ℕ, ◌++◌, ◌∷◌, [], ⊤, List, Some, Contains}
+use Rattle.petal_base.specs.declared.place.Cell.{Cell}
+use Rattle.petal_table.specs.Table.{Table, at, put}
+use Rattle.petal_rules.specs.Store.{cell_cmp}
+use Rattle.server_store.specs.Holdings.{Holdings}
+use Rattle.pair_side.specs.declared.error.WorkError.{WorkError}
+use Rattle.pair_side.specs.declared.error.WorkError.TheVariants.{Failed, JournalFull, NoMemory}
+
+-- a slot was set apart, and its ticket stands at the cell
+pub record IsKept {D : Type 0} (old_table new_table : Table Cell ℕ) (old new : Holdings D) (cell : Cell) : Type 0 where
+  pub slot : ℕ
+  pub table : new_table ≡ put cell_cmp old_table cell slot
+  pub store : new ≡ record old { tickets = old.tickets ++ slot ∷ [] }
+  pub other : ¬ Contains old.tickets slot
+  pub out : Contains new.tickets slot
+
+-- the ticket that stands at the cell is out at the store
+abbrev pub IsOutAt : Table Cell ℕ → Cell → List ℕ → Type 0
+IsOutAt table cell tickets = (slot : ℕ) → at cell_cmp table cell ≡ Some slot → Contains tickets slot
+
+-- what stops a server
+abbrev pub IsStop : WorkError → Type 0
+IsStop Failed = ⊤
+IsStop JournalFull = ⊤
+IsStop NoMemory = ⊥

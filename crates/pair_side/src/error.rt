@@ -1,0 +1,29 @@
+//! Why a job was not done.
+
+use petal_base::NoMemory;
+use thiserror::Error;
+
+/// Why a job was not done.
+#[derive(Clone, Copy, Debug, PartialEq, Eq, Error)]
+pub enum WorkError {
+    /// The data device failed, and its count of faults rose. The server is to be stopped.
+    #[error("the device failed")]
+    Failed,
+    /// The data device's journal has all the records that it has room for. The server is to be stopped.
+    #[error("the journal is full")]
+    JournalFull,
+    /// There was no memory for this job, which changed nothing.
+    #[error("out of memory")]
+    NoMemory,
+}
+
+impl From<NoMemory> for WorkError {
+    ghost use Rattle.std.specs.Prelude.{◌≡◌};
+    ghost use Rattle.pair_side.specs.declared.error.WorkError.TheVariants as error;
+
+    ghost from_gives = { λ _ e. e ≡ error.NoMemory };
+
+    fn from(_error: NoMemory) -> WorkError {
+        WorkError::NoMemory
+    }
+}

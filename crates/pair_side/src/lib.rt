@@ -1,0 +1,19 @@
+//! One server's side of its pairs: what it has in memory of them, where a job is done, and what a job leaves.
+//!
+//! To the layer above it promises that each slot that is set apart is the one that the pair's tables ask for, and it says once
+//! what a job has to keep (`IsDone`). It knows nothing of the stages of an operation, of queues, or of how letters travel.
+#![tactic(auto)]
+
+mod done;
+mod error;
+mod here;
+mod replies;
+mod side;
+mod slots;
+
+pub use done::{Done, only};
+pub use error::WorkError;
+pub use here::Here;
+pub use replies::{ended, finishes, says, says_to, silent};
+pub use side::Side;
+pub use slots::{give_back, keep, spend};

@@ -1,0 +1,87 @@
+//! Slots set apart, by the cells for whose puts they are.
+
+ghost use Rattle.std.specs.Prelude.{◌≡◌, ◌+◌, ◌++◌, ◌∷◌, [], nat_lt, true, false, ℕ, None, Some, IsSome, IfOk, OnOk, OnErr, IfErr, IsErrOf};
+ghost use Rattle.std.specs.List.Sorted.{IsStrictlySortedBy};
+ghost use Rattle.std.specs.Map.{keys_of};
+ghost use Rattle.petal_table.specs.Table.{at, put, without};
+ghost use Rattle.petal_rules.specs.Store.{cell_cmp, free_of, with_entry};
+ghost use Rattle.server_store.specs.Tickets as lists;
+ghost use Rattle.kept_chains.specs.Kept.{store_of};
+ghost use Rattle.pair_side.specs.declared.error.WorkError.TheVariants as error;
+ghost use Rattle.pair_side.specs.Done.{HasFault, HoldsAt};
+ghost use Rattle.pair_side.specs.Slots.{IsKept, IsStop, IsOutAt};
+
+use crate::WorkError;
+use kept_chains::set_apart;
+use petal_base::{Cell, Key, NoMemory, SharedBlock, Version};
+use petal_disk::Disk;
+use petal_table::Table;
+use server_store::{Store, StoreError, Ticket};
+
+/// Sets a slot apart for a cell that has none; false where none is free.
+pub fn keep<D: Disk>(
+    table: &mut Table<Cell, Ticket>,
+    store: &mut Store<D>,
+    cell: Cell,
+) -> Result<bool, NoMemory>
+    ensures room { IfOk result (λ kept. kept ≡ nat_lt 0 (free_of (store_of store.old))) }
+    ensures yes { IfOk result (λ kept. kept ≡ true → IsKept table.old table.new store.old store.new cell) }
+    ensures no { IfOk result (λ kept. kept ≡ false → (table.new ≡ table.old) × (store.new ≡ store.old)) }
+    ensures err { OnErr result ((table.new ≡ table.old) × (store.new ≡ store.old)) }
+{
+    match set_apart(store)? {
+        None => Ok(false),
+        Some(ticket) => match table.insert(cell, ticket) {
+            Ok(()) => Ok(true),
+            Err(ticket) => {
+                store.give_back(ticket);
+                Err(NoMemory)
+            }
+        },
+    }
+}
+
+/// Puts a block in the slot that was set apart for a cell.
+pub fn spend<D: Disk>(
+    table: &mut Table<Cell, Ticket>,
+    store: &mut Store<D>,
+    cell: Cell,
+    key: Key,
+    version: Version,
+    block: &SharedBlock,
+) -> Result<(), WorkError>
+    requires some { IsSome (at cell_cmp table.old cell) }
+    requires out { IsOutAt table.old cell store.old.tickets }
+    ensures ok { OnOk result (D.told → store_of store.new ≡ with_entry (store_of store.old) key (record { version = version; bytes = block.now })) }
+    ensures table { table.new ≡ without cell_cmp table.old cell }
+    ensures tickets { (slot : ℕ) → at cell_cmp table.old cell ≡ Some slot → store.new.tickets ≡ lists.without store.old.tickets slot }
+    ensures sorted { IsStrictlySortedBy cell_cmp (keys_of table.old) }
+    ensures kept { OnErr result (D.told → store.new.entries ≡ store.old.entries) }
+    ensures holds { D.told → HoldsAt D.Disk store.old → OnOk result (HoldsAt D.Disk store.new) }
+    ensures errors { IfErr result IsStop }
+    ensures full { IsErrOf result error.JournalFull → store.old.log.region.count ≡ 65536 }
+    ensures cause { HasFault (D.faults store.old.disk) (D.faults store.new.disk) result }
+    ensures run { D.came_to store.old.disk store.new.disk }
+{
+    match table.remove(&cell) {
+        Some(ticket) => match store.put(ticket, key, version, block.block()) {
+            Ok(()) => Ok(()),
+            Err(StoreError::JournalFull) => Err(WorkError::JournalFull),
+            Err(_) => Err(WorkError::Failed),
+        },
+        None => Err(WorkError::Failed),
+    }
+}
+
+/// The slot that was set apart for a cell is free again.
+pub fn give_back<D: Disk>(table: &mut Table<Cell, Ticket>, store: &mut Store<D>, cell: Cell)
+    requires some { IsSome (at cell_cmp table.old cell) }
+    requires out { IsOutAt table.old cell store.old.tickets }
+    ensures table { table.new ≡ without cell_cmp table.old cell }
+    ensures store { (slot : ℕ) → at cell_cmp table.old cell ≡ Some slot → store.new ≡ record store.old { tickets = lists.without store.old.tickets slot } }
+    ensures sorted { IsStrictlySortedBy cell_cmp (keys_of table.old) }
+{
+    if let Some(ticket) = table.remove(&cell) {
+        store.give_back(ticket);
+    }
+}
