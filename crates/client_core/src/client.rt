@@ -4,12 +4,12 @@ ghost use Rattle.std.specs.Prelude.{◌≡◌, ◌↔◌, false, None, [], IfOk,
 ghost use Rattle.petal_rules.specs.State.{servers_of};
 ghost use Rattle.petal_rules.specs.Clients.{first_client, called, heard, hears_of, ticked, opens, asks_anew};
 ghost use Rattle.petal_rules.specs.World.{turn_of};
-ghost use Rattle.client_core.specs.Core.{given, is_spent};
+ghost use Rattle.client_core.specs.Core.{at_core, is_spent};
 ghost use Rattle.client_core.specs.Open.{outcome};
 
 use crate::hearing::Heard;
 use crate::open::{Open, bytes_sent};
-use crate::reaction::Reaction;
+use crate::reacted::Reacted;
 use global_state::GlobalState;
 use petal_base::{ClientId, NoMemory, Rev, Seq, Sequence};
 use petal_msg::Letter;
@@ -57,17 +57,17 @@ impl ClientCore {
     }
 
     /// Calls a request as the client's next: its number is one higher than that of the last. None is open.
-    pub fn call(&mut self, alloc: Global, line: u32, request: Request) -> Result<Reaction, NoMemory>
+    pub fn call(&mut self, alloc: Global, line: u32, request: Request) -> Result<Reacted, NoMemory>
         requires free { self.old.client.asked ≡ None }
         requires goes_on { is_spent self.old.client ≡ false }
-        ensures ok { IfOk result (λ reaction. record { core = self.new; reaction = reaction }
-            ≡ given self.old (called self.old.state self.old.me self.old.client line request)) }
+        ensures ok { IfOk result (λ reacted. (self.new, reacted)
+            ≡ at_core self.old (called self.old.state self.old.me self.old.client line request)) }
         ensures err { OnErr result (self.new ≡ self.old) }
     {
         match request {
             Request::Disk { .. } => {
                 self.seq += 1;
-                Ok(Reaction {
+                Ok(Reacted {
                     letters: Sequence::new(alloc),
                     answer: Some((line, Answer::Ok)),
                 })
@@ -86,10 +86,10 @@ impl ClientCore {
     }
 
     /// The request is the open one, and goes out.
-    fn open(&mut self, alloc: Global, line: u32, request: Request) -> Result<Reaction, NoMemory>
+    fn open(&mut self, alloc: Global, line: u32, request: Request) -> Result<Reacted, NoMemory>
         requires { is_spent self.old.client ≡ false }
-        ensures ok { IfOk result (λ reaction. record { core = self.new; reaction = reaction }
-            ≡ given self.old (opens self.old.state self.old.me self.old.client line request)) }
+        ensures ok { IfOk result (λ reacted. (self.new, reacted)
+            ≡ at_core self.old (opens self.old.state self.old.me self.old.client line request)) }
         ensures err { OnErr result (self.new ≡ self.old) }
     {
         let seq = self.seq + 1;
@@ -107,7 +107,7 @@ impl ClientCore {
         open.sent(1, rev);
         self.seq = seq;
         self.asked = Some(open);
-        Ok(Reaction {
+        Ok(Reacted {
             letters,
             answer: None,
         })
@@ -115,16 +115,16 @@ impl ClientCore {
 
     /// Handles a letter.
     #[tactic(auto, unfolding(petal_rules::specs::Clients::heard))]
-    pub fn deliver(&mut self, alloc: Global, letter: &Letter) -> Result<Reaction, NoMemory>
+    pub fn deliver(&mut self, alloc: Global, letter: &Letter) -> Result<Reacted, NoMemory>
         requires { is_spent self.old.client ≡ false }
-        ensures ok { IfOk result (λ reaction. record { core = self.new; reaction = reaction }
-            ≡ given self.old (heard self.old.state self.old.me self.old.client letter.now)) }
+        ensures ok { IfOk result (λ reacted. (self.new, reacted)
+            ≡ at_core self.old (heard self.old.state self.old.me self.old.client letter.now)) }
         ensures err { OnErr result (self.new ≡ self.old) }
     {
         match self.hear(letter)? {
             Heard::Nothing => Ok(nothing(alloc)),
             Heard::Answered(answer) => Ok(self.answer(alloc, answer)),
-            Heard::Again => self.send_anew(alloc),
+            Heard::Again => self.send_again(alloc),
         }
     }
 
@@ -140,13 +140,13 @@ impl ClientCore {
     }
 
     /// The open request is answered.
-    fn answer(&mut self, alloc: Global, answer: Answer) -> Reaction
-        ensures { record { core = self.new; reaction = result }
-            ≡ given self.old (outcome self.old.state self.old.me self.old.client self.old.client.asked (Heard.Answered answer)) }
+    fn answer(&mut self, alloc: Global, answer: Answer) -> Reacted
+        ensures { (self.new, result)
+            ≡ at_core self.old (outcome self.old.state self.old.me self.old.client self.old.client.asked (Heard.Answered answer)) }
     {
         match self.asked.take() {
             None => nothing(alloc),
-            Some(open) => Reaction {
+            Some(open) => Reacted {
                 letters: Sequence::new(alloc),
                 answer: Some((open.line, answer)),
             },
@@ -154,10 +154,10 @@ impl ClientCore {
     }
 
     /// The open request goes out again.
-    fn send_anew(&mut self, alloc: Global) -> Result<Reaction, NoMemory>
+    fn send_again(&mut self, alloc: Global) -> Result<Reacted, NoMemory>
         requires { is_spent self.old.client ≡ false }
-        ensures ok { IfOk result (λ reaction. record { core = self.new; reaction = reaction }
-            ≡ given self.old (asks_anew self.old.state self.old.me self.old.client self.old.client.asked)) }
+        ensures ok { IfOk result (λ reacted. (self.new, reacted)
+            ≡ at_core self.old (asks_anew self.old.state self.old.me self.old.client self.old.client.asked)) }
         ensures err { OnErr result (self.new ≡ self.old) }
     {
         let turn = self.turn() + 1;
@@ -169,7 +169,7 @@ impl ClientCore {
         if let Some(open) = &mut self.asked {
             open.sent(turn, rev);
         }
-        Ok(Reaction {
+        Ok(Reacted {
             letters,
             answer: None,
         })
@@ -177,13 +177,13 @@ impl ClientCore {
 
     /// Sends the letter of the open request again.
     #[tactic(auto, unfolding(petal_rules::specs::Clients::ticked))]
-    pub fn tick(&mut self, alloc: Global) -> Result<Reaction, NoMemory>
+    pub fn tick(&mut self, alloc: Global) -> Result<Reacted, NoMemory>
         requires { is_spent self.old.client ≡ false }
-        ensures ok { IfOk result (λ reaction. record { core = self.new; reaction = reaction }
-            ≡ given self.old (ticked self.old.state self.old.me self.old.client)) }
+        ensures ok { IfOk result (λ reacted. (self.new, reacted)
+            ≡ at_core self.old (ticked self.old.state self.old.me self.old.client)) }
         ensures err { OnErr result (self.new ≡ self.old) }
     {
-        self.send_anew(alloc)
+        self.send_again(alloc)
     }
 
     /// Whether no request is open, so that the next one can be called.
@@ -226,10 +226,10 @@ impl ClientCore {
 }
 
 /// Nothing is sent or answered.
-fn nothing(alloc: Global) -> Reaction
+fn nothing(alloc: Global) -> Reacted
     ensures { result ≡ record { letters = []; answer = None } }
 {
-    Reaction {
+    Reacted {
         letters: Sequence::new(alloc),
         answer: None,
     }

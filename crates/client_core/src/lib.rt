@@ -8,7 +8,7 @@ mod client;
 mod hearing;
 mod open;
 mod posting;
-mod reaction;
+mod reacted;
 
 pub use client::ClientCore;
-pub use reaction::Reaction;
+pub use reacted::Reacted;
