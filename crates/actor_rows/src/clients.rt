@@ -1,6 +1,6 @@
 //! A client calls, hears and sends again.
 
-use client_core::{ClientCore, Reacted};
+use client_core::{ClientCore, Reaction};
 use global_state::GlobalState;
 use petal_base::{Block, Name, SharedBlock, Tuple};
 use petal_msg::{Actor, Body, Letter};
@@ -49,8 +49,8 @@ fn reply(body: Body) -> Letter {
     }
 }
 
-fn to(reacted: &Reacted) -> Option<Actor> {
-    reacted.letters.as_slice().first().map(|letter| letter.to)
+fn to(reaction: &Reaction) -> Option<Actor> {
+    reaction.letters.as_slice().first().map(|letter| letter.to)
 }
 
 // Where the request is sent.
@@ -68,8 +68,8 @@ fn hear(alloc: Global, client: &mut ClientCore, body: Body) -> Result<Option<Ans
     if client.spent() {
         return Err("the client is spent".into());
     }
-    let reacted = client.deliver(alloc, &reply(body))?;
-    Ok(reacted.answer.map(|(_line, answer)| answer))
+    let reaction = client.deliver(alloc, &reply(body))?;
+    Ok(reaction.answer.map(|(_line, answer)| answer))
 }
 
 // Where the request is sent again.

@@ -5,7 +5,7 @@ use Rattle.petal_rules.specs.Server.{letters_of}
 use Rattle.petal_rules.specs.Clients.{Client, client_sender}
 use Rattle.petal_rules.specs.Clients as rules
 use Rattle.petal_rules.specs.World.{greatest_u32, turn_of}
-use Rattle.client_core.specs.declared.reacted.Reacted.{Reacted}
+use Rattle.client_core.specs.declared.reaction.Reaction.{Reaction}
 
 -- a client's number, the global state at its revision, and what the rules know of it
 pub record Core : Type 0 where
@@ -14,7 +14,7 @@ pub record Core : Type 0 where
   pub client : Client
 
 -- a rule's outcome, at this core: the core after it, and the letters and the answer that it gives
-abbrev pub at_core : Core → rules.Reacted → Core × Reacted
+abbrev pub at_core : Core → rules.Reacted → Core × Reaction
 at_core core reacted = (
   record core { client = reacted.client },
   record { letters = letters_of (client_sender core.state core.me) 0 reacted.posts; answer = reacted.answer },

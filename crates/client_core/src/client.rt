@@ -9,7 +9,7 @@ ghost use Rattle.client_core.specs.Open.{outcome};
 
 use crate::hearing::Heard;
 use crate::open::{Open, bytes_sent};
-use crate::reacted::Reacted;
+use crate::reaction::Reaction;
 use global_state::GlobalState;
 use petal_base::{ClientId, NoMemory, Rev, Seq, Sequence};
 use petal_msg::Letter;
@@ -57,17 +57,17 @@ impl ClientCore {
     }
 
     /// Calls a request as the client's next: its number is one higher than that of the last. None is open.
-    pub fn call(&mut self, alloc: Global, line: u32, request: Request) -> Result<Reacted, NoMemory>
+    pub fn call(&mut self, alloc: Global, line: u32, request: Request) -> Result<Reaction, NoMemory>
         requires free { self.old.client.asked ≡ None }
         requires goes_on { is_spent self.old.client ≡ false }
-        ensures ok { IfOk result (λ reacted. (self.new, reacted)
+        ensures ok { IfOk result (λ reaction. (self.new, reaction)
             ≡ at_core self.old (called self.old.state self.old.me self.old.client line request)) }
         ensures err { OnErr result (self.new ≡ self.old) }
     {
         match request {
             Request::Disk { .. } => {
                 self.seq += 1;
-                Ok(Reacted {
+                Ok(Reaction {
                     letters: Sequence::new(alloc),
                     answer: Some((line, Answer::Ok)),
                 })
@@ -86,9 +86,9 @@ impl ClientCore {
     }
 
     /// The request is the open one, and goes out.
-    fn open(&mut self, alloc: Global, line: u32, request: Request) -> Result<Reacted, NoMemory>
+    fn open(&mut self, alloc: Global, line: u32, request: Request) -> Result<Reaction, NoMemory>
         requires { is_spent self.old.client ≡ false }
-        ensures ok { IfOk result (λ reacted. (self.new, reacted)
+        ensures ok { IfOk result (λ reaction. (self.new, reaction)
             ≡ at_core self.old (opens self.old.state self.old.me self.old.client line request)) }
         ensures err { OnErr result (self.new ≡ self.old) }
     {
@@ -107,7 +107,7 @@ impl ClientCore {
         open.sent(1, rev);
         self.seq = seq;
         self.asked = Some(open);
-        Ok(Reacted {
+        Ok(Reaction {
             letters,
             answer: None,
         })
@@ -115,9 +115,9 @@ impl ClientCore {
 
     /// Handles a letter.
     #[tactic(auto, unfolding(petal_rules::specs::Clients::heard))]
-    pub fn deliver(&mut self, alloc: Global, letter: &Letter) -> Result<Reacted, NoMemory>
+    pub fn deliver(&mut self, alloc: Global, letter: &Letter) -> Result<Reaction, NoMemory>
         requires { is_spent self.old.client ≡ false }
-        ensures ok { IfOk result (λ reacted. (self.new, reacted)
+        ensures ok { IfOk result (λ reaction. (self.new, reaction)
             ≡ at_core self.old (heard self.old.state self.old.me self.old.client letter.now)) }
         ensures err { OnErr result (self.new ≡ self.old) }
     {
@@ -140,13 +140,13 @@ impl ClientCore {
     }
 
     /// The open request is answered.
-    fn answer(&mut self, alloc: Global, answer: Answer) -> Reacted
+    fn answer(&mut self, alloc: Global, answer: Answer) -> Reaction
         ensures { (self.new, result)
             ≡ at_core self.old (outcome self.old.state self.old.me self.old.client self.old.client.asked (Heard.Answered answer)) }
     {
         match self.asked.take() {
             None => nothing(alloc),
-            Some(open) => Reacted {
+            Some(open) => Reaction {
                 letters: Sequence::new(alloc),
                 answer: Some((open.line, answer)),
             },
@@ -154,9 +154,9 @@ impl ClientCore {
     }
 
     /// The open request goes out again.
-    fn send_again(&mut self, alloc: Global) -> Result<Reacted, NoMemory>
+    fn send_again(&mut self, alloc: Global) -> Result<Reaction, NoMemory>
         requires { is_spent self.old.client ≡ false }
-        ensures ok { IfOk result (λ reacted. (self.new, reacted)
+        ensures ok { IfOk result (λ reaction. (self.new, reaction)
             ≡ at_core self.old (asks_anew self.old.state self.old.me self.old.client self.old.client.asked)) }
         ensures err { OnErr result (self.new ≡ self.old) }
     {
@@ -169,7 +169,7 @@ impl ClientCore {
         if let Some(open) = &mut self.asked {
             open.sent(turn, rev);
         }
-        Ok(Reacted {
+        Ok(Reaction {
             letters,
             answer: None,
         })
@@ -177,9 +177,9 @@ impl ClientCore {
 
     /// Sends the letter of the open request again.
     #[tactic(auto, unfolding(petal_rules::specs::Clients::ticked))]
-    pub fn tick(&mut self, alloc: Global) -> Result<Reacted, NoMemory>
+    pub fn tick(&mut self, alloc: Global) -> Result<Reaction, NoMemory>
         requires { is_spent self.old.client ≡ false }
-        ensures ok { IfOk result (λ reacted. (self.new, reacted)
+        ensures ok { IfOk result (λ reaction. (self.new, reaction)
             ≡ at_core self.old (ticked self.old.state self.old.me self.old.client)) }
         ensures err { OnErr result (self.new ≡ self.old) }
     {
@@ -226,10 +226,10 @@ impl ClientCore {
 }
 
 /// Nothing is sent or answered.
-fn nothing(alloc: Global) -> Reacted
+fn nothing(alloc: Global) -> Reaction
     ensures { result ≡ record { letters = []; answer = None } }
 {
-    Reacted {
+    Reaction {
         letters: Sequence::new(alloc),
         answer: None,
     }

@@ -8,7 +8,7 @@ mod client;
 mod hearing;
 mod open;
 mod posting;
-mod reacted;
+mod reaction;
 
 pub use client::ClientCore;
-pub use reacted::Reacted;
+pub use reaction::Reaction;

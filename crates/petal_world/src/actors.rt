@@ -51,15 +51,15 @@ impl<H: Host> Actors<H> {
         ensures { IfOk result (λ stepped. (seat : Seat) → slice_get self.old.seats client ≡ Some seat
             → (stepped ≡ record { letters = client_letters seat step.now stamp; answer = (reacted_at seat step.now).1.answer }) × (self.new ≡ with_client self.old client seat step.now stamp)) }
     {
-        let reacted = self.seats.step(alloc, client, step, stamp)?;
-        let letters = stamped(alloc, reacted.letters, stamp)?;
+        let reaction = self.seats.step(alloc, client, step, stamp)?;
+        let letters = stamped(alloc, reaction.letters, stamp)?;
         self.sent.add_all(letters.as_slice())?;
-        if let Some((line, _answer)) = &reacted.answer {
+        if let Some((line, _answer)) = &reaction.answer {
             self.waiting.answered(*line);
         }
         Ok(Stepped {
             letters,
-            answer: reacted.answer,
+            answer: reaction.answer,
         })
     }
 

@@ -10,8 +10,8 @@ ghost use Rattle.world_desks.specs.Desks.{desk_of};
 ghost use Rattle.world_desks.specs.Sent.{name_of, name_cmp};
 ghost use Rattle.petal_world.specs.Actors.{Shows};
 
-use crate::seat::Seat;
 use crate::actors::Actors;
+use crate::seat::Seat;
 use petal_base::{ClientId, ServerId, Stamp};
 use petal_msg::{Actor, Letter};
 use petal_rules::{Step, WorkEnd};

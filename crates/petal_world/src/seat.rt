@@ -5,7 +5,7 @@ ghost use Rattle.client_core.specs.Core.{at_core, is_spent};
 ghost use Rattle.petal_rules.specs.World.{calls};
 ghost use Rattle.petal_world.specs.Seats.{CanTake, reacted_at};
 
-use client_core::{ClientCore, Reacted};
+use client_core::{ClientCore, Reaction};
 use petal_base::{NoMemory, Sequence, Stamp};
 use petal_rules::Step;
 use script_lines::Line;
@@ -29,10 +29,10 @@ impl Seat {
     }
 
     /// The client calls its next line.
-    fn call(&mut self, alloc: Global) -> Result<Reacted, NoMemory>
+    fn call(&mut self, alloc: Global) -> Result<Reaction, NoMemory>
         requires free { self.old.core.client.asked ≡ None }
         requires goes_on { is_spent self.old.core.client ≡ false }
-        ensures ok { IfOk result (λ reacted. (self.new.core, reacted)
+        ensures ok { IfOk result (λ reaction. (self.new.core, reaction)
             ≡ at_core self.old.core (calls self.old.core.state self.old.core.me self.old.core.client (slice_get self.old.lines self.old.core.client.seq))) }
         ensures rest { self.new ≡ record self.old { core = self.new.core } }
         ensures err { OnErr result (self.new ≡ self.old) }
@@ -45,10 +45,10 @@ impl Seat {
     }
 
     /// The client takes a step that it can take.
-    pub fn step(&mut self, alloc: Global, step: &Step) -> Result<Reacted, NoMemory>
+    pub fn step(&mut self, alloc: Global, step: &Step) -> Result<Reaction, NoMemory>
         requires can { CanTake step.now self.old.core.client }
         requires goes_on { is_spent self.old.core.client ≡ false }
-        ensures ok { IfOk result (λ reacted. (self.new.core, reacted)
+        ensures ok { IfOk result (λ reaction. (self.new.core, reaction)
             ≡ reacted_at self.old step.now) }
         ensures rest { self.new ≡ record self.old { core = self.new.core } }
         ensures err { OnErr result (self.new ≡ self.old) }
@@ -63,10 +63,10 @@ impl Seat {
 }
 
 /// Nothing is sent or answered.
-fn nothing(alloc: Global) -> Reacted
+fn nothing(alloc: Global) -> Reaction
     ensures { result ≡ record { letters = []; answer = None } }
 {
-    Reacted {
+    Reaction {
         letters: Sequence::new(alloc),
         answer: None,
     }

@@ -9,7 +9,7 @@ ghost use Rattle.petal_world.specs.Seats.{CanTake, reacted_at, seat_of, seats_of
 ghost use Rattle.petal_world.specs.declared.seat.Seat.{Seat};
 
 use crate::seat::Seat;
-use client_core::{ClientCore, Reacted};
+use client_core::{ClientCore, Reaction};
 use global_state::GlobalState;
 use petal_base::{ClientId, NoMemory, Sequence, Stamp};
 use petal_rules::Step;
@@ -106,16 +106,16 @@ impl Seats {
         client: ClientId,
         step: &Step,
         stamp: Stamp,
-    ) -> Result<Reacted, NoMemory>
+    ) -> Result<Reaction, NoMemory>
         requires within { client < length self.old }
         requires can { IfSome (slice_get self.old client) (λ seat. CanTake step.now seat.core.client) }
         requires goes_on { IfSome (slice_get self.old client) (λ seat. is_spent seat.core.client ≡ false) }
-        ensures { IfOk result (λ reacted. (seat : Seat) → slice_get self.old client ≡ Some seat
-            → (reacted ≡ (reacted_at seat step.now).1) × (self.new ≡ slice_set self.old client (record seat { core = (reacted_at seat step.now).0; clock = stamp }))) }
+        ensures { IfOk result (λ reaction. (seat : Seat) → slice_get self.old client ≡ Some seat
+            → (reaction ≡ (reacted_at seat step.now).1) × (self.new ≡ slice_set self.old client (record seat { core = (reacted_at seat step.now).0; clock = stamp }))) }
     {
         let seat = &mut self.seats[client as usize];
-        let reacted = seat.step(alloc, step)?;
+        let reaction = seat.step(alloc, step)?;
         seat.clock = stamp;
-        Ok(reacted)
+        Ok(reaction)
     }
 }

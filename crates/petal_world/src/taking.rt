@@ -6,8 +6,8 @@ ghost use Rattle.petal_rules.specs.declared.step.Step.{Step};
 ghost use Rattle.petal_world.specs.Play.{Can, LeavesIn, phase_for, phase_of, rev_of, stamp_of};
 ghost use Rattle.petal_world.specs.Actors.{Shows};
 
-use crate::deciding::received;
 use crate::actors::Actors;
+use crate::deciding::received;
 use crate::stepped::Stepped;
 use petal_base::{ClientId, NoMemory, Rev, Stamp};
 use petal_msg::Actor;

@@ -8,8 +8,8 @@ ghost use Rattle.world_desks.specs.Desks.{first_sites};
 ghost use Rattle.world_desks.specs.Playable.{AreNumbered, AreOrdered};
 ghost use Rattle.petal_world.specs.declared.error.WorldError.TheVariants as error;
 
-use crate::seats::Seats;
 use crate::actors::Actors;
+use crate::seats::Seats;
 use crate::{Stepped, WorldError};
 use global_state::GlobalState;
 use petal_base::{NoMemory, Rev, Sequence, Stamp};

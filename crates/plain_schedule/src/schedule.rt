@@ -6,10 +6,10 @@ ghost use Rattle.world_desks.specs.Playable.{AreOrdered};
 ghost use Rattle.plain_schedule.specs.Places.{GoesOn};
 ghost use Rattle.plain_schedule.specs.Whole.{begins_with_disk};
 
+use crate::caller::{Caller, callers_of};
 use crate::cast::first_state;
 use crate::patience::Patience;
 use crate::post::{Handing, Post};
-use crate::caller::{Caller, callers_of};
 use memory_server::{MemServer, members};
 use petal_base::{ClientId, NoMemory, ServerId};
 use petal_msg::{Actor, Body, Letter, SharedLetter};

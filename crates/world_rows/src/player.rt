@@ -205,7 +205,7 @@ impl Player {
             Act::Wait => self.run.go_on(),
             Act::PlayOut => play(alloc, &mut self.run),
             Act::Line(line, want) => Ok(is_so(&self.run, *line, want)),
-            Act::Sent(count, mail) => Ok(self.count(mail) == *count as usize),
+            Act::Sent(count, mail) => Ok(self.count(mail) >= *count as usize),
             Act::Owners(count, mail) => Ok(self.owners(mail) >= *count as usize),
             Act::Told(words) => self.tells(alloc, words),
         }
