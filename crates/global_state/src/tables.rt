@@ -8,13 +8,14 @@ ghost use Rattle.petal_state.specs.Command.{with_map, with_disk, with_fence, wit
 use global_map::Maps;
 use global_tables::{FenceKind, Latest, Member, Verdict};
 use link_table::Links;
-use petal_base::{
-    CLIENTS, ClientId, DiskId, Inc, MapId, Name, NoMemory, Rev, Seq, ServerId, Tuple,
-};
+use petal_base::{ClientId, DiskId, Inc, MapId, Name, NoMemory, Rev, Seq, ServerId, Tuple};
 use std::alloc::{AllocError, Global};
 use std::marker::Model;
 use view_fence::ViewFence;
 use virtual_dir::Directory;
+
+/// How many clients there are, the operator counted.
+const CLIENTS: usize = 9;
 
 /// The state as its tables are kept, with no bound on its numbers.
 #[derive(Drop)]
@@ -24,7 +25,7 @@ pub struct Tables {
     pub disks: Directory,
     pub links: Links,
     pub view: ViewFence,
-    pub verdicts: [Option<Latest>; CLIENTS as usize],
+    pub verdicts: [Option<Latest>; CLIENTS],
 }
 
 impl Model for Tables {
@@ -46,7 +47,7 @@ impl Tables {
             disks: Directory::new(alloc),
             links: Links::new(alloc),
             view: ViewFence::new(alloc, servers)?,
-            verdicts: [None; CLIENTS as usize],
+            verdicts: [None; CLIENTS],
         })
     }
 

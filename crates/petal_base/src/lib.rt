@@ -18,8 +18,8 @@ pub use block::{BLOCK_BYTES, Block};
 pub use memory::NoMemory;
 pub use name::{NAME_BYTES, Name};
 pub use number::{
-    BLOCKS, BlockNo, CLIENTS, ClientId, DiskId, Epoch, Inc, MAX_SERVERS, MapId, OPERATOR, Op,
-    REGIONS, Rev, Seq, ServerId, Stamp, Version,
+    BLOCKS, BlockNo, ClientId, DiskId, Epoch, Inc, MAX_SERVERS, MapId, OPERATOR, Op, REGIONS, Rev,
+    Seq, ServerId, Stamp, Version,
 };
 pub use place::{Cell, Key};
 pub use sequence::Sequence;

@@ -39,9 +39,6 @@ pub type Stamp = u64;
 /// The client number of the operator.
 pub const OPERATOR: ClientId = 8;
 
-/// How many clients there are, the operator counted.
-pub const CLIENTS: ClientId = 9;
-
 /// A virtual disk has 2^48 blocks.
 pub const BLOCKS: BlockNo = 281_474_976_710_656;
 
