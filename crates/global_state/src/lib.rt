@@ -9,6 +9,7 @@ mod command;
 mod entry;
 mod pass;
 mod place;
+mod role;
 mod settled;
 mod state;
 mod tables;

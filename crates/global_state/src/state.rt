@@ -7,10 +7,12 @@ ghost use Rattle.global_tables.specs.Link.{link_at};
 ghost use Rattle.global_tables.specs.View.{head};
 ghost use Rattle.petal_state.specs.State.{start, inc_of, latest};
 ghost use Rattle.petal_state.specs.Place.{view_of, owner, region_at, link_of_row, snapshot, next_snapshot, live, cell_link, row_lead, lead, link_lead, readable, held, noted};
+ghost use Rattle.petal_state.specs.Role.{is_lead, leads_link, first, second, is_second};
 ghost use Rattle.petal_state.specs.Command.{after, fixed};
 ghost use Rattle.petal_state.specs.Settled.{is_settled};
 ghost use Rattle.petal_state.specs.Bound.{IsWithin};
 
+use crate::role::is_the;
 use crate::tables::Tables;
 use global_tables::{Fence, RegionState, Verdict};
 use petal_base::{Cell, ClientId, DiskId, Epoch, Inc, MapId, Name, NoMemory, Rev, Seq, ServerId};
@@ -178,6 +180,41 @@ impl GlobalState {
         ensures { result ≡ link_lead self.now map link }
     {
         self.tables.link_lead(map, link)
+    }
+
+    /// Whether the server takes the cell's writes.
+    pub fn is_lead(&self, server: ServerId, cell: Cell) -> bool
+        ensures { result ≡ is_lead self.now server cell }
+    {
+        is_the(self.lead(cell), server)
+    }
+
+    /// Whether the server leads the cell's link, whatever its region.
+    pub fn leads_link(&self, server: ServerId, cell: Cell) -> bool
+        ensures { result ≡ leads_link self.now server cell }
+    {
+        is_the(self.cell_lead(cell), server)
+    }
+
+    /// The server that puts the cell first, in Both.
+    pub fn first(&self, cell: Cell) -> Option<ServerId>
+        ensures { result ≡ first self.now cell }
+    {
+        self.tables.first(cell)
+    }
+
+    /// The server that follows on the cell, in Both.
+    pub fn second(&self, cell: Cell) -> Option<ServerId>
+        ensures { result ≡ second self.now cell }
+    {
+        self.tables.second(cell)
+    }
+
+    /// Whether the server follows on the cell.
+    pub fn is_second(&self, server: ServerId, cell: Cell) -> bool
+        ensures { result ≡ is_second self.now server cell }
+    {
+        is_the(self.second(cell), server)
     }
 
     /// Whether the server may answer reads of the cell.

@@ -23,8 +23,8 @@ use Rattle.petal_history.specs.declared.record.Record.{Record}
 use Rattle.law_steps.specs.Happens.{Heard, Turned, Rests, Sends_anew, Begins, Makes, Reads}
 use Rattle.law_steps.specs.Happens as happens
 use Rattle.law_steps.proofs.Stepping.{fixed_setting, client_turns, is_call}
-use Rattle.law_steps.proofs.Tests.{same_some, none_some, by_bool, same_or_apart, true_false, all_put_apart}
-use Rattle.law_answers.specs.Order.{AreRising, is_answered, IsOpenLine}
+use Rattle.petal_rules.proofs.Tests.{same_some, none_some, by_bool, same_or_apart, true_false, all_put_apart}
+use Rattle.petal_history.specs.Order.{AreRising, is_answered, IsOpenLine}
 use Rattle.law_answers.proofs.Places.{line_at, one_client, one_place}
 
 -- ### Answers given

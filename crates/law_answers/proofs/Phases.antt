@@ -21,8 +21,8 @@ use Rattle.petal_history.specs.Legal.{IsLegal, IsLegalFrom, stepped, world_after
 use Rattle.petal_history.specs.Text.{answers_of, text_of, with_given}
 use Rattle.petal_history.specs.declared.record.Record.{Record}
 use Rattle.law_steps.proofs.Stepping.{fixed_setting}
-use Rattle.law_steps.proofs.Tests.{by_bool}
-use Rattle.law_answers.specs.Order.{AreRising, AnsweredComeFirst, is_answered}
+use Rattle.petal_rules.proofs.Tests.{by_bool}
+use Rattle.petal_history.specs.Order.{AreRising, AnsweredComeFirst, is_answered}
 use Rattle.law_answers.proofs.Once.{Ahead, answered_more, stepped_is, ahead_after, told_after, front_legal, ahead_start, told_start}
 
 -- ### Tables

@@ -4,8 +4,8 @@ use Rattle.std.specs.Prelude.{◌==◌, filter, slice_get}
 use Rattle.script_lines.specs.declared.request.Line.{Line}
 use Rattle.petal_rules.specs.Lists.{In}
 use Rattle.petal_rules.specs.World.{lines_of}
-use Rattle.law_steps.proofs.Tests.{same_some, none_some, same_numbers}
-use Rattle.law_answers.specs.Order.{AreRising}
+use Rattle.petal_rules.proofs.Tests.{same_some, none_some, same_numbers}
+use Rattle.petal_history.specs.Order.{AreRising}
 
 kept_line : (p : Line → Bool) (lines : List Line) (line : Line) → In line (filter p lines) → In line lines × (p line ≡ true)
 unfolding In

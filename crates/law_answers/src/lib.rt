@@ -11,7 +11,7 @@ ghost use Rattle.script_lines.specs.declared.script.Script.{Script};
 ghost use Rattle.petal_history.specs.Legal.{IsLegal};
 ghost use Rattle.petal_history.specs.Text.{answers_of, text_of};
 ghost use Rattle.petal_history.specs.declared.record.Record.{Record};
-ghost use Rattle.law_answers.specs.Order.{AnsweredComeFirst, AreRising, IsOpenLine};
+ghost use Rattle.petal_history.specs.Order.{AnsweredComeFirst, AreRising, IsOpenLine};
 
 /// Each answer is of a line of the script that no earlier record answered.
 pub fn no_line_is_answered_twice()

@@ -1,10 +1,9 @@
 -- Every step keeps the pairs, and so does every legal history.
-use Rattle.std.proofs.Common.{◌≡◌, ◌∙◌, ℕ, true, List, [], Some, None, refl, ap, sym, subst, inl, inr, arith}
+use Rattle.std.proofs.Common.{◌≡◌, ◌∙◌, ℕ, true, false, List, [], Some, None, refl, ap, sym, subst, inl, inr, arith}
 use Rattle.petal_base.specs.declared.place.Cell.{Cell}
 use Rattle.petal_table.specs.Table.{at}
 use Rattle.petal_table.proofs.Rows.{at-empty}
-use Rattle.petal_msg.specs.declared.body.Body.{Body}
-use Rattle.petal_msg.specs.declared.body.Body.TheVariants as body
+use Rattle.petal_msg.specs.Kinds.{Subject, Paired, is_asked, is_paired, subject_of}
 use Rattle.script_lines.specs.declared.request.Line.{Line}
 use Rattle.script_lines.specs.declared.script.Script.{Script}
 use Rattle.petal_rules.specs.Lists.{In}
@@ -25,34 +24,18 @@ use Rattle.law_steps.specs.Happens.{Happens, Serves, Turns, server_moves, served
 use Rattle.law_steps.specs.Ready.{Ready}
 use Rattle.law_steps.proofs.Letters.{said}
 use Rattle.law_steps.proofs.Sending.{is_ask, turned_asks}
-use Rattle.law_steps.proofs.Tests.{true_false}
+use Rattle.petal_rules.proofs.Tests.{true_false}
 use Rattle.law_steps.proofs.Scripts.{script_steady, start_ready}
 use Rattle.law_steps.proofs.Stepping.{kept_after}
-use Rattle.law_copies.specs.Pair.{Pair, pair_of, IsPair, PairOk, Keeps, cell_in, SaidOk, owns_of, Good}
-use Rattle.law_copies.proofs.Frames.{Changes, known_later, pairs_kept}
+use Rattle.law_copies.specs.Pair.{Pair, pair_of, IsPair, PairOk, Keeps, SaidOk, owns_of, Good}
+use Rattle.law_copies.proofs.Frames.{Changes, known_later, no_cell, pairs_kept, unpaired}
 use Rattle.law_copies.proofs.Jobs.{job_keeps}
 use Rattle.law_copies.proofs.Moves.{stays}
 
--- ### What clients send says nothing of pairs
-
-ask_no_cell : (said : Body) → is_ask said ≡ true → cell_in said ≡ None
-ask_no_cell (body.Read to seq cell epoch) e = refl
-ask_no_cell (body.Write to seq cell epoch bytes) e = refl
-ask_no_cell (body.Data seq bytes) e = refl
-ask_no_cell (body.NotHere seq) e = refl
-ask_no_cell (body.BlockBusy seq) e = refl
-ask_no_cell (body.Held seq) e = refl
-ask_no_cell (body.WrongRev seq) e = refl
-ask_no_cell (body.Written seq) e = refl
-ask_no_cell (body.Full seq) e = refl
-ask_no_cell (body.Reserve number cell) e = true_false e refl
-ask_no_cell (body.Reserved number cell) e = true_false e refl
-ask_no_cell (body.PairFull number cell) e = true_false e refl
-ask_no_cell (body.Replicate number key version bytes) e = true_false e refl
-ask_no_cell (body.Replicated number cell) e = true_false e refl
-
-no_cell : (state : State) (halves : ℕ → Own) (said : Body) → cell_in said ≡ None → SaidOk state halves said
-no_cell state halves said e cell n m is pair = absurd (let f : None ≡ Some cell = sym e ∙ is in cc)
+-- what clients send says nothing of pairs
+asked_unpaired : (subject : Subject) → is_asked subject ≡ true → is_paired subject ≡ false
+asked_unpaired Paired e = true_false e refl
+asked_unpaired _ e = refl
 
 -- ### Steps
 
@@ -79,7 +62,8 @@ module _ (state : State) (steady : IsSteady state) (lines : List Line) where
     letters = λ letter h. elim (in-append letter _ w.sent h) [
       | inl new ↦
           let s = said (client_sender state c) stamp 0 reacted.posts letter new in
-          no_cell state (owns_of w) letter.body (subst (λ (b : Body). cell_in b ≡ None) (sym s.body) (ask_no_cell s.post.body (turned_asks _ state lines c (w.clients c) in_call reacted turned s.post s.there)))
+          let asks = turned_asks _ state lines c (w.clients c) in_call reacted turned s.post s.there in
+          subst (SaidOk state (owns_of w)) (sym s.body) (no_cell state (owns_of w) s.post.body (unpaired s.post.body (asked_unpaired (subject_of s.post.body) asks)))
       | inr old ↦ good.letters letter old
     ];
   }

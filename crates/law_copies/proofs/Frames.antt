@@ -1,14 +1,15 @@
 -- A step of one server changes the pairs that it is of, and no others.
-use Rattle.std.proofs.Common.{◌≡◌, ◌≢◌, ℕ, List, Some, sym, ◌∙◌, subst, inl, inr, arith}
+use Rattle.std.proofs.Common.{◌≡◌, ◌≢◌, ℕ, List, false, Some, None, ap, sym, ◌∙◌, subst, inl, inr, arith}
 use Rattle.petal_base.specs.declared.place.Cell.{Cell}
+use Rattle.petal_msg.specs.Kinds.{about, is_paired, pair_cell, subject_of}
 use Rattle.petal_msg.specs.declared.body.Body.{Body}
 use Rattle.petal_msg.specs.declared.body.Body.TheVariants as body
 use Rattle.petal_rules.specs.Lists.{In}
 use Rattle.petal_rules.specs.State.{State}
 use Rattle.petal_rules.specs.Server.{Own, Post}
 use Rattle.law_steps.specs.Steady.{IsSteady}
-use Rattle.law_steps.proofs.Tests.{same_or_apart, same_some}
-use Rattle.law_copies.specs.Pair.{Pair, pair_of, IsPair, PairOk, Grows, Keeps, Known, cell_in, SaidOk}
+use Rattle.petal_rules.proofs.Tests.{none_some, same_or_apart, same_some}
+use Rattle.law_copies.specs.Pair.{Pair, pair_of, IsPair, PairOk, Grows, Keeps, Known, SaidOk}
 
 -- what was known of a letter is known later
 pub known_later : (old new : Pair) → Grows old new → (said : Body) → Known old said → Known new said
@@ -19,16 +20,14 @@ known_later old new grows (body.Replicate number key version bytes) h = elim h [
   | inr past ↦ let more = grows.onward in inr (omega arith)
 ]
 known_later old new grows (body.Replicated number cell) h = let more = grows.onward in omega arith
-known_later old new grows (body.PairFull number cell) h = tt
-known_later old new grows (body.Read client seq cell epoch) h = tt
-known_later old new grows (body.Write client seq cell epoch bytes) h = tt
-known_later old new grows (body.Data seq bytes) h = tt
-known_later old new grows (body.NotHere seq) h = tt
-known_later old new grows (body.BlockBusy seq) h = tt
-known_later old new grows (body.Held seq) h = tt
-known_later old new grows (body.WrongRev seq) h = tt
-known_later old new grows (body.Written seq) h = tt
-known_later old new grows (body.Full seq) h = tt
+known_later old new grows _ h = tt
+
+-- what speaks of no pair's cell need not be known
+pub unpaired : (said : Body) → is_paired (subject_of said) ≡ false → pair_cell said ≡ None
+unpaired said e = ap (λ b. if b then (about said).cell else None) e
+
+pub no_cell : (state : State) (halves : ℕ → Own) (said : Body) → pair_cell said ≡ None → SaidOk state halves said
+no_cell state halves said none cell n m is pair = none_some none is
 
 -- one server's own is another
 pub record Changes (halves later : ℕ → Own) (k : ℕ) (new : Own) : Type 0 where
@@ -94,7 +93,7 @@ module _ (state : State) (steady : IsSteady state) where
     ]
 
     -- what is known of a letter about a cell that the server is the first of, or the second
-    pub known_first : (said : Body) (cell : Cell) (m : ℕ) → IsPair state cell k m → cell_in said ≡ Some cell → Known (pair_of new (halves m) cell) said → SaidOk state later said
+    pub known_first : (said : Body) (cell : Cell) (m : ℕ) → IsPair state cell k m → pair_cell said ≡ Some cell → Known (pair_of new (halves m) cell) said → SaidOk state later said
     known_first said cell m mine is h c n j e pair =
         let same : cell ≡ c = same_some (sym is ∙ e) in
         let pair' : IsPair state cell n j = subst (λ (q : Cell). IsPair state q n j) (sym same) pair in
@@ -103,7 +102,7 @@ module _ (state : State) (steady : IsSteady state) where
         (subst (λ i. Known (pair_of (later i) (later j) cell) said) (same_first cell k m n j mine pair')
         (subst (λ i. Known (pair_of (later k) (later i) cell) said) (same_second cell k m n j mine pair') known))
 
-    pub known_second : (said : Body) (cell : Cell) (n : ℕ) → IsPair state cell n k → cell_in said ≡ Some cell → Known (pair_of (halves n) new cell) said → SaidOk state later said
+    pub known_second : (said : Body) (cell : Cell) (n : ℕ) → IsPair state cell n k → pair_cell said ≡ Some cell → Known (pair_of (halves n) new cell) said → SaidOk state later said
     known_second said cell n mine is h c i j e pair =
         let same : cell ≡ c = same_some (sym is ∙ e) in
         let pair' : IsPair state cell i j = subst (λ (q : Cell). IsPair state q i j) (sym same) pair in

@@ -6,6 +6,7 @@ use Rattle.petal_base.specs.declared.place.Cell.{Cell}
 use Rattle.petal_base.specs.declared.place.Key.{Key}
 use Rattle.petal_base.specs.Place.{cell_of}
 use Rattle.petal_table.specs.Table.{Table, at, put, without}
+use Rattle.petal_msg.specs.Kinds.{is_paired}
 use Rattle.petal_msg.specs.declared.body.Body.{Body}
 use Rattle.petal_msg.specs.declared.body.Body.TheVariants as body
 use Rattle.petal_msg.specs.declared.letter.Actor.{Actor}
@@ -28,10 +29,10 @@ use Rattle.law_steps.specs.Steady.{IsSteady}
 use Rattle.law_steps.specs.Did.{Did, Ignores, Refuses, Asks_for, Shows, Repeats, Is_full, Opens, Puts, Gives_up, Closes, Sets_apart, Promises, Declines, Follows, Asks, A_slot, A_copy, IsRefusal, waiting, copying, progress}
 use Rattle.law_steps.specs.Happens.{Handled}
 use Rattle.law_steps.specs.Ready.{Ready}
-use Rattle.law_steps.proofs.Tests.{same_some, is_the_one}
+use Rattle.petal_rules.proofs.Tests.{same_some, is_the_one}
 use Rattle.law_steps.proofs.Staged.{same_cell_or_apart}
 use Rattle.law_copies.specs.Pair.{Pair, pair_of, IsPair, far, ceiling_of, PairOk, IsPutting, Keeps, Known, SaidOk, owns_of, Good}
-use Rattle.law_copies.proofs.Frames.{Changes, JobKeeps, apart, known_first, known_second}
+use Rattle.law_copies.proofs.Frames.{Changes, JobKeeps, apart, known_first, known_second, unpaired, no_cell}
 use Rattle.law_copies.proofs.Moves as moves
 
 posted : (o : Option ℕ) (said : Body) (post : Post) → In post (post_to o said) → post.body ≡ said
@@ -44,22 +45,6 @@ one_post : (to : Actor) (said : Body) (post : Post) → In post (record { to = t
 unfolding In
 one_post to said post (inl e) = ap (λ (p : Post). p.body) e
 one_post to said post (inr h) = absurd h
-
-refusal_known : (pair : Pair) (said : Body) → IsRefusal said → Known pair said
-refusal_known pair (body.NotHere seq) h = tt
-refusal_known pair (body.BlockBusy seq) h = tt
-refusal_known pair (body.Held seq) h = tt
-refusal_known pair (body.WrongRev seq) h = tt
-refusal_known pair (body.Read client seq cell epoch) h = tt
-refusal_known pair (body.Write client seq cell epoch bytes) h = tt
-refusal_known pair (body.Data seq bytes) h = tt
-refusal_known pair (body.Written seq) h = tt
-refusal_known pair (body.Full seq) h = tt
-refusal_known pair (body.Reserve number cell) h = absurd h
-refusal_known pair (body.Reserved number cell) h = absurd h
-refusal_known pair (body.PairFull number cell) h = tt
-refusal_known pair (body.Replicate number key version bytes) h = absurd h
-refusal_known pair (body.Replicated number cell) h = absurd h
 
 ended_known : (pair : Pair) (seq : ℕ) (how : Ending) → Known pair (ended seq how)
 ended_known pair seq ending.Written = tt
@@ -316,7 +301,7 @@ module _ (state : State) (steady : IsSteady state) (w : World) (ready : Ready st
   pub job_keeps : (done : Done) → Did hears here own done → J done.own done.posts
   unfolding In
   job_keeps _ Ignores = talks own [] (λ other q. refl) (λ other q. refl) (λ later changes post i. absurd i)
-  job_keeps _ (Refuses to said is why) = talks own _ (λ other q. refl) (λ other q. refl) (λ later changes post i. says_any later said post (one_post to said post i) (λ pair. refusal_known pair said is))
+  job_keeps _ (Refuses to said is why) = talks own _ (λ other q. refl) (λ other q. refl) (λ later changes post i. says_so later said post (one_post to said post i) (no_cell state later said (unpaired said (ap is_paired is))))
   job_keeps _ (Asks_for posts h) = talks own posts (λ other q. refl) (λ other q. refl) (λ later changes post i. asks_known later changes post (h post i))
   job_keeps _ (Shows client seq cell epoch h r none) = talks own _ (λ other q. refl) (λ other q. refl) (λ later changes post i. says_any later _ post (one_post _ _ post i) (λ pair. tt))
   job_keeps _ (Repeats want last h lead is e) = talks own _ (λ other q. refl) (λ other q. refl) (λ later changes post i. says_any later _ post (one_post _ _ post i) (λ pair. ended_known pair want.seq last.ending))

@@ -4,6 +4,7 @@ use Rattle.petal_base.specs.declared.place.Cell.{Cell}
 use Rattle.petal_base.specs.declared.place.Key.{Key}
 use Rattle.petal_base.specs.Place.{cell_of}
 use Rattle.petal_table.specs.Table.{at}
+use Rattle.petal_msg.specs.Kinds.{pair_cell}
 use Rattle.petal_msg.specs.declared.body.Body.{Body}
 use Rattle.petal_msg.specs.declared.body.Body.TheVariants as body
 use Rattle.petal_msg.specs.declared.letter.Letter.{Letter}
@@ -96,36 +97,10 @@ Known pair (body.Reserve number cell) = number < ceiling pair
 Known pair (body.Reserved number cell) = number + number ≤ far pair
 Known pair (body.Replicate number key version bytes) = IsPutting pair.pending number key bytes ⊎ (number + number + 1 ≤ far pair)
 Known pair (body.Replicated number cell) = number + number + 1 ≤ far pair
-Known pair (body.PairFull number cell) = Unit {0}
-Known pair (body.Read client seq cell epoch) = Unit {0}
-Known pair (body.Write client seq cell epoch bytes) = Unit {0}
-Known pair (body.Data seq bytes) = Unit {0}
-Known pair (body.NotHere seq) = Unit {0}
-Known pair (body.BlockBusy seq) = Unit {0}
-Known pair (body.Held seq) = Unit {0}
-Known pair (body.WrongRev seq) = Unit {0}
-Known pair (body.Written seq) = Unit {0}
-Known pair (body.Full seq) = Unit {0}
-
--- the cell of which a letter between servers speaks
-abbrev pub cell_in : Body → Option Cell
-cell_in (body.Reserve number cell) = Some cell
-cell_in (body.Reserved number cell) = Some cell
-cell_in (body.PairFull number cell) = Some cell
-cell_in (body.Replicate number key version bytes) = Some (cell_of key)
-cell_in (body.Replicated number cell) = Some cell
-cell_in (body.Read client seq cell epoch) = None
-cell_in (body.Write client seq cell epoch bytes) = None
-cell_in (body.Data seq bytes) = None
-cell_in (body.NotHere seq) = None
-cell_in (body.BlockBusy seq) = None
-cell_in (body.Held seq) = None
-cell_in (body.WrongRev seq) = None
-cell_in (body.Written seq) = None
-cell_in (body.Full seq) = None
+Known pair _ = Unit {0}
 
 abbrev pub SaidOk : State → (ℕ → Own) → Body → Type 0
-SaidOk state halves said = (cell : Cell) (n m : ℕ) → cell_in said ≡ Some cell → IsPair state cell n m → Known (pair_of (halves n) (halves m) cell) said
+SaidOk state halves said = (cell : Cell) (n m : ℕ) → pair_cell said ≡ Some cell → IsPair state cell n m → Known (pair_of (halves n) (halves m) cell) said
 
 abbrev pub owns_of : World → ℕ → Own
 owns_of w n = (w.servers n).own

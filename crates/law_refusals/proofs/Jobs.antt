@@ -5,6 +5,7 @@ use Rattle.petal_base.specs.declared.place.Cell.{Cell}
 use Rattle.petal_base.specs.Place.{cell_of}
 use Rattle.petal_table.specs.Table.{Table, at, put, without}
 use Rattle.petal_table.proofs.Rows.{at_same, at_apart}
+use Rattle.petal_msg.specs.Kinds.{Answered, Paired, Refused}
 use Rattle.petal_msg.specs.declared.body.Body.{Body}
 use Rattle.petal_msg.specs.declared.body.Body.TheVariants as body
 use Rattle.petal_msg.specs.declared.letter.Actor.{Actor}
@@ -33,7 +34,7 @@ use Rattle.law_steps.specs.Did.{Did, Ignores, Refuses, Asks_for, Shows, Repeats,
 use Rattle.law_steps.specs.Happens.{IsIdle, Handled, server_moves, served}
 use Rattle.law_steps.specs.Ready.{Ready}
 use Rattle.law_steps.proofs.Letters.{said}
-use Rattle.law_steps.proofs.Tests.{same_or_apart, same_some, none_some, true_false}
+use Rattle.petal_rules.proofs.Tests.{same_or_apart, same_some, none_some, true_false}
 use Rattle.law_steps.proofs.Staged.{same_cell_or_apart}
 use Rattle.law_copies.specs.Pair.{IsPair, ceiling_of, owns_of, Good}
 use Rattle.law_copies.proofs.Frames.{apart}
@@ -50,35 +51,13 @@ pub record Was (own : Own) (cell : Cell) (op : Pending) : Type 0 where
 
 abbrev is_full : Body → Bool
 is_full (body.Full seq) = true
-is_full (body.Read client seq cell epoch) = false
-is_full (body.Write client seq cell epoch bytes) = false
-is_full (body.Data seq bytes) = false
-is_full (body.NotHere seq) = false
-is_full (body.BlockBusy seq) = false
-is_full (body.Held seq) = false
-is_full (body.WrongRev seq) = false
-is_full (body.Written seq) = false
-is_full (body.Reserve number cell) = false
-is_full (body.Reserved number cell) = false
 is_full (body.PairFull number cell) = true
-is_full (body.Replicate number key version bytes) = false
-is_full (body.Replicated number cell) = false
+is_full _ = false
 
 refusal_not_full : (said : Body) → IsRefusal said → is_full said ≡ false
-refusal_not_full (body.NotHere seq) h = refl
-refusal_not_full (body.BlockBusy seq) h = refl
-refusal_not_full (body.Held seq) h = refl
-refusal_not_full (body.WrongRev seq) h = refl
-refusal_not_full (body.Read client seq cell epoch) h = absurd h
-refusal_not_full (body.Write client seq cell epoch bytes) h = absurd h
-refusal_not_full (body.Data seq bytes) h = absurd h
-refusal_not_full (body.Written seq) h = absurd h
-refusal_not_full (body.Full seq) h = absurd h
-refusal_not_full (body.Reserve number cell) h = absurd h
-refusal_not_full (body.Reserved number cell) h = absurd h
-refusal_not_full (body.PairFull number cell) h = absurd h
-refusal_not_full (body.Replicate number key version bytes) h = absurd h
-refusal_not_full (body.Replicated number cell) h = absurd h
+refusal_not_full (body.Full seq) h = let f : Answered ≡ Refused = h in absurd cc
+refusal_not_full (body.PairFull number cell) h = let f : Paired ≡ Refused = h in absurd cc
+refusal_not_full _ h = refl
 
 asks_not_full : (here : Here) (own : Own) (post : Post) → Asks here own post → is_full post.body ≡ false
 asks_not_full here own _ (A_slot op to is stage e) = refl

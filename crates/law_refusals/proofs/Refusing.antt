@@ -39,7 +39,7 @@ use Rattle.law_steps.proofs.Letters.{said}
 use Rattle.law_steps.proofs.Scripts.{script_steady, start_ready}
 use Rattle.law_steps.proofs.Sending.{is_ask, turned_asks}
 use Rattle.law_steps.proofs.Stepping.{fixed_setting, server_serves, client_turns, is_call, happens, happens_ready}
-use Rattle.law_steps.proofs.Tests.{same_some, none_some, true_false}
+use Rattle.petal_rules.proofs.Tests.{same_some, none_some, true_false}
 use Rattle.law_copies.specs.Pair.{Good}
 use Rattle.law_copies.proofs.Copying.{happens_good, start_good}
 use Rattle.law_refusals.specs.Reasons.{HadNoSlot, WasRefused, HasReason, FoundBusy, Refusals}
@@ -49,19 +49,7 @@ use Rattle.law_refusals.proofs.Jobs.{job_refusals, job_refuses, idle_refuses}
 
 abbrev is_busy : Body → Bool
 is_busy (body.BlockBusy seq) = true
-is_busy (body.Read client seq cell epoch) = false
-is_busy (body.Write client seq cell epoch bytes) = false
-is_busy (body.Data seq bytes) = false
-is_busy (body.NotHere seq) = false
-is_busy (body.Held seq) = false
-is_busy (body.WrongRev seq) = false
-is_busy (body.Written seq) = false
-is_busy (body.Full seq) = false
-is_busy (body.Reserve number cell) = false
-is_busy (body.Reserved number cell) = false
-is_busy (body.PairFull number cell) = false
-is_busy (body.Replicate number key version bytes) = false
-is_busy (body.Replicated number cell) = false
+is_busy _ = false
 
 one_says : (to : Actor) (what : Body) (post : Post) → In post (record { to = to; body = what } ∷ []) → what ≡ post.body
 unfolding In

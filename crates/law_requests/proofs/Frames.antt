@@ -21,7 +21,7 @@ use Rattle.law_steps.specs.Steady.{IsSteady}
 use Rattle.law_steps.specs.Happens.{server_moves, served}
 use Rattle.law_steps.specs.Ready.{Ready}
 use Rattle.law_steps.proofs.Letters.{said}
-use Rattle.law_steps.proofs.Tests.{same_or_apart, all_put, is_the_one, none_some, same_some}
+use Rattle.petal_rules.proofs.Tests.{same_or_apart, all_put, is_the_one, none_some, same_some}
 use Rattle.law_requests.specs.Asked.{IsWrite, IsAsked, IsOpen}
 use Rattle.law_requests.specs.Known.{Seen, seen, done_by, IsPast, EndKnownAt, Known, PendingFor, Asking}
 use Rattle.law_requests.proofs.Later.{Later, known_later, one_cell, one_open}
@@ -68,16 +68,7 @@ SaysOk state lines w n new to (body.Written seq) = TellsAt state lines w n new s
 SaysOk state lines w n new to (body.Full seq) = TellsAt state lines w n new seq to
 SaysOk state lines w n new to (body.Write client seq cell epoch bytes) = ⊥
 SaysOk state lines w n new to (body.Read client seq cell epoch) = ⊥
-SaysOk state lines w n new to (body.Data seq bytes) = Unit {0}
-SaysOk state lines w n new to (body.NotHere seq) = Unit {0}
-SaysOk state lines w n new to (body.BlockBusy seq) = Unit {0}
-SaysOk state lines w n new to (body.Held seq) = Unit {0}
-SaysOk state lines w n new to (body.WrongRev seq) = Unit {0}
-SaysOk state lines w n new to (body.Reserve number cell) = Unit {0}
-SaysOk state lines w n new to (body.Reserved number cell) = Unit {0}
-SaysOk state lines w n new to (body.PairFull number cell) = Unit {0}
-SaysOk state lines w n new to (body.Replicate number key version bytes) = Unit {0}
-SaysOk state lines w n new to (body.Replicated number cell) = Unit {0}
+SaysOk state lines w n new to _ = Unit {0}
 
 pub record JobTells (state : State) (lines : List Line) (w : World) (n : ℕ) (new : Own) (posts : List Post) : Type 0 where
   pub finished : (c : ℕ) → (done_by new c ≡ done_by (w.servers n).own c) ⊎ Ends state lines w n new c
@@ -178,16 +169,7 @@ module _ (state : State) (lines : List Line) (w : World) (asking : Asking state 
   says to (body.Full seq) h = told seq to h
   says to (body.Write client seq cell epoch bytes) h = absurd h
   says to (body.Read client seq cell epoch) h = absurd h
-  says to (body.Data seq bytes) h = tt
-  says to (body.NotHere seq) h = tt
-  says to (body.BlockBusy seq) h = tt
-  says to (body.Held seq) h = tt
-  says to (body.WrongRev seq) h = tt
-  says to (body.Reserve number cell) h = tt
-  says to (body.Reserved number cell) h = tt
-  says to (body.PairFull number cell) h = tt
-  says to (body.Replicate number key version bytes) h = tt
-  says to (body.Replicated number cell) h = tt
+  says to _ h = tt
 
   -- what a job shows keeps what is known of requests
   pub job_asking : Asking state lines later

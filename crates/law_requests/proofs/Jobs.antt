@@ -4,6 +4,7 @@ use Rattle.std.specs.Ordering.{nat_cmp}
 use Rattle.petal_base.specs.declared.place.Cell.{Cell}
 use Rattle.petal_table.specs.Table.{at, put}
 use Rattle.petal_table.proofs.Rows.{at_same, at_apart}
+use Rattle.petal_msg.specs.Kinds.{Answered, Read_asked, Refused, Write_asked}
 use Rattle.petal_msg.specs.declared.body.Body.{Body}
 use Rattle.petal_msg.specs.declared.body.Body.TheVariants as body
 use Rattle.petal_msg.specs.declared.letter.Actor.{Actor}
@@ -27,7 +28,7 @@ use Rattle.law_steps.specs.Steady.{IsSteady}
 use Rattle.law_steps.specs.Did.{Did, Ignores, Refuses, Asks_for, Shows, Repeats, Is_full, Opens, Puts, Gives_up, Closes, Sets_apart, Promises, Declines, Follows, Asks, A_slot, A_copy, IsRefusal, done_to}
 use Rattle.law_steps.specs.Happens.{Handled}
 use Rattle.law_steps.specs.Ready.{Ready}
-use Rattle.law_steps.proofs.Tests.{same_or_apart, same_some, none_some, is_the_one}
+use Rattle.petal_rules.proofs.Tests.{same_or_apart, same_some, none_some, is_the_one}
 use Rattle.law_steps.proofs.Staged.{same_cell_or_apart}
 use Rattle.law_requests.specs.Asked.{IsWrite, IsOpen}
 use Rattle.law_requests.specs.Known.{seen, done_by, Known, PendingFor, Asking}
@@ -81,20 +82,11 @@ module _ (state : State) (steady : IsSteady state) (lines : List Line) (w : Worl
   calm new posts same pending says = record { finished = λ c. inl (same c); pending = λ cell op is. inl (pending cell op is); says = says }
 
   refusal_says : (new : Own) (to : Actor) (said : Body) → IsRefusal said → SaysOk state lines w n new to said
-  refusal_says new to (body.NotHere seq) h = tt
-  refusal_says new to (body.BlockBusy seq) h = tt
-  refusal_says new to (body.Held seq) h = tt
-  refusal_says new to (body.WrongRev seq) h = tt
-  refusal_says new to (body.Read client seq cell epoch) h = absurd h
-  refusal_says new to (body.Write client seq cell epoch bytes) h = absurd h
-  refusal_says new to (body.Data seq bytes) h = tt
-  refusal_says new to (body.Written seq) h = absurd h
-  refusal_says new to (body.Full seq) h = absurd h
-  refusal_says new to (body.Reserve number cell) h = tt
-  refusal_says new to (body.Reserved number cell) h = tt
-  refusal_says new to (body.PairFull number cell) h = tt
-  refusal_says new to (body.Replicate number key version bytes) h = tt
-  refusal_says new to (body.Replicated number cell) h = tt
+  refusal_says new to (body.Read client seq cell epoch) h = let f : Read_asked ≡ Refused = h in absurd cc
+  refusal_says new to (body.Write client seq cell epoch bytes) h = let f : Write_asked ≡ Refused = h in absurd cc
+  refusal_says new to (body.Written seq) h = let f : Answered ≡ Refused = h in absurd cc
+  refusal_says new to (body.Full seq) h = let f : Answered ≡ Refused = h in absurd cc
+  refusal_says new to _ h = tt
 
   asks_says : (post : Post) → Asks here own post → SaysOk state lines w n own post.to post.body
   asks_says _ (A_slot op to is stage e) = tt

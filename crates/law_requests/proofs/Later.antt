@@ -1,53 +1,34 @@
 -- What was known of requests is known later.
-use Rattle.std.proofs.Common.{◌≡◌, ◌≤◌, ℕ, List, [], ap, sym, ◌∙◌, ◌⊎◌, inl, inr, arith}
+use Rattle.std.proofs.Common.{◌≡◌, ◌≤◌, ℕ, List, Option, ap, sym, ◌∙◌, ◌⊎◌, inl, inr, arith}
 use Rattle.petal_base.specs.declared.place.Cell.{Cell}
 use Rattle.petal_msg.specs.declared.body.Body.{Body}
 use Rattle.petal_msg.specs.declared.body.Body.TheVariants as body
 use Rattle.petal_msg.specs.declared.letter.Actor.{Actor}
 use Rattle.petal_msg.specs.declared.letter.Actor.TheVariants as actor
+use Rattle.script_lines.specs.Requests.{names}
 use Rattle.script_lines.specs.declared.request.Line.{Line}
 use Rattle.script_lines.specs.declared.request.Request.{Request}
 use Rattle.script_lines.specs.declared.request.Request.TheVariants as request
 use Rattle.petal_rules.specs.State.{State, find}
 use Rattle.petal_rules.specs.Clients.{Client, Asked, cell_on}
-use Rattle.law_steps.proofs.Tests.{same_some}
+use Rattle.petal_rules.proofs.Tests.{same_some}
 use Rattle.law_requests.specs.Asked.{IsWrite, IsOpen}
 use Rattle.law_requests.specs.Known.{Seen, IsPast, EndKnownAt, Known}
 
-name_in : Request → List ℕ
-name_in (request.Write name block pattern) = name
-name_in (request.Disk name tuple) = name
-name_in (request.Read name snap block) = name
-name_in (request.Snap name snap) = name
-name_in (request.Move name tuple) = name
-name_in (request.Stop server) = []
-name_in (request.StopAt server at) = []
-name_in (request.Fault server which kind at) = []
-name_in (request.Start server) = []
-name_in (request.Blank server) = []
-name_in request.Settle = []
+disk_named : Request → Option (List ℕ)
+disk_named asked = (names asked).disk
 
-block_in : Request → ℕ
-block_in (request.Write name block pattern) = block
-block_in (request.Read name snap block) = block
-block_in (request.Disk name tuple) = 0
-block_in (request.Snap name snap) = 0
-block_in (request.Move name tuple) = 0
-block_in (request.Stop server) = 0
-block_in (request.StopAt server at) = 0
-block_in (request.Fault server which kind at) = 0
-block_in (request.Start server) = 0
-block_in (request.Blank server) = 0
-block_in request.Settle = 0
+block_named : Request → Option ℕ
+block_named asked = (names asked).block
 
 -- a write of one number is of one cell
 pub one_cell : (state : State) (lines : List Line) (client seq : ℕ) (cell other : Cell) (epoch epoch' : ℕ) (bytes bytes' : List ℕ) → IsWrite state lines client seq cell epoch bytes → IsWrite state lines client seq other epoch' bytes' → cell ≡ other
-unfolding name_in block_in
+unfolding disk_named block_named
 one_cell state lines client seq cell other epoch epoch' bytes bytes' one two =
     let line : one.line ≡ two.line = same_some (sym one.is ∙ two.is) in
     let asks : request.Write one.name one.block one.pattern ≡ request.Write two.name two.block two.pattern = sym one.asks ∙ ap (λ (l : Line). l.request) line ∙ two.asks in
-    let name : one.name ≡ two.name = ap name_in asks in
-    let block : one.block ≡ two.block = ap block_in asks in
+    let name : one.name ≡ two.name = same_some (ap disk_named asks) in
+    let block : one.block ≡ two.block = same_some (ap block_named asks) in
     let disk : one.disk ≡ two.disk = same_some (sym one.found ∙ ap (find state) name ∙ two.found) in
     one.cell_is ∙ (λ i. cell_on (disk i) (block i)) ∙ sym two.cell_is
 
@@ -87,13 +68,4 @@ module _ (state : State) (lines : List Line) (v u : Seen) (later : Later state l
   known_later to (body.Read client seq cell epoch) h = h
   known_later to (body.Written seq) h = end_later seq to h
   known_later to (body.Full seq) h = end_later seq to h
-  known_later to (body.Data seq bytes) h = tt
-  known_later to (body.NotHere seq) h = tt
-  known_later to (body.BlockBusy seq) h = tt
-  known_later to (body.Held seq) h = tt
-  known_later to (body.WrongRev seq) h = tt
-  known_later to (body.Reserve number cell) h = tt
-  known_later to (body.Reserved number cell) h = tt
-  known_later to (body.PairFull number cell) h = tt
-  known_later to (body.Replicate number key version bytes) h = tt
-  known_later to (body.Replicated number cell) h = tt
+  known_later to _ h = tt

@@ -37,7 +37,7 @@ use Rattle.law_steps.specs.Happens as happens
 use Rattle.law_steps.specs.Ready.{Ready}
 use Rattle.law_steps.proofs.Scripts.{script_steady, start_ready}
 use Rattle.law_steps.proofs.Stepping.{kept_after}
-use Rattle.law_steps.proofs.Tests.{by_bool, same_some, none_some, true_false, is_the_one}
+use Rattle.petal_rules.proofs.Tests.{by_bool, same_some, none_some, true_false, is_the_one}
 use Rattle.law_requests.specs.Asked.{IsWrite, IsAsked, IsOpen}
 use Rattle.law_requests.specs.Known.{Seen, seen, done_by, IsPast, WriteKnown, EndKnown, Known, Asking}
 use Rattle.law_requests.proofs.Later.{one_cell}
@@ -86,15 +86,7 @@ module _ (state : State) (lines : List Line) (c : ℕ) where
     unfolding In
     sends_known turn (request.Write name block pattern) e post h = write_known name block pattern e _ refl post h
     sends_known turn (request.Read name snap block) e post h = read_known name snap block turn e _ refl post h
-    sends_known turn (request.Disk name tuple) e post h = absurd h
-    sends_known turn (request.Snap name snap) e post h = absurd h
-    sends_known turn (request.Move name tuple) e post h = absurd h
-    sends_known turn (request.Stop server) e post h = absurd h
-    sends_known turn (request.StopAt server at) e post h = absurd h
-    sends_known turn (request.Fault server which kind at) e post h = absurd h
-    sends_known turn (request.Start server) e post h = absurd h
-    sends_known turn (request.Blank server) e post h = absurd h
-    sends_known turn request.Settle e post h = absurd h
+    sends_known turn _ e post h = absurd h
 
   module _ (w : World) (asking : Asking state lines w) (within : c < 9) where
     abbrev client : Client

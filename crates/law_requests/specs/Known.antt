@@ -60,16 +60,7 @@ Known state lines v to (body.Write client seq cell epoch bytes) = WriteKnown sta
 Known state lines v to (body.Read client seq cell epoch) = IsRead state lines client seq cell epoch
 Known state lines v to (body.Written seq) = EndKnownAt state lines v seq to
 Known state lines v to (body.Full seq) = EndKnownAt state lines v seq to
-Known state lines v to (body.Data seq bytes) = Unit {0}
-Known state lines v to (body.NotHere seq) = Unit {0}
-Known state lines v to (body.BlockBusy seq) = Unit {0}
-Known state lines v to (body.Held seq) = Unit {0}
-Known state lines v to (body.WrongRev seq) = Unit {0}
-Known state lines v to (body.Reserve number cell) = Unit {0}
-Known state lines v to (body.Reserved number cell) = Unit {0}
-Known state lines v to (body.PairFull number cell) = Unit {0}
-Known state lines v to (body.Replicate number key version bytes) = Unit {0}
-Known state lines v to (body.Replicated number cell) = Unit {0}
+Known state lines v to _ = Unit {0}
 
 -- a pending operation is its client's open write, which this server is not past
 pub record PendingFor (state : State) (lines : List Line) (client : Client) (done : ℕ) (cell : Cell) (op : Pending) : Type 0 where

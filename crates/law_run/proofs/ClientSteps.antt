@@ -39,7 +39,7 @@ use Rattle.law_steps.specs.Happens.{Heard, Turned, Rests, Sends_anew, Begins, Ma
 use Rattle.law_steps.proofs.Letters.{said}
 use Rattle.law_steps.proofs.Sending.{is_ask, turned_asks}
 use Rattle.law_steps.proofs.Stepping.{fixed_setting}
-use Rattle.law_steps.proofs.Tests.{same_or_apart, same_some, none_some, true_false, all_put_apart}
+use Rattle.petal_rules.proofs.Tests.{same_or_apart, same_some, none_some, true_false, all_put_apart}
 use Rattle.law_copies.specs.Pair.{IsPair, owns_of}
 use Rattle.law_requests.specs.Asked.{IsOpen}
 use Rattle.law_requests.specs.Known.{Known, seen, Asking}
@@ -53,20 +53,8 @@ use Rattle.law_run.proofs.Takes.{no_takes, open_own}
 -- ### What clients send has no data
 
 ask_data : (said : Body) → is_ask said ≡ true → is_data said ≡ false
-ask_data (body.Read to seq cell epoch) e = refl
-ask_data (body.Write to seq cell epoch bytes) e = refl
 ask_data (body.Data seq bytes) e = let f : false ≡ true = e in absurd cc
-ask_data (body.NotHere seq) e = refl
-ask_data (body.BlockBusy seq) e = refl
-ask_data (body.Held seq) e = refl
-ask_data (body.WrongRev seq) e = refl
-ask_data (body.Written seq) e = refl
-ask_data (body.Full seq) e = refl
-ask_data (body.Reserve number cell) e = refl
-ask_data (body.Reserved number cell) e = refl
-ask_data (body.PairFull number cell) e = refl
-ask_data (body.Replicate number key version bytes) e = refl
-ask_data (body.Replicated number cell) e = refl
+ask_data _ e = refl
 
 -- ### What a client's step has to show
 
@@ -80,30 +68,12 @@ pub record TurnFollow (w : World) (m k : Plain) (c : ℕ) (client : Client) : Ty
 
 -- no write of this request
 not_write : (c seq : ℕ) (asked : Request) → is_read asked ≡ true → write_by c seq asked ≡ None
-not_write c seq (request.Read name snap block) e = refl
-not_write c seq (request.Disk name tuple) e = refl
 not_write c seq (request.Write name block pattern) e = let f : false ≡ true = e in absurd cc
-not_write c seq (request.Snap name snap) e = refl
-not_write c seq (request.Move name tuple) e = refl
-not_write c seq (request.Stop server) e = refl
-not_write c seq (request.StopAt server at) e = refl
-not_write c seq (request.Fault server which kind at) e = refl
-not_write c seq (request.Start server) e = refl
-not_write c seq (request.Blank server) e = refl
-not_write c seq request.Settle e = refl
+not_write c seq _ e = refl
 
 a_write : (c seq : ℕ) (asked : Request) → is_write asked ≡ true → (write : Write) × (write_by c seq asked ≡ Some write)
 a_write c seq (request.Write name block pattern) e = (_, refl)
-a_write c seq (request.Read name snap block) e = let f : false ≡ true = e in absurd cc
-a_write c seq (request.Disk name tuple) e = let f : false ≡ true = e in absurd cc
-a_write c seq (request.Snap name snap) e = let f : false ≡ true = e in absurd cc
-a_write c seq (request.Move name tuple) e = let f : false ≡ true = e in absurd cc
-a_write c seq (request.Stop server) e = let f : false ≡ true = e in absurd cc
-a_write c seq (request.StopAt server at) e = let f : false ≡ true = e in absurd cc
-a_write c seq (request.Fault server which kind at) e = let f : false ≡ true = e in absurd cc
-a_write c seq (request.Start server) e = let f : false ≡ true = e in absurd cc
-a_write c seq (request.Blank server) e = let f : false ≡ true = e in absurd cc
-a_write c seq request.Settle e = let f : false ≡ true = e in absurd cc
+a_write c seq _ e = let f : false ≡ true = e in absurd cc
 
 module _ (servers slots : ℕ) (lines : List Line) (state : State) (steady : IsSteady state) where
   abbrev setting : Setting

@@ -26,7 +26,7 @@ use Rattle.law_steps.specs.Ready.{Ready}
 use Rattle.law_steps.proofs.Scripts.{start_ready}
 use Rattle.law_steps.proofs.Stepping.{happens_ready}
 use Rattle.law_steps.proofs.Staged.{same_cell_or_apart}
-use Rattle.law_steps.proofs.Tests.{all_put}
+use Rattle.petal_rules.proofs.Tests.{all_put}
 use Rattle.law_copies.specs.Pair.{pair_of, IsPair, IsPutting, owns_of, Good}
 use Rattle.law_copies.proofs.Jobs.{chain_put, chain_apart, asked, heard_known, second_pair}
 use Rattle.law_copies.proofs.Copying.{happens_good, start_good}

@@ -28,7 +28,7 @@ use Rattle.petal_history.specs.declared.record.Record.{Record}
 use Rattle.law_steps.specs.Steady.{IsSteady}
 use Rattle.law_steps.specs.Happens.{line_by}
 use Rattle.law_steps.proofs.Stepping.{fixed_setting, happens}
-use Rattle.law_steps.proofs.Tests.{by_test, by_bool, both_true, same_some, none_some, same_numbers, true_false}
+use Rattle.petal_rules.proofs.Tests.{by_test, by_bool, both_true, same_some, none_some, same_numbers, true_false}
 use Rattle.law_run.specs.Onward.{one_disk, HasOnly, IsMindful, Onward}
 use Rattle.law_run.specs.Follow.{Ground}
 use Rattle.law_run.proofs.Grounds.{happens_ground}
@@ -120,9 +120,7 @@ module _ (servers slots : ℕ) (lines : List Line) (state : State) (steady : IsS
       by_bool (same_name letter other)
       (λ t. delivery_accepts w ground who letter other stamp seq bytes number may h says t (sym (ap (λ b. if b then data_line (step who (Deliver other) setting w stamp).answer else None) t) ∙ e))
       (λ f. none_some (ap (λ b. if b then data_line (step who (Deliver other) setting w stamp).answer else None) f) e)
-  record_accepts w ground who (Call line) letter stamp seq bytes number may h says e = none_some refl e
-  record_accepts w ground who Tick letter stamp seq bytes number may h says e = none_some refl e
-  record_accepts w ground who (Work end) letter stamp seq bytes number may h says e = none_some refl e
+  record_accepts w ground who _ letter stamp seq bytes number may h says e = none_some refl e
 
   sent_later : (w : World) (who : Actor) (what : Step) (stamp : ℕ) (letter : Letter) → In letter w.sent → In letter (step who what setting w stamp).world.sent
   unfolding step
@@ -175,32 +173,8 @@ letter_looks lines numbered letter seq client name block bytes line to is asks (
 
 abbrev pub is_data : Body → Bool
 is_data (body.Data seq bytes) = true
-is_data (body.Read client seq cell epoch) = false
-is_data (body.Write client seq cell epoch bytes) = false
-is_data (body.NotHere seq) = false
-is_data (body.BlockBusy seq) = false
-is_data (body.Held seq) = false
-is_data (body.WrongRev seq) = false
-is_data (body.Written seq) = false
-is_data (body.Full seq) = false
-is_data (body.Reserve number cell) = false
-is_data (body.Reserved number cell) = false
-is_data (body.PairFull number cell) = false
-is_data (body.Replicate number key version bytes) = false
-is_data (body.Replicated number cell) = false
+is_data _ = false
 
 pub no_look : (lines : List Line) (later : List Record) (letter : Letter) (said : Body) → is_data said ≡ false → look_of lines later letter said ≡ []
 no_look lines later letter (body.Data seq bytes) e = true_false refl e
-no_look lines later letter (body.Read client seq cell epoch) e = refl
-no_look lines later letter (body.Write client seq cell epoch bytes) e = refl
-no_look lines later letter (body.NotHere seq) e = refl
-no_look lines later letter (body.BlockBusy seq) e = refl
-no_look lines later letter (body.Held seq) e = refl
-no_look lines later letter (body.WrongRev seq) e = refl
-no_look lines later letter (body.Written seq) e = refl
-no_look lines later letter (body.Full seq) e = refl
-no_look lines later letter (body.Reserve number cell) e = refl
-no_look lines later letter (body.Reserved number cell) e = refl
-no_look lines later letter (body.PairFull number cell) e = refl
-no_look lines later letter (body.Replicate number key version bytes) e = refl
-no_look lines later letter (body.Replicated number cell) e = refl
+no_look lines later letter _ e = refl

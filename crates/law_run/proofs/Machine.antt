@@ -16,7 +16,7 @@ use Rattle.petal_machine.specs.declared.state.Disk.{Disk}
 use Rattle.petal_machine.specs.declared.state.Open.{Open}
 use Rattle.petal_machine.specs.Machine.{Plain, same_bytes, content, disk_of, open_of, is_of, but_of, stands, has_content, remembers, with_disk}
 use Rattle.petal_machine.specs.Run.{May, IsOpen, Obeys, after, changed, written, replay}
-use Rattle.law_steps.proofs.Tests.{by_bool, same_some, none_some, some_or_none, same_numbers, number_itself, true_false}
+use Rattle.petal_rules.proofs.Tests.{by_bool, same_some, none_some, some_or_none, same_numbers, number_itself, true_false}
 use Rattle.law_run.specs.Onward.{one_disk, HasOnly, IsMindful, held_in, Onward, Seat}
 
 pub Obeys-append : (m : Plain) (es fs : List Event) → Obeys m es → Obeys (replay m es) fs → Obeys m (es ++ fs)

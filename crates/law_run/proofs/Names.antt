@@ -15,7 +15,7 @@ use Rattle.petal_history.specs.Events.{same_actor, same_name}
 use Rattle.script_lines.specs.declared.request.Line.{Line}
 use Rattle.law_steps.specs.Happens.{Happens, Serves, Turns, server_moves}
 use Rattle.law_steps.proofs.Letters.{said}
-use Rattle.law_steps.proofs.Tests.{both_true, same_numbers, all_put}
+use Rattle.petal_rules.proofs.Tests.{both_true, same_numbers, all_put}
 use Rattle.law_run.specs.Follow.{Named}
 
 one_actor : (a b : Actor) → same_actor a b ≡ true → a ≡ b

@@ -21,7 +21,7 @@ use Rattle.script_lines.specs.declared.script.Script.{Script}
 use Rattle.petal_rules.specs.Lists.{In}
 use Rattle.petal_rules.proofs.ListLemmas.{in-append}
 use Rattle.petal_history.specs.Sound.{IsSound}
-use Rattle.law_steps.proofs.Tests.{by_test}
+use Rattle.petal_rules.proofs.Tests.{by_test}
 
 -- what holds of each result that is no fault
 abbrev EachOk : {A : Type 0} → (A → Type 0) → Result A Cause → Type 0
@@ -40,16 +40,7 @@ ok_is P r x h e = subst (EachOk P) e h
 -- a disk is over a tuple of the servers
 abbrev IsFit : ℕ → Request → Type 0
 IsFit servers (request.Disk name tuple) = is_tuple servers tuple ≡ true
-IsFit servers (request.Write name block how) = Unit {0}
-IsFit servers (request.Read name snap block) = Unit {0}
-IsFit servers (request.Snap name snap) = Unit {0}
-IsFit servers (request.Move name tuple) = Unit {0}
-IsFit servers (request.Stop server) = Unit {0}
-IsFit servers (request.StopAt server at) = Unit {0}
-IsFit servers (request.Fault server which kind at) = Unit {0}
-IsFit servers (request.Start server) = Unit {0}
-IsFit servers (request.Blank server) = Unit {0}
-IsFit servers request.Settle = Unit {0}
+IsFit servers _ = Unit {0}
 
 module _ (servers : ℕ) where
   abbrev Fit : Result Request Cause → Type 0

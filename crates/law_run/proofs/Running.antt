@@ -29,7 +29,7 @@ use Rattle.petal_history.specs.declared.record.Record.{Record}
 use Rattle.law_steps.specs.Steady.{IsSteady}
 use Rattle.law_steps.proofs.Scripts.{script_steady}
 use Rattle.law_steps.proofs.Stepping.{fixed_setting, is_call, server_serves, client_turns, happens}
-use Rattle.law_steps.proofs.Tests.{none_some}
+use Rattle.petal_rules.proofs.Tests.{none_some}
 use Rattle.law_copies.proofs.Copying.{copies_after}
 use Rattle.law_requests.proofs.Turning.{requests_after}
 use Rattle.law_run.specs.Follow.{Ground, Follow}
@@ -56,15 +56,11 @@ module _ (servers slots : ℕ) (lines : List Line) (state : State) (steady : IsS
 
   server_begins : (what : Step) (n : ℕ) (next : World) → begins what (actor.Server n) next ≡ []
   server_begins (Call line) n next = refl
-  server_begins (Deliver letter) n next = refl
-  server_begins Tick n next = refl
-  server_begins (Work end) n next = refl
+  server_begins _ n next = refl
 
   client_begins : (w : World) (m : Plain) (ground : Ground state lines w) (follow : Follow state name w m) (c stamp : ℕ) (later : List Record) (what : Step) (next : World) → begins what (actor.Client c) next ≡ begins_by servers slots lines state steady w m ground follow c stamp later (is_call what) next
   client_begins w m ground follow c stamp later (Call line) next = refl
-  client_begins w m ground follow c stamp later (Deliver letter) next = refl
-  client_begins w m ground follow c stamp later Tick next = refl
-  client_begins w m ground follow c stamp later (Work end) next = refl
+  client_begins w m ground follow c stamp later _ next = refl
 
   -- a step of an actor, with the letters that it sent and the answer that it gave
   step_tells : (w : World) (m : Plain) → Ground state lines w → Follow state name w m → (who : Actor) (what : Step) (stamp : ℕ) (later : List Record) → MayActor who what setting w → Ground state lines (step who what setting w stamp).world → IsLegalFrom setting (step who what setting w stamp).world later

@@ -23,7 +23,7 @@ use Rattle.law_steps.specs.Steady.{IsSteady}
 use Rattle.law_steps.specs.Did.{progress}
 use Rattle.law_steps.specs.Happens.{server_moves, served}
 use Rattle.law_steps.proofs.Letters.{said}
-use Rattle.law_steps.proofs.Tests.{same_or_apart}
+use Rattle.petal_rules.proofs.Tests.{same_or_apart}
 use Rattle.law_copies.specs.Pair.{IsPair, owns_of}
 use Rattle.law_copies.proofs.Frames.{apart}
 use Rattle.law_requests.specs.Asked.{IsOpen}

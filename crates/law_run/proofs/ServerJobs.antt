@@ -6,6 +6,7 @@ use Rattle.petal_base.specs.Place.{cell_of}
 use Rattle.petal_table.specs.Table.{Table, at, put, without}
 use Rattle.petal_table.proofs.Rows.{at_same, at_apart}
 use Rattle.petal_machine.specs.Machine.{Plain}
+use Rattle.petal_msg.specs.Kinds.{Answered, Refused, about}
 use Rattle.petal_msg.specs.declared.body.Body.{Body}
 use Rattle.petal_msg.specs.declared.body.Body.TheVariants as body
 use Rattle.petal_msg.specs.declared.letter.Actor.{Actor}
@@ -28,7 +29,7 @@ use Rattle.law_steps.specs.Steady.{IsSteady}
 use Rattle.law_steps.specs.Did.{Did, Ignores, Refuses, Asks_for, Shows, Repeats, Is_full, Opens, Puts, Gives_up, Closes, Sets_apart, Promises, Declines, Follows, Asks, A_slot, A_copy, IsRefusal, progress}
 use Rattle.law_steps.specs.Happens.{Handled}
 use Rattle.law_steps.specs.Ready.{Ready}
-use Rattle.law_steps.proofs.Tests.{same_or_apart, same_some, none_some, true_false}
+use Rattle.petal_rules.proofs.Tests.{same_or_apart, same_some, none_some, true_false}
 use Rattle.law_steps.proofs.Staged.{same_cell_or_apart}
 use Rattle.law_copies.specs.Pair.{IsPair, ceiling_of, owns_of, Good}
 use Rattle.law_copies.proofs.Frames.{apart}
@@ -59,35 +60,11 @@ IsCalm (Follows number key version bytes h s is) = ⊥
 -- the letter ends no write as written
 abbrev is_written : Body → Bool
 is_written (body.Written seq) = true
-is_written (body.Read client seq cell epoch) = false
-is_written (body.Write client seq cell epoch bytes) = false
-is_written (body.Data seq bytes) = false
-is_written (body.NotHere seq) = false
-is_written (body.BlockBusy seq) = false
-is_written (body.Held seq) = false
-is_written (body.WrongRev seq) = false
-is_written (body.Full seq) = false
-is_written (body.Reserve number cell) = false
-is_written (body.Reserved number cell) = false
-is_written (body.PairFull number cell) = false
-is_written (body.Replicate number key version bytes) = false
-is_written (body.Replicated number cell) = false
+is_written _ = false
 
 refusal_unwritten : (said : Body) → IsRefusal said → is_written said ≡ false
-refusal_unwritten (body.NotHere seq) h = refl
-refusal_unwritten (body.BlockBusy seq) h = refl
-refusal_unwritten (body.Held seq) h = refl
-refusal_unwritten (body.WrongRev seq) h = refl
-refusal_unwritten (body.Read client seq cell epoch) h = refl
-refusal_unwritten (body.Write client seq cell epoch bytes) h = refl
-refusal_unwritten (body.Data seq bytes) h = refl
-refusal_unwritten (body.Written seq) h = absurd h
-refusal_unwritten (body.Full seq) h = refl
-refusal_unwritten (body.Reserve number cell) h = refl
-refusal_unwritten (body.Reserved number cell) h = refl
-refusal_unwritten (body.PairFull number cell) h = refl
-refusal_unwritten (body.Replicate number key version bytes) h = refl
-refusal_unwritten (body.Replicated number cell) h = refl
+refusal_unwritten (body.Written seq) h = let f : Answered ≡ Refused = h in absurd cc
+refusal_unwritten _ h = refl
 
 one_post : (to : Actor) (said : Body) (post : Post) → In post (record { to = to; body = said } ∷ []) → (post.to ≡ to) × (post.body ≡ said)
 unfolding In
@@ -243,25 +220,8 @@ module _ (state : State) (steady : IsSteady state) (name : List ℕ) (w : World)
   ended_written seq ending.Written other e = refl
   ended_written seq ending.Full other e = true_false {b = is_written (body.Written other)} refl (ap is_written (sym e))
 
-  seq_in : Body → ℕ
-  seq_in (body.Written seq) = seq
-  seq_in (body.Read client seq cell epoch) = 0
-  seq_in (body.Write client seq cell epoch bytes) = 0
-  seq_in (body.Data seq bytes) = 0
-  seq_in (body.NotHere seq) = 0
-  seq_in (body.BlockBusy seq) = 0
-  seq_in (body.Held seq) = 0
-  seq_in (body.WrongRev seq) = 0
-  seq_in (body.Full seq) = 0
-  seq_in (body.Reserve number cell) = 0
-  seq_in (body.Reserved number cell) = 0
-  seq_in (body.PairFull number cell) = 0
-  seq_in (body.Replicate number key version bytes) = 0
-  seq_in (body.Replicated number cell) = 0
-
   ended_seq : (seq : ℕ) (how : Ending) (other : ℕ) → ended seq how ≡ body.Written other → seq ≡ other
-  unfolding seq_in
-  ended_seq seq ending.Written other e = ap seq_in e
+  ended_seq seq ending.Written other e = same_some (ap (λ b. (about b).seq) e)
   ended_seq seq ending.Full other e = true_false {b = is_written (body.Written other)} refl (ap is_written (sym e))
 
   -- each kind of job but a second server's put

@@ -9,6 +9,7 @@ use Rattle.petal_machine.specs.declared.event.Event.{Event}
 use Rattle.petal_machine.specs.declared.event.Write.{Write}
 use Rattle.petal_machine.specs.Machine.{Plain, content, open_of, same_bytes}
 use Rattle.petal_machine.specs.Run.{Obeys, replay}
+use Rattle.petal_msg.specs.Kinds.{Answered, Refused}
 use Rattle.petal_msg.specs.declared.body.Body.{Body}
 use Rattle.petal_msg.specs.declared.body.Body.TheVariants as body
 use Rattle.petal_msg.specs.declared.letter.Actor.{Actor}
@@ -41,7 +42,7 @@ use Rattle.law_steps.specs.Did.{Did, Ignores, Refuses, Asks_for, Shows, Repeats,
 use Rattle.law_steps.specs.Happens.{Handled, line_by, served, server_moves}
 use Rattle.law_steps.proofs.Letters.{said}
 use Rattle.law_steps.proofs.Stepping.{fixed_setting}
-use Rattle.law_steps.proofs.Tests.{by_bool, is_the_so, same_or_apart, same_some, none_some, nat_lists_same}
+use Rattle.petal_rules.proofs.Tests.{by_bool, is_the_so, same_or_apart, same_some, none_some, nat_lists_same}
 use Rattle.law_steps.proofs.Staged.{same_cell_or_apart}
 use Rattle.law_copies.specs.Pair.{IsPair, AreCopies, owns_of}
 use Rattle.law_copies.proofs.Frames.{same_first}
@@ -88,20 +89,8 @@ to_data (Some to) said post (inl same) e = ap (λ (p : Post). is_data p.body) sa
 to_data (Some to) said post (inr h) e = absurd h
 
 refusal_data : (said : Body) → IsRefusal said → is_data said ≡ false
-refusal_data (body.NotHere seq) h = refl
-refusal_data (body.BlockBusy seq) h = refl
-refusal_data (body.Held seq) h = refl
-refusal_data (body.WrongRev seq) h = refl
-refusal_data (body.Read client seq cell epoch) h = refl
-refusal_data (body.Write client seq cell epoch bytes) h = refl
-refusal_data (body.Data seq bytes) h = absurd h
-refusal_data (body.Written seq) h = refl
-refusal_data (body.Full seq) h = refl
-refusal_data (body.Reserve number cell) h = refl
-refusal_data (body.Reserved number cell) h = refl
-refusal_data (body.PairFull number cell) h = refl
-refusal_data (body.Replicate number key version bytes) h = refl
-refusal_data (body.Replicated number cell) h = refl
+refusal_data (body.Data seq bytes) h = let f : Answered ≡ Refused = h in absurd cc
+refusal_data _ h = refl
 
 asks_data : (here : Here) (own : Own) (post : Post) → Asks here own post → is_data post.body ≡ false
 asks_data here own _ (A_slot op to is stage e) = refl

@@ -18,7 +18,7 @@ use Rattle.petal_rules.specs.World.{Setting, World}
 use Rattle.petal_rules.proofs.CellTables.{cell_cmp_same}
 use Rattle.petal_history.specs.Contents.{content_at, disk_name, cell_of_block}
 use Rattle.petal_history.specs.Events.{open_write, write_by, write_asked, blocks_of, blocks_in, changed_blocks, writes_so, taker, taken, takes, all_there, with_first}
-use Rattle.law_steps.proofs.Tests.{same_or_apart, both_true, same_numbers, number_itself, nat_lists_same, none_some, same_some}
+use Rattle.petal_rules.proofs.Tests.{same_or_apart, both_true, same_numbers, number_itself, nat_lists_same, none_some, same_some}
 use Rattle.law_run.proofs.Members.{into_map, into_flat_map, into_range, into_filter, of_filter, none_pass, into_filter_map, of_filter_map, found_one, row_at, key_at, put_key}
 use Rattle.law_run.proofs.Machine.{AllTakes}
 
@@ -28,16 +28,7 @@ unlike xs ys e = ap (λ zs. not (same_bytes xs zs)) (sym e) ∙ ap not (nat_list
 -- a client's open write is its own
 written_by : (client seq : ℕ) (asked : Request) (write : Write) → write_by client seq asked ≡ Some write → write.client ≡ client
 written_by client seq (request.Write name block pattern) write e = ap (λ (w : Write). w.client) (sym (same_some e))
-written_by client seq (request.Disk name tuple) write e = none_some refl e
-written_by client seq (request.Read name snap block) write e = none_some refl e
-written_by client seq (request.Snap name snap) write e = none_some refl e
-written_by client seq (request.Move name tuple) write e = none_some refl e
-written_by client seq (request.Stop server) write e = none_some refl e
-written_by client seq (request.StopAt server at) write e = none_some refl e
-written_by client seq (request.Fault server which kind at) write e = none_some refl e
-written_by client seq (request.Start server) write e = none_some refl e
-written_by client seq (request.Blank server) write e = none_some refl e
-written_by client seq request.Settle write e = none_some refl e
+written_by client seq _ write e = none_some refl e
 
 asked_by : (client : ℕ) (o : Option Asked) (write : Write) → write_asked client o ≡ Some write → write.client ≡ client
 asked_by client None write e = none_some refl e

@@ -23,7 +23,7 @@ use Rattle.petal_rules.specs.Lists.{In}
 use Rattle.petal_rules.specs.State as rules
 use Rattle.petal_rules.specs.State.{State, fixed, lead, first, second, authority, leads_link, is_lead, readable, held, row_in_both, row_authority, is_the}
 use Rattle.law_steps.specs.Steady.{IsSteady, HasSecond, IsNewDisk}
-use Rattle.law_steps.proofs.Tests.{by_bool, by_test, both_true, none_some, same_some, same_or_apart, same_numbers, not_true, true_false, nat_lists_same}
+use Rattle.petal_rules.proofs.Tests.{by_bool, by_test, both_true, none_some, same_some, same_or_apart, same_numbers, not_true, true_false, nat_lists_same}
 
 -- ### The links of a new map
 

@@ -32,7 +32,7 @@ use Rattle.petal_rules.specs.declared.job.Job.TheVariants as job
 use Rattle.petal_rules.proofs.CellTables.{cell_same}
 use Rattle.law_steps.specs.Steady.{IsSteady}
 use Rattle.law_steps.specs.Did.{Did, Ignores, Refuses, Asks_for, Shows, Repeats, Is_full, Opens, Puts, Gives_up, Closes, Sets_apart, Promises, Declines, Follows, Asks, A_slot, A_copy, For_a_write, For_a_read, IsStaged, waiting, copying, progress, done_to}
-use Rattle.law_steps.proofs.Tests.{by_test, by_bool, both_true, not_true, true_false, same_numbers, same_some, none_some, only}
+use Rattle.petal_rules.proofs.Tests.{by_test, by_bool, both_true, not_true, true_false, same_numbers, same_some, none_some, only}
 
 is_waiting : (stage : Stage) → (stage ≡ waiting) ⊎ (stage ≡ copying) → stage.reserved ≡ false → stage ≡ waiting
 is_waiting stage (inl e) f = e
@@ -44,19 +44,7 @@ is_copying stage (inr e) f = e
 
 abbrev is_busy : Body → Bool
 is_busy (body.BlockBusy seq) = true
-is_busy (body.Read client seq cell epoch) = false
-is_busy (body.Write client seq cell epoch bytes) = false
-is_busy (body.Data seq bytes) = false
-is_busy (body.NotHere seq) = false
-is_busy (body.Held seq) = false
-is_busy (body.WrongRev seq) = false
-is_busy (body.Written seq) = false
-is_busy (body.Full seq) = false
-is_busy (body.Reserve number cell) = false
-is_busy (body.Reserved number cell) = false
-is_busy (body.PairFull number cell) = false
-is_busy (body.Replicate number key version bytes) = false
-is_busy (body.Replicated number cell) = false
+is_busy _ = false
 
 not_busy : {B : Type 0} (said : Body) (seq : ℕ) → said ≡ body.BlockBusy seq → is_busy said ≡ false → B
 not_busy said seq e f = true_false {b = is_busy said} (ap is_busy e) f
@@ -147,8 +135,8 @@ module _ (heard : Body → Type 0) (here : Here) (own : Own) (steady : IsSteady 
       (subst (λ a. D (acts here (opened here own want) op a)) (sym (action_is op waiting lead refl)) (Opens want h lead new none))
 
   did_newer : (want : Wanted) → by_write want → is_lead here.state here.me want.cell ≡ true → done_to (at nat_cmp own.pairs.finished want.client) ≤ want.seq → (fenced : Bool) (o : Option Pending) → pending_on own want.cell ≡ o → is_pending_for (pending_on own want.cell) want ≡ false → D (takes_newer here own want fenced o)
-  did_newer want h lead new true o e other = Refuses (actor.Client want.client) (body.Held want.seq) tt (λ seq f. not_busy (body.Held want.seq) seq f refl)
-  did_newer want h lead new false (Some op) e other = Refuses (actor.Client want.client) (body.BlockBusy want.seq) tt
+  did_newer want h lead new true o e other = Refuses (actor.Client want.client) (body.Held want.seq) refl (λ seq f. not_busy (body.Held want.seq) seq f refl)
+  did_newer want h lead new false (Some op) e other = Refuses (actor.Client want.client) (body.BlockBusy want.seq) refl
       (λ seq f. For_a_write want op h (busy_seq f) lead e (ap (λ o. is_pending_for o want) (sym e) ∙ other))
   did_newer want h lead new false None e other = did_opens want h lead new e (nat_lt 0 (free_of own.store)) refl
 
@@ -251,8 +239,8 @@ module _ (heard : Body → Type 0) (here : Here) (own : Own) (steady : IsSteady 
 
   shown : (client seq : ℕ) (cell : Cell) (epoch : ℕ) → heard (body.Read client seq cell epoch) → readable here.state here.me cell ≡ true → (all lead some : Bool) → is_lead here.state here.me cell ≡ lead → is_some (pending_on own cell) ≡ some
       → D (says own (actor.Client client) (said seq (if all then reply.Held else if lead && some then reply.BlockBusy else reply.Data (bytes_of (entry_at (chain_in own.store.chains cell) epoch)))))
-  shown client seq cell epoch h r true lead some e f = Refuses (actor.Client client) (body.Held seq) tt (λ k g. not_busy (body.Held seq) k g refl)
-  shown client seq cell epoch h r false true true e f = let there = is_there (pending_on own cell) f in Refuses (actor.Client client) (body.BlockBusy seq) tt
+  shown client seq cell epoch h r true lead some e f = Refuses (actor.Client client) (body.Held seq) refl (λ k g. not_busy (body.Held seq) k g refl)
+  shown client seq cell epoch h r false true true e f = let there = is_there (pending_on own cell) f in Refuses (actor.Client client) (body.BlockBusy seq) refl
       (λ k g. For_a_read client cell epoch there.0 (subst (λ i. heard (body.Read client i cell epoch)) (busy_seq g) h) e there.1)
   shown client seq cell epoch h r false true false e f = Shows client seq cell epoch h r (λ t. is_none _ f)
     where
@@ -271,22 +259,16 @@ module _ (heard : Body → Type 0) (here : Here) (own : Own) (steady : IsSteady 
   unfolding handles on_reserve on_reserved on_pair_full on_replicate on_replicated
   did_handle (body.Read client seq cell epoch) h = did_read client seq cell epoch h
   did_handle (body.Write client seq cell epoch bytes) h = did_write (record { client = client; seq = seq; cell = cell; epoch = epoch; bytes = bytes }) h
-  did_handle (body.Data seq bytes) h = Ignores
-  did_handle (body.NotHere seq) h = Ignores
-  did_handle (body.BlockBusy seq) h = Ignores
-  did_handle (body.Held seq) h = Ignores
-  did_handle (body.WrongRev seq) h = Ignores
-  did_handle (body.Written seq) h = Ignores
-  did_handle (body.Full seq) h = Ignores
   did_handle (body.Reserve number cell) h = by_test D (is_second here.state here.me cell) _ _ (λ s. did_reserve number cell _ h s refl) (λ t. Ignores)
   did_handle (body.Reserved number cell) h = did_reserved number cell _ h refl
   did_handle (body.PairFull number cell) h = did_pair_full number cell _ h refl
   did_handle (body.Replicate number key version bytes) h = by_test D (is_second here.state here.me (cell_of key)) _ _ (λ s. did_replicate number key version bytes _ h s refl) (λ t. Ignores)
   did_handle (body.Replicated number cell) h = did_replicated number cell _ h refl
+  did_handle _ h = Ignores
 
   told_rev : (client : ℕ) (o : Option ℕ) → D (wrong_rev own client o)
   told_rev client None = Ignores
-  told_rev client (Some seq) = Refuses (actor.Client client) (body.WrongRev seq) tt (λ k g. not_busy (body.WrongRev seq) k g refl)
+  told_rev client (Some seq) = Refuses (actor.Client client) (body.WrongRev seq) refl (λ k g. not_busy (body.WrongRev seq) k g refl)
 
   other_rev : (letter : Letter) (from : Actor) → D (at_other_rev own letter from)
   other_rev letter (actor.Server n) = Ignores

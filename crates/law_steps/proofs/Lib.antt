@@ -1,4 +1,3 @@
-pub mod Tests
 pub mod Tables
 pub mod Inversion
 pub mod Staged

@@ -15,7 +15,7 @@ use Rattle.petal_history.specs.Sound.{IsSound}
 use Rattle.law_steps.specs.Steady.{IsSteady}
 use Rattle.law_steps.specs.Ready.{Ready}
 use Rattle.law_steps.proofs.Fixed.{fixed_steady}
-use Rattle.law_steps.proofs.Tests.{none_some}
+use Rattle.petal_rules.proofs.Tests.{none_some}
 
 state_steady : (servers : ℕ) (lines : List Line) → ((line : Line) (name tuple : List ℕ) → In line lines → line.request ≡ request.Disk name tuple → is_tuple servers tuple ≡ true) → IsSteady (state_of servers lines)
 unfolding In
@@ -24,16 +24,7 @@ state_steady servers (line ∷ lines) spread = by line.request refl (state_stead
   where
     by : (asked : Request) → line.request ≡ asked → IsSteady (state_of servers lines) → IsSteady (state_by servers asked (state_of servers lines))
     by (request.Disk name tuple) e later = fixed_steady servers name tuple (inr (spread line name tuple (inl refl) e))
-    by (request.Write name block pattern) e later = later
-    by (request.Read name snap block) e later = later
-    by (request.Snap name snap) e later = later
-    by (request.Move name tuple) e later = later
-    by (request.Stop server) e later = later
-    by (request.StopAt server at) e later = later
-    by (request.Fault server which kind at) e later = later
-    by (request.Start server) e later = later
-    by (request.Blank server) e later = later
-    by request.Settle e later = later
+    by _ e later = later
 
 pub script_steady : (script : Script) → IsSound script → IsSteady (chosen_state (setting_of script))
 script_steady script sound = state_steady script.servers script.lines sound.spread

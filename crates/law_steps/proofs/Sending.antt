@@ -1,5 +1,6 @@
 -- What clients send are reads and writes.
 use Rattle.std.proofs.Common.{◌≡◌, ◌+◌, ℕ, List, Bool, true, false, Option, Some, None, refl, ap, ◌∙◌, inl, inr}
+use Rattle.petal_msg.specs.Kinds.{is_asked, subject_of}
 use Rattle.petal_msg.specs.declared.body.Body.{Body}
 use Rattle.petal_msg.specs.declared.body.Body.TheVariants as body
 use Rattle.script_lines.specs.declared.request.Line.{Line}
@@ -14,20 +15,7 @@ use Rattle.law_steps.specs.Happens.{Turned, Rests, Sends_anew, Begins, Makes, Re
 
 -- a read or a write
 abbrev pub is_ask : Body → Bool
-is_ask (body.Read to seq cell epoch) = true
-is_ask (body.Write to seq cell epoch bytes) = true
-is_ask (body.Data seq bytes) = false
-is_ask (body.NotHere seq) = false
-is_ask (body.BlockBusy seq) = false
-is_ask (body.Held seq) = false
-is_ask (body.WrongRev seq) = false
-is_ask (body.Written seq) = false
-is_ask (body.Full seq) = false
-is_ask (body.Reserve number cell) = false
-is_ask (body.Reserved number cell) = false
-is_ask (body.PairFull number cell) = false
-is_ask (body.Replicate number key version bytes) = false
-is_ask (body.Replicated number cell) = false
+is_ask said = is_asked (subject_of said)
 
 in_post : (o : Option ℕ) (said : Body) (post : Post) → In post (post_to o said) → is_ask said ≡ true → is_ask post.body ≡ true
 unfolding In
@@ -53,15 +41,7 @@ asks_only : (state : State) (c seq turn : ℕ) (asked : Request) (post : Post) �
 unfolding In
 asks_only state c seq turn (request.Write name block pattern) post h = write_asks state c seq _ block _ post h
 asks_only state c seq turn (request.Read name snap block) post h = read_asks state c seq turn _ snap block post h
-asks_only state c seq turn (request.Disk name tuple) post h = absurd h
-asks_only state c seq turn (request.Snap name snap) post h = absurd h
-asks_only state c seq turn (request.Move name tuple) post h = absurd h
-asks_only state c seq turn (request.Stop server) post h = absurd h
-asks_only state c seq turn (request.StopAt server at) post h = absurd h
-asks_only state c seq turn (request.Fault server which kind at) post h = absurd h
-asks_only state c seq turn (request.Start server) post h = absurd h
-asks_only state c seq turn (request.Blank server) post h = absurd h
-asks_only state c seq turn request.Settle post h = absurd h
+asks_only state c seq turn _ post h = absurd h
 
 pub turned_asks : (heard : Body → Type 0) (state : State) (lines : List Line) (c : ℕ) (client : Client) (in_call : Bool) (reacted : Reacted) → Turned heard state lines c client in_call reacted → (post : Post) → In post reacted.posts → is_ask post.body ≡ true
 unfolding In

@@ -19,7 +19,7 @@ use Rattle.petal_rules.specs.declared.job.Job.TheVariants as job
 use Rattle.petal_rules.proofs.CellTables.{cell_cmp_total, cell_same, cell_apart, cell_gone, cell_gone_apart}
 use Rattle.law_steps.specs.Did.{Did, Ignores, Refuses, Asks_for, Shows, Repeats, Is_full, Opens, Puts, Gives_up, Closes, Sets_apart, Promises, Declines, Follows, IsStaged, waiting, copying}
 use Rattle.law_steps.specs.Ready.{IsReady, IsRising}
-use Rattle.law_steps.proofs.Tests.{same_or_apart, same_some, none_some}
+use Rattle.petal_rules.proofs.Tests.{same_or_apart, same_some, none_some}
 use Rattle.law_steps.proofs.Tables.{put_rises, without_rises}
 
 pub same_cell_or_apart : (a b : Cell) → (a ≡ b) ⊎ (a ≢ b)

@@ -1,6 +1,6 @@
 -- Each step that is allowed is one of the kinds that the relation names, and keeps the ground that this rests on.
 use Rattle.std.proofs.Common.{◌≡◌, ◌<◌, ◌≤◌, ◌+◌, ◌==◌, ◌&&◌, ℕ, Bool, true, false, List, [], ◌∷◌, ◌++◌, Option, Some, None, refl, ◌∙◌, sym, ap, subst, inl, inr, arith}
-use Rattle.std.specs.Prelude.{max}
+use Rattle.std.specs.Prelude.{is_some, max}
 use Rattle.std.specs.List.{flat_map}
 use Rattle.petal_base.specs.declared.place.Cell.{Cell}
 use Rattle.petal_table.specs.Table.{at}
@@ -20,7 +20,7 @@ use Rattle.petal_rules.specs.Server.{Own, Here, Post, Done, silent}
 use Rattle.petal_rules.specs.Writes.{pending_on}
 use Rattle.petal_rules.specs.Jobs.{Acted, here_of, works, tick_posts, sent_anew, awaited, does}
 use Rattle.petal_rules.specs.Clients.{Client, Asked, Reacted, opens, called, heard, hears_of, hears, counts, is_read, is_write, ticked, asks_anew}
-use Rattle.petal_rules.specs.World.{Setting, World, acts, step, server_step, client_step, calls, next_line, received, clock_of, MayActor, MayServer, MayClient}
+use Rattle.petal_rules.specs.World.{Setting, World, acts, step, server_step, client_step, calls, line_in, next_line, received, clock_of, MayActor, MayServer, MayClient}
 use Rattle.petal_rules.specs.declared.job.Job.{Job}
 use Rattle.petal_rules.specs.declared.job.Job.TheVariants as job
 use Rattle.petal_rules.specs.declared.step.Step.{Step}
@@ -34,7 +34,7 @@ use Rattle.law_steps.specs.Steady.{IsSteady}
 use Rattle.law_steps.specs.Did.{Did, Ignores, Asks_for, Asks, IsStaged, waiting, copying}
 use Rattle.law_steps.specs.Happens.{IsIdle, Handled, Heard, AreQueued, Serving, served, server_moves, Turned, Rests, Sends_anew, Begins, Makes, Reads, Ends, Happens, Serves, Turns}
 use Rattle.law_steps.specs.Ready.{IsReady, Ready}
-use Rattle.law_steps.proofs.Tests.{by_test, both_true, same_numbers, all_put}
+use Rattle.petal_rules.proofs.Tests.{by_test, both_true, same_numbers, all_put}
 use Rattle.law_steps.proofs.Tables.{at_row}
 use Rattle.law_steps.proofs.Inversion.{did, asks_slot, asks_copy, action_is}
 use Rattle.law_steps.proofs.Staged.{did_ready, no_letters}
@@ -58,10 +58,7 @@ past_max clock got stamp h = omega arith
 
 -- a client's step is made in a call, or else
 abbrev pub is_call : Step → Bool
-is_call (Call line) = true
-is_call (Deliver letter) = false
-is_call Tick = false
-is_call (Work end) = false
+is_call what = is_some (line_in what)
 
 module _ (state : State) (lines : List Line) (w : World) (c : ℕ) where
   abbrev client : Client
@@ -75,16 +72,7 @@ module _ (state : State) (lines : List Line) (w : World) (c : ℕ) where
 
   called_turns : (line : Line) → next_line lines c client ≡ Some line → client.asked ≡ None → (asked : Request) → line.request ≡ asked → Calls (called state c client line.number asked)
   called_turns line is free (request.Disk name tuple) e = Makes line name tuple is free e
-  called_turns line is free (request.Write name block pattern) e = subst (λ r. Calls (opens state c client line.number r)) e (Begins line is free)
-  called_turns line is free (request.Read name snap block) e = subst (λ r. Calls (opens state c client line.number r)) e (Begins line is free)
-  called_turns line is free (request.Snap name snap) e = subst (λ r. Calls (opens state c client line.number r)) e (Begins line is free)
-  called_turns line is free (request.Move name tuple) e = subst (λ r. Calls (opens state c client line.number r)) e (Begins line is free)
-  called_turns line is free (request.Stop server) e = subst (λ r. Calls (opens state c client line.number r)) e (Begins line is free)
-  called_turns line is free (request.StopAt server at) e = subst (λ r. Calls (opens state c client line.number r)) e (Begins line is free)
-  called_turns line is free (request.Fault server which kind at) e = subst (λ r. Calls (opens state c client line.number r)) e (Begins line is free)
-  called_turns line is free (request.Start server) e = subst (λ r. Calls (opens state c client line.number r)) e (Begins line is free)
-  called_turns line is free (request.Blank server) e = subst (λ r. Calls (opens state c client line.number r)) e (Begins line is free)
-  called_turns line is free request.Settle e = subst (λ r. Calls (opens state c client line.number r)) e (Begins line is free)
+  called_turns line is free _ e = subst (λ r. Calls (opens state c client line.number r)) e (Begins line is free)
 
   call_turns : (line : Line) → next_line lines c client ≡ Some line → client.asked ≡ None → Calls (calls state c client (next_line lines c client))
   call_turns line is free = subst (λ o. Calls (calls state c client o)) (sym is) (called_turns line is free line.request refl)
@@ -105,14 +93,7 @@ module _ (state : State) (lines : List Line) (w : World) (c : ℕ) where
   hears_turns asked rev is (body.BlockBusy seq) h = by_test T (counts asked rev seq) _ _ (λ t. Sends_anew asked is) (λ t. Rests)
   hears_turns asked rev is (body.Held seq) h = by_test T (counts asked rev seq) _ _ (λ t. Sends_anew asked is) (λ t. Rests)
   hears_turns asked rev is (body.WrongRev seq) h = by_test T (seq == asked.seq) _ _ (λ t. Sends_anew asked is) (λ t. Rests)
-  hears_turns asked rev is (body.NotHere seq) h = Rests
-  hears_turns asked rev is (body.Read to seq cell epoch) h = Rests
-  hears_turns asked rev is (body.Write to seq cell epoch bytes) h = Rests
-  hears_turns asked rev is (body.Reserve number cell) h = Rests
-  hears_turns asked rev is (body.Reserved number cell) h = Rests
-  hears_turns asked rev is (body.PairFull number cell) h = Rests
-  hears_turns asked rev is (body.Replicate number key version bytes) h = Rests
-  hears_turns asked rev is (body.Replicated number cell) h = Rests
+  hears_turns asked rev is _ h = Rests
 
   heard_turns : (letter : Letter) (o : Option Asked) → client.asked ≡ o → In letter w.sent → letter.to ≡ actor.Client c → T (hears_of state c client o letter)
   heard_turns letter None e h own = Rests

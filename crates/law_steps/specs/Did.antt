@@ -5,6 +5,7 @@ use Rattle.petal_base.specs.declared.place.Cell.{Cell}
 use Rattle.petal_base.specs.declared.place.Key.{Key}
 use Rattle.petal_base.specs.Place.{cell_of}
 use Rattle.petal_table.specs.Table.{at}
+use Rattle.petal_msg.specs.Kinds.{Refused, subject_of}
 use Rattle.petal_msg.specs.declared.body.Body.{Body}
 use Rattle.petal_msg.specs.declared.body.Body.TheVariants as body
 use Rattle.petal_msg.specs.declared.letter.Actor.{Actor}
@@ -54,20 +55,7 @@ progress (Some last) = far_of last.op last.far
 
 -- a refusal, which ends nothing
 abbrev pub IsRefusal : Body → Type 0
-IsRefusal (body.NotHere seq) = Unit {0}
-IsRefusal (body.BlockBusy seq) = Unit {0}
-IsRefusal (body.Held seq) = Unit {0}
-IsRefusal (body.WrongRev seq) = Unit {0}
-IsRefusal (body.Read client seq cell epoch) = ⊥
-IsRefusal (body.Write client seq cell epoch bytes) = ⊥
-IsRefusal (body.Data seq bytes) = ⊥
-IsRefusal (body.Written seq) = ⊥
-IsRefusal (body.Full seq) = ⊥
-IsRefusal (body.Reserve number cell) = ⊥
-IsRefusal (body.Reserved number cell) = ⊥
-IsRefusal (body.PairFull number cell) = ⊥
-IsRefusal (body.Replicate number key version bytes) = ⊥
-IsRefusal (body.Replicated number cell) = ⊥
+IsRefusal said = subject_of said ≡ Refused
 
 -- what a pending operation asks of the second server
 pub data Asks (here : Here) (own : Own) : Post → Type 0 where

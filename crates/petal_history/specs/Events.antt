@@ -26,7 +26,7 @@ use Rattle.petal_rules.specs.Clients.{Asked}
 use Rattle.petal_rules.specs.Server.{Server}
 use Rattle.petal_rules.specs.World.{Setting, World, start, setting_of}
 use Rattle.petal_rules.specs.declared.step.Step.{Step}
-use Rattle.petal_rules.specs.declared.step.Step.TheVariants.{Call, Deliver, Tick, Work}
+use Rattle.petal_rules.specs.declared.step.Step.TheVariants.{Call, Deliver}
 use Rattle.petal_history.specs.Contents.{disk_name, content_at}
 use Rattle.petal_history.specs.Legal.{stepped}
 use Rattle.petal_history.specs.declared.record.Record.{Record}
@@ -34,17 +34,9 @@ use Rattle.petal_history.specs.declared.record.Record.{Record}
 -- ### Calls and answers of writes
 
 abbrev pub write_by : (client seq : ℕ) → Request → Option Write
-write_by client seq (request.Write name block pattern) = Some (record { client = client; seq = seq; disk = name; block = block; bytes = pattern_block pattern })
-write_by client seq (request.Disk name tuple) = None
-write_by client seq (request.Read name snap block) = None
-write_by client seq (request.Snap name snap) = None
-write_by client seq (request.Move name tuple) = None
-write_by client seq (request.Stop server) = None
-write_by client seq (request.StopAt server at) = None
-write_by client seq (request.Fault server which kind at) = None
-write_by client seq (request.Start server) = None
-write_by client seq (request.Blank server) = None
-write_by client seq request.Settle = None
+write_by client seq (request.Write name block pattern) =
+    Some (record { client = client; seq = seq; disk = name; block = block; bytes = pattern_block pattern })
+write_by client seq _ = None
 
 abbrev pub write_asked : ℕ → Option Asked → Option Write
 write_asked client None = None
@@ -61,10 +53,7 @@ begun (Some write) = Begin write ∷ []
 -- the step in which a client calls a write tells that it begins
 abbrev pub begins : Step → Actor → World → List Event
 begins (Call line) (actor.Client c) later = begun (open_write later c)
-begins (Call line) (actor.Server n) later = []
-begins (Deliver letter) who later = []
-begins Tick who later = []
-begins (Work end) who later = []
+begins _ _ later = []
 
 abbrev pub end_of : Answer → WriteEnd
 end_of answer.Ok = write_end.Ok
@@ -132,8 +121,7 @@ takes setting w later = all_there (map (λ b. taken (taker setting w b (content_
 abbrev pub same_actor : Actor → Actor → Bool
 same_actor (actor.Server n) (actor.Server m) = n == m
 same_actor (actor.Client c) (actor.Client d) = c == d
-same_actor (actor.Server n) (actor.Client c) = false
-same_actor (actor.Client c) (actor.Server n) = false
+same_actor _ _ = false
 
 -- two letters have one name
 abbrev pub same_name : Letter → Letter → Bool
@@ -141,14 +129,7 @@ same_name a b = same_actor a.from b.from && (a.stamp == b.stamp) && (a.nth == b.
 
 abbrev pub line_of_data : ℕ → Answer → Option ℕ
 line_of_data line (answer.Data bytes) = Some line
-line_of_data line answer.Ok = None
-line_of_data line answer.NoSpace = None
-line_of_data line answer.Unavailable = None
-line_of_data line answer.NoDisk = None
-line_of_data line answer.NoSnap = None
-line_of_data line answer.Exists = None
-line_of_data line answer.Moving = None
-line_of_data line answer.Failed = None
+line_of_data line _ = None
 
 -- the line that is answered with data
 abbrev pub data_line : Option (ℕ × Answer) → Option ℕ
@@ -158,9 +139,7 @@ data_line (Some given) = line_of_data given.0 given.1
 -- the line that this record answers with data, where it is the delivery of this letter
 abbrev pub accepts : Letter → Step → Option (ℕ × Answer) → Option ℕ
 accepts letter (Deliver other) given = if same_name letter other then data_line given else None
-accepts letter (Call line) given = None
-accepts letter Tick given = None
-accepts letter (Work end) given = None
+accepts letter _ given = None
 
 abbrev pub first_of : Option ℕ → Option ℕ → Option ℕ
 first_of None other = other
@@ -173,16 +152,7 @@ accepted (own ∷ later) letter = first_of (accepts letter own.step own.answer) 
 
 abbrev pub look_by : Request → List ℕ → List Event
 look_by (request.Read name snap block) bytes = Look name snap block bytes ∷ []
-look_by (request.Write name block pattern) bytes = []
-look_by (request.Disk name tuple) bytes = []
-look_by (request.Snap name snap) bytes = []
-look_by (request.Move name tuple) bytes = []
-look_by (request.Stop server) bytes = []
-look_by (request.StopAt server at) bytes = []
-look_by (request.Fault server which kind at) bytes = []
-look_by (request.Start server) bytes = []
-look_by (request.Blank server) bytes = []
-look_by request.Settle bytes = []
+look_by _ bytes = []
 
 abbrev pub look_for : List Line → Option ℕ → List ℕ → List Event
 look_for lines None bytes = []
@@ -190,19 +160,7 @@ look_for lines (Some number) bytes = flat_map (λ line. if line.number == number
 
 abbrev pub look_of : List Line → List Record → Letter → Body → List Event
 look_of lines later letter (body.Data seq bytes) = look_for lines (accepted later letter) bytes
-look_of lines later letter (body.Read to seq cell epoch) = []
-look_of lines later letter (body.Write to seq cell epoch bytes) = []
-look_of lines later letter (body.NotHere seq) = []
-look_of lines later letter (body.BlockBusy seq) = []
-look_of lines later letter (body.Held seq) = []
-look_of lines later letter (body.WrongRev seq) = []
-look_of lines later letter (body.Written seq) = []
-look_of lines later letter (body.Full seq) = []
-look_of lines later letter (body.Reserve number cell) = []
-look_of lines later letter (body.Reserved number cell) = []
-look_of lines later letter (body.PairFull number cell) = []
-look_of lines later letter (body.Replicate number key version bytes) = []
-look_of lines later letter (body.Replicated number cell) = []
+look_of lines later letter _ = []
 
 -- the step that sent a letter whose data answers a read tells that the read looks
 abbrev pub looks : List Line → List Record → List Letter → List Event

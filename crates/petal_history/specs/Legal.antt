@@ -6,7 +6,7 @@ use Rattle.script_lines.specs.declared.request.Line.{Line}
 use Rattle.script_lines.specs.declared.script.Script.{Script}
 use Rattle.petal_rules.specs.World.{Setting, World, Stepped, MayStep, start, step, next_line, next_stamp, setting_of}
 use Rattle.petal_rules.specs.declared.step.Step.{Step}
-use Rattle.petal_rules.specs.declared.step.Step.TheVariants.{Call, Deliver, Tick, Work}
+use Rattle.petal_rules.specs.declared.step.Step.TheVariants.{Call}
 use Rattle.petal_history.specs.declared.record.Record.{Record}
 
 -- the step that a record tells of
@@ -20,10 +20,7 @@ InPhase (Some line) phase = line.phase ≡ phase
 
 abbrev pub CallsInPhase : Step → Actor → Setting → World → ℕ → Type 0
 CallsInPhase (Call line) (actor.Client c) setting w phase = InPhase (next_line setting.lines c (w.clients c)) phase
-CallsInPhase (Call line) (actor.Server n) setting w phase = Unit {0}
-CallsInPhase (Deliver letter) who setting w phase = Unit {0}
-CallsInPhase Tick who setting w phase = Unit {0}
-CallsInPhase (Work end) who setting w phase = Unit {0}
+CallsInPhase _ _ setting w phase = Unit {0}
 
 -- the record is of an allowed step, with the letters and the answer that the step gives. Its stamp is at least the next
 -- one of its actor: clients' clocks are raised at a phase's start

@@ -3,6 +3,7 @@ pub mod Sound
 pub mod Contents
 pub mod Events
 pub mod Text
+pub mod Order
 pub mod Claims
 pub mod Play
 pub mod Examples

@@ -22,7 +22,7 @@ pub fn a_letter_comes_twice_and_in_reverse()
     ensures answers { (world_of sevens (write_moves ++ again_moves)).answers ≡ (2, answer.Ok) ∷ (1, answer.Ok) ∷ [] }
     ensures primary { chain_at (world_of sevens (write_moves ++ again_moves)) 1 5 ≡ one_entry 1 (fill_block 7) }
     ensures secondary { chain_at (world_of sevens (write_moves ++ again_moves)) 0 5 ≡ one_entry 1 (fill_block 7) }
-    ensures pending { ((world_of sevens (write_moves ++ again_moves)).servers 1).pairs.pending ≡ [] }
+    ensures pending { ((world_of sevens (write_moves ++ again_moves)).servers 1).own.pairs.pending ≡ [] }
     ensures queue { ((world_of sevens (write_moves ++ again_moves)).servers 1).queue ≡ [] }
     ensures said { length (world_of sevens (write_moves ++ again_moves)).sent ≡ 9 }
 {}
@@ -33,7 +33,7 @@ pub fn a_write_finds_no_slot()
     ensures answers { (world_of crowded (fill_moves ++ declined_moves ++ refused_moves)).answers ≡ (3, answer.NoSpace) ∷ (2, answer.Ok) ∷ (1, answer.Ok) ∷ [] }
     ensures primary { chain_at (world_of crowded (fill_moves ++ declined_moves ++ refused_moves)) 2 2 ≡ [] }
     ensures secondary { chain_at (world_of crowded (fill_moves ++ declined_moves ++ refused_moves)) 0 2 ≡ [] }
-    ensures free { free_of ((world_of crowded (fill_moves ++ declined_moves ++ refused_moves)).servers 2).store ≡ 1 }
+    ensures free { free_of ((world_of crowded (fill_moves ++ declined_moves ++ refused_moves)).servers 2).own.store ≡ 1 }
 {}
 
 /// Why a request that is refused for want of a slot is remembered as finished. The third write is refused at its lead, and
@@ -41,7 +41,7 @@ pub fn a_write_finds_no_slot()
 /// forgotten what it has finished would have opened the write of which its client was told that it failed.
 pub fn a_full_write_is_remembered()
     ensures answers { (world_of crowded (fill_moves ++ declined_moves ++ freed_moves)).answers ≡ (4, answer.NoSpace) ∷ (2, answer.Ok) ∷ (1, answer.Ok) ∷ [] }
-    ensures free { free_of ((world_of crowded (fill_moves ++ declined_moves ++ freed_moves)).servers 2).store ≡ 1 }
-    ensures remembered { (mindful (crowded.states 1) 2 ((world_of crowded (fill_moves ++ declined_moves ++ freed_moves ++ late_moves)).servers 2)).server.pairs.pending ≡ [] }
-    ensures forgotten { length (forgetful (crowded.states 1) 2 ((world_of crowded (fill_moves ++ declined_moves ++ freed_moves ++ late_moves)).servers 2)).server.pairs.pending ≡ 1 }
+    ensures free { free_of ((world_of crowded (fill_moves ++ declined_moves ++ freed_moves)).servers 2).own.store ≡ 1 }
+    ensures remembered { (mindful (crowded.states 1) 2 ((world_of crowded (fill_moves ++ declined_moves ++ freed_moves ++ late_moves)).servers 2)).server.own.pairs.pending ≡ [] }
+    ensures forgotten { length (forgetful (crowded.states 1) 2 ((world_of crowded (fill_moves ++ declined_moves ++ freed_moves ++ late_moves)).servers 2)).server.own.pairs.pending ≡ 1 }
 {}

@@ -1,2 +1,3 @@
 pub mod CellTables
 pub mod ListLemmas
+pub mod Tests

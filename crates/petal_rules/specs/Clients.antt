@@ -1,12 +1,15 @@
 -- What a client does: at a call, with a letter that comes, and at a tick.
 use Rattle.std.specs.Prelude.{ℕ, ◌+◌, ◌%◌, ◌==◌, ◌&&◌, Bool, true, false, List, [], length, filter, slice_get, if◌then◌else◌, Option, Some, None}
 use Rattle.std.specs.List.{range_with_len}
+use Rattle.std.specs.Option.{option_map_or}
 use Rattle.petal_base.specs.declared.place.Cell.{Cell}
+use Rattle.petal_msg.specs.Kinds.{About, about}
 use Rattle.petal_msg.specs.declared.body.Body.{Body}
 use Rattle.petal_msg.specs.declared.body.Body.TheVariants as body
 use Rattle.petal_msg.specs.declared.letter.Actor.TheVariants as actor
 use Rattle.petal_msg.specs.declared.letter.Letter.{Letter}
 use Rattle.script_lines.specs.Pattern.{pattern_block}
+pub use Rattle.script_lines.specs.Requests.{is_read, is_write}
 use Rattle.script_lines.specs.declared.answer.Answer.{Answer}
 use Rattle.script_lines.specs.declared.answer.Answer.TheVariants as answer
 use Rattle.script_lines.specs.declared.request.Request.{Request}
@@ -78,17 +81,9 @@ read_posts state (Some disk) snap client seq at = read_posts_at state (cell_on d
 -- what is sent for a request: a write goes to the lead, a read to the servers that may read, in turn at each send. Other
 -- requests send nothing at this stage
 abbrev pub posts_for : State → (client seq turn : ℕ) → Request → List Post
-posts_for state client seq turn (request.Disk name tuple) = []
 posts_for state client seq turn (request.Write name block pattern) = write_posts state (find state name) client seq block (pattern_block pattern)
 posts_for state client seq turn (request.Read name snap block) = read_posts state (find state name) snap client seq (block, turn)
-posts_for state client seq turn (request.Snap name snap) = []
-posts_for state client seq turn (request.Move name tuple) = []
-posts_for state client seq turn (request.Stop server) = []
-posts_for state client seq turn (request.StopAt server at) = []
-posts_for state client seq turn (request.Fault server which kind at) = []
-posts_for state client seq turn (request.Start server) = []
-posts_for state client seq turn (request.Blank server) = []
-posts_for state client seq turn request.Settle = []
+posts_for state client seq turn _ = []
 
 -- the open request is sent, at the client's revision
 abbrev pub sends : State → ℕ → Client → Asked → Reacted
@@ -122,35 +117,17 @@ called state me client line request.Settle = opens state me client line request.
 
 -- ### A letter
 
-abbrev pub is_write : Request → Bool
-is_write (request.Write name block pattern) = true
-is_write (request.Disk name tuple) = false
-is_write (request.Read name snap block) = false
-is_write (request.Snap name snap) = false
-is_write (request.Move name tuple) = false
-is_write (request.Stop server) = false
-is_write (request.StopAt server at) = false
-is_write (request.Fault server which kind at) = false
-is_write (request.Start server) = false
-is_write (request.Blank server) = false
-is_write request.Settle = false
-
-abbrev pub is_read : Request → Bool
-is_read (request.Read name snap block) = true
-is_read (request.Disk name tuple) = false
-is_read (request.Write name block pattern) = false
-is_read (request.Snap name snap) = false
-is_read (request.Move name tuple) = false
-is_read (request.Stop server) = false
-is_read (request.StopAt server at) = false
-is_read (request.Fault server which kind at) = false
-is_read (request.Start server) = false
-is_read (request.Blank server) = false
-is_read request.Settle = false
-
 -- a reply counts where its number is the open request's and its revision that of the latest send
 abbrev pub counts : Asked → ℕ → ℕ → Bool
 counts asked rev seq = (seq == asked.seq) && (rev == asked.rev)
+
+-- of a kind that is handled at any revision, the number alone counts
+abbrev pub counts_as : Asked → ℕ → (any_rev : Bool) → ℕ → Bool
+counts_as asked rev true seq = seq == asked.seq
+counts_as asked rev false seq = counts asked rev seq
+
+abbrev pub replies : Asked → ℕ → About → Bool
+replies asked rev what = option_map_or (counts_as asked rev what.any_rev) what.seq false
 
 -- the open request is answered
 abbrev pub answers : Client → Asked → Answer → Reacted
@@ -159,12 +136,15 @@ answers client asked given = record { client = record client { asked = None }; p
 -- Data answers only a read, Written and Full only a write. What was refused for a while, or at another revision, is sent
 -- again
 abbrev pub hears : State → ℕ → Client → Asked → ℕ → Body → Reacted
-hears state me client asked rev (body.Data seq bytes) = if counts asked rev seq && is_read asked.request then answers client asked (answer.Data bytes) else rests client
-hears state me client asked rev (body.Written seq) = if counts asked rev seq && is_write asked.request then answers client asked answer.Ok else rests client
-hears state me client asked rev (body.Full seq) = if counts asked rev seq && is_write asked.request then answers client asked answer.NoSpace else rests client
-hears state me client asked rev (body.BlockBusy seq) = if counts asked rev seq then sends state me client asked else rests client
-hears state me client asked rev (body.Held seq) = if counts asked rev seq then sends state me client asked else rests client
-hears state me client asked rev (body.WrongRev seq) = if seq == asked.seq then sends state me client asked else rests client
+hears state me client asked rev (body.Data seq bytes) =
+    if replies asked rev (about (body.Data seq bytes)) && is_read asked.request then answers client asked (answer.Data bytes) else rests client
+hears state me client asked rev (body.Written seq) =
+    if replies asked rev (about (body.Written seq)) && is_write asked.request then answers client asked answer.Ok else rests client
+hears state me client asked rev (body.Full seq) =
+    if replies asked rev (about (body.Full seq)) && is_write asked.request then answers client asked answer.NoSpace else rests client
+hears state me client asked rev (body.BlockBusy seq) = if replies asked rev (about (body.BlockBusy seq)) then sends state me client asked else rests client
+hears state me client asked rev (body.Held seq) = if replies asked rev (about (body.Held seq)) then sends state me client asked else rests client
+hears state me client asked rev (body.WrongRev seq) = if replies asked rev (about (body.WrongRev seq)) then sends state me client asked else rests client
 hears state me client asked rev (body.NotHere seq) = rests client
 hears state me client asked rev (body.Read to seq cell epoch) = rests client
 hears state me client asked rev (body.Write to seq cell epoch bytes) = rests client

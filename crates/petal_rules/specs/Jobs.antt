@@ -1,6 +1,7 @@
 -- What a server does: with the first job of its queue, with a letter that is delivered, and at a tick.
 use Rattle.std.specs.Prelude.{ℕ, ◌==◌, not, Bool, true, List, [], ◌∷◌, ◌++◌, if◌then◌else◌, Option, Some, None}
 use Rattle.std.specs.List.{flat_map}
+pub use Rattle.petal_msg.specs.Kinds.{asked_by}
 use Rattle.petal_msg.specs.declared.body.Body.{Body}
 use Rattle.petal_msg.specs.declared.body.Body.TheVariants as body
 use Rattle.petal_msg.specs.declared.letter.Actor.{Actor}
@@ -32,23 +33,6 @@ handles here own (body.Reserved number cell) = on_reserved here own number cell
 handles here own (body.PairFull number cell) = on_pair_full own number cell
 handles here own (body.Replicate number key version bytes) = on_replicate here own number key bytes
 handles here own (body.Replicated number cell) = on_replicated here own number cell
-
--- the number of the request of which a client's letter speaks
-abbrev pub asked_by : Body → Option ℕ
-asked_by (body.Read client seq cell epoch) = Some seq
-asked_by (body.Write client seq cell epoch bytes) = Some seq
-asked_by (body.Data seq bytes) = None
-asked_by (body.NotHere seq) = None
-asked_by (body.BlockBusy seq) = None
-asked_by (body.Held seq) = None
-asked_by (body.WrongRev seq) = None
-asked_by (body.Written seq) = None
-asked_by (body.Full seq) = None
-asked_by (body.Reserve number cell) = None
-asked_by (body.Reserved number cell) = None
-asked_by (body.PairFull number cell) = None
-asked_by (body.Replicate number key version bytes) = None
-asked_by (body.Replicated number cell) = None
 
 abbrev pub wrong_rev : Own → ℕ → Option ℕ → Done
 wrong_rev own client None = silent own

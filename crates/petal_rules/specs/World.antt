@@ -1,5 +1,6 @@
 -- The world of all servers and clients, and its steps.
 use Rattle.std.specs.Prelude.{◌≡◌, ◌≢◌, ℕ, ◌+◌, ◌==◌, ◌||◌, ◌<◌, max, Bool, true, false, nat_lt, List, [], ◌∷◌, ◌++◌, map, filter, slice_get, Option, Some, None}
+use Rattle.std.specs.Option.{option_map_or}
 use Rattle.petal_msg.specs.declared.letter.Actor.{Actor}
 use Rattle.petal_msg.specs.declared.letter.Actor.TheVariants as actor
 use Rattle.petal_msg.specs.declared.letter.Letter.{Letter}
@@ -51,16 +52,7 @@ start setting = record {
 -- the state of a run whose one disk a line makes
 abbrev pub state_by : ℕ → Request → State → State
 state_by servers (request.Disk name tuple) other = fixed servers name tuple
-state_by servers (request.Write name block pattern) other = other
-state_by servers (request.Read name snap block) other = other
-state_by servers (request.Snap name snap) other = other
-state_by servers (request.Move name tuple) other = other
-state_by servers (request.Stop server) other = other
-state_by servers (request.StopAt server at) other = other
-state_by servers (request.Fault server which kind at) other = other
-state_by servers (request.Start server) other = other
-state_by servers (request.Blank server) other = other
-state_by servers request.Settle other = other
+state_by servers _ other = other
 
 -- the fixed state has the disk of the first disk line
 abbrev pub state_of : ℕ → List Line → State
@@ -82,6 +74,22 @@ lines_of lines client = filter (λ line. line.client == client) lines
 -- the line that a client calls next
 abbrev pub next_line : List Line → ℕ → Client → Option Line
 next_line lines me client = slice_get (lines_of lines me) client.seq
+
+-- ### Steps
+
+-- the line that a step calls
+abbrev pub line_in : Step → Option ℕ
+line_in (Call line) = Some line
+line_in (Deliver letter) = None
+line_in Tick = None
+line_in (Work end) = None
+
+-- the letter that it hands over
+abbrev pub letter_in : Step → Option Letter
+letter_in (Call line) = None
+letter_in (Deliver letter) = Some letter
+letter_in Tick = None
+letter_in (Work end) = None
 
 -- ### What a step does
 
@@ -183,10 +191,7 @@ MayClient (Work end) setting w c = ⊥
 
 -- the stamp of what a step receives
 abbrev pub received : Step → ℕ
-received (Call line) = 0
-received (Deliver letter) = letter.stamp
-received Tick = 0
-received (Work end) = 0
+received what = option_map_or (λ (letter : Letter). letter.stamp) (letter_in what) 0
 
 abbrev pub clock_of : World → Actor → ℕ
 clock_of w (actor.Server n) = w.server_clocks n

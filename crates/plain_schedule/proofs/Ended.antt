@@ -17,7 +17,7 @@ use Rattle.petal_rules.proofs.ListLemmas.{in-append, in_later}
 use Rattle.petal_history.specs.Legal.{IsLegal}
 use Rattle.petal_history.specs.Text.{answers_of}
 use Rattle.petal_history.specs.declared.record.Record.{Record}
-use Rattle.law_steps.proofs.Tests.{by_bool, same_numbers}
+use Rattle.petal_rules.proofs.Tests.{by_bool, same_numbers}
 use Rattle.world_desks.specs.Playable.{AreOrdered}
 use Rattle.law_answers.specs.Order.{AreRising, AnsweredComeFirst, is_answered}
 use Rattle.plain_schedule.specs.Phases.{Progress, GoesByPhases, AnswersPhases, Ends, IsFront, records_of}

@@ -1,11 +1,19 @@
--- The kinds of requests that a script may have only so many of.
-use Rattle.std.specs.Prelude.{Bool, true, false}
+-- The kinds of requests, each with what it names.
+use Rattle.std.specs.Prelude.{ℕ, Bool, true, false, List, Option, Some, None}
 use Rattle.script_lines.specs.declared.request.Request.{Request}
-use Rattle.script_lines.specs.declared.request.Request.TheVariants.{Disk, Snap, Move, Start, Blank}
+use Rattle.script_lines.specs.declared.request.Request.TheVariants.{Disk, Write, Read, Snap, Move, Stop, StopAt, Fault, Start, Blank, Settle}
 
 abbrev pub is_disk : Request → Bool
 is_disk (Disk name tuple) = true
 is_disk _ = false
+
+abbrev pub is_write : Request → Bool
+is_write (Write name block pattern) = true
+is_write _ = false
+
+abbrev pub is_read : Request → Bool
+is_read (Read name snap block) = true
+is_read _ = false
 
 abbrev pub is_snap : Request → Bool
 is_snap (Snap name snap) = true
@@ -19,3 +27,22 @@ abbrev pub is_boot : Request → Bool
 is_boot (Start server) = true
 is_boot (Blank server) = true
 is_boot _ = false
+
+-- what a request names: a disk, a block of it, a server
+pub record Names : Type 0 where
+  pub disk : Option (List ℕ)
+  pub block : Option ℕ
+  pub server : Option ℕ
+
+abbrev pub names : Request → Names
+names (Disk name tuple) = record { disk = Some name; block = None; server = None }
+names (Write name block pattern) = record { disk = Some name; block = Some block; server = None }
+names (Read name snap block) = record { disk = Some name; block = Some block; server = None }
+names (Snap name snap) = record { disk = Some name; block = None; server = None }
+names (Move name tuple) = record { disk = Some name; block = None; server = None }
+names (Stop server) = record { disk = None; block = None; server = Some server }
+names (StopAt server at) = record { disk = None; block = None; server = Some server }
+names (Fault server which kind at) = record { disk = None; block = None; server = Some server }
+names (Start server) = record { disk = None; block = None; server = Some server }
+names (Blank server) = record { disk = None; block = None; server = Some server }
+names Settle = record { disk = None; block = None; server = None }

@@ -1,0 +1,73 @@
+-- The kinds of letters, each with what it is about. Lists over all kinds stand here alone, but for the two that say what is
+-- done with each: `handles` and `hears` of `petal_rules`.
+use Rattle.std.specs.Prelude.{ℕ, Bool, true, false, if◌then◌else◌, Option, Some, None}
+use Rattle.petal_base.specs.declared.place.Cell.{Cell}
+use Rattle.petal_base.specs.Place.{cell_of}
+use Rattle.petal_msg.specs.declared.body.Body.{Body}
+use Rattle.petal_msg.specs.declared.body.Body.TheVariants as body
+
+-- a client asks for a read, or for a write; a reply ends the request, or refuses it for a while; two servers of a pair speak
+-- of an operation
+pub data Subject : Type 0 where
+  Read_asked : Subject
+  Write_asked : Subject
+  Answered : Subject
+  Refused : Subject
+  Paired : Subject
+
+-- what a letter is about: its subject, the number of its client's request, the cell and the number of the operation, where
+-- it has one, and whether it is handled at each revision of its receiver, or at its sender's alone
+pub record About : Type 0 where
+  pub subject : Subject
+  pub seq : Option ℕ
+  pub cell : Option Cell
+  pub op : Option ℕ
+  pub any_rev : Bool
+
+abbrev pub about : Body → About
+about (body.Read client seq cell epoch) = record { subject = Read_asked; seq = Some seq; cell = Some cell; op = None; any_rev = false }
+about (body.Write client seq cell epoch bytes) = record { subject = Write_asked; seq = Some seq; cell = Some cell; op = None; any_rev = false }
+about (body.Data seq bytes) = record { subject = Answered; seq = Some seq; cell = None; op = None; any_rev = false }
+about (body.NotHere seq) = record { subject = Refused; seq = Some seq; cell = None; op = None; any_rev = false }
+about (body.BlockBusy seq) = record { subject = Refused; seq = Some seq; cell = None; op = None; any_rev = false }
+about (body.Held seq) = record { subject = Refused; seq = Some seq; cell = None; op = None; any_rev = false }
+about (body.WrongRev seq) = record { subject = Refused; seq = Some seq; cell = None; op = None; any_rev = true }
+about (body.Written seq) = record { subject = Answered; seq = Some seq; cell = None; op = None; any_rev = false }
+about (body.Full seq) = record { subject = Answered; seq = Some seq; cell = None; op = None; any_rev = false }
+about (body.Reserve op cell) = record { subject = Paired; seq = None; cell = Some cell; op = Some op; any_rev = false }
+about (body.Reserved op cell) = record { subject = Paired; seq = None; cell = Some cell; op = Some op; any_rev = false }
+about (body.PairFull op cell) = record { subject = Paired; seq = None; cell = Some cell; op = Some op; any_rev = false }
+about (body.Replicate op key version bytes) = record { subject = Paired; seq = None; cell = Some (cell_of key); op = Some op; any_rev = false }
+about (body.Replicated op cell) = record { subject = Paired; seq = None; cell = Some cell; op = Some op; any_rev = false }
+
+abbrev pub subject_of : Body → Subject
+subject_of said = (about said).subject
+
+-- ### Subjects
+
+-- a client's request
+abbrev pub is_asked : Subject → Bool
+is_asked Read_asked = true
+is_asked Write_asked = true
+is_asked _ = false
+
+-- between the servers of a pair
+abbrev pub is_paired : Subject → Bool
+is_paired Paired = true
+is_paired _ = false
+
+-- what `write_pair` handles: a client's write, and what the servers of a pair say of it
+abbrev pub is_of_write : Subject → Bool
+is_of_write Write_asked = true
+is_of_write Paired = true
+is_of_write _ = false
+
+-- ### Letters
+
+-- the number of the request of which a client's letter speaks
+abbrev pub asked_by : Body → Option ℕ
+asked_by said = if is_asked (subject_of said) then (about said).seq else None
+
+-- the cell of which the servers of a pair speak
+abbrev pub pair_cell : Body → Option Cell
+pair_cell said = if is_paired (subject_of said) then (about said).cell else None
