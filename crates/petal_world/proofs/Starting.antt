@@ -35,16 +35,7 @@ fixed_servers servers name tuple = length-replicate servers (member.In 1)
 
 by_servers : (servers : ℕ) (asked : Request) (other : State) → servers_of other ≡ servers → servers_of (state_by servers asked other) ≡ servers
 by_servers servers (request.Disk name tuple) other e = fixed_servers servers name tuple
-by_servers servers (request.Write name block pattern) other e = e
-by_servers servers (request.Read name snap block) other e = e
-by_servers servers (request.Snap name snap) other e = e
-by_servers servers (request.Move name tuple) other e = e
-by_servers servers (request.Stop server) other e = e
-by_servers servers (request.StopAt server at) other e = e
-by_servers servers (request.Fault server which kind at) other e = e
-by_servers servers (request.Start server) other e = e
-by_servers servers (request.Blank server) other e = e
-by_servers servers request.Settle other e = e
+by_servers servers _ other e = e
 
 -- it has the script's number of servers
 pub state_servers : (servers : ℕ) (lines : List Line) → servers_of (state_of servers lines) ≡ servers

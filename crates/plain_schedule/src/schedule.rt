@@ -37,6 +37,14 @@ pub(crate) struct Schedule {
     after_loss: bool,
 }
 
+/// Whether a client that hears this sends its request again.
+fn is_refusal(body: &Body) -> bool {
+    match body {
+        Body::BlockBusy { .. } | Body::Held { .. } | Body::WrongRev { .. } => true,
+        _ => false,
+    }
+}
+
 /// The world of a run that begins.
 fn world_of(alloc: Global, script: Script) -> Result<World<MemServer>, NoMemory>
     requires disk { begins_with_disk script.lines ≡ true }
@@ -92,11 +100,9 @@ impl Schedule {
     }
 
     fn place_for(&self, letter: &Letter) -> usize {
-        match (letter.to, &letter.body) {
-            (Actor::Client(client), Body::BlockBusy { .. })
-            | (Actor::Client(client), Body::Held { .. })
-            | (Actor::Client(client), Body::WrongRev { .. }) => self.second_place(client),
-            (actor, _) => self.place_of(actor),
+        match letter.to {
+            Actor::Client(client) if is_refusal(&letter.body) => self.second_place(client),
+            actor => self.place_of(actor),
         }
     }
 
