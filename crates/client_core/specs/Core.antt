@@ -2,7 +2,8 @@
 use Rattle.std.specs.Prelude.{ℕ, ◌==◌, ◌||◌, Bool}
 use Rattle.petal_rules.specs.State.{State}
 use Rattle.petal_rules.specs.Server.{letters_of}
-use Rattle.petal_rules.specs.Clients.{Client, Reacted, client_sender}
+use Rattle.petal_rules.specs.Clients.{Client, client_sender}
+use Rattle.petal_rules.specs.Clients as rules
 use Rattle.petal_rules.specs.World.{greatest_u32, turn_of}
 use Rattle.client_core.specs.declared.reaction.Reaction.{Reaction}
 
@@ -12,17 +13,12 @@ pub record Core : Type 0 where
   pub state : State
   pub client : Client
 
--- a core behind a step, with what the step sends and answers
-pub record Given : Type 0 where
-  pub core : Core
-  pub reaction : Reaction
-
--- a rule's outcome, at this core
-abbrev pub given : Core → Reacted → Given
-given core reacted = record {
-  core = record core { client = reacted.client };
-  reaction = record { letters = letters_of (client_sender core.state core.me) 0 reacted.posts; answer = reacted.answer };
-}
+-- a rule's outcome, at this core: the core after it, and the letters and the answer that it gives
+abbrev pub at_core : Core → rules.Reacted → Core × Reaction
+at_core core reacted = (
+  record core { client = reacted.client },
+  record { letters = letters_of (client_sender core.state core.me) 0 reacted.posts; answer = reacted.answer },
+)
 
 -- a number of the client is the greatest of its type
 abbrev pub is_spent : Client → Bool

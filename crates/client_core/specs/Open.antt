@@ -11,16 +11,7 @@ use Rattle.client_core.specs.declared.hearing.Heard.TheVariants.{Nothing, Answer
 -- the bytes that a request sends
 abbrev pub bytes_sent : Request → Option (List ℕ)
 bytes_sent (request.Write name block pattern) = Some (pattern_block pattern)
-bytes_sent (request.Disk name tuple) = None
-bytes_sent (request.Read name snap block) = None
-bytes_sent (request.Snap name snap) = None
-bytes_sent (request.Move name tuple) = None
-bytes_sent (request.Stop server) = None
-bytes_sent (request.StopAt server at) = None
-bytes_sent (request.Fault server which kind at) = None
-bytes_sent (request.Start server) = None
-bytes_sent (request.Blank server) = None
-bytes_sent request.Settle = None
+bytes_sent _ = None
 
 -- what comes of a letter
 abbrev pub heard_by : State → ℕ → Client → Asked → Heard → Reacted

@@ -4,7 +4,7 @@ ghost use Rattle.std.specs.Prelude.{◌≡◌, ◌↔◌, false, None, [], IfOk,
 ghost use Rattle.petal_rules.specs.State.{servers_of};
 ghost use Rattle.petal_rules.specs.Clients.{first_client, called, heard, hears_of, ticked, opens, asks_anew};
 ghost use Rattle.petal_rules.specs.World.{turn_of};
-ghost use Rattle.client_core.specs.Core.{given, is_spent};
+ghost use Rattle.client_core.specs.Core.{at_core, is_spent};
 ghost use Rattle.client_core.specs.Open.{outcome};
 
 use crate::hearing::Heard;
@@ -60,8 +60,8 @@ impl ClientCore {
     pub fn call(&mut self, alloc: Global, line: u32, request: Request) -> Result<Reaction, NoMemory>
         requires free { self.old.client.asked ≡ None }
         requires goes_on { is_spent self.old.client ≡ false }
-        ensures ok { IfOk result (λ reaction. record { core = self.new; reaction = reaction }
-            ≡ given self.old (called self.old.state self.old.me self.old.client line request)) }
+        ensures ok { IfOk result (λ reaction. (self.new, reaction)
+            ≡ at_core self.old (called self.old.state self.old.me self.old.client line request)) }
         ensures err { OnErr result (self.new ≡ self.old) }
     {
         match request {
@@ -88,8 +88,8 @@ impl ClientCore {
     /// The request is the open one, and goes out.
     fn open(&mut self, alloc: Global, line: u32, request: Request) -> Result<Reaction, NoMemory>
         requires { is_spent self.old.client ≡ false }
-        ensures ok { IfOk result (λ reaction. record { core = self.new; reaction = reaction }
-            ≡ given self.old (opens self.old.state self.old.me self.old.client line request)) }
+        ensures ok { IfOk result (λ reaction. (self.new, reaction)
+            ≡ at_core self.old (opens self.old.state self.old.me self.old.client line request)) }
         ensures err { OnErr result (self.new ≡ self.old) }
     {
         let seq = self.seq + 1;
@@ -117,14 +117,14 @@ impl ClientCore {
     #[tactic(auto, unfolding(petal_rules::specs::Clients::heard))]
     pub fn deliver(&mut self, alloc: Global, letter: &Letter) -> Result<Reaction, NoMemory>
         requires { is_spent self.old.client ≡ false }
-        ensures ok { IfOk result (λ reaction. record { core = self.new; reaction = reaction }
-            ≡ given self.old (heard self.old.state self.old.me self.old.client letter.now)) }
+        ensures ok { IfOk result (λ reaction. (self.new, reaction)
+            ≡ at_core self.old (heard self.old.state self.old.me self.old.client letter.now)) }
         ensures err { OnErr result (self.new ≡ self.old) }
     {
         match self.hear(letter)? {
             Heard::Nothing => Ok(nothing(alloc)),
             Heard::Answered(answer) => Ok(self.answer(alloc, answer)),
-            Heard::Again => self.send_anew(alloc),
+            Heard::Again => self.send_again(alloc),
         }
     }
 
@@ -141,8 +141,8 @@ impl ClientCore {
 
     /// The open request is answered.
     fn answer(&mut self, alloc: Global, answer: Answer) -> Reaction
-        ensures { record { core = self.new; reaction = result }
-            ≡ given self.old (outcome self.old.state self.old.me self.old.client self.old.client.asked (Heard.Answered answer)) }
+        ensures { (self.new, result)
+            ≡ at_core self.old (outcome self.old.state self.old.me self.old.client self.old.client.asked (Heard.Answered answer)) }
     {
         match self.asked.take() {
             None => nothing(alloc),
@@ -154,10 +154,10 @@ impl ClientCore {
     }
 
     /// The open request goes out again.
-    fn send_anew(&mut self, alloc: Global) -> Result<Reaction, NoMemory>
+    fn send_again(&mut self, alloc: Global) -> Result<Reaction, NoMemory>
         requires { is_spent self.old.client ≡ false }
-        ensures ok { IfOk result (λ reaction. record { core = self.new; reaction = reaction }
-            ≡ given self.old (asks_anew self.old.state self.old.me self.old.client self.old.client.asked)) }
+        ensures ok { IfOk result (λ reaction. (self.new, reaction)
+            ≡ at_core self.old (asks_anew self.old.state self.old.me self.old.client self.old.client.asked)) }
         ensures err { OnErr result (self.new ≡ self.old) }
     {
         let turn = self.turn() + 1;
@@ -179,11 +179,11 @@ impl ClientCore {
     #[tactic(auto, unfolding(petal_rules::specs::Clients::ticked))]
     pub fn tick(&mut self, alloc: Global) -> Result<Reaction, NoMemory>
         requires { is_spent self.old.client ≡ false }
-        ensures ok { IfOk result (λ reaction. record { core = self.new; reaction = reaction }
-            ≡ given self.old (ticked self.old.state self.old.me self.old.client)) }
+        ensures ok { IfOk result (λ reaction. (self.new, reaction)
+            ≡ at_core self.old (ticked self.old.state self.old.me self.old.client)) }
         ensures err { OnErr result (self.new ≡ self.old) }
     {
-        self.send_anew(alloc)
+        self.send_again(alloc)
     }
 
     /// Whether no request is open, so that the next one can be called.

@@ -1,7 +1,8 @@
 //! The request that is open.
 
 ghost use Rattle.std.specs.Prelude.{◌≡◌, IfOk};
-ghost use Rattle.petal_rules.specs.Clients.{is_read, is_write, counts};
+ghost use Rattle.petal_rules.specs.Clients.{counts};
+ghost use Rattle.script_lines.specs.Requests.{is_read, is_write};
 ghost use Rattle.client_core.specs.Open.{bytes_sent};
 
 use petal_base::{NoMemory, Rev, Seq, SharedBlock};
@@ -42,16 +43,7 @@ pub fn bytes_sent(alloc: Global, request: &Request) -> Result<Option<SharedBlock
             block: _,
             pattern,
         } => Ok(Some(SharedBlock::new(alloc, pattern.block(alloc)?)?)),
-        Request::Disk { .. }
-        | Request::Read { .. }
-        | Request::Snap { .. }
-        | Request::Move { .. }
-        | Request::Stop { .. }
-        | Request::StopAt { .. }
-        | Request::Fault { .. }
-        | Request::Start { .. }
-        | Request::Blank { .. }
-        | Request::Settle => Ok(None),
+        _ => Ok(None),
     }
 }
 
@@ -61,16 +53,7 @@ pub fn is_write(request: &Request) -> bool
 {
     match request {
         Request::Write { .. } => true,
-        Request::Disk { .. }
-        | Request::Read { .. }
-        | Request::Snap { .. }
-        | Request::Move { .. }
-        | Request::Stop { .. }
-        | Request::StopAt { .. }
-        | Request::Fault { .. }
-        | Request::Start { .. }
-        | Request::Blank { .. }
-        | Request::Settle => false,
+        _ => false,
     }
 }
 
@@ -80,16 +63,7 @@ pub fn is_read(request: &Request) -> bool
 {
     match request {
         Request::Read { .. } => true,
-        Request::Disk { .. }
-        | Request::Write { .. }
-        | Request::Snap { .. }
-        | Request::Move { .. }
-        | Request::Stop { .. }
-        | Request::StopAt { .. }
-        | Request::Fault { .. }
-        | Request::Start { .. }
-        | Request::Blank { .. }
-        | Request::Settle => false,
+        _ => false,
     }
 }
 

@@ -179,19 +179,7 @@ impl ClientCore {
             (Request::Read { name, snap, block }, _) => {
                 self.read_letters(alloc, name, snap, *block, asked.seq, asked.turn)
             }
-            (
-                Request::Write { .. }
-                | Request::Disk { .. }
-                | Request::Snap { .. }
-                | Request::Move { .. }
-                | Request::Stop { .. }
-                | Request::StopAt { .. }
-                | Request::Fault { .. }
-                | Request::Start { .. }
-                | Request::Blank { .. }
-                | Request::Settle,
-                _,
-            ) => Ok(Sequence::new(alloc)),
+            _ => Ok(Sequence::new(alloc)),
         }
     }
 }

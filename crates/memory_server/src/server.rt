@@ -1,10 +1,10 @@
 //! A server and its store.
 
-ghost use Rattle.std.specs.Prelude.{◌≡◌, true, IfOk};
+ghost use Rattle.std.specs.Prelude.{◌≡◌, true, IfOk, OnOk};
 ghost use Rattle.petal_rules.specs.Server.{first_server};
 ghost use Rattle.petal_rules.specs.declared.step.Step.TheVariants.{Work};
 ghost use Rattle.petal_rules.specs.declared.step.WorkEnd.TheVariants.{Done};
-ghost use Rattle.world_desks.specs.Desks.{acted_at};
+ghost use Rattle.world_desks.specs.Desks.{acted_at, site_after};
 ghost use Rattle.server_store.specs.Slots.{slot_start};
 ghost use Rattle.memory_server.specs.Server.{site_of};
 
@@ -67,7 +67,8 @@ impl MemServer {
 
     /// Does the first job of the queue.
     fn work(&mut self, alloc: Global) -> Result<Sequence<Letter>, NoMemory>
-        ensures { IfOk result (λ letters. record { site = site_of self.new; letters = letters } ≡ acted_at (site_of self.old) (Work Done)) }
+        ensures site { OnOk result (site_of self.new ≡ site_after (site_of self.old) (Work Done)) }
+        ensures letters { IfOk result (λ letters. letters ≡ (acted_at (site_of self.old) (Work Done)).letters) }
     {
         if self.over || self.core.spent(&self.store) {
             return Err(NoMemory);

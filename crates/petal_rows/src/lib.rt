@@ -3,4 +3,8 @@
 #![tactic(auto)]
 
 #[cfg(test)]
+mod call;
+#[cfg(test)]
+mod letters;
+#[cfg(test)]
 mod rows;

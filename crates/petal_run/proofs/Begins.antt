@@ -3,7 +3,7 @@ use Rattle.std.proofs.Common.{◌≡◌, ◌≢◌, ℕ, Bool, true, false, ◌&
 use Rattle.script_lines.specs.Requests.{is_disk}
 use Rattle.script_lines.specs.declared.request.Line.{Line}
 use Rattle.script_lines.specs.declared.request.Request.{Request}
-use Rattle.script_lines.specs.declared.request.Request.TheVariants.{Disk, Write, Read, Snap, Move, Stop, StopAt, Fault, Start, Blank, Settle}
+use Rattle.script_lines.specs.declared.request.Request.TheVariants.{Disk, Read}
 use Rattle.plain_schedule.specs.Whole.{begins_with_disk}
 use Rattle.petal_run.specs.Built.{is_built, is_built_request, first_not_built}
 
@@ -13,17 +13,9 @@ never false is = absurd (cc)
 
 only_disk : (asked : Request) (c : Bool) → (c && is_built_request [] asked) ≡ true → is_disk asked ≡ true
 only_disk (Disk name tuple) c is = refl
-only_disk (Write name block pattern) c is = never c is
 only_disk (Read name None block) c is = never c is
 only_disk (Read name (Some snap) block) c is = never c is
-only_disk (Snap name snap) c is = never c is
-only_disk (Move name tuple) c is = never c is
-only_disk (Stop server) c is = never c is
-only_disk (StopAt server at) c is = never c is
-only_disk (Fault server which kind at) c is = never c is
-only_disk (Start server) c is = never c is
-only_disk (Blank server) c is = never c is
-only_disk Settle c is = never c is
+only_disk _ c is = never c is
 
 passed : (b : Bool) (x : Option ℕ) (n : ℕ) → cond b x (Some n) ≡ None → b ≡ true
 passed true x n is = refl

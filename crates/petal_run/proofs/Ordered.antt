@@ -3,16 +3,15 @@ use Rattle.std.proofs.Common.{◌≡◌, ℕ, ◌+◌, ◌-◌, ◌≤◌, ◌<�
 use Rattle.script_words.specs.Text.{pieces, without_end, words_of}
 use Rattle.script_words.specs.Words.{Word, ◌>>=◌, is_word, two_words, three_words}
 use Rattle.script_words.specs.Fields.{in_limits}
-use Rattle.petal_script.specs.Script.{TextLine, script_of, lines_behind, first_line, servers_line, net_line}
-use Rattle.law_script.specs.Laws.{Does, skipped, nets, waits, asks, Follows, line_at}
-use Rattle.law_script.proofs.Doing.{is_accepted}
+use Rattle.petal_script.specs.Script.{TextLine, text_lines, lines_behind, first_line, servers_line, net_line}
+use Rattle.law_script.specs.Laws.{IsAccepted, Does, skipped, nets, waits, asks, Follows, line_at}
 use Rattle.script_words.specs.declared.cause.Cause.{Cause}
 use Rattle.script_words.specs.declared.cause.Cause.TheVariants.{BadLine, NoServersLine}
 use Rattle.script_lines.specs.declared.request.Line.{Line}
 use Rattle.script_lines.specs.declared.script.Script.{Script}
 use Rattle.petal_rules.specs.Lists.{In}
 use Rattle.petal_rules.proofs.ListLemmas.{in-append}
-use Rattle.law_answers.specs.Order.{AreRising}
+use Rattle.petal_history.specs.Order.{AreRising}
 use Rattle.world_desks.specs.Playable.{AreOrdered}
 
 -- the lines that were read up to this number, and how many phases were begun
@@ -193,17 +192,16 @@ first_no_lines (first ∷ words) s is =
 
 -- ### The whole text
 
-script-read : (text : List ℕ) (s : Script) → script_of text ≡ Ok s → ReadUpTo s
-script-read text s is =
-    let a = is_accepted text s is in
+script-read : (text : List ℕ) (s : Script) → IsAccepted (text_lines text) s → ReadUpTo s
+script-read text s a =
     let n = behind_numbered a.front a.servers a.behind 0 0 (pieces text) a.lies in
     let f = first_no_lines (words_of a.servers.text) a.begun a.begins in
     let empty : Read a.begun.phases a.begun.lines n.number = rw (f.lines, f.phases) (none_read n.number) in
     let on : Follows a.begun (lines_behind n.number n.reach n.text) s = subst (λ lines. Follows a.begun lines s) n.are a.follows in
     follows_read n.text n.number n.reach a.begun s empty on
 
-pub script-rises : (text : List ℕ) (s : Script) → script_of text ≡ Ok s → AreOrdered s.lines
-script-rises text s is = (script-read text s is).read.rise
+pub script-rises : (text : List ℕ) (s : Script) → IsAccepted (text_lines text) s → AreOrdered s.lines
+script-rises text s a = (script-read text s a).read.rise
 
-pub lines-rise : (text : List ℕ) (s : Script) → script_of text ≡ Ok s → AreRising s.lines
-lines-rise text s is = (script-read text s is).read.rising
+pub lines-rise : (text : List ℕ) (s : Script) → IsAccepted (text_lines text) s → AreRising s.lines
+lines-rise text s a = (script-read text s a).read.rising

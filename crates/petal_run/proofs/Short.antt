@@ -2,7 +2,6 @@
 use Rattle.std.proofs.Common.{◌≡◌, ◌≤◌, ℕ, ◌+◌, List, [], ◌∷◌, length, Option, None, Result, Ok, Err, refl, ap, arith, length-append}
 use Rattle.std.proofs.lemmas.Bool.Decides.{nat_tests}
 use Rattle.std.specs.List.{concat}
-use Rattle.law_script.proofs.Firsts.{concat-pieces}
 use Rattle.script_words.specs.Text.{pieces, without_end}
 use Rattle.script_words.specs.declared.cause.Cause.{Cause}
 use Rattle.script_lines.specs.declared.script.Script.{Script}
@@ -37,11 +36,10 @@ short-from (p ∷ ps) number reach before s short is =
     let more = short-from ps (number + 1) (reach + length p) on.1.0 s on.0 on.1.1 in
     omega (arith, length-append p (concat ps), more)
 
--- a script has at most 1,048,576 bytes
-pub script-short : (text : List ℕ) (s : Script) → script_of text ≡ Ok s → length text ≤ 1048576
+-- a script has at most 1,048,576 bytes, since its lines with their ends are the text
+pub script-short : (text : List ℕ) (s : Script) → concat (pieces text) ≡ text → script_of text ≡ Ok s → length text ≤ 1048576
 unfolding script_of
-script-short text s is =
+script-short text s whole is =
     let short = short-from (pieces text) 0 0 None s (omega arith) is in
-    let whole : concat (pieces text) ≡ text = concat-pieces text in
     let same : length (concat (pieces text)) ≡ length text = ap length whole in
     omega arith

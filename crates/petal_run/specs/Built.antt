@@ -5,11 +5,7 @@ use Rattle.std.specs.Cmp.Lexicographic.{pointwise}
 use Rattle.script_lines.specs.declared.request.Request.{Request}
 use Rattle.script_lines.specs.declared.request.Request.TheVariants.{Disk, Write, Read}
 use Rattle.script_lines.specs.declared.request.Line.{Line}
-
--- the request makes a disk
-abbrev pub is_disk : Request → Bool
-is_disk (Disk name tuple) = true
-is_disk _ = false
+use Rattle.script_lines.specs.Requests.{is_disk}
 
 -- the request makes the disk of this name
 abbrev pub makes : List ℕ → Request → Bool

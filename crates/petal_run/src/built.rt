@@ -5,11 +5,8 @@ ghost use Rattle.std.specs.Option.{option_copied};
 ghost use Rattle.script_lines.specs.declared.request.Line.{Line};
 ghost use Rattle.petal_run.specs.Built.{is_built, is_built_request, is_named, first_not_built, KnowsDisk};
 
-use petal_base::{ClientId, Name};
+use petal_base::{Name, OPERATOR};
 use script_lines::{Line, Request, Script};
-
-/// The clients `a` to `h`; the one behind them is the operator.
-const CLIENTS: ClientId = 8;
 
 // Whether the disk has this name.
 fn is_named(asked: &Name, disk: Option<&Name>) -> bool
@@ -37,24 +34,7 @@ fn is_built_request(disk: Option<&Name>, request: &Request) -> bool
             snap: None,
             block: _,
         } => is_named(name, disk),
-        Request::Read {
-            name: _,
-            snap: Some(_),
-            block: _,
-        } => false,
-        Request::Snap { name: _, snap: _ } => false,
-        Request::Move { name: _, tuple: _ } => false,
-        Request::Stop { server: _ } => false,
-        Request::StopAt { server: _, at: _ } => false,
-        Request::Fault {
-            server: _,
-            which: _,
-            kind: _,
-            at: _,
-        } => false,
-        Request::Start { server: _ } => false,
-        Request::Blank { server: _ } => false,
-        Request::Settle => false,
+        _ => false,
     }
 }
 
@@ -75,7 +55,7 @@ pub fn not_built(script: &Script) -> Option<u32>
 {
     let mut disk: Option<&Name> = None;
     for line in script.lines.as_slice() {
-        if line.client >= CLIENTS || !is_built_request(disk, &line.request) {
+        if line.client >= OPERATOR || !is_built_request(disk, &line.request) {
             return Some(line.number);
         }
         disk = disk_after(disk, line);

@@ -1,7 +1,7 @@
 //! What is plain of scripts that are read.
 
 ghost use Rattle.std.specs.Prelude.{◌≡◌, List, [], ℕ, Ok};
-ghost use Rattle.law_answers.specs.Order.{AreRising};
+ghost use Rattle.petal_history.specs.Order.{AreRising};
 ghost use Rattle.petal_script.specs.Script.{script_of};
 ghost use Rattle.script_lines.specs.declared.script.Script.{Script};
 ghost use Rattle.petal_run.specs.Asked.{by_text};
@@ -9,16 +9,21 @@ ghost use Rattle.world_desks.specs.Playable.{AreOrdered};
 ghost use Rattle.petal_run.specs.Said.{DoneInPart, WrittenByPhases};
 
 use law_run::read_scripts_are_sound;
+use law_script::what_a_script_is;
 
 /// In every script that is read, phases rise with the numbers of lines.
 pub fn phases_rise()
     ensures { (text : List ℕ) (script : Script) → script_of text ≡ Ok script → AreOrdered script.lines }
-{}
+{
+    what_a_script_is();
+}
 
 /// In every script that is read, lines rise.
 pub fn lines_rise()
     ensures { (text : List ℕ) (script : Script) → script_of text ≡ Ok script → AreRising script.lines }
-{}
+{
+    what_a_script_is();
+}
 
 /// Where nothing is done, a part of what a text asks for is done.
 pub fn nothing_is_a_part()

@@ -1,14 +1,13 @@
 //! A script that was read: refused at a line that is not built, or played, with the answers of each phase written at its end.
 
 ghost use Rattle.std.specs.Prelude.{◌≡◌, ◌≤◌, ◌<◌, ◌⊎◌, ◌++◌, ℕ, List, [], length, true, IfOk, OnOk, IsErrOf, IfSome, Some, None};
-ghost use Rattle.law_answers.specs.Order.{AreRising};
+ghost use Rattle.petal_history.specs.Order.{AreRising, all_answered};
 ghost use Rattle.petal_disk.specs.Streams.{Adds};
 ghost use Rattle.script_lines.specs.Printed.{refusal_line};
 ghost use Rattle.petal_script.specs.Script.{script_of};
 ghost use Rattle.petal_history.specs.Sound.{IsSound};
 ghost use Rattle.petal_history.specs.Text.{answers_of, text_of};
 ghost use Rattle.plain_schedule.specs.Phases.{GoesByPhases, records_of};
-ghost use Rattle.plain_schedule.specs.Whole.{all_answered};
 ghost use Rattle.petal_run.specs.Asked.{Play, by_built, by_text};
 ghost use Rattle.petal_run.specs.Built.{first_not_built};
 ghost use Rattle.world_desks.specs.Playable.{AreOrdered};
@@ -23,6 +22,7 @@ use crate::outcome::{ENDED, NO_MEMORY, Outcome, REFUSED, SINK_FAILED};
 use crate::text::{answers_text, refusal_text};
 use law_answers::phases_come_one_after_the_other;
 use law_run::{every_history_keeps_the_law, read_scripts_are_sound};
+use law_script::lines_are_the_text;
 use petal_base::{NoMemory, Sequence};
 use petal_disk::{Sink, write_all};
 use petal_history::History;
@@ -235,6 +235,7 @@ pub(crate) fn run_text<R: Wait, W: Sink>(
     ensures later { W.faults sink.old ≤ W.faults sink.new }
 {
     read_scripts_are_sound();
+    lines_are_the_text();
     phases_rise();
     lines_rise();
     nothing_is_a_part();

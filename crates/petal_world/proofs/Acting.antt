@@ -1,4 +1,4 @@
--- Steps of all actors: the clock, the stamp and what is kept behind them.
+-- Steps of all actors: the clock, the stamp and what is kept after them.
 use Rattle.std.proofs.Common.{◌≡◌, ℕ, ◌<◌, Some, None, Result, sym, ap, ◌∙◌, subst, IfOk}
 use Rattle.std.proofs.lemmas.Result.{IfOk-weaker}
 use Rattle.std.specs.Prelude.{slice_get}
@@ -11,73 +11,73 @@ use Rattle.petal_world.specs.declared.stepped.Stepped.{Stepped}
 use Rattle.world_desks.specs.Desks.{Desk, desk_of}
 use Rattle.petal_world.specs.Play.{IsSteady, Leaves, LeavesIn}
 use Rattle.petal_world.specs.Seats.{seat_of, reacted_at}
-use Rattle.petal_world.specs.Stage.{Kept, Shows, client_letters, server_letters, with_client, with_server}
+use Rattle.petal_world.specs.Actors.{Actors, Shows, client_letters, server_letters, with_client, with_server}
 use Rattle.petal_world.proofs.Allowed.{no_client, no_server, seat_is, desk_is}
 use Rattle.world_desks.proofs.Ranges.{get_range}
 use Rattle.petal_world.proofs.Stepping.{client_shows, client_gives, server_shows, server_gives}
 
 -- ### Clocks
 
-module _ (setting : Setting) (w : World) (kept : Kept) (who : Actor) (what : Step) (h : Shows setting w kept) (may : MayStep setting w who what) where
-  pub server_clock_missing : (n : ℕ) → who ≡ actor.Server n → slice_get kept.desks n ≡ None → 0 ≡ clock_of w who
-  server_clock_missing n is none = absurd (no_server setting w kept n what h none (subst (λ a. MayStep setting w a what) is may))
+module _ (setting : Setting) (w : World) (actors : Actors) (who : Actor) (what : Step) (h : Shows setting w actors) (may : MayStep setting w who what) where
+  pub server_clock_missing : (n : ℕ) → who ≡ actor.Server n → slice_get actors.desks n ≡ None → 0 ≡ clock_of w who
+  server_clock_missing n is none = absurd (no_server setting w actors n what h none (subst (λ a. MayStep setting w a what) is may))
 
-  pub client_clock_missing : (c : ℕ) → who ≡ actor.Client c → slice_get kept.seats c ≡ None → 0 ≡ clock_of w who
-  client_clock_missing c is none = absurd (no_client setting w kept c what h none (subst (λ a. MayStep setting w a what) is may))
+  pub client_clock_missing : (c : ℕ) → who ≡ actor.Client c → slice_get actors.seats c ≡ None → 0 ≡ clock_of w who
+  client_clock_missing c is none = absurd (no_client setting w actors c what h none (subst (λ a. MayStep setting w a what) is may))
 
-  pub server_clock_is : (n : ℕ) (desk : Desk) → who ≡ actor.Server n → slice_get kept.desks n ≡ Some desk → desk.clock ≡ clock_of w who
-  server_clock_is n desk is at = ap (λ (d : Desk). d.clock) (desk_is setting w kept n what desk h at) ∙ ap (λ a. clock_of w a) (sym is)
+  pub server_clock_is : (n : ℕ) (desk : Desk) → who ≡ actor.Server n → slice_get actors.desks n ≡ Some desk → desk.clock ≡ clock_of w who
+  server_clock_is n desk is at = ap (λ (d : Desk). d.clock) (desk_is setting w actors n what desk h at) ∙ ap (λ a. clock_of w a) (sym is)
 
-  pub client_clock_is : (c : ℕ) (seat : Seat) → who ≡ actor.Client c → slice_get kept.seats c ≡ Some seat → seat.clock ≡ clock_of w who
-  client_clock_is c seat is at = ap (λ (s : Seat). s.clock) (seat_is setting w kept c what seat h at) ∙ ap (λ a. clock_of w a) (sym is)
+  pub client_clock_is : (c : ℕ) (seat : Seat) → who ≡ actor.Client c → slice_get actors.seats c ≡ Some seat → seat.clock ≡ clock_of w who
+  client_clock_is c seat is at = ap (λ (s : Seat). s.clock) (seat_is setting w actors c what seat h at) ∙ ap (λ a. clock_of w a) (sym is)
 
 -- ### Steps
 
-module _ (setting : Setting) (steady : IsSteady setting) (w : World) (kept : Kept) (h : Shows setting w kept) (what : Step) (stamp : ℕ) (new : Kept) (told : Stepped) where
+module _ (setting : Setting) (steady : IsSteady setting) (w : World) (actors : Actors) (h : Shows setting w actors) (what : Step) (stamp : ℕ) (new : Actors) (told : Stepped) where
   serves_so : (n : ℕ) → MayStep setting w (actor.Server n) what → clock_of w (actor.Server n) < stamp
-      → ((desk : Desk) → slice_get kept.desks n ≡ Some desk → (told ≡ record { letters = server_letters desk what stamp; answer = None }) × (new ≡ with_server kept n desk what stamp))
+      → ((desk : Desk) → slice_get actors.desks n ≡ Some desk → (told ≡ record { letters = server_letters desk what stamp; answer = None }) × (new ≡ with_server actors n desk what stamp))
       → Leaves setting w (actor.Server n) what stamp new told
   serves_so n may less told_so =
-      let at : slice_get kept.desks n ≡ Some (desk_of setting w n) = ap (λ desks. slice_get desks n) h.desks ∙ get_range (desk_of setting w) setting.servers n may.may.0 in
+      let at : slice_get actors.desks n ≡ Some (desk_of setting w n) = ap (λ desks. slice_get desks n) h.desks ∙ get_range (desk_of setting w) setting.servers n may.may.0 in
       let own = told_so (desk_of setting w n) at in
-      let gives = server_gives setting steady w kept h n what stamp in (
-        subst (λ (k : Kept). Shows setting (step (actor.Server n) what setting w stamp).world k) (sym own.1) (server_shows setting steady w kept h n what stamp may.may.0 less),
+      let gives = server_gives setting steady w actors h n what stamp in (
+        subst (λ (k : Actors). Shows setting (step (actor.Server n) what setting w stamp).world k) (sym own.1) (server_shows setting steady w actors h n what stamp may.may.0 less),
         own.0 ∙ (λ i. record { letters = sym gives.0 i; answer = sym gives.1 i }),
       )
 
   reacts_so : (c : ℕ) → MayStep setting w (actor.Client c) what → clock_of w (actor.Client c) < stamp
-      → ((seat : Seat) → slice_get kept.seats c ≡ Some seat → (told ≡ record { letters = client_letters seat what stamp; answer = (reacted_at seat what).reaction.answer }) × (new ≡ with_client kept c seat what stamp))
+      → ((seat : Seat) → slice_get actors.seats c ≡ Some seat → (told ≡ record { letters = client_letters seat what stamp; answer = (reacted_at seat what).1.answer }) × (new ≡ with_client actors c seat what stamp))
       → Leaves setting w (actor.Client c) what stamp new told
   reacts_so c may less told_so =
-      let at : slice_get kept.seats c ≡ Some (seat_of setting w c) = ap (λ seats. slice_get seats c) h.seats ∙ get_range (seat_of setting w) 9 c may.may.0 in
+      let at : slice_get actors.seats c ≡ Some (seat_of setting w c) = ap (λ seats. slice_get seats c) h.seats ∙ get_range (seat_of setting w) 9 c may.may.0 in
       let own = told_so (seat_of setting w c) at in
-      let gives = client_gives setting steady w kept h c what stamp in (
-        subst (λ (k : Kept). Shows setting (step (actor.Client c) what setting w stamp).world k) (sym own.1) (client_shows setting steady w kept h c what stamp may.may.0 less),
+      let gives = client_gives setting steady w actors h c what stamp in (
+        subst (λ (k : Actors). Shows setting (step (actor.Client c) what setting w stamp).world k) (sym own.1) (client_shows setting steady w actors h c what stamp may.may.0 less),
         own.0 ∙ (λ i. record { letters = sym gives.0 i; answer = sym gives.1 i }),
       )
 
   pub serves : (who : Actor) (n : ℕ) → who ≡ actor.Server n
-      → ((desk : Desk) → slice_get kept.desks n ≡ Some desk → (told ≡ record { letters = server_letters desk what stamp; answer = None }) × (new ≡ with_server kept n desk what stamp))
+      → ((desk : Desk) → slice_get actors.desks n ≡ Some desk → (told ≡ record { letters = server_letters desk what stamp; answer = None }) × (new ≡ with_server actors n desk what stamp))
       → MayStep setting w who what → clock_of w who < stamp → Leaves setting w who what stamp new told
   serves who n is told_so = subst (λ (a : Actor). MayStep setting w a what → clock_of w a < stamp → Leaves setting w a what stamp new told) (sym is) (λ may less. serves_so n may less told_so)
 
   pub reacts : (who : Actor) (c : ℕ) → who ≡ actor.Client c
-      → ((seat : Seat) → slice_get kept.seats c ≡ Some seat → (told ≡ record { letters = client_letters seat what stamp; answer = (reacted_at seat what).reaction.answer }) × (new ≡ with_client kept c seat what stamp))
+      → ((seat : Seat) → slice_get actors.seats c ≡ Some seat → (told ≡ record { letters = client_letters seat what stamp; answer = (reacted_at seat what).1.answer }) × (new ≡ with_client actors c seat what stamp))
       → MayStep setting w who what → clock_of w who < stamp → Leaves setting w who what stamp new told
   reacts who c is told_so = subst (λ (a : Actor). MayStep setting w a what → clock_of w a < stamp → Leaves setting w a what stamp new told) (sym is) (λ may less. reacts_so c may less told_so)
 
-abbrev Served : Kept → ℕ → Step → ℕ → Kept → Stepped → Type 0
-Served kept n what stamp new told = (desk : Desk) → slice_get kept.desks n ≡ Some desk → (told ≡ record { letters = server_letters desk what stamp; answer = None }) × (new ≡ with_server kept n desk what stamp)
+abbrev ServedSo : Actors → ℕ → Step → ℕ → Actors → Stepped → Type 0
+ServedSo actors n what stamp new told = (desk : Desk) → slice_get actors.desks n ≡ Some desk → (told ≡ record { letters = server_letters desk what stamp; answer = None }) × (new ≡ with_server actors n desk what stamp)
 
-abbrev Reacted : Kept → ℕ → Step → ℕ → Kept → Stepped → Type 0
-Reacted kept c what stamp new told = (seat : Seat) → slice_get kept.seats c ≡ Some seat → (told ≡ record { letters = client_letters seat what stamp; answer = (reacted_at seat what).reaction.answer }) × (new ≡ with_client kept c seat what stamp)
+abbrev ReactedSo : Actors → ℕ → Step → ℕ → Actors → Stepped → Type 0
+ReactedSo actors c what stamp new told = (seat : Seat) → slice_get actors.seats c ≡ Some seat → (told ≡ record { letters = client_letters seat what stamp; answer = (reacted_at seat what).1.answer }) × (new ≡ with_client actors c seat what stamp)
 
-pub serves_ok : {E : Type 0} (r : Result Stepped E) (kept : Kept) (who : Actor) (n : ℕ) (what : Step) (stamp : ℕ) (new : Kept) → who ≡ actor.Server n → IfOk r (Served kept n what stamp new) → IfOk r (LeavesIn kept who what stamp new)
-serves_ok r kept who n what stamp new is =
-    IfOk-weaker r (Served kept n what stamp new) (LeavesIn kept who what stamp new)
-    (λ told so setting w steady h may less. serves setting steady w kept h what stamp new told who n is so may less)
+pub serves_ok : {E : Type 0} (r : Result Stepped E) (actors : Actors) (who : Actor) (n : ℕ) (what : Step) (stamp : ℕ) (new : Actors) → who ≡ actor.Server n → IfOk r (ServedSo actors n what stamp new) → IfOk r (LeavesIn actors who what stamp new)
+serves_ok r actors who n what stamp new is =
+    IfOk-weaker r (ServedSo actors n what stamp new) (LeavesIn actors who what stamp new)
+    (λ told so setting w steady h may less. serves setting steady w actors h what stamp new told who n is so may less)
 
-pub reacts_ok : {E : Type 0} (r : Result Stepped E) (kept : Kept) (who : Actor) (c : ℕ) (what : Step) (stamp : ℕ) (new : Kept) → who ≡ actor.Client c → IfOk r (Reacted kept c what stamp new) → IfOk r (LeavesIn kept who what stamp new)
-reacts_ok r kept who c what stamp new is =
-    IfOk-weaker r (Reacted kept c what stamp new) (LeavesIn kept who what stamp new)
-    (λ told so setting w steady h may less. reacts setting steady w kept h what stamp new told who c is so may less)
+pub reacts_ok : {E : Type 0} (r : Result Stepped E) (actors : Actors) (who : Actor) (c : ℕ) (what : Step) (stamp : ℕ) (new : Actors) → who ≡ actor.Client c → IfOk r (ReactedSo actors c what stamp new) → IfOk r (LeavesIn actors who what stamp new)
+reacts_ok r actors who c what stamp new is =
+    IfOk-weaker r (ReactedSo actors c what stamp new) (LeavesIn actors who what stamp new)
+    (λ told so setting w steady h may less. reacts setting steady w actors h what stamp new told who c is so may less)

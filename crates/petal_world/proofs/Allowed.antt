@@ -13,7 +13,7 @@ use Rattle.world_desks.specs.Desks as server
 use Rattle.world_desks.specs.Playable.{AreOrdered}
 use Rattle.petal_world.specs.Seats.{seat_of}
 use Rattle.world_desks.specs.Waiting.{AreBehind, AreRising}
-use Rattle.petal_world.specs.Stage.{Kept, Shows}
+use Rattle.petal_world.specs.Actors.{Actors, Shows}
 use Rattle.world_desks.proofs.Awaiting.{waiting_rise, before_from_behind, behind_from_before}
 use Rattle.world_desks.proofs.Ranges.{IsAt, at_range, get_range}
 
@@ -24,11 +24,11 @@ same_some : {X : Type 0} (o : Option X) (x y : X) → o ≡ Some x → o ≡ Som
 same_some o x y a b = cc
 
 -- a client calls its next line where it is free and no line of an earlier phase waits
-pub call_exact : (setting : Setting) (w : World) (kept : Kept) (c line : ℕ) (seat : Seat) (next : Line) (b : Bool) → AreOrdered setting.lines → Shows setting w kept → seat ≡ seat_of setting w c
+pub call_exact : (setting : Setting) (w : World) (actors : Actors) (c line : ℕ) (seat : Seat) (next : Line) (b : Bool) → AreOrdered setting.lines → Shows setting w actors → seat ≡ seat_of setting w c
     → slice_get seat.lines seat.core.client.seq ≡ Some next → seat.core.client.asked ≡ None → next.number ≡ line
-    → (AreRising kept.waiting → IsTrue b ↔ AreBehind kept.waiting next.phase) → IsTrue b ↔ MayCall setting w c line
-call_exact setting w kept c line seat next b ordered h is at free number test =
-    let behind = test (waiting_rise setting.lines w.answers kept.waiting h.waiting ordered) in
+    → (AreRising actors.waiting → IsTrue b ↔ AreBehind actors.waiting next.phase) → IsTrue b ↔ MayCall setting w c line
+call_exact setting w actors c line seat next b ordered h is at free number test =
+    let behind = test (waiting_rise setting.lines w.answers actors.waiting h.waiting ordered) in
     let own = ap (λ (s : Seat). slice_get s.lines s.core.client.seq) (sym is) ∙ at in
     let asked = ap (λ (s : Seat). s.core.client.asked) (sym is) ∙ free in (
       (λ t. record {
@@ -36,12 +36,12 @@ call_exact setting w kept c line seat next b ordered h is at free number test =
         line = next;
         next = own;
         is = number;
-        before = before_from_behind setting.lines w.answers kept.waiting h.waiting next.phase (behind.0 t);
+        before = before_from_behind setting.lines w.answers actors.waiting h.waiting next.phase (behind.0 t);
       }),
       (λ may.
           let same : may.line ≡ next = same_some _ may.line next may.next own in
           let phases : may.line.phase ≡ next.phase = ap (λ (l : Line). l.phase) same in
-          behind.1 (behind_from_before setting.lines w.answers kept.waiting h.waiting next.phase (λ other m less. may.before other m (subst (λ p. other.phase < p) (sym phases) less)))),
+          behind.1 (behind_from_before setting.lines w.answers actors.waiting h.waiting next.phase (λ other m less. may.before other m (subst (λ p. other.phase < p) (sym phases) less)))),
     )
 
 -- a test that fails where the step is hindered
@@ -51,18 +51,18 @@ hindered never_so = ((λ f. absurd (let k : ⊥ = cc in k)), (λ p. absurd (neve
 clash : (b : Bool) → b ≡ false → b ≡ true → ⊥
 clash b down up = cc
 
-pub no_client : (setting : Setting) (w : World) (kept : Kept) (c : ℕ) (what : Step) → Shows setting w kept → slice_get kept.seats c ≡ None → MayStep setting w (actor.Client c) what → ⊥
-no_client setting w kept c what h none step =
+pub no_client : (setting : Setting) (w : World) (actors : Actors) (c : ℕ) (what : Step) → Shows setting w actors → slice_get actors.seats c ≡ None → MayStep setting w (actor.Client c) what → ⊥
+no_client setting w actors c what h none step =
     never _ _ (ap (λ seats. slice_get seats c) (sym h.seats) ∙ none) (get_range (seat_of setting w) 9 c step.may.0)
 
-pub no_server : (setting : Setting) (w : World) (kept : Kept) (n : ℕ) (what : Step) → Shows setting w kept → slice_get kept.desks n ≡ None → MayStep setting w (actor.Server n) what → ⊥
-no_server setting w kept n what h none step =
+pub no_server : (setting : Setting) (w : World) (actors : Actors) (n : ℕ) (what : Step) → Shows setting w actors → slice_get actors.desks n ≡ None → MayStep setting w (actor.Server n) what → ⊥
+no_server setting w actors n what h none step =
     never _ _ (ap (λ desks. slice_get desks n) (sym h.desks) ∙ none) (get_range (desk_of setting w) setting.servers n step.may.0)
 
 pub late_letter : (setting : Setting) (w : World) (who : Actor) (what : Step) → greatest_u64 ≤ received what → MayStep setting w who what → ⊥
 late_letter setting w who what late step = let less = step.receives in omega arith
 
-module _ (setting : Setting) (w : World) (kept : Kept) (c : ℕ) (what : Step) (seat : Seat) (h : Shows setting w kept) (at : slice_get kept.seats c ≡ Some seat) where
+module _ (setting : Setting) (w : World) (actors : Actors) (c : ℕ) (what : Step) (seat : Seat) (h : Shows setting w actors) (at : slice_get actors.seats c ≡ Some seat) where
   own : IsAt (seat_of setting w) 9 c seat
   own = at_range (seat_of setting w) 9 c seat (ap (λ seats. slice_get seats c) (sym h.seats) ∙ at)
 
@@ -85,7 +85,7 @@ module _ (setting : Setting) (w : World) (kept : Kept) (c : ℕ) (what : Step) (
       let same : w.client_clocks c ≡ seat.clock = ap (λ (s : Seat). s.clock) (sym own.value) in
       omega arith
 
-module _ (setting : Setting) (w : World) (kept : Kept) (n : ℕ) (what : Step) (desk : Desk) (h : Shows setting w kept) (at : slice_get kept.desks n ≡ Some desk) where
+module _ (setting : Setting) (w : World) (actors : Actors) (n : ℕ) (what : Step) (desk : Desk) (h : Shows setting w actors) (at : slice_get actors.desks n ≡ Some desk) where
   held : IsAt (desk_of setting w) setting.servers n desk
   held = at_range (desk_of setting w) setting.servers n desk (ap (λ desks. slice_get desks n) (sym h.desks) ∙ at)
 

@@ -16,7 +16,7 @@ use Rattle.petal_world.specs.declared.stepped.Stepped.{Stepped}
 use Rattle.world_desks.specs.Desks.{desk_of}
 use Rattle.petal_world.specs.Play.{Play, IsKept, LeavesIn, Can, world_of, stamp_of, phase_of, phase_for, record_of, played, told_by}
 use Rattle.petal_world.specs.Seats.{CanTake, seat_of}
-use Rattle.petal_world.specs.Stage.{Kept, Shows}
+use Rattle.petal_world.specs.Actors.{Actors, Shows}
 use Rattle.world_desks.proofs.Ranges.{get_range}
 
 -- ### What is kept can take an allowed step
@@ -27,16 +27,16 @@ can_take setting w c (Deliver letter) may = tt
 can_take setting w c Tick may = tt
 can_take setting w c (Work end) may = tt
 
-pub can : (setting : Setting) (w : World) (kept : Kept) (who : Actor) (what : Step) → Shows setting w kept → MayStep setting w who what → Can kept who what
-can setting w kept (actor.Server n) what h may =
-    let long : length kept.desks ≡ setting.servers = ap length h.desks ∙ length-map-range_with_len (desk_of setting w) 0 setting.servers in
+pub can : (setting : Setting) (w : World) (actors : Actors) (who : Actor) (what : Step) → Shows setting w actors → MayStep setting w who what → Can actors who what
+can setting w actors (actor.Server n) what h may =
+    let long : length actors.desks ≡ setting.servers = ap length h.desks ∙ length-map-range_with_len (desk_of setting w) 0 setting.servers in
     let within = may.may.0 in
     omega arith
-can setting w kept (actor.Client c) what h may =
-    let long : length kept.seats ≡ 9 = ap length h.seats ∙ length-map-range_with_len (seat_of setting w) 0 9 in
+can setting w actors (actor.Client c) what h may =
+    let long : length actors.seats ≡ 9 = ap length h.seats ∙ length-map-range_with_len (seat_of setting w) 0 9 in
     let within = may.may.0 in
-    let at : slice_get kept.seats c ≡ Some (seat_of setting w c) = ap (λ seats. slice_get seats c) h.seats ∙ get_range (seat_of setting w) 9 c within in
-    let less : c < length kept.seats = omega arith in (
+    let at : slice_get actors.seats c ≡ Some (seat_of setting w c) = ap (λ seats. slice_get seats c) h.seats ∙ get_range (seat_of setting w) 9 c within in
+    let less : c < length actors.seats = omega arith in (
       less,
       subst (λ (o : Option Seat). IfSome o (λ seat. CanTake what seat.core.client)) (sym at) (can_take setting w c what may.may.1),
       subst (λ (o : Option Seat). IfSome o (λ seat. is_spent seat.core.client ≡ false)) (sym at) may.goes_on,
@@ -80,10 +80,10 @@ follows play who what may = record {
   answer = refl;
 }
 
-module _ (play : Play) (kept new : Kept) (who : Actor) (what : Step) (stamp phase : ℕ) (told : Stepped) (h : IsKept play kept) (going : play.over ≡ false) (may : MayStep (setting_of play.script) (world_of play) who what)
-    (at : stamp ≡ stamp_of play.floor (world_of play) who what) (during : phase ≡ phase_for what who (setting_of play.script) (world_of play) play.phase) (left : LeavesIn kept who what stamp new told) where
-  leaves : LeavesIn kept who what (stamp_of play.floor (world_of play) who what) new told
-  leaves = subst (λ s. LeavesIn kept who what s new told) at left
+module _ (play : Play) (actors new : Actors) (who : Actor) (what : Step) (stamp phase : ℕ) (told : Stepped) (h : IsKept play actors) (going : play.over ≡ false) (may : MayStep (setting_of play.script) (world_of play) who what)
+    (at : stamp ≡ stamp_of play.floor (world_of play) who what) (during : phase ≡ phase_for what who (setting_of play.script) (world_of play) play.phase) (left : LeavesIn actors who what stamp new told) where
+  leaves : LeavesIn actors who what (stamp_of play.floor (world_of play) who what) new told
+  leaves = subst (λ s. LeavesIn actors who what s new told) at left
 
   pub told_so : told ≡ told_by play who what
   told_so = (leaves (setting_of play.script) (world_of play) (λ one other. refl) (h.shows going) may (stamp_later play.floor (world_of play) who what)).1

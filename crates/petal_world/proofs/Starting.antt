@@ -23,7 +23,7 @@ use Rattle.petal_world.specs.Play.{IsKept, rev_of}
 use Rattle.world_desks.specs.Playable.{AreOrdered}
 use Rattle.petal_world.specs.Seats.{seat_of, seats_of}
 use Rattle.world_desks.specs.Sent.{Lists}
-use Rattle.petal_world.specs.Stage.{Kept, Shows}
+use Rattle.petal_world.specs.Actors.{Actors, Shows}
 use Rattle.world_desks.specs.Waiting.{Await}
 use Rattle.world_desks.proofs.Letters.{none_sent}
 use Rattle.world_desks.proofs.Ranges.{get_range, at_range}
@@ -35,16 +35,7 @@ fixed_servers servers name tuple = length-replicate servers (member.In 1)
 
 by_servers : (servers : ℕ) (asked : Request) (other : State) → servers_of other ≡ servers → servers_of (state_by servers asked other) ≡ servers
 by_servers servers (request.Disk name tuple) other e = fixed_servers servers name tuple
-by_servers servers (request.Write name block pattern) other e = e
-by_servers servers (request.Read name snap block) other e = e
-by_servers servers (request.Snap name snap) other e = e
-by_servers servers (request.Move name tuple) other e = e
-by_servers servers (request.Stop server) other e = e
-by_servers servers (request.StopAt server at) other e = e
-by_servers servers (request.Fault server which kind at) other e = e
-by_servers servers (request.Start server) other e = e
-by_servers servers (request.Blank server) other e = e
-by_servers servers request.Settle other e = e
+by_servers servers _ other e = e
 
 -- it has the script's number of servers
 pub state_servers : (servers : ℕ) (lines : List Line) → servers_of (state_of servers lines) ≡ servers
@@ -57,10 +48,10 @@ nothing_past : (script : Script) (letter : Letter) → In letter (start (setting
 unfolding In
 nothing_past script letter m = absurd m
 
-pub start_kept : {H : Type 0} (seen : H → Site) (hosts : List H) (script : Script) (kept : Kept) → AreOrdered script.lines → map seen hosts ≡ first_sites script
-    → kept.seats ≡ seats_of (setting_of script) (start (setting_of script)) → kept.desks ≡ map (λ host. first_desk (seen host)) hosts → kept.sent ≡ [] → Await script.lines [] kept.waiting
-    → IsKept (record { script = script; records = []; phase = 0; floor = 0; over = false }) kept
-start_kept seen hosts script kept ordered sites seats desks sent waiting =
+pub start_kept : {H : Type 0} (seen : H → Site) (hosts : List H) (script : Script) (actors : Actors) → AreOrdered script.lines → map seen hosts ≡ first_sites script
+    → actors.seats ≡ seats_of (setting_of script) (start (setting_of script)) → actors.desks ≡ map (λ host. first_desk (seen host)) hosts → actors.sent ≡ [] → Await script.lines [] actors.waiting
+    → IsKept (record { script = script; records = []; phase = 0; floor = 0; over = false }) actors
+start_kept seen hosts script actors ordered sites seats desks sent waiting =
     let all : map (λ host. first_desk (seen host)) hosts ≡ desks_of (setting_of script) (start (setting_of script)) =
     sym (map-map first_desk seen hosts) ∙ ap (λ (ss : List Site). map first_desk ss) sites
     ∙ map-map first_desk (λ n. (desk_of (setting_of script) (start (setting_of script)) n).site) (range_with_len 0 script.servers) in
@@ -78,8 +69,8 @@ start_kept seen hosts script kept ordered sites seats desks sent waiting =
 
 -- ### A phase that begins
 
-pub greatest_so : (setting : Setting) (w : World) (kept : Kept) → Shows setting w kept → fold max 0 (map (λ (seat : Seat). seat.clock) kept.seats) ≡ fold max 0 (map w.client_clocks (range_with_len 0 9))
-greatest_so setting w kept h =
+pub greatest_so : (setting : Setting) (w : World) (actors : Actors) → Shows setting w actors → fold max 0 (map (λ (seat : Seat). seat.clock) actors.seats) ≡ fold max 0 (map w.client_clocks (range_with_len 0 9))
+greatest_so setting w actors h =
     ap (λ clocks. fold max 0 clocks) (ap (λ (seats : List Seat). map (λ (seat : Seat). seat.clock) seats) h.seats ∙ map-map (λ (seat : Seat). seat.clock) (seat_of setting w) (range_with_len 0 9))
 
 -- ### Revisions
@@ -93,28 +84,28 @@ above n bound h = grind (arith, nat_tests)
 never : {P : Type 0} {X : Type 0} (o : Option X) (x : X) → o ≡ None → o ≡ Some x → P
 never o x none some = absurd (let h : ⊥ = cc in h)
 
-module _ (setting : Setting) (w : World) (kept : Kept) (who : Actor) (h : Shows setting w kept) where
-  pub server_rev : (n : ℕ) (desk : Desk) → who ≡ actor.Server n → slice_get kept.desks n ≡ Some desk → (if desk.site.server.life.running then Some desk.site.server.life.rev else None) ≡ rev_of setting w who
+module _ (setting : Setting) (w : World) (actors : Actors) (who : Actor) (h : Shows setting w actors) where
+  pub server_rev : (n : ℕ) (desk : Desk) → who ≡ actor.Server n → slice_get actors.desks n ≡ Some desk → (if desk.site.server.life.running then Some desk.site.server.life.rev else None) ≡ rev_of setting w who
   server_rev n desk is at =
       let own = at_range (desk_of setting w) setting.servers n desk (ap (λ desks. slice_get desks n) (sym h.desks) ∙ at) in
       ap (λ (d : Desk). if d.site.server.life.running then Some d.site.server.life.rev else None) own.value
       ∙ ap (λ b. if b && (w.servers n).life.running then Some (w.servers n).life.rev else None) (sym (below n setting.servers own.within))
       ∙ ap (λ a. rev_of setting w a) (sym is)
 
-  pub server_no_rev : (n : ℕ) → who ≡ actor.Server n → slice_get kept.desks n ≡ None → None ≡ rev_of setting w who
+  pub server_no_rev : (n : ℕ) → who ≡ actor.Server n → slice_get actors.desks n ≡ None → None ≡ rev_of setting w who
   server_no_rev n is none = elim (cases_lt n setting.servers) [
     | inl less ↦ never _ _ (ap (λ desks. slice_get desks n) (sym h.desks) ∙ none) (get_range (desk_of setting w) setting.servers n less)
     | inr le ↦ ap (λ b. if b && (w.servers n).life.running then Some (w.servers n).life.rev else None) (sym (above n setting.servers le)) ∙ ap (λ a. rev_of setting w a) (sym is)
   ]
 
-  pub client_rev : (c : ℕ) (seat : Seat) → who ≡ actor.Client c → slice_get kept.seats c ≡ Some seat → Some seat.core.client.rev ≡ rev_of setting w who
+  pub client_rev : (c : ℕ) (seat : Seat) → who ≡ actor.Client c → slice_get actors.seats c ≡ Some seat → Some seat.core.client.rev ≡ rev_of setting w who
   client_rev c seat is at =
       let own = at_range (seat_of setting w) 9 c seat (ap (λ seats. slice_get seats c) (sym h.seats) ∙ at) in
       ap (λ (s : Seat). Some s.core.client.rev) own.value
       ∙ ap (λ b. if b then Some (w.clients c).rev else None) (sym (below c 9 own.within))
       ∙ ap (λ a. rev_of setting w a) (sym is)
 
-  pub client_no_rev : (c : ℕ) → who ≡ actor.Client c → slice_get kept.seats c ≡ None → None ≡ rev_of setting w who
+  pub client_no_rev : (c : ℕ) → who ≡ actor.Client c → slice_get actors.seats c ≡ None → None ≡ rev_of setting w who
   client_no_rev c is none = elim (cases_lt c 9) [
     | inl less ↦ never _ _ (ap (λ seats. slice_get seats c) (sym h.seats) ∙ none) (get_range (seat_of setting w) 9 c less)
     | inr le ↦ ap (λ b. if b then Some (w.clients c).rev else None) (sym (above c 9 le)) ∙ ap (λ a. rev_of setting w a) (sym is)

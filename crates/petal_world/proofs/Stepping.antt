@@ -1,4 +1,4 @@
--- What is kept behind a step is that of the world behind it.
+-- What is kept after a step is that of the world after it.
 use Rattle.std.proofs.Common.{◌≡◌, ◌≢◌, ℕ, ◌≤◌, ◌<◌, List, [], ◌∷◌, ◌++◌, inl, inr, Option, Some, None, refl, sym, ap, ◌∙◌, subst, arith}
 use Rattle.std.proofs.lemmas.Bool.{cases_eq}
 use Rattle.std.specs.Prelude.{slice_set}
@@ -21,11 +21,11 @@ use Rattle.petal_rules.specs.declared.step.WorkEnd.TheVariants as work_end
 use Rattle.petal_rules.proofs.ListLemmas.{in-append, put_same, put_apart}
 use Rattle.world_desks.specs.declared.name.LetterName.{LetterName}
 use Rattle.petal_world.specs.declared.seat.Seat.{Seat}
-use Rattle.world_desks.specs.Desks.{Desk, desk_of, acted_at}
+use Rattle.world_desks.specs.Desks.{Desk, desk_of, acted_at, site_after}
 use Rattle.petal_world.specs.Seats.{seat_of, reacted_at}
 use Rattle.world_desks.specs.Sent.{Lists, with_letters}
 use Rattle.world_desks.specs.Waiting.{Await}
-use Rattle.petal_world.specs.Stage.{Kept, Shows, without_answered, client_letters, with_client, server_letters, with_server}
+use Rattle.petal_world.specs.Actors.{Actors, Shows, without_answered, client_letters, with_client, server_letters, with_server}
 use Rattle.petal_world.specs.Play.{IsSteady}
 use Rattle.world_desks.proofs.Ranges.{set_range, same_range}
 use Rattle.world_desks.proofs.Letters.{IsPast, lists_all, step_letters_new, of_step}
@@ -74,7 +74,7 @@ posted_past w later who stamp letters posted sent clock grows past letter m =
 
 -- ### A client's step
 
-module _ (setting : Setting) (steady : IsSteady setting) (w : World) (kept : Kept) (h : Shows setting w kept) (c : ℕ) (what : Step) (stamp : ℕ) where
+module _ (setting : Setting) (steady : IsSteady setting) (w : World) (actors : Actors) (h : Shows setting w actors) (c : ℕ) (what : Step) (stamp : ℕ) where
   abbrev seat : Seat
   seat = seat_of setting w c
 
@@ -106,8 +106,8 @@ module _ (setting : Setting) (steady : IsSteady setting) (w : World) (kept : Kep
   abbrev reacts_so : Reacted
   reacts_so = client_step what (setting.states (w.clients c).rev) c (w.clients c) (next_line setting.lines c (w.clients c))
 
-  -- the client's own seat is that of the world behind
-  own_seat : record seat { core = (reacted_at seat what).core; clock = stamp } ≡ seat_of setting by_client.world c
+  -- the client's own seat is that of the world after
+  own_seat : record seat { core = (reacted_at seat what).0; clock = stamp } ≡ seat_of setting by_client.world c
   unfolding step
   own_seat =
       let client : reacts_so.client ≡ put_at w.clients c reacts_so.client c = sym (put_same w.clients c reacts_so.client) in
@@ -126,23 +126,23 @@ module _ (setting : Setting) (steady : IsSteady setting) (w : World) (kept : Kep
   unfolding step
   same_desk n = refl
 
-  client_waits : Await setting.lines by_client.world.answers (without_answered kept.waiting (reacted_at seat what).reaction.answer)
+  client_waits : Await setting.lines by_client.world.answers (without_answered actors.waiting (reacted_at seat what).1.answer)
   unfolding step
-  client_waits = answer_kept setting.lines w.answers kept.waiting (reacted_at seat what).reaction.answer h.waiting
+  client_waits = answer_kept setting.lines w.answers actors.waiting (reacted_at seat what).1.answer h.waiting
 
-  -- what is kept behind a client's step is that of the world behind it
-  pub client_shows : c < 9 → clock_of w (actor.Client c) < stamp → Shows setting by_client.world (with_client kept c seat what stamp)
+  -- what is kept after a client's step is that of the world after it
+  pub client_shows : c < 9 → clock_of w (actor.Client c) < stamp → Shows setting by_client.world (with_client actors c seat what stamp)
   client_shows within less = record {
-    seats = ap (λ seats. slice_set seats c (record seat { core = (reacted_at seat what).core; clock = stamp })) h.seats
+    seats = ap (λ seats. slice_set seats c (record seat { core = (reacted_at seat what).0; clock = stamp })) h.seats
         ∙ set_range (seat_of setting w) (seat_of setting by_client.world) 9 c _ within own_seat other_seat;
     desks = h.desks ∙ same_range (desk_of setting w) (desk_of setting by_client.world) setting.servers same_desk;
-    sent = subst (λ (ls : List Letter). Lists (with_letters kept.sent (client_letters seat what stamp)) ls) (sym client_sent)
-        (posted_kept w (actor.Client c) stamp kept.sent (client_letters seat what stamp) client_posts h.past less h.sent);
+    sent = subst (λ (ls : List Letter). Lists (with_letters actors.sent (client_letters seat what stamp)) ls) (sym client_sent)
+        (posted_kept w (actor.Client c) stamp actors.sent (client_letters seat what stamp) client_posts h.past less h.sent);
     waiting = client_waits;
     past = posted_past w by_client.world (actor.Client c) stamp (client_letters seat what stamp) client_posts client_sent client_clock (client_grows less) h.past;
   }
 
-  pub client_gives : (by_client.letters ≡ client_letters seat what stamp) × (by_client.answer ≡ (reacted_at seat what).reaction.answer)
+  pub client_gives : (by_client.letters ≡ client_letters seat what stamp) × (by_client.answer ≡ (reacted_at seat what).1.answer)
   unfolding step
   client_gives = (refl, refl)
 
@@ -158,7 +158,7 @@ server_posts (Deliver letter) state n stamp server = record { sender = sender (h
 server_posts Tick state n stamp server = record { sender = sender (here_of state n server); posts = _; from = refl; are = refl }
 server_posts (Work work_end.Done) state n stamp server = work_posts server.queue state n stamp server
 
-module _ (setting : Setting) (steady : IsSteady setting) (w : World) (kept : Kept) (h : Shows setting w kept) (n : ℕ) (what : Step) (stamp : ℕ) where
+module _ (setting : Setting) (steady : IsSteady setting) (w : World) (actors : Actors) (h : Shows setting w actors) (n : ℕ) (what : Step) (stamp : ℕ) where
   abbrev desk : Desk
   desk = desk_of setting w n
 
@@ -187,7 +187,7 @@ module _ (setting : Setting) (steady : IsSteady setting) (w : World) (kept : Kep
   abbrev acts_so : Acted
   acts_so = server_step what (setting.states (w.servers n).life.rev) n (w.servers n)
 
-  own_desk : record { site = (acted_at desk.site what).site; clock = stamp } ≡ desk_of setting by_server.world n
+  own_desk : record { site = site_after desk.site what; clock = stamp } ≡ desk_of setting by_server.world n
   unfolding step
   own_desk =
       let server : acts_so.server ≡ put_at w.servers n acts_so.server n = sym (put_same w.servers n acts_so.server) in
@@ -206,21 +206,21 @@ module _ (setting : Setting) (steady : IsSteady setting) (w : World) (kept : Kep
   unfolding step
   same_seat c = refl
 
-  server_waits : Await setting.lines by_server.world.answers kept.waiting
+  server_waits : Await setting.lines by_server.world.answers actors.waiting
   unfolding step
   server_waits = h.waiting
 
   abbrev posts : ArePosted (actor.Server n) stamp (server_letters desk what stamp)
   posts = server_posts what (setting.states (w.servers n).life.rev) n stamp (w.servers n)
 
-  -- what is kept behind a server's step is that of the world behind it
-  pub server_shows : n < setting.servers → clock_of w (actor.Server n) < stamp → Shows setting by_server.world (with_server kept n desk what stamp)
+  -- what is kept after a server's step is that of the world after it
+  pub server_shows : n < setting.servers → clock_of w (actor.Server n) < stamp → Shows setting by_server.world (with_server actors n desk what stamp)
   server_shows within less = record {
     seats = h.seats ∙ same_range (seat_of setting w) (seat_of setting by_server.world) 9 same_seat;
-    desks = ap (λ desks. slice_set desks n (record { site = (acted_at desk.site what).site; clock = stamp })) h.desks
+    desks = ap (λ desks. slice_set desks n (record { site = site_after desk.site what; clock = stamp })) h.desks
         ∙ set_range (desk_of setting w) (desk_of setting by_server.world) setting.servers n _ within own_desk other_desk;
-    sent = subst (λ (ls : List Letter). Lists (with_letters kept.sent (server_letters desk what stamp)) ls) (sym server_sent)
-        (posted_kept w (actor.Server n) stamp kept.sent (server_letters desk what stamp) posts h.past less h.sent);
+    sent = subst (λ (ls : List Letter). Lists (with_letters actors.sent (server_letters desk what stamp)) ls) (sym server_sent)
+        (posted_kept w (actor.Server n) stamp actors.sent (server_letters desk what stamp) posts h.past less h.sent);
     waiting = server_waits;
     past = posted_past w by_server.world (actor.Server n) stamp (server_letters desk what stamp) posts server_sent server_clock (server_grows less) h.past;
   }

@@ -1,5 +1,5 @@
 pub use Rattle.world_desks.specs.Desks
 pub use Rattle.world_desks.specs.Playable
 pub mod Seats
-pub mod Stage
+pub mod Actors
 pub mod Play

@@ -15,7 +15,7 @@ use Rattle.client_core.specs.Core.{is_spent}
 use Rattle.petal_world.specs.declared.stepped.Stepped.{Stepped}
 use Rattle.world_desks.specs.Playable.{AreOrdered}
 use Rattle.petal_world.specs.Seats.{CanTake}
-use Rattle.petal_world.specs.Stage.{Kept, Shows}
+use Rattle.petal_world.specs.Actors.{Actors, Shows}
 
 -- its script, the records of all steps, the phase, the least stamp of a client's next step, and whether memory was wanting,
 -- so that no step follows
@@ -88,22 +88,22 @@ rev_of setting w (actor.Server n) = if nat_lt n setting.servers && (w.servers n)
 rev_of setting w (actor.Client c) = if nat_lt c 9 then Some (w.clients c).rev else None
 
 -- the step may be taken by what is kept
-abbrev pub Can : Kept → Actor → Step → Type 0
-Can kept (actor.Server n) what = n < length kept.desks
-Can kept (actor.Client c) what =
-    (c < length kept.seats) × IfSome (slice_get kept.seats c) (λ seat. CanTake what seat.core.client)
-    × IfSome (slice_get kept.seats c) (λ seat. is_spent seat.core.client ≡ false)
+abbrev pub Can : Actors → Actor → Step → Type 0
+Can actors (actor.Server n) what = n < length actors.desks
+Can actors (actor.Client c) what =
+    (c < length actors.seats) × IfSome (slice_get actors.seats c) (λ seat. CanTake what seat.core.client)
+    × IfSome (slice_get actors.seats c) (λ seat. is_spent seat.core.client ≡ false)
 
 -- the records are a legal history, and until memory was wanting what is kept is that of the world behind them
-pub record IsKept (play : Play) (kept : Kept) : Type 0 where
+pub record IsKept (play : Play) (actors : Actors) : Type 0 where
   pub ordered : AreOrdered play.script.lines
   pub legal : IsLegal play.script play.records
-  pub shows : play.over ≡ false → Shows (setting_of play.script) (world_of play) kept
+  pub shows : play.over ≡ false → Shows (setting_of play.script) (world_of play) actors
 
 -- in every world of which this is kept, a step leaves and tells what the rule says
-abbrev pub Leaves : Setting → World → Actor → Step → ℕ → Kept → Stepped → Type 0
+abbrev pub Leaves : Setting → World → Actor → Step → ℕ → Actors → Stepped → Type 0
 Leaves setting w who what stamp new told =
     Shows setting (step who what setting w stamp).world new × (told ≡ record { letters = (step who what setting w stamp).letters; answer = (step who what setting w stamp).answer })
 
-abbrev pub LeavesIn : Kept → Actor → Step → ℕ → Kept → Stepped → Type 0
-LeavesIn kept who what stamp new told = (setting : Setting) (w : World) → IsSteady setting → Shows setting w kept → MayStep setting w who what → clock_of w who < stamp → Leaves setting w who what stamp new told
+abbrev pub LeavesIn : Actors → Actor → Step → ℕ → Actors → Stepped → Type 0
+LeavesIn actors who what stamp new told = (setting : Setting) (w : World) → IsSteady setting → Shows setting w actors → MayStep setting w who what → clock_of w who < stamp → Leaves setting w who what stamp new told

@@ -5,7 +5,8 @@ use Rattle.petal_rules.specs.Clients.{Client}
 use Rattle.petal_rules.specs.World.{Setting, World, client_step, lines_of}
 use Rattle.petal_rules.specs.declared.step.Step.{Step}
 use Rattle.petal_rules.specs.declared.step.Step.TheVariants.{Call, Deliver, Tick, Work}
-use Rattle.client_core.specs.Core.{Given, given}
+use Rattle.client_core.specs.Core.{Core, at_core}
+use Rattle.client_core.specs.declared.reaction.Reaction.{Reaction}
 use Rattle.petal_world.specs.declared.seat.Seat.{Seat}
 
 -- the client can take the step: it calls a line only where it has nothing open
@@ -15,9 +16,9 @@ CanTake (Deliver letter) client = Unit {0}
 CanTake Tick client = Unit {0}
 CanTake (Work end) client = Unit {0}
 
--- the rule of a step, at this client
-abbrev pub reacted_at : Seat → Step → Given
-reacted_at seat step = given seat.core (client_step step seat.core.state seat.core.me seat.core.client (slice_get seat.lines seat.core.client.seq))
+-- the rule of a step, at this client: the core after it, and what it gives
+abbrev pub reacted_at : Seat → Step → Core × Reaction
+reacted_at seat step = at_core seat.core (client_step step seat.core.state seat.core.me seat.core.client (slice_get seat.lines seat.core.client.seq))
 
 -- what a world keeps of one client
 abbrev pub seat_of : Setting → World → ℕ → Seat

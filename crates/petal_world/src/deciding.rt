@@ -8,15 +8,15 @@ ghost use Rattle.world_desks.specs.Playable.{AreOrdered};
 ghost use Rattle.petal_world.specs.Seats.{seat_of};
 ghost use Rattle.world_desks.specs.Desks.{desk_of};
 ghost use Rattle.world_desks.specs.Sent.{name_of, name_cmp};
-ghost use Rattle.petal_world.specs.Stage.{Shows};
+ghost use Rattle.petal_world.specs.Actors.{Shows};
 
+use crate::actors::Actors;
 use crate::seat::Seat;
-use crate::stage::Stage;
 use petal_base::{ClientId, ServerId, Stamp};
 use petal_msg::{Actor, Letter};
 use petal_rules::{Step, WorkEnd};
 use world_desks::Host;
-use world_desks::desks::Place;
+use world_desks::desks::Desk;
 
 /// The greatest stamp: no step comes after it.
 const LAST: Stamp = Stamp::MAX;
@@ -41,7 +41,7 @@ fn is_same_actor(one: Actor, other: Actor) -> bool
     }
 }
 
-impl<H: Host> Stage<H> {
+impl<H: Host> Actors<H> {
     /// Whether the letter was sent, and to this actor.
     fn may_deliver(&self, to: Actor, letter: &Letter) -> bool
         ensures { IsTrue result ↔ ((letter.now.to ≡ to) × (at name_cmp self.now.sent (name_of letter.now) ≡ Some letter.now)) }
@@ -78,15 +78,15 @@ impl<H: Host> Stage<H> {
         }
     }
 
-    fn may_serve(&self, place: &Place<H>, server: ServerId, step: &Step) -> bool
-        ensures { (setting : Setting) (w : World) → Shows setting w self.now → place.now ≡ desk_of setting w server
+    fn may_serve(&self, desk: &Desk<H>, server: ServerId, step: &Step) -> bool
+        ensures { (setting : Setting) (w : World) → Shows setting w self.now → desk.now ≡ desk_of setting w server
             → IsTrue result ↔ MayServer step.now w server }
     {
         match step {
             Step::Call { line: _ } => false,
             Step::Deliver { letter } => self.may_deliver(Actor::Server(server), letter.get()),
-            Step::Tick => place.host.is_running(),
-            Step::Work(WorkEnd::Done) => place.host.is_running() && !place.host.is_idle(),
+            Step::Tick => desk.host.is_running(),
+            Step::Work(WorkEnd::Done) => desk.host.is_running() && !desk.host.is_idle(),
         }
     }
 
@@ -111,19 +111,19 @@ impl<H: Host> Stage<H> {
     fn may_server(&self, server: ServerId, step: &Step) -> bool
         ensures { (setting : Setting) (w : World) → Shows setting w self.now → IsTrue result ↔ MayStep setting w (actor.Server server) step.now }
     {
-        let Some(place) = self.desks.get(server) else {
+        let Some(desk) = self.desks.get(server) else {
             return false;
         };
-        if place.clock >= LAST {
+        if desk.clock >= LAST {
             return false;
         }
         if received(step) >= LAST {
             return false;
         }
-        if place.host.is_spent() {
+        if desk.host.is_spent() {
             return false;
         }
-        self.may_serve(place, server, step)
+        self.may_serve(desk, server, step)
     }
 
     /// Whether the step is one of the world's.

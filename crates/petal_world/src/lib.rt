@@ -5,12 +5,12 @@
 //! server keeps its blocks.
 #![tactic(auto)]
 
+mod actors;
 mod deciding;
 mod error;
 mod script;
 mod seat;
 mod seats;
-mod stage;
 mod stepped;
 mod taking;
 mod world;

@@ -17,16 +17,7 @@ fn disk_of(line: &Line) -> Option<(&Name, &Tuple)>
 {
     match &line.request {
         Request::Disk { name, tuple } => Some((name, tuple)),
-        Request::Write { .. }
-        | Request::Read { .. }
-        | Request::Snap { .. }
-        | Request::Move { .. }
-        | Request::Stop { .. }
-        | Request::StopAt { .. }
-        | Request::Fault { .. }
-        | Request::Start { .. }
-        | Request::Blank { .. }
-        | Request::Settle => None,
+        _ => None,
     }
 }
 

@@ -1,7 +1,7 @@
 //! One client of a world.
 
 ghost use Rattle.std.specs.Prelude.{◌≡◌, ◌∷◌, [], None, false, slice_get, option_copied, IfOk, OnErr};
-ghost use Rattle.client_core.specs.Core.{given, is_spent};
+ghost use Rattle.client_core.specs.Core.{at_core, is_spent};
 ghost use Rattle.petal_rules.specs.World.{calls};
 ghost use Rattle.petal_world.specs.Seats.{CanTake, reacted_at};
 
@@ -32,8 +32,8 @@ impl Seat {
     fn call(&mut self, alloc: Global) -> Result<Reaction, NoMemory>
         requires free { self.old.core.client.asked ≡ None }
         requires goes_on { is_spent self.old.core.client ≡ false }
-        ensures ok { IfOk result (λ reaction. record { core = self.new.core; reaction = reaction }
-            ≡ given self.old.core (calls self.old.core.state self.old.core.me self.old.core.client (slice_get self.old.lines self.old.core.client.seq))) }
+        ensures ok { IfOk result (λ reaction. (self.new.core, reaction)
+            ≡ at_core self.old.core (calls self.old.core.state self.old.core.me self.old.core.client (slice_get self.old.lines self.old.core.client.seq))) }
         ensures rest { self.new ≡ record self.old { core = self.new.core } }
         ensures err { OnErr result (self.new ≡ self.old) }
     {
@@ -48,7 +48,7 @@ impl Seat {
     pub fn step(&mut self, alloc: Global, step: &Step) -> Result<Reaction, NoMemory>
         requires can { CanTake step.now self.old.core.client }
         requires goes_on { is_spent self.old.core.client ≡ false }
-        ensures ok { IfOk result (λ reaction. record { core = self.new.core; reaction = reaction }
+        ensures ok { IfOk result (λ reaction. (self.new.core, reaction)
             ≡ reacted_at self.old step.now) }
         ensures rest { self.new ≡ record self.old { core = self.new.core } }
         ensures err { OnErr result (self.new ≡ self.old) }

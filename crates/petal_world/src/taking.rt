@@ -4,10 +4,10 @@ ghost use Rattle.std.specs.Prelude.{◌≡◌, ◌<◌, ◌+◌, ℕ, Some, None
 ghost use Rattle.petal_rules.specs.World.{Setting, World, MayStep, clock_of, next_line, next_stamp, greatest_u64};
 ghost use Rattle.petal_rules.specs.declared.step.Step.{Step};
 ghost use Rattle.petal_world.specs.Play.{Can, LeavesIn, phase_for, phase_of, rev_of, stamp_of};
-ghost use Rattle.petal_world.specs.Stage.{Shows};
+ghost use Rattle.petal_world.specs.Actors.{Shows};
 
+use crate::actors::Actors;
 use crate::deciding::received;
-use crate::stage::Stage;
 use crate::stepped::Stepped;
 use petal_base::{ClientId, NoMemory, Rev, Stamp};
 use petal_msg::Actor;
@@ -29,7 +29,7 @@ fn rev_if(running: bool, rev: Rev) -> Option<Rev>
     if running { Some(rev) } else { None }
 }
 
-impl<H: Host> Stage<H> {
+impl<H: Host> Actors<H> {
     /// The stamp of an actor's last step.
     fn clock_of(&self, actor: Actor) -> Stamp
         ensures { (setting : Setting) (w : World) (what : Step) → Shows setting w self.now → MayStep setting w actor what → result ≡ clock_of w actor }
@@ -37,7 +37,7 @@ impl<H: Host> Stage<H> {
         match actor {
             Actor::Server(server) => match self.desks.get(server) {
                 None => 0,
-                Some(place) => place.clock,
+                Some(desk) => desk.clock,
             },
             Actor::Client(client) => match self.seats.get(client) {
                 None => 0,
@@ -53,7 +53,7 @@ impl<H: Host> Stage<H> {
         match actor {
             Actor::Server(server) => match self.desks.get(server) {
                 None => None,
-                Some(place) => rev_if(place.host.is_running(), place.host.rev()),
+                Some(desk) => rev_if(desk.host.is_running(), desk.host.rev()),
             },
             Actor::Client(client) => match self.seats.get(client) {
                 None => None,

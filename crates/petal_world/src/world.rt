@@ -8,8 +8,8 @@ ghost use Rattle.world_desks.specs.Desks.{first_sites};
 ghost use Rattle.world_desks.specs.Playable.{AreNumbered, AreOrdered};
 ghost use Rattle.petal_world.specs.declared.error.WorldError.TheVariants as error;
 
+use crate::actors::Actors;
 use crate::seats::Seats;
-use crate::stage::Stage;
 use crate::{Stepped, WorldError};
 use global_state::GlobalState;
 use petal_base::{NoMemory, Rev, Sequence, Stamp};
@@ -34,7 +34,7 @@ pub struct World<H: Host> {
     phase: u32,
     floor: Stamp,
     over: bool,
-    stage: Stage<H>,
+    actors: Actors<H>,
 }
 
 impl<H: Host> Model for World<H> {
@@ -44,7 +44,7 @@ impl<H: Host> Model for World<H> {
 
     ghost view = { λ w. record { script = w.script; records = w.records; phase = w.phase; floor = w.floor; over = w.over } };
 
-    ghost invariant = { λ w. IsKept (record { script = w.script; records = w.records; phase = w.phase; floor = w.floor; over = w.over }) w.stage };
+    ghost invariant = { λ w. IsKept (record { script = w.script; records = w.records; phase = w.phase; floor = w.floor; over = w.over }) w.actors };
 }
 
 fn shared(letters: &[SharedLetter], alloc: Global) -> Result<Sequence<SharedLetter>, NoMemory>
@@ -90,18 +90,18 @@ fn record(
 /// Takes a step that can be taken, and keeps its record.
 fn take<H: Host>(
     alloc: Global,
-    stage: &mut Stage<H>,
+    actors: &mut Actors<H>,
     records: &mut Sequence<Record>,
     actor: Actor,
     stamp: Stamp,
     phase: u32,
     step: &Step,
 ) -> Result<Stepped, NoMemory>
-    requires { Can stage.old actor step.now }
-    ensures ok { IfOk result (λ stepped. (records.new ≡ records.old ++ record { actor = actor; stamp = stamp; phase = phase; step = step.now; sent = stepped.letters; answer = stepped.answer } ∷ []) × LeavesIn stage.old actor step.now stamp stage.new stepped) }
+    requires { Can actors.old actor step.now }
+    ensures ok { IfOk result (λ stepped. (records.new ≡ records.old ++ record { actor = actor; stamp = stamp; phase = phase; step = step.now; sent = stepped.letters; answer = stepped.answer } ∷ []) × LeavesIn actors.old actor step.now stamp actors.new stepped) }
     ensures err { OnErr result (records.new ≡ records.old) }
 {
-    let stepped = stage.act(alloc, actor, step, stamp)?;
+    let stepped = actors.act(alloc, actor, step, stamp)?;
     let record = record(alloc, actor, stamp, phase, step, &stepped)?;
     records.push(record)?;
     Ok(stepped)
@@ -129,7 +129,7 @@ impl<H: Host> World<H> {
         requires hosts { map H.seen hosts ≡ first_sites script }
         ensures { IfOk result (λ world. world ≡ record { script = script; records = []; phase = 0; floor = 0; over = false }) }
     {
-        let stage = Stage {
+        let actors = Actors {
             seats: Seats::start(alloc, &script, state)?,
             desks: Desks::start(alloc, hosts)?,
             sent: Sent::new(alloc),
@@ -141,7 +141,7 @@ impl<H: Host> World<H> {
             phase: 0,
             floor: 0,
             over: false,
-            stage,
+            actors,
         })
     }
 
@@ -153,7 +153,7 @@ impl<H: Host> World<H> {
         if self.over {
             return Err(NoMemory);
         }
-        self.floor = after(self.stage.seats.greatest_clock());
+        self.floor = after(self.actors.seats.greatest_clock());
         self.phase = phase;
         Ok(())
     }
@@ -163,7 +163,7 @@ impl<H: Host> World<H> {
     pub fn rev(&self, actor: Actor) -> Option<Rev>
         ensures { self.now.over ≡ false → result ≡ rev_of (setting_of self.now.script) (world_of self.now) actor }
     {
-        self.stage.rev(actor)
+        self.actors.rev(actor)
     }
 
     /// Takes a step, and tells the letters that it sent and the answer that it gave. `NotAllowed` comes exactly where the
@@ -179,14 +179,14 @@ impl<H: Host> World<H> {
         if self.over {
             return Err(WorldError::NoMemory);
         }
-        if !self.stage.may(actor, step) {
+        if !self.actors.may(actor, step) {
             return Err(WorldError::NotAllowed);
         }
-        let stamp = self.stage.stamp_of(self.floor, actor, step);
-        let phase = self.stage.phase_for(self.phase, actor, step);
+        let stamp = self.actors.stamp_of(self.floor, actor, step);
+        let phase = self.actors.phase_for(self.phase, actor, step);
         match take(
             alloc,
-            &mut self.stage,
+            &mut self.actors,
             &mut self.records,
             actor,
             stamp,

@@ -19,10 +19,9 @@ use Rattle.petal_history.specs.Text.{answers_of}
 use Rattle.petal_history.specs.declared.record.Record.{Record}
 use Rattle.petal_rules.proofs.Tests.{by_bool, same_numbers}
 use Rattle.world_desks.specs.Playable.{AreOrdered}
-use Rattle.law_answers.specs.Order.{AreRising, AnsweredComeFirst, is_answered}
-use Rattle.plain_schedule.specs.Phases.{Progress, GoesByPhases, AnswersPhases, Ends, IsFront, records_of}
+use Rattle.petal_history.specs.Order.{AreRising, AnsweredComeFirst, IsFront, all_answered, is_answered}
+use Rattle.plain_schedule.specs.Phases.{Progress, GoesByPhases, AnswersPhases, Ends, records_of}
 use Rattle.plain_schedule.specs.Places.{numbers, phase_run, progress_of, KeepsPlaces, GoesOn}
-use Rattle.plain_schedule.specs.Whole.{all_answered}
 use Rattle.plain_schedule.proofs.Fronts.{still, goes_front}
 
 -- ### Keys and numbers

@@ -8,7 +8,7 @@ use Rattle.petal_rules.specs.Lists.{In}
 use Rattle.petal_history.specs.Legal.{IsLegal}
 use Rattle.petal_history.specs.Text.{answers_of}
 use Rattle.petal_history.specs.declared.record.Record.{Record}
-use Rattle.law_answers.specs.Order.{AnsweredComeFirst, is_answered}
+use Rattle.petal_history.specs.Order.{AnsweredComeFirst, is_answered}
 
 -- the records answer each line of the first so many phases, and no line of a later one
 abbrev pub AnswersPhases : ℕ → List Line → List Record → Type 0
@@ -31,11 +31,6 @@ pub record GoesByPhases (p : Progress) : Type 0 where
   pub legal : IsLegal p.script (records_of p)
   pub exactly : AnswersPhases p.phases p.script.lines p.ended
   pub first : AnsweredComeFirst p.script.lines p.ended
-
--- these records stand at the front
-pub record IsFront (front whole : List Record) : Type 0 where
-  pub behind : List Record
-  pub is : whole ≡ front ++ behind
 
 -- a phase more has ended, which gave these answers
 pub record Ends (old new : Progress) (answers : Table ℕ Answer) : Type 0 where

@@ -8,8 +8,8 @@ use Rattle.petal_history.specs.Text.{answers_of}
 use Rattle.petal_history.specs.declared.record.Record.{Record}
 use Rattle.petal_rules.specs.Lists.{In}
 use Rattle.world_desks.specs.Playable.{AreOrdered}
-use Rattle.law_answers.specs.Order.{AreRising}
-use Rattle.plain_schedule.specs.Phases.{Progress, IsFront}
+use Rattle.petal_history.specs.Order.{AreRising, IsFront}
+use Rattle.plain_schedule.specs.Phases.{Progress}
 
 abbrev pub numbers : List Line → List ℕ
 numbers lines = map (λ line. line.number) lines

@@ -6,12 +6,12 @@
 #![tactic(auto)]
 
 mod answers;
+mod caller;
 mod cast;
 mod patience;
 mod playing;
 mod post;
 mod schedule;
-mod seat;
 
 pub use answers::Answers;
 pub use playing::Playing;

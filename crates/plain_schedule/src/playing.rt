@@ -2,14 +2,14 @@
 
 ghost use Rattle.std.specs.Prelude.{◌≡◌, ◌+◌, ◌≤◌, ◌<◌, [], true, false, length, take, drop, IfOk, OnErr, IfSome, IfNone};
 ghost use Rattle.std.specs.Map.{keys_of};
-ghost use Rattle.law_answers.specs.Order.{AreRising};
 ghost use Rattle.petal_history.specs.Legal.{IsLegal};
+ghost use Rattle.petal_history.specs.Order.{AreRising, IsFront, all_answered};
 ghost use Rattle.petal_history.specs.Sound.{IsSound};
 ghost use Rattle.petal_history.specs.Text.{answers_of};
 ghost use Rattle.world_desks.specs.Playable.{AreOrdered};
-ghost use Rattle.plain_schedule.specs.Phases.{Ends, GoesByPhases, IsFront, records_of};
+ghost use Rattle.plain_schedule.specs.Phases.{Ends, GoesByPhases, records_of};
 ghost use Rattle.plain_schedule.specs.Places.{GoesOn, numbers, phase_run, progress_of, KeepsPlaces};
-ghost use Rattle.plain_schedule.specs.Whole.{all_answered, begins_with_disk};
+ghost use Rattle.plain_schedule.specs.Whole.{begins_with_disk};
 
 use crate::answers::Answers;
 use crate::schedule::Schedule;

@@ -6,10 +6,10 @@ ghost use Rattle.world_desks.specs.Playable.{AreOrdered};
 ghost use Rattle.plain_schedule.specs.Places.{GoesOn};
 ghost use Rattle.plain_schedule.specs.Whole.{begins_with_disk};
 
-use crate::cast::fixed_state;
+use crate::caller::{Caller, callers_of};
+use crate::cast::first_state;
 use crate::patience::Patience;
 use crate::post::{Handing, Post};
-use crate::seat::{ClientSeat, seats_of};
 use memory_server::{MemServer, members};
 use petal_base::{ClientId, NoMemory, ServerId};
 use petal_msg::{Actor, Body, Letter, SharedLetter};
@@ -29,12 +29,20 @@ pub(crate) struct Schedule {
     pub(crate) world: World<MemServer>,
     servers: u8,
     post: Post,
-    clients: Vec<ClientSeat>,
+    callers: Vec<Caller>,
     patience: Vec<Patience>,
     phase: u32,
     left: usize,
     // Whether a letter was lost in the round before.
     after_loss: bool,
+}
+
+/// Whether a client that hears this sends its request again.
+fn is_refusal(body: &Body) -> bool {
+    match body {
+        Body::BlockBusy { .. } | Body::Held { .. } | Body::WrongRev { .. } => true,
+        _ => false,
+    }
 }
 
 /// The world of a run that begins.
@@ -45,7 +53,7 @@ fn world_of(alloc: Global, script: Script) -> Result<World<MemServer>, NoMemory>
     ensures script { IfOk result (λ world. world.script ≡ script) }
     ensures records { IfOk result (λ world. world.records ≡ []) }
 {
-    let state = fixed_state(alloc, &script)?;
+    let state = first_state(alloc, &script)?;
     let members = members(alloc, &script, &state)?;
     World::start(alloc, script, &state, members)
 }
@@ -66,12 +74,12 @@ impl Schedule {
             patience.push(Patience::new())?;
         }
         let post = Post::new(alloc, places, script.lose, script.twice)?;
-        let clients = seats_of(alloc, CLIENTS, &script)?;
+        let callers = callers_of(alloc, CLIENTS, &script)?;
         Ok(Schedule {
             world: world_of(alloc, script)?,
             servers,
             post,
-            clients,
+            callers,
             patience,
             phase: 0,
             left: 0,
@@ -92,11 +100,9 @@ impl Schedule {
     }
 
     fn place_for(&self, letter: &Letter) -> usize {
-        match (letter.to, &letter.body) {
-            (Actor::Client(client), Body::BlockBusy { .. })
-            | (Actor::Client(client), Body::Held { .. })
-            | (Actor::Client(client), Body::WrongRev { .. }) => self.second_place(client),
-            (actor, _) => self.place_of(actor),
+        match letter.to {
+            Actor::Client(client) if is_refusal(&letter.body) => self.second_place(client),
+            actor => self.place_of(actor),
         }
     }
 
@@ -116,8 +122,8 @@ impl Schedule {
     {
         self.left = self.left.saturating_sub(1);
         if let Actor::Client(client) = actor {
-            if let Some(seat) = self.clients.get_mut(client as usize) {
-                seat.answered();
+            if let Some(caller) = self.callers.get_mut(client as usize) {
+                caller.answered();
             }
         }
     }
@@ -200,14 +206,14 @@ impl Schedule {
     }
 
     fn next_call(&self, client: ClientId) -> Option<u32> {
-        self.clients.get(client as usize)?.next(self.phase)
+        self.callers.get(client as usize)?.next(self.phase)
     }
 
     fn note_call(&mut self, client: ClientId)
         ensures { self.new.world ≡ self.old.world }
     {
-        if let Some(seat) = self.clients.get_mut(client as usize) {
-            seat.called();
+        if let Some(caller) = self.callers.get_mut(client as usize) {
+            caller.called();
         }
     }
 
@@ -226,8 +232,8 @@ impl Schedule {
     fn client_ticks(&mut self, client: ClientId) -> u32
         ensures { self.new.world ≡ self.old.world }
     {
-        match self.clients.get_mut(client as usize) {
-            Some(seat) if seat.is_open => seat.patience.ticks(self.after_loss),
+        match self.callers.get_mut(client as usize) {
+            Some(caller) if caller.is_open => caller.patience.ticks(self.after_loss),
             _ => 0,
         }
     }

@@ -1,7 +1,6 @@
 -- The servers of a world.
 use Rattle.std.specs.Prelude.{ℕ, ◌==◌, ◌||◌, Bool, List, map}
 use Rattle.std.specs.List.{range_with_len}
-use Rattle.petal_msg.specs.declared.letter.Letter.{Letter}
 use Rattle.script_lines.specs.declared.script.Script.{Script}
 use Rattle.petal_rules.specs.State.{State}
 use Rattle.petal_rules.specs.Store.{top_of}
@@ -16,17 +15,13 @@ pub record Site : Type 0 where
   pub state : State
   pub server : Server
 
--- a server behind a step, and the letters that it sends, with no stamp yet
-pub record Gone : Type 0 where
-  pub site : Site
-  pub letters : List Letter
-
-abbrev pub gone : Site → Acted → Gone
-gone site acted = record { site = record site { server = acted.server }; letters = acted.letters }
-
 -- the rule of a step, at this server
-abbrev pub acted_at : Site → Step → Gone
-acted_at site step = gone site (server_step step site.state site.me site.server)
+abbrev pub acted_at : Site → Step → Acted
+acted_at site step = server_step step site.state site.me site.server
+
+-- the server after it
+abbrev pub site_after : Site → Step → Site
+site_after site step = record site { server = (acted_at site step).server }
 
 -- a number of the server is the greatest of its type
 abbrev pub is_spent : Server → Bool

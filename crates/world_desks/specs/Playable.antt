@@ -22,16 +22,7 @@ climb number phase (line ∷ lines) = nat_lt number line.number && nat_le phase 
 -- the name and the servers of the disk that is asked for
 abbrev pub disk_of : Request → Option (List ℕ × List ℕ)
 disk_of (request.Disk name tuple) = Some (name, tuple)
-disk_of (request.Write name block pattern) = None
-disk_of (request.Read name snap block) = None
-disk_of (request.Snap name snap) = None
-disk_of (request.Move name tuple) = None
-disk_of (request.Stop server) = None
-disk_of (request.StopAt server at) = None
-disk_of (request.Fault server which kind at) = None
-disk_of (request.Start server) = None
-disk_of (request.Blank server) = None
-disk_of request.Settle = None
+disk_of _ = None
 
 -- the first of two, where there is one
 abbrev pub either_disk : Option (List ℕ × List ℕ) → Option (List ℕ × List ℕ) → Option (List ℕ × List ℕ)

@@ -1,7 +1,7 @@
 //! The servers of a world.
 
-ghost use Rattle.std.specs.Prelude.{◌≡◌, ◌<◌, Some, length, map, slice_get, slice_set, option_copied, IfOk};
-ghost use Rattle.world_desks.specs.Desks.{Desk, acted_at, first_desk};
+ghost use Rattle.std.specs.Prelude.{◌≡◌, ◌<◌, Some, length, map, slice_get, slice_set, option_copied, IfOk, OnOk};
+ghost use Rattle.world_desks.specs.Desks.{Desk, acted_at, first_desk, site_after};
 
 use crate::Host;
 use petal_base::{NoMemory, Sequence, ServerId, Stamp};
@@ -12,23 +12,23 @@ use std::marker::Model;
 
 /// A server and the stamp of its last step.
 #[derive(Drop)]
-pub struct Place<H: Host> {
+pub struct Desk<H: Host> {
     pub host: H,
     pub clock: Stamp,
 }
 
-impl<H: Host> Model for Place<H> {
+impl<H: Host> Model for Desk<H> {
     ghost use Rattle.world_desks.specs.Desks.{Desk};
 
     ghost Value = { Desk };
 
-    ghost view = { λ p. record { site = H.seen p.host; clock = p.clock } };
+    ghost view = { λ d. record { site = H.seen d.host; clock = d.clock } };
 }
 
 /// All servers, by number.
 #[derive(Drop)]
 pub struct Desks<H: Host> {
-    places: Vec<Place<H>>,
+    desks: Vec<Desk<H>>,
 }
 
 impl<H: Host> Model for Desks<H> {
@@ -37,10 +37,10 @@ impl<H: Host> Model for Desks<H> {
 
     ghost Value = { List Desk };
 
-    ghost view = { λ d. d.places.items };
+    ghost view = { λ d. d.desks.items };
 }
 
-impl<H: Host> Place<H> {
+impl<H: Host> Desk<H> {
     /// A step of the server, with its stamp.
     fn step(
         &mut self,
@@ -48,7 +48,8 @@ impl<H: Host> Place<H> {
         step: &Step,
         stamp: Stamp,
     ) -> Result<Sequence<Letter>, NoMemory>
-        ensures { IfOk result (λ letters. (letters ≡ (acted_at self.old.site step.now).letters) × (self.new ≡ record { site = (acted_at self.old.site step.now).site; clock = stamp })) }
+        ensures desk { OnOk result (self.new ≡ record { site = site_after self.old.site step.now; clock = stamp }) }
+        ensures letters { IfOk result (λ letters. letters ≡ (acted_at self.old.site step.now).letters) }
     {
         let letters = self.host.step(alloc, step)?;
         self.clock = stamp;
@@ -61,18 +62,18 @@ impl<H: Host> Desks<H> {
     pub fn start(alloc: Global, hosts: Sequence<H>) -> Result<Desks<H>, NoMemory>
         ensures { IfOk result (λ desks. desks ≡ map (λ host. first_desk (H.seen host)) hosts) }
     {
-        let mut places = Vec::new(alloc);
+        let mut desks = Vec::new(alloc);
         for host in hosts.into_vec() {
-            places.push(Place { host, clock: 0 })?;
+            desks.push(Desk { host, clock: 0 })?;
         }
-        Ok(Desks { places })
+        Ok(Desks { desks })
     }
 
     /// The server of a number.
-    pub fn get(&self, server: ServerId) -> Option<&Place<H>>
+    pub fn get(&self, server: ServerId) -> Option<&Desk<H>>
         ensures { option_copied result ≡ slice_get self.now server }
     {
-        self.places.get(server as usize)
+        self.desks.get(server as usize)
     }
 
     /// A step of one server, with its stamp.
@@ -85,8 +86,9 @@ impl<H: Host> Desks<H> {
     ) -> Result<Sequence<Letter>, NoMemory>
         requires { server < length self.old }
         ensures { IfOk result (λ letters. (desk : Desk) → slice_get self.old server ≡ Some desk
-            → (letters ≡ (acted_at desk.site step.now).letters) × (self.new ≡ slice_set self.old server (record { site = (acted_at desk.site step.now).site; clock = stamp }))) }
+            → (letters ≡ (acted_at desk.site step.now).letters)
+            × (self.new ≡ slice_set self.old server (record { site = site_after desk.site step.now; clock = stamp }))) }
     {
-        self.places[server as usize].step(alloc, step, stamp)
+        self.desks[server as usize].step(alloc, step, stamp)
     }
 }

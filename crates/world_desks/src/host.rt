@@ -1,7 +1,7 @@
 //! One server of a world.
 
-ghost use Rattle.std.specs.Prelude.{◌≡◌, ◌↔◌, [], IfOk, IsTrue};
-ghost use Rattle.world_desks.specs.Desks.{Site, acted_at, is_spent};
+ghost use Rattle.std.specs.Prelude.{◌≡◌, ◌↔◌, [], IfOk, OnOk, IsTrue};
+ghost use Rattle.world_desks.specs.Desks.{Site, acted_at, is_spent, site_after};
 
 use petal_base::{NoMemory, Rev, Sequence};
 use petal_msg::Letter;
@@ -15,7 +15,8 @@ pub trait Host: Drop {
 
     /// Takes a step. The letters have no stamp yet. After it ran out of memory nothing is said of the server.
     fn step(&mut self, alloc: Global, step: &Step) -> Result<Sequence<Letter>, NoMemory>
-        ensures { IfOk result (λ letters. record { site = seen self.new; letters = letters } ≡ acted_at (seen self.old) step.now) };
+        ensures site { OnOk result (seen self.new ≡ site_after (seen self.old) step.now) }
+        ensures letters { IfOk result (λ letters. letters ≡ (acted_at (seen self.old) step.now).letters) };
 
     /// Whether it runs.
     fn is_running(&self) -> bool

@@ -1,9 +1,11 @@
 //! What a line was answered.
 
+use crate::act::Want;
+use crate::run::Run;
 use petal_base::SharedBlock;
 use script_lines::Answer;
 
-pub fn is_done(answer: Option<&Answer>) -> bool {
+fn is_done(answer: Option<&Answer>) -> bool {
     match answer {
         Some(Answer::Ok) => true,
         _ => false,
@@ -17,10 +19,39 @@ pub fn is_no_space(answer: Option<&Answer>) -> bool {
     }
 }
 
-/// Whether the answer is these bytes.
-pub fn shows(answer: Option<&Answer>, bytes: &SharedBlock) -> bool {
+/// The block that a read was answered with.
+fn shown(answer: Option<&Answer>) -> Option<&SharedBlock> {
     match answer {
-        Some(Answer::Data(found)) => *found == *bytes,
+        Some(Answer::Data(bytes)) => Some(bytes),
+        _ => None,
+    }
+}
+
+/// Whether the answer is a block of this byte.
+fn is_filled(answer: Option<&Answer>, fill: u8) -> bool {
+    match shown(answer) {
+        Some(bytes) => bytes.bytes().iter().all(|byte| *byte == fill),
+        None => false,
+    }
+}
+
+/// Whether both answers are one block.
+fn are_one(answer: Option<&Answer>, other: Option<&Answer>) -> bool {
+    match (shown(answer), shown(other)) {
+        (Some(bytes), Some(others)) => *bytes == *others,
         _ => false,
+    }
+}
+
+/// Whether the line has the answer that is wanted.
+pub fn is_so(run: &Run, line: u32, want: &Want) -> bool {
+    let answer = run.answer(line);
+    match want {
+        Want::Ok => is_done(answer),
+        Want::NoSpace => is_no_space(answer),
+        Want::Open => answer.is_none(),
+        Want::Fill(fill) => is_filled(answer, *fill),
+        Want::Either(one, other) => is_filled(answer, *one) || is_filled(answer, *other),
+        Want::As(other) => are_one(answer, run.answer(*other)),
     }
 }

@@ -4,7 +4,7 @@
 
 use crate::operations::{Operation, bytes_of, is_replicated_in, replicated_by};
 use crate::reads::accepted;
-use crate::writes::Callers;
+use crate::writes::Writers;
 use petal_base::{ClientId, Name, NoMemory, SharedBlock};
 use petal_machine::{Event, WriteEnd};
 use petal_msg::{Actor, Body, SharedLetter};
@@ -35,7 +35,7 @@ struct Here<'a> {
 struct Telling<'a> {
     alloc: Global,
     script: &'a Script,
-    callers: Callers,
+    writers: Writers,
     told: Vec<Told>,
 }
 
@@ -47,6 +47,29 @@ fn request_of(script: &Script, number: u32) -> Option<&Request> {
         }
     }
     None
+}
+
+/// The word of what is told.
+fn word_of(told: &Told) -> &'static str {
+    match &told.event {
+        None => "nothing",
+        Some(Event::Make { disk: _ }) => "make",
+        Some(Event::Freeze { disk: _, snap: _ }) => "freeze",
+        Some(Event::Begin(_)) => "begin",
+        Some(Event::Take(_)) => "take",
+        Some(Event::End(_, _)) => "end",
+        Some(Event::Look { .. }) => "look",
+    }
+}
+
+/// Whether these words are those of what is told, after the disk.
+pub fn tells(told: &[Told], words: &[&str]) -> bool {
+    told.len() == words.len() + 1
+        && told
+            .iter()
+            .skip(1)
+            .zip(words)
+            .all(|(told, word)| word_of(told) == *word)
 }
 
 /// The name of the disk that the line makes.
@@ -101,7 +124,7 @@ impl<'a> Telling<'a> {
         let Some(request) = request_of(self.script, line) else {
             return Ok(());
         };
-        match self.callers.call(self.alloc, client, request)? {
+        match self.writers.call(self.alloc, client, request)? {
             Some(write) => self.tell(step, Some(Event::Begin(write))),
             None => Ok(()),
         }
@@ -116,7 +139,7 @@ impl<'a> Telling<'a> {
 
     fn take(&mut self, here: &Here, operation: Operation) -> Result<(), NoMemory> {
         let write = match bytes_of(here.before, operation) {
-            Some(bytes) => self.callers.giving(operation.cell.block, bytes)?,
+            Some(bytes) => self.writers.giving(operation.cell.block, bytes)?,
             None => None,
         };
         self.tell(here.step, write.map(Event::Take))
@@ -167,7 +190,7 @@ impl<'a> Telling<'a> {
         else {
             return Ok(());
         };
-        match self.callers.answer(client) {
+        match self.writers.answer(client) {
             Some(write) => self.tell(here.step, Some(Event::End(write, end_of(answer)))),
             None => Ok(()),
         }
@@ -196,7 +219,7 @@ pub fn events(alloc: Global, script: &Script, records: &[Record]) -> Result<Vec<
     let mut telling = Telling {
         alloc,
         script,
-        callers: Callers::new(alloc)?,
+        writers: Writers::new(alloc)?,
         told: Vec::new(alloc),
     };
     tell_all(&mut telling, records)?;

@@ -16,6 +16,7 @@ use std::test::Fail;
 pub struct Run {
     world: World<MemServer>,
     pub sent: Vec<SharedLetter>,
+    phase: u32,
 }
 
 /// The world of a script that begins.
@@ -37,6 +38,7 @@ impl Run {
         Ok(Run {
             world: world_of(alloc, script)?,
             sent: Vec::new(alloc),
+            phase: 0,
         })
     }
 
@@ -63,6 +65,16 @@ impl Run {
         }
     }
 
+    /// The client calls this line.
+    pub fn call_line(
+        &mut self,
+        alloc: Global,
+        client: ClientId,
+        line: u32,
+    ) -> Result<bool, NoMemory> {
+        self.take(alloc, Actor::Client(client), &Step::Call { line })
+    }
+
     /// A letter is handed over.
     pub fn deliver(&mut self, alloc: Global, letter: SharedLetter) -> Result<bool, NoMemory> {
         let to = letter.get().to;
@@ -79,9 +91,26 @@ impl Run {
         self.take(alloc, actor, &Step::Tick)
     }
 
-    /// A phase begins.
-    pub fn enter(&mut self, phase: u32) -> Result<(), NoMemory> {
-        self.world.enter(phase)
+    // Whether each line up to this phase is answered.
+    fn is_answered(&self, phase: u32) -> bool {
+        self.script().lines.as_slice().iter().all(|line| line.phase > phase
+            || self.answer(line.number).is_some())
+    }
+
+    /// Whether each line is answered.
+    pub fn is_over(&self) -> bool {
+        self.is_answered(u32::MAX)
+    }
+
+    /// The next phase begins, where there is one and each line before it is answered. Gives whether it does.
+    pub fn go_on(&mut self) -> Result<bool, NoMemory> {
+        let next = self.phase.saturating_add(1);
+        if next >= self.script().phases || !self.is_answered(self.phase) {
+            return Ok(false);
+        }
+        self.world.enter(next)?;
+        self.phase = next;
+        Ok(true)
     }
 
     pub fn script(&self) -> &Script {
@@ -97,10 +126,15 @@ impl Run {
         answer_in(self.world.records(), line)
     }
 
+    /// What the plain machine is told so far.
+    pub fn events(&self, alloc: Global) -> Result<Vec<Told>, NoMemory> {
+        events(alloc, self.world.script(), self.world.records())
+    }
+
     /// The first record whose events the plain machine refuses, counted from 1; 0 where it does not make the disk.
     pub fn first_refused(&self, alloc: Global) -> Result<Option<usize>, NoMemory> {
+        let told = self.events(alloc)?;
         let mut machine = Machine::new(alloc)?;
-        let told = events(alloc, self.world.script(), self.world.records())?;
         first_refused_by(alloc, &mut machine, told)
     }
 }

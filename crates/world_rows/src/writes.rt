@@ -7,15 +7,15 @@ use std::alloc::Global;
 
 /// A client: how many requests it has called, and its write that is not answered.
 #[derive(Drop)]
-struct Caller {
+struct Writer {
     called: Seq,
     open: Option<Write>,
 }
 
 /// All clients, by number.
 #[derive(Drop)]
-pub struct Callers {
-    callers: Vec<Caller>,
+pub struct Writers {
+    writers: Vec<Writer>,
 }
 
 /// The client's write that a request asks for.
@@ -53,17 +53,17 @@ fn again(write: &Write) -> Result<Write, NoMemory> {
     })
 }
 
-impl Callers {
+impl Writers {
     /// Nobody has called.
-    pub fn new(alloc: Global) -> Result<Callers, NoMemory> {
-        let mut callers = Vec::new(alloc);
+    pub fn new(alloc: Global) -> Result<Writers, NoMemory> {
+        let mut writers = Vec::new(alloc);
         for _ in 0..=OPERATOR {
-            callers.push(Caller {
+            writers.push(Writer {
                 called: 0,
                 open: None,
             })?;
         }
-        Ok(Callers { callers })
+        Ok(Writers { writers })
     }
 
     /// A client calls a request. Gives the write that begins.
@@ -73,12 +73,12 @@ impl Callers {
         client: ClientId,
         request: &Request,
     ) -> Result<Option<Write>, NoMemory> {
-        let Some(caller) = self.callers.get_mut(client as usize) else {
+        let Some(writer) = self.writers.get_mut(client as usize) else {
             return Ok(None);
         };
-        caller.called = caller.called.saturating_add(1);
-        caller.open = write_by(alloc, client, caller.called, request)?;
-        match &caller.open {
+        writer.called = writer.called.saturating_add(1);
+        writer.open = write_by(alloc, client, writer.called, request)?;
+        match &writer.open {
             Some(write) => Ok(Some(again(write)?)),
             None => Ok(None),
         }
@@ -86,8 +86,8 @@ impl Callers {
 
     /// The open write that gives the block these bytes: of several, that of the least client.
     pub fn giving(&self, block: BlockNo, bytes: &SharedBlock) -> Result<Option<Write>, NoMemory> {
-        for caller in &self.callers {
-            if let Some(write) = &caller.open {
+        for writer in &self.writers {
+            if let Some(write) = &writer.open {
                 if write.block == block && write.bytes == *bytes {
                     return Ok(Some(again(write)?));
                 }
@@ -98,6 +98,6 @@ impl Callers {
 
     /// The client's request is answered. Gives the write that ends.
     pub fn answer(&mut self, client: ClientId) -> Option<Write> {
-        self.callers.get_mut(client as usize)?.open.take()
+        self.writers.get_mut(client as usize)?.open.take()
     }
 }

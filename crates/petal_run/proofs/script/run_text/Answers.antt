@@ -2,4 +2,4 @@ use Rattle.petal_run.proofs.Short.{script-short}
 use Rattle.petal_run.proofs.script.run_text.Goals as goal
 
 pub returns-in-Ok-clause-short : goal.returns-in-Ok-clause-short
-returns-in-Ok-clause-short g c = λ ended. script-short c.args.text.now c.in-Ok.script c.in-Ok.ensures
+returns-in-Ok-clause-short g c = λ ended. script-short c.args.text.now c.in-Ok.script (c.lines_are_the_text.ensures.whole c.args.text.now) c.in-Ok.ensures

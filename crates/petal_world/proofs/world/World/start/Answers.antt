@@ -4,7 +4,7 @@ use Rattle.script_lines.specs.declared.request.Line.{Line}
 use Rattle.petal_rules.specs.State.{State, servers_of}
 use Rattle.petal_history.specs.declared.record.Record.{Record}
 use Rattle.petal_world.specs.Play.{IsKept}
-use Rattle.petal_world.specs.Stage.{Kept}
+use Rattle.petal_world.specs.Actors.{Actors}
 use Rattle.world_desks.specs.Waiting.{Await}
 use Rattle.petal_world.proofs.Starting.{state_servers, start_kept}
 use Rattle.petal_world.proofs.world.World.start.Goals as goal
@@ -14,7 +14,7 @@ start-requires-clause-servers g c = ap (λ (s : State). servers_of s) c.requires
 
 pub invariant_of-result : goal.invariant_of-result
 invariant_of-result g c =
-    let kept : Kept = record { seats = c.in_ok-start.field-0; desks = c.in_ok-start-2.field-0; sent = c.new.result; waiting = c.in_ok-start-3.field-0 } in
+    let actors : Actors = record { seats = c.in_ok-start.field-0; desks = c.in_ok-start-2.field-0; sent = c.new.result; waiting = c.in_ok-start-3.field-0 } in
     let waiting = subst (λ (lines : List Line). Await lines [] c.in_ok-start-3.field-0) c.as_slice.ensures c.in_ok-start-3.ensures in
-    subst (λ (rs : List Record). IsKept (record { script = c.args.script; records = rs; phase = 0; floor = 0; over = false }) kept) (sym c.new-2.ensures)
-    (start_kept g.H.Host.seen c.args.hosts c.args.script kept c.requires.ordered c.requires.hosts c.in_ok-start.ensures c.in_ok-start-2.ensures c.new.ensures waiting)
+    subst (λ (rs : List Record). IsKept (record { script = c.args.script; records = rs; phase = 0; floor = 0; over = false }) actors) (sym c.new-2.ensures)
+    (start_kept g.H.Host.seen c.args.hosts c.args.script actors c.requires.ordered c.requires.hosts c.in_ok-start.ensures c.in_ok-start-2.ensures c.new.ensures waiting)

@@ -6,7 +6,7 @@ use Rattle.script_lines.specs.declared.request.Line.{Line}
 use Rattle.script_lines.specs.declared.script.Script.{Script}
 use Rattle.petal_history.specs.Text.{answers_of}
 use Rattle.plain_schedule.specs.Phases.{Progress}
-use Rattle.plain_schedule.specs.Whole.{all_answered}
+use Rattle.petal_history.specs.Order.{all_answered}
 use Rattle.plain_schedule.proofs.Ended.{all_lines, line_to_play}
 use Rattle.plain_schedule.proofs.playing.Playing.is_over.Goals as goal
 

@@ -9,24 +9,24 @@ use Rattle.petal_rules.specs.World.{Setting, World, clock_of, stamped}
 use Rattle.petal_rules.specs.declared.step.Step.{Step}
 use Rattle.world_desks.specs.declared.name.LetterName.{LetterName}
 use Rattle.petal_world.specs.declared.seat.Seat.{Seat}
-use Rattle.world_desks.specs.Desks.{Desk, desks_of, acted_at}
+use Rattle.world_desks.specs.Desks.{Desk, desks_of, acted_at, site_after}
 use Rattle.petal_world.specs.Seats.{seats_of, reacted_at}
 use Rattle.world_desks.specs.Sent.{Lists, with_letters}
 use Rattle.world_desks.specs.Waiting.{Await}
 
 -- the clients, the servers, the letters ever sent, and the lines without an answer
-pub record Kept : Type 0 where
+pub record Actors : Type 0 where
   pub seats : List Seat
   pub desks : List Desk
   pub sent : Table LetterName Letter
   pub waiting : Table ℕ ℕ
 
 -- this is kept of this world
-pub record Shows (setting : Setting) (w : World) (kept : Kept) : Type 0 where
-  pub seats : kept.seats ≡ seats_of setting w
-  pub desks : kept.desks ≡ desks_of setting w
-  pub sent : Lists kept.sent w.sent
-  pub waiting : Await setting.lines w.answers kept.waiting
+pub record Shows (setting : Setting) (w : World) (actors : Actors) : Type 0 where
+  pub seats : actors.seats ≡ seats_of setting w
+  pub desks : actors.desks ≡ desks_of setting w
+  pub sent : Lists actors.sent w.sent
+  pub waiting : Await setting.lines w.answers actors.waiting
   pub past : (letter : Letter) → In letter w.sent → letter.stamp ≤ clock_of w letter.from
 
 -- a line that has its answer waits no longer
@@ -36,26 +36,26 @@ without_answered rows (Some given) = without nat_cmp rows given.0
 
 -- the letters that a client's step sends
 abbrev pub client_letters : Seat → Step → ℕ → List Letter
-client_letters seat what stamp = stamped stamp (reacted_at seat what).reaction.letters
+client_letters seat what stamp = stamped stamp (reacted_at seat what).1.letters
 
--- what is kept behind it
-abbrev pub with_client : Kept → ℕ → Seat → Step → ℕ → Kept
-with_client kept c seat what stamp = record {
-  seats = slice_set kept.seats c (record seat { core = (reacted_at seat what).core; clock = stamp });
-  desks = kept.desks;
-  sent = with_letters kept.sent (client_letters seat what stamp);
-  waiting = without_answered kept.waiting (reacted_at seat what).reaction.answer;
+-- what is kept after it
+abbrev pub with_client : Actors → ℕ → Seat → Step → ℕ → Actors
+with_client actors c seat what stamp = record {
+  seats = slice_set actors.seats c (record seat { core = (reacted_at seat what).0; clock = stamp });
+  desks = actors.desks;
+  sent = with_letters actors.sent (client_letters seat what stamp);
+  waiting = without_answered actors.waiting (reacted_at seat what).1.answer;
 }
 
 -- the letters that a server's step sends
 abbrev pub server_letters : Desk → Step → ℕ → List Letter
 server_letters desk what stamp = stamped stamp (acted_at desk.site what).letters
 
--- what is kept behind it
-abbrev pub with_server : Kept → ℕ → Desk → Step → ℕ → Kept
-with_server kept n desk what stamp = record {
-  seats = kept.seats;
-  desks = slice_set kept.desks n (record { site = (acted_at desk.site what).site; clock = stamp });
-  sent = with_letters kept.sent (server_letters desk what stamp);
-  waiting = kept.waiting;
+-- what is kept after it
+abbrev pub with_server : Actors → ℕ → Desk → Step → ℕ → Actors
+with_server actors n desk what stamp = record {
+  seats = actors.seats;
+  desks = slice_set actors.desks n (record { site = site_after desk.site what; clock = stamp });
+  sent = with_letters actors.sent (server_letters desk what stamp);
+  waiting = actors.waiting;
 }

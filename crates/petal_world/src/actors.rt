@@ -4,7 +4,7 @@ ghost use Rattle.std.specs.Prelude.{◌≡◌, ◌<◌, false, None, Some, lengt
 ghost use Rattle.client_core.specs.Core.{is_spent};
 ghost use Rattle.world_desks.specs.Desks.{Desk};
 ghost use Rattle.petal_world.specs.Seats.{CanTake, reacted_at};
-ghost use Rattle.petal_world.specs.Stage.{client_letters, server_letters, with_client, with_server};
+ghost use Rattle.petal_world.specs.Actors.{client_letters, server_letters, with_client, with_server};
 ghost use Rattle.petal_world.specs.declared.seat.Seat.{Seat};
 
 use crate::seats::Seats;
@@ -21,22 +21,22 @@ use world_desks::waiting::Waiting;
 
 /// All clients and servers, the letters ever sent, and the lines without an answer.
 #[derive(Drop)]
-pub struct Stage<H: Host> {
+pub struct Actors<H: Host> {
     pub seats: Seats,
     pub desks: Desks<H>,
     pub sent: Sent,
     pub waiting: Waiting,
 }
 
-impl<H: Host> Model for Stage<H> {
-    ghost use Rattle.petal_world.specs.Stage.{Kept};
+impl<H: Host> Model for Actors<H> {
+    ghost use Rattle.petal_world.specs.Actors.{Actors};
 
-    ghost Value = { Kept };
+    ghost Value = { Actors };
 
     ghost view = { λ s. record { seats = s.seats; desks = s.desks; sent = s.sent; waiting = s.waiting } };
 }
 
-impl<H: Host> Stage<H> {
+impl<H: Host> Actors<H> {
     /// A client takes a step that it can take, with this stamp.
     pub fn react(
         &mut self,
@@ -49,7 +49,7 @@ impl<H: Host> Stage<H> {
         requires can { IfSome (slice_get self.old.seats client) (λ seat. CanTake step.now seat.core.client) }
         requires goes_on { IfSome (slice_get self.old.seats client) (λ seat. is_spent seat.core.client ≡ false) }
         ensures { IfOk result (λ stepped. (seat : Seat) → slice_get self.old.seats client ≡ Some seat
-            → (stepped ≡ record { letters = client_letters seat step.now stamp; answer = (reacted_at seat step.now).reaction.answer }) × (self.new ≡ with_client self.old client seat step.now stamp)) }
+            → (stepped ≡ record { letters = client_letters seat step.now stamp; answer = (reacted_at seat step.now).1.answer }) × (self.new ≡ with_client self.old client seat step.now stamp)) }
     {
         let reaction = self.seats.step(alloc, client, step, stamp)?;
         let letters = stamped(alloc, reaction.letters, stamp)?;

@@ -1,6 +1,6 @@
 -- Each actor's step is the rule's.
 use Rattle.petal_world.proofs.Acting.{serves_ok, reacts_ok}
-use Rattle.petal_world.proofs.stage.Stage.act.Goals as goal
+use Rattle.petal_world.proofs.actors.Actors.act.Goals as goal
 
 pub returns-in-Server : goal.returns-in-Server
 returns-in-Server g c = serves_ok c.serve.result c.args.self.now c.args.actor c.in-Server.server c.args.step.now c.args.stamp c.serve.new.self c.in-Server.is c.serve.ensures

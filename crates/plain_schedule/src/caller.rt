@@ -15,15 +15,15 @@ pub(crate) struct Due {
 
 /// A client: the lines that it has not called yet, and whether one that it called is not answered.
 #[derive(Drop)]
-pub(crate) struct ClientSeat {
+pub(crate) struct Caller {
     due: VecDeque<Due>,
     pub(crate) is_open: bool,
     pub(crate) patience: Patience,
 }
 
-impl ClientSeat {
-    pub(crate) fn new(alloc: Global) -> ClientSeat {
-        ClientSeat {
+impl Caller {
+    pub(crate) fn new(alloc: Global) -> Caller {
+        Caller {
             due: VecDeque::new(alloc),
             is_open: false,
             patience: Patience::new(),
@@ -64,20 +64,20 @@ impl ClientSeat {
     }
 }
 
-/// The seats of the clients, each with its lines in order.
-pub(crate) fn seats_of(
+/// What is kept of each client, with its lines in order.
+pub(crate) fn callers_of(
     alloc: Global,
     count: u8,
     script: &Script,
-) -> Result<Vec<ClientSeat>, NoMemory> {
-    let mut seats: Vec<ClientSeat> = Vec::new(alloc);
+) -> Result<Vec<Caller>, NoMemory> {
+    let mut callers: Vec<Caller> = Vec::new(alloc);
     for _ in 0..count {
-        seats.push(ClientSeat::new(alloc))?;
+        callers.push(Caller::new(alloc))?;
     }
     for line in script.lines.as_slice() {
-        if let Some(seat) = seats.get_mut(line.client as usize) {
-            seat.add(line)?;
+        if let Some(caller) = callers.get_mut(line.client as usize) {
+            caller.add(line)?;
         }
     }
-    Ok(seats)
+    Ok(callers)
 }

@@ -1,0 +1,218 @@
+//! A run that a row steps.
+
+use crate::act::Act;
+use crate::answers::is_so;
+use crate::events::tells;
+use crate::rounds::play;
+use crate::run::Run;
+use crate::words::Mail;
+use petal_base::{NoMemory, ServerId, SharedBlock};
+use petal_msg::{Actor, Body, SharedLetter};
+use std::alloc::Global;
+use std::test::Fail;
+
+/// A run, and for each letter that was sent whether it is gone: handed over or lost.
+#[derive(Drop)]
+pub struct Player {
+    run: Run,
+    gone: Vec<bool>,
+}
+
+/// A server with so many jobs is taken to hang.
+const MOST_JOBS: u32 = 10_000;
+
+/// The letter under another name.
+fn renamed(alloc: Global, letter: &SharedLetter) -> Result<SharedLetter, NoMemory> {
+    let mut other = letter.get().clone()?;
+    other.stamp = other.stamp.saturating_add(1);
+    SharedLetter::new(alloc, other)
+}
+
+/// The letter with another content.
+fn changed(alloc: Global, letter: &SharedLetter) -> Result<SharedLetter, NoMemory> {
+    let mut other = letter.get().clone()?;
+    other.body = Body::Written { seq: 1 };
+    SharedLetter::new(alloc, other)
+}
+
+/// The block that a letter brings.
+fn block_of(body: &Body) -> Option<&SharedBlock> {
+    match body {
+        Body::Write { bytes, .. } | Body::Replicate { bytes, .. } | Body::Data { bytes, .. } => {
+            Some(bytes)
+        }
+        _ => None,
+    }
+}
+
+/// How many owners the block has that a letter brings.
+fn owners_of(body: &Body) -> usize {
+    match block_of(body) {
+        Some(bytes) => bytes.owners(),
+        None => 0,
+    }
+}
+
+impl Player {
+    /// The run of a script that begins.
+    pub fn start(alloc: Global, script: &str) -> Result<Player, Fail> {
+        Ok(Player {
+            run: Run::start(alloc, script)?,
+            gone: Vec::new(alloc),
+        })
+    }
+
+    fn is_gone(&self, at: usize) -> bool {
+        match self.gone.get(at) {
+            Some(gone) => *gone,
+            None => false,
+        }
+    }
+
+    // The letter is gone from now on.
+    fn remove(&mut self, at: usize) -> Result<(), NoMemory> {
+        while self.gone.len() <= at {
+            self.gone.push(false)?;
+        }
+        if let Some(gone) = self.gone.get_mut(at) {
+            *gone = true;
+        }
+        Ok(())
+    }
+
+    // Where the first of these letters stands that is not gone.
+    fn first(&self, mail: &Mail) -> Option<usize> {
+        for (at, letter) in self.run.sent.iter().enumerate() {
+            if mail.has(letter.get()) && !self.is_gone(at) {
+                return Some(at);
+            }
+        }
+        None
+    }
+
+    // Where the last of these letters stands that is gone.
+    fn last(&self, mail: &Mail) -> Option<usize> {
+        let mut found = None;
+        for (at, letter) in self.run.sent.iter().enumerate() {
+            if mail.has(letter.get()) && self.is_gone(at) {
+                found = Some(at);
+            }
+        }
+        found
+    }
+
+    // A letter that was sent.
+    fn letter(&self, at: Option<usize>) -> Result<Option<SharedLetter>, NoMemory> {
+        match at {
+            None => Ok(None),
+            Some(at) => match self.run.sent.get(at) {
+                None => Ok(None),
+                Some(letter) => Ok(Some(letter.share()?)),
+            },
+        }
+    }
+
+    fn deliver(&mut self, alloc: Global, letter: Option<SharedLetter>) -> Result<bool, NoMemory> {
+        match letter {
+            None => Ok(false),
+            Some(letter) => self.run.deliver(alloc, letter),
+        }
+    }
+
+    fn lose(&mut self, mail: &Mail) -> Result<bool, NoMemory> {
+        match self.first(mail) {
+            None => Ok(false),
+            Some(at) => {
+                self.remove(at)?;
+                Ok(true)
+            }
+        }
+    }
+
+    fn hand_over(&mut self, alloc: Global, mail: &Mail) -> Result<bool, NoMemory> {
+        let letter = self.letter(self.first(mail))?;
+        Ok(self.lose(mail)? && self.deliver(alloc, letter)?)
+    }
+
+    fn hand_again(&mut self, alloc: Global, mail: &Mail) -> Result<bool, NoMemory> {
+        let letter = self.letter(self.last(mail))?;
+        self.deliver(alloc, letter)
+    }
+
+    fn hand_renamed(&mut self, alloc: Global, mail: &Mail) -> Result<bool, NoMemory> {
+        match self.letter(self.first(mail))? {
+            None => Ok(false),
+            Some(letter) => self.run.deliver(alloc, renamed(alloc, &letter)?),
+        }
+    }
+
+    fn hand_changed(&mut self, alloc: Global, mail: &Mail) -> Result<bool, NoMemory> {
+        match self.letter(self.first(mail))? {
+            None => Ok(false),
+            Some(letter) => self.run.deliver(alloc, changed(alloc, &letter)?),
+        }
+    }
+
+    // The server works until its queue is empty. Gives whether it had a job.
+    fn work_off(&mut self, alloc: Global, server: ServerId) -> Result<bool, NoMemory> {
+        let mut had = false;
+        for _ in 0..MOST_JOBS {
+            if !self.run.work(alloc, server)? {
+                return Ok(had);
+            }
+            had = true;
+        }
+        Ok(false)
+    }
+
+    // How many of these letters were sent.
+    fn count(&self, mail: &Mail) -> usize {
+        self.run
+            .sent
+            .iter()
+            .filter(|letter| mail.has(letter.get()))
+            .count()
+    }
+
+    // How many owners the block has that the last of these letters brings.
+    fn owners(&self, mail: &Mail) -> usize {
+        let mut owners = 0;
+        for letter in &self.run.sent {
+            if mail.has(letter.get()) {
+                owners = owners_of(&letter.get().body);
+            }
+        }
+        owners
+    }
+
+    fn tells(&self, alloc: Global, words: &[&str]) -> Result<bool, NoMemory> {
+        let told = self.run.events(alloc)?;
+        Ok(tells(&told, words))
+    }
+
+    /// Takes a step, or looks whether what is expected is so. Gives whether it was taken, or is so.
+    pub fn take(&mut self, alloc: Global, act: &Act) -> Result<bool, NoMemory> {
+        match act {
+            Act::Call(client, line) => self.run.call_line(alloc, *client, *line),
+            Act::Work(server) => self.run.work(alloc, *server),
+            Act::WorkOff(server) => self.work_off(alloc, *server),
+            Act::Tick(actor) => self.run.tick(alloc, *actor),
+            Act::Hand(mail) => self.hand_over(alloc, mail),
+            Act::Lose(mail) => self.lose(mail),
+            Act::Again(mail) => self.hand_again(alloc, mail),
+            Act::Renamed(mail) => self.hand_renamed(alloc, mail),
+            Act::Changed(mail) => self.hand_changed(alloc, mail),
+            Act::Wait => self.run.go_on(),
+            Act::PlayOut => play(alloc, &mut self.run),
+            Act::Line(line, want) => Ok(is_so(&self.run, *line, want)),
+            Act::Sent(count, mail) => Ok(self.count(mail) >= *count as usize),
+            Act::Owners(count, mail) => Ok(self.owners(mail) >= *count as usize),
+            Act::Told(words) => self.tells(alloc, words),
+        }
+    }
+
+    /// The first record whose events the plain machine refuses.
+    pub fn first_refused(&self, alloc: Global) -> Result<Option<usize>, NoMemory> {
+        self.run.first_refused(alloc)
+    }
+}

@@ -1,0 +1,126 @@
+//! Rows: runs in orders that the plain schedule never takes.
+
+use crate::act::act_of;
+use crate::schedule::{Row, play_row};
+use std::test::Fail;
+
+// Of two servers, block 5 lies on link 1: server 1 leads it, and server 0 is second.
+const ONE_WRITE: &str =
+    "servers 2 slots 4\na disk vol on 0 1\na write vol 5 fill 7\nwait\nb read vol 5\n";
+
+#[test]
+fn writes_step_by_step(rt: HostRuntime) -> Result<(), Fail> {
+    let rows: [Row; 4] = [
+        Row {
+            shows: "a reply that is lost is asked for again",
+            script: ONE_WRITE,
+            steps: "a calls 2; a calls 3; told begin; write a>1; 1 works; reserve 1>0; 0 works;
+                drop reserved 0>1; not 1 works; 1 ticks; reserve 1>0; 0 works; reserved 0>1; 1 works; 1 works;
+                replicate 1>0; told begin; 0 works; told begin take; replicated 0>1; 1 works; line 3 open;
+                written 1>a; line 3 ok; told begin take end;
+                wait; b calls 5; read b>0; 0 works; data 0>b; line 5 fill 7; told begin take end look",
+        },
+        Row {
+            shows: "a copy that comes again is put once",
+            script: ONE_WRITE,
+            steps: "a calls 2; a calls 3; write a>1; 1 works; reserve 1>0; 0 works; reserved 0>1; 1 works off;
+                replicate 1>0; 0 works; told begin take; again replicate 1>0; 0 works off; told begin take;
+                replicated 0>1; 1 works; replicated 0>1; 1 works; written 1>a; again written 1>a; line 3 ok;
+                told begin take end",
+        },
+        Row {
+            shows: "a read whose answer is lost goes to the other server",
+            script: ONE_WRITE,
+            steps: "a calls 2; a calls 3; write a>1; 1 works; reserve 1>0; 0 works; reserved 0>1; 1 works off;
+                replicate 1>0; 0 works; replicated 0>1; 1 works; written 1>a; wait;
+                b calls 5; read b>0; 0 works; drop data 0>b; b ticks; not read b>0; read b>1; 1 works;
+                data 1>b; line 5 fill 7; told begin take end look",
+        },
+        Row {
+            shows: "a write that finds its block busy is sent again",
+            script: "servers 2 slots 4\na disk vol on 0 1\nwait\na write vol 5 fill 1\nb write vol 5 fill 2\n",
+            steps: "a calls 2; wait; a calls 4; b calls 5; told begin begin; write a>1; 1 works; write b>1; 1 works;
+                sent 1 write b>1; not sent 2 write b>1; busy 1>b; sent 2 write b>1; line 5 open;
+                play out; line 4 ok; line 5 ok; told begin begin take end take end",
+        },
+    ];
+    for row in rows {
+        play_row(rt.alloc(), &row)?;
+    }
+    Ok(())
+}
+
+#[test]
+fn letters_that_come_twice_the_last_one_first(rt: HostRuntime) -> Result<(), Fail> {
+    let rows: [Row; 3] = [
+        Row {
+            shows: "two clients write one block",
+            script: "servers 3 slots 4\na disk vol on 0 1 2\nwait\na write vol 5 fill 1\nb write vol 5 fill 2\nwait\na read vol 5\nb read vol 5\n",
+            steps: "play out; line 2 ok; line 4 ok; line 5 ok; line 7 fill 1|2; line 8 as 7",
+        },
+        // Blocks 0 and 2 fill the two slots of server 0, which is second to server 2 for block 2: that server has a slot left.
+        Row {
+            shows: "a write finds no slot at the second server",
+            script: "servers 3 slots 2\na disk vol on 0 1 2\na write vol 0 fill 1\na write vol 2 fill 2\nwait\nb write vol 2 fill 3\nwait\na read vol 0\nb read vol 2\n",
+            steps: "play out; line 2 ok; line 3 ok; line 4 ok; line 6 nospace; sent 1 pairfull 0>2; line 8 fill 1; line 9 fill 2",
+        },
+        // No clause speaks of memory, so owners are counted here.
+        Row {
+            shows: "reads of one block share it",
+            script: "servers 2 slots 4\na disk vol on 0 1\nwait\na write vol 0 fill 7\nwait\na read vol 0\na read vol 0\na read vol 0\na read vol 0\n",
+            steps: "play out; line 4 ok; line 9 fill 7; owners 8 data 0>a",
+        },
+    ];
+    for row in rows {
+        play_row(rt.alloc(), &row)?;
+    }
+    Ok(())
+}
+
+// Of three servers, server 2 leads block 5.
+const TWO_PHASES: &str =
+    "servers 3 slots 4\na disk vol on 0 1 2\na write vol 5 fill 1\nwait\nb read vol 5\n";
+
+#[test]
+fn calls_and_letters(rt: HostRuntime) -> Result<(), Fail> {
+    let rows: [Row; 3] = [
+        Row {
+            shows: "a letter is found by its name and its content",
+            script: TWO_PHASES,
+            steps: "a calls 2; a calls 3; not renamed write a>2; not changed write a>2; write a>2; 2 works",
+        },
+        Row {
+            shows: "a phase waits for the lines before it",
+            script: TWO_PHASES,
+            steps: "not b calls 5; not wait; a calls 2; not b calls 5; not a calls 2; not a calls 5; play out; line 5 fill 1",
+        },
+        Row {
+            shows: "a write that is sent again shares its block",
+            script: "servers 2 slots 4\na disk vol on 0 1\na write vol 0 fill 7\n",
+            steps: "a calls 2; a calls 3; a ticks; a ticks; a ticks; sent 4 write a>0; not sent 5 write a>0; owners 4 write a>0",
+        },
+    ];
+    for row in rows {
+        play_row(rt.alloc(), &row)?;
+    }
+    Ok(())
+}
+
+#[test]
+fn bad_words_are_found(rt: HostRuntime) -> Result<(), Fail> {
+    let rows: [(&[&str], usize); 9] = [
+        (&["1", "sleeps"], 1),
+        (&["a", "works"], 1),
+        (&["1", "calls", "2"], 1),
+        (&["a", "calls", "two"], 3),
+        (&["reserve", "1-0"], 2),
+        (&["drop", "letter", "1>0"], 2),
+        (&["line", "3", "maybe"], 3),
+        (&["told", "begin", "tkae"], 3),
+        (&[], 1),
+    ];
+    for (words, place) in rows {
+        assert_eq!(rt; act_of(words).err(), Some(place), "{words:?}");
+    }
+    Ok(())
+}
