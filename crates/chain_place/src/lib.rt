@@ -4,7 +4,7 @@
 #![tactic(auto)]
 
 ghost use Rattle.std.specs.Prelude.{◌≡◌, ◌≤◌, ◌<◌};
-ghost use Rattle.global_tables.specs.Place.{link_of, region_of};
+ghost use Rattle.global_tables.specs.Region.{link_of, region_of};
 
 use petal_base::{BlockNo, REGIONS};
 

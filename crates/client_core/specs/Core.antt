@@ -14,7 +14,7 @@ pub record Core : Type 0 where
   pub client : Client
 
 -- a rule's outcome, at this core: the core after it, and the letters and the answer that it gives
-abbrev pub at_core : Core → rules.Reacted → Core × Reaction
+abbrev pub at_core : Core → rules.Reaction → Core × Reaction
 at_core core reacted = (
   record core { client = reacted.client },
   record { letters = letters_of (client_sender core.state core.me) 0 reacted.posts; answer = reacted.answer },

@@ -4,7 +4,7 @@ ghost use Rattle.std.specs.Prelude.{◌≡◌, option_copied, option_map};
 ghost use Rattle.global_tables.specs.Disk.{disk_at, named, snapshot_named};
 ghost use Rattle.global_tables.specs.Link.{link_at};
 ghost use Rattle.petal_state.specs.State.{latest};
-ghost use Rattle.petal_state.specs.Place.{view_of, owner, region_at, cell_link, link_of_row, snapshot, least, next_epoch, next_snapshot};
+ghost use Rattle.petal_state.specs.CellState.{view_of, owner, region_at, cell_link, link_of_row, snapshot, least, next_epoch, next_snapshot};
 
 use crate::state::GlobalState;
 use global_tables::{DiskRow, LinkRow, RegionState, Snapshot, Verdict};

@@ -1,4 +1,4 @@
-pub mod Place
+pub mod Region
 pub mod Map
 pub mod Link
 pub mod View

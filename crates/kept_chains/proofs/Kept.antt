@@ -2,9 +2,9 @@
 use Rattle.std.proofs.Common.{◌≡◌, ◌≤◌, max, List, [], ◌∷◌, length, Option, Some, None, refl, sym, ap, ◌∙◌, arith, inl, inr}
 use Rattle.std.proofs.lemmas.Bool.{cases_Bool}
 use Rattle.std.specs.Prelude.{option_map}
-use Rattle.petal_base.specs.declared.place.Cell.{Cell}
-use Rattle.petal_base.specs.declared.place.Key.{Key}
-use Rattle.petal_base.specs.Place.{cell_of}
+use Rattle.petal_base.specs.declared.cell.Cell.{Cell}
+use Rattle.petal_base.specs.declared.cell.Key.{Key}
+use Rattle.petal_base.specs.Cells.{cell_of}
 use Rattle.petal_rules.specs.Store as rules
 use Rattle.physical_map.specs.Entries.{in_cell, version_of, top_of}
 use Rattle.physical_map.specs.Keys.{placed, newest, IsInOrder}

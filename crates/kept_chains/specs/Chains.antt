@@ -1,7 +1,7 @@
 -- What stands under keys, as the chains of cells.
 use Rattle.std.specs.Prelude.{List, [], ◌∷◌, if◌then◌else◌}
-use Rattle.petal_base.specs.declared.place.Cell.{Cell}
-use Rattle.petal_base.specs.declared.place.Key.{Key}
+use Rattle.petal_base.specs.declared.cell.Cell.{Cell}
+use Rattle.petal_base.specs.declared.cell.Key.{Key}
 use Rattle.petal_table.specs.Table.{Table}
 use Rattle.physical_map.specs.Entries.{in_cell}
 use Rattle.petal_rules.specs.Store.{Chain, Stored, chains_with}

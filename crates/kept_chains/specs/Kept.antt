@@ -1,6 +1,6 @@
 -- A server's store as the rules see it.
 use Rattle.std.specs.Prelude.{List, length}
-use Rattle.petal_base.specs.declared.place.Cell.{Cell}
+use Rattle.petal_base.specs.declared.cell.Cell.{Cell}
 use Rattle.petal_table.specs.Table.{Table}
 use Rattle.petal_rules.specs.Store.{Chain, Stored, Store}
 use Rattle.server_store.specs.Holdings.{Held, Holdings, key_held}

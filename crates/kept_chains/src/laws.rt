@@ -1,9 +1,9 @@
 //! What a store tells of its entries is what the rules read in its chains.
 
 ghost use Rattle.std.specs.Prelude.{◌≡◌, List, length};
-ghost use Rattle.petal_base.specs.declared.place.Cell.{Cell};
-ghost use Rattle.petal_base.specs.declared.place.Key.{Key};
-ghost use Rattle.petal_base.specs.Place.{cell_of};
+ghost use Rattle.petal_base.specs.declared.cell.Cell.{Cell};
+ghost use Rattle.petal_base.specs.declared.cell.Key.{Key};
+ghost use Rattle.petal_base.specs.Cells.{cell_of};
 ghost use Rattle.petal_rules.specs.Store as rules;
 ghost use Rattle.physical_map.specs.Entries.{version_of, top_of};
 ghost use Rattle.physical_map.specs.Keys.{placed, newest, IsInOrder};

@@ -13,7 +13,7 @@ use Rattle.script_lines.specs.declared.request.Line.{Line}
 use Rattle.script_lines.specs.declared.script.Script.{Script}
 use Rattle.petal_rules.specs.Lists.{In}
 use Rattle.petal_rules.specs.State.{State}
-use Rattle.petal_rules.specs.Clients.{Client, Asked, Reacted}
+use Rattle.petal_rules.specs.Clients.{Client, Asked, Reaction}
 use Rattle.petal_rules.specs.World.{Setting, World, Stepped, IsAnswered, MayActor, lines_of, next_line, client_step, step, start, setting_of, with_answer}
 use Rattle.petal_rules.specs.declared.step.Step.{Step}
 use Rattle.petal_history.specs.Contents.{chosen_state}
@@ -96,7 +96,7 @@ module _ (lines : List Line) (rise : AreRising lines) (given : List (ℕ × Answ
   others_after (Some row) c d called client ne own a = others_ahead row c d called client ne (own row refl) a
 
   -- the client behind its step: what it answered is open no more
-  record IsTurned (c : ℕ) (reacted : Reacted) : Type 0 where
+  record IsTurned (c : ℕ) (reacted : Reaction) : Type 0 where
     own : OwnAnswer c reacted.client.seq reacted.answer
     ahead : IsAhead lines (with_answer reacted.answer given) c reacted.client
 
@@ -113,7 +113,7 @@ module _ (lines : List Line) (rise : AreRising lines) (given : List (ℕ × Answ
     the_row : {row other : ℕ × Answer} (called : ℕ) → Some row ≡ Some other → IsOpenAt lines given c called row.0 → IsOpenAt lines given c called other.0
     the_row called e o = subst (λ (r : ℕ × Answer). IsOpenAt lines given c called r.0) (same_some e) o
 
-    turned : (in_call : Bool) (reacted : Reacted) → Turned heard state lines c client in_call reacted → IsTurned c reacted
+    turned : (in_call : Bool) (reacted : Reaction) → Turned heard state lines c client in_call reacted → IsTurned c reacted
     turned _ _ Rests = record { own = λ row e. none_some refl e; ahead = a }
     turned _ _ (Sends_anew asked is) = record {
       own = λ row e. none_some refl e;

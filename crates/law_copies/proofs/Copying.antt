@@ -1,6 +1,6 @@
 -- Every step keeps the pairs, and so does every legal history.
 use Rattle.std.proofs.Common.{◌≡◌, ◌∙◌, ℕ, true, false, List, [], Some, None, refl, ap, sym, subst, inl, inr, arith}
-use Rattle.petal_base.specs.declared.place.Cell.{Cell}
+use Rattle.petal_base.specs.declared.cell.Cell.{Cell}
 use Rattle.petal_table.specs.Table.{at}
 use Rattle.petal_table.proofs.Rows.{at-empty}
 use Rattle.petal_msg.specs.Kinds.{Subject, Paired, is_asked, is_paired, subject_of}

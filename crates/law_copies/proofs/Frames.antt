@@ -1,6 +1,6 @@
 -- A step of one server changes the pairs that it is of, and no others.
 use Rattle.std.proofs.Common.{◌≡◌, ◌≢◌, ℕ, List, false, Some, None, ap, sym, ◌∙◌, subst, if◌then◌else◌, inl, inr, arith}
-use Rattle.petal_base.specs.declared.place.Cell.{Cell}
+use Rattle.petal_base.specs.declared.cell.Cell.{Cell}
 use Rattle.petal_msg.specs.Kinds.{about, is_paired, pair_cell, subject_of}
 use Rattle.petal_msg.specs.declared.body.Body.{Body}
 use Rattle.petal_msg.specs.declared.body.Body.TheVariants as body

@@ -1,7 +1,7 @@
 -- What happens to one cell keeps its two copies together.
 use Rattle.std.proofs.Common.{◌≡◌, ℕ, ◌+◌, ◌<◌, ◌≤◌, List, Some, None, true, false, arith}
 use Rattle.std.specs.Ordering.{nat_cmp}
-use Rattle.petal_base.specs.declared.place.Key.{Key}
+use Rattle.petal_base.specs.declared.cell.Key.{Key}
 use Rattle.petal_table.specs.Table.{put}
 use Rattle.petal_msg.specs.declared.operation.Far.TheVariants.{Reserved, Replicated}
 use Rattle.petal_msg.specs.declared.operation.Pending.{Pending}

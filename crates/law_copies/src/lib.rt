@@ -6,7 +6,7 @@
 #![tactic(auto)]
 
 ghost use Rattle.std.specs.Prelude.{List};
-ghost use Rattle.petal_base.specs.declared.place.Cell.{Cell};
+ghost use Rattle.petal_base.specs.declared.cell.Cell.{Cell};
 ghost use Rattle.script_lines.specs.declared.script.Script.{Script};
 ghost use Rattle.petal_rules.specs.World.{setting_of, start};
 ghost use Rattle.petal_history.specs.Claims.{TwoCopies};

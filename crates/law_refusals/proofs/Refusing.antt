@@ -15,7 +15,7 @@ use Rattle.petal_rules.specs.Lists.{In}
 use Rattle.petal_rules.specs.State.{State}
 use Rattle.petal_rules.specs.Server.{sender, letters_of}
 use Rattle.petal_rules.specs.Jobs.{Acted, here_of}
-use Rattle.petal_rules.specs.Clients.{Asked, Reacted, client_sender}
+use Rattle.petal_rules.specs.Clients.{Asked, Reaction, client_sender}
 use Rattle.petal_rules.specs.World.{Setting, World, acts, reacts, step, stamped, start, setting_of, client_step, next_line, MayActor}
 use Rattle.petal_rules.specs.declared.step.Step.{Step}
 use Rattle.petal_rules.proofs.ListLemmas.{in-append}
@@ -40,7 +40,7 @@ use Rattle.law_refusals.proofs.Frames.{Scene, job_refusals}
 
 -- ### Steps
 
-turn_refusals : (R S : ℕ → ℕ → Type 0) (state : State) (lines : List Line) (w : World) (c stamp : ℕ) (in_call : Bool) (reacted : Reacted) → ((c seq : ℕ) → R c seq → S c seq) → Refusals R state w → Turned (Heard w (actor.Client c)) state lines c (w.clients c) in_call reacted → Refusals S state (reacts state w c stamp reacted).world
+turn_refusals : (R S : ℕ → ℕ → Type 0) (state : State) (lines : List Line) (w : World) (c stamp : ℕ) (in_call : Bool) (reacted : Reaction) → ((c seq : ℕ) → R c seq → S c seq) → Refusals R state w → Turned (Heard w (actor.Client c)) state lines c (w.clients c) in_call reacted → Refusals S state (reacts state w c stamp reacted).world
 turn_refusals R S state lines w c stamp in_call reacted more refusals turned = record {
   letters = λ letter j seq h to says. elim (in-append letter _ w.sent h) [
     | inl new ↦ true_false (asks letter new) (ap is_ask says)
@@ -150,7 +150,7 @@ module _ (servers slots : ℕ) (lines : List Line) (state : State) (steady : IsS
     line : asked.line ≡ number
     heard : Heard w (actor.Client c) (body.Full asked.seq)
 
-  heard_full : (w : World) (c : ℕ) (in_call : Bool) (reacted : Reacted) → Turned (Heard w (actor.Client c)) state lines c (w.clients c) in_call reacted → (number : ℕ) → reacted.answer ≡ Some (number, answer.NoSpace) → HeardFull w c number
+  heard_full : (w : World) (c : ℕ) (in_call : Bool) (reacted : Reaction) → Turned (Heard w (actor.Client c)) state lines c (w.clients c) in_call reacted → (number : ℕ) → reacted.answer ≡ Some (number, answer.NoSpace) → HeardFull w c number
   heard_full w c _ _ Rests number e = none_some refl e
   heard_full w c _ _ (Sends_anew asked is) number e = none_some refl e
   heard_full w c _ _ (Begins line is free) number e = none_some refl e

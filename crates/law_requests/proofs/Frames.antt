@@ -1,6 +1,6 @@
 -- A step of a server, and a step of a client, keep what is known of requests.
 use Rattle.std.proofs.Common.{◌≡◌, ◌≢◌, ◌≤◌, ◌<◌, ◌+◌, ℕ, List, Some, None, ap, sym, ◌∙◌, subst, ◌⊎◌, inl, inr, arith}
-use Rattle.petal_base.specs.declared.place.Cell.{Cell}
+use Rattle.petal_base.specs.declared.cell.Cell.{Cell}
 use Rattle.petal_table.specs.Table.{at}
 use Rattle.petal_msg.specs.declared.body.Body.{Body}
 use Rattle.petal_msg.specs.declared.body.Body.TheVariants as body
@@ -13,7 +13,7 @@ use Rattle.petal_rules.specs.State.{State, first}
 use Rattle.petal_rules.specs.Store.{cell_cmp}
 use Rattle.petal_rules.specs.Server.{Own, Post, Done, sender}
 use Rattle.petal_rules.specs.Jobs.{here_of}
-use Rattle.petal_rules.specs.Clients.{Client, Asked, Reacted, client_sender}
+use Rattle.petal_rules.specs.Clients.{Client, Asked, Reaction, client_sender}
 use Rattle.petal_rules.specs.World.{World, reacts}
 use Rattle.petal_rules.specs.declared.job.Job.{Job}
 use Rattle.petal_rules.proofs.ListLemmas.{put_same, put_apart, in-append}
@@ -202,7 +202,7 @@ pub record Scene : Type 0 where
   pub ready : Ready state w
   pub asking : Asking state lines w
 
-module _ (scene : Scene) (c stamp : ℕ) (reacted : Reacted) (turn : TurnOk scene.state scene.lines scene.w c reacted.client reacted.posts) where
+module _ (scene : Scene) (c stamp : ℕ) (reacted : Reaction) (turn : TurnOk scene.state scene.lines scene.w c reacted.client reacted.posts) where
   abbrev state : State
   state = scene.state
 

@@ -1,7 +1,7 @@
 -- Each kind of job keeps what is known of requests.
 use Rattle.std.proofs.Common.{◌≡◌, ◌≢◌, ◌≤◌, ◌+◌, ℕ, List, [], ◌∷◌, true, Option, Some, None, refl, ap, sym, ◌∙◌, subst, inl, inr, arith, Bool, false}
 use Rattle.std.specs.Ordering.{nat_cmp}
-use Rattle.petal_base.specs.declared.place.Cell.{Cell}
+use Rattle.petal_base.specs.declared.cell.Cell.{Cell}
 use Rattle.petal_table.specs.Table.{at, put}
 use Rattle.petal_table.proofs.Rows.{at_same, at_apart}
 use Rattle.petal_msg.specs.Kinds.{Subject, Answered, Read_asked, Write_asked, subject_of}

@@ -1,6 +1,6 @@
 -- What was known of requests is known later.
 use Rattle.std.proofs.Common.{◌≡◌, ◌≤◌, ℕ, List, Option, ap, sym, ◌∙◌, ◌⊎◌, inl, inr, arith}
-use Rattle.petal_base.specs.declared.place.Cell.{Cell}
+use Rattle.petal_base.specs.declared.cell.Cell.{Cell}
 use Rattle.petal_msg.specs.declared.body.Body.{Body}
 use Rattle.petal_msg.specs.declared.body.Body.TheVariants as body
 use Rattle.petal_msg.specs.declared.letter.Actor.{Actor}

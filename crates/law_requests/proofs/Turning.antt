@@ -2,7 +2,7 @@
 use Rattle.std.proofs.Common.{◌≡◌, ◌≤◌, ◌<◌, ◌+◌, ◌-◌, ℕ, List, [], Bool, true, Option, Some, None, refl, ap, sym, ◌∙◌, subst, inl, inr, arith}
 use Rattle.std.specs.Ordering.{nat_cmp}
 use Rattle.std.specs.Prelude.{slice_get}
-use Rattle.petal_base.specs.declared.place.Cell.{Cell}
+use Rattle.petal_base.specs.declared.cell.Cell.{Cell}
 use Rattle.petal_table.proofs.Rows.{at-empty}
 use Rattle.petal_msg.specs.declared.body.Body.{Body}
 use Rattle.petal_msg.specs.declared.letter.Actor.{Actor}
@@ -23,7 +23,7 @@ use Rattle.petal_rules.specs.State.{State, find, is_lead}
 use Rattle.petal_rules.specs.Server.{Post, post_to}
 use Rattle.petal_rules.specs.Writes.{ended}
 use Rattle.petal_rules.specs.Store.{cell_cmp}
-use Rattle.petal_rules.specs.Clients.{Client, Asked, Reacted, posts_for, write_posts, read_posts, read_posts_at, epoch_for, cell_on, is_read}
+use Rattle.petal_rules.specs.Clients.{Client, Asked, Reaction, posts_for, write_posts, read_posts, read_posts_at, epoch_for, cell_on, is_read}
 use Rattle.petal_rules.specs.World.{World, lines_of, start, setting_of}
 use Rattle.petal_history.specs.Claims.{Requests, IsOver, IsLateAt, HasFinished}
 use Rattle.petal_history.specs.Contents.{chosen_state}
@@ -169,7 +169,7 @@ module _ (state : State) (lines : List Line) (c : ℕ) where
     ended_closed seq ending.Written h = end_closed seq (known_of _ h)
     ended_closed seq ending.Full h = end_closed seq (known_of _ h)
 
-    pub turn_ok : (in_call : Bool) (reacted : Reacted) → Turned (Heard w (actor.Client c)) state lines c client in_call reacted → T reacted.client reacted.posts
+    pub turn_ok : (in_call : Bool) (reacted : Reaction) → Turned (Heard w (actor.Client c)) state lines c client in_call reacted → T reacted.client reacted.posts
     turn_ok _ _ Rests = rests_ok
     turn_ok _ _ (Sends_anew asked is) = anew_ok asked _ asked.turn is refl refl refl _ refl refl
     turn_ok _ _ (Begins line is free) = begins_ok line _ _ (ap (slice_get (lines_of lines c)) (counted client.seq) ∙ is) free refl refl refl refl refl

@@ -1,7 +1,7 @@
 -- What the machine is told of a client's step is allowed, and keeps it tied to the world.
 use Rattle.std.proofs.Common.{◌≡◌, ◌≢◌, ◌≤◌, ◌<◌, ◌+◌, ℕ, List, [], ◌∷◌, ◌++◌, Bool, true, false, Option, Some, None, refl, sym, ap, ◌∙◌, subst, ◌⊎◌, inl, inr, arith}
 use Rattle.std.specs.Ordering.{nat_cmp}
-use Rattle.petal_base.specs.declared.place.Cell.{Cell}
+use Rattle.petal_base.specs.declared.cell.Cell.{Cell}
 use Rattle.petal_table.specs.Table.{at}
 use Rattle.petal_machine.specs.declared.event.Event.{Event}
 use Rattle.petal_machine.specs.declared.event.Event.TheVariants.{Begin, End}
@@ -26,7 +26,7 @@ use Rattle.petal_rules.specs.State.{State}
 use Rattle.petal_rules.specs.Store.{cell_cmp}
 use Rattle.petal_rules.specs.Server.{Post, letters_of}
 use Rattle.petal_rules.specs.Writes.{ended}
-use Rattle.petal_rules.specs.Clients.{Client, Asked, Reacted, rests, sends, opens, answers, client_sender, is_read, is_write}
+use Rattle.petal_rules.specs.Clients.{Client, Asked, Reaction, rests, sends, opens, answers, client_sender, is_read, is_write}
 use Rattle.petal_rules.specs.World.{Setting, World, reacts, stamped, next_line}
 use Rattle.petal_rules.proofs.ListLemmas.{put_same, in-append}
 use Rattle.petal_history.specs.Contents.{disk_name}
@@ -86,17 +86,17 @@ module _ (servers slots : ℕ) (lines : List Line) (state : State) (steady : IsS
     abbrev client : Client
     client = w.clients c
 
-    abbrev after_turn : Reacted → World
+    abbrev after_turn : Reaction → World
     after_turn reacted = (reacts state w c stamp reacted).world
 
-    no_looks : (in_call : Bool) (reacted : Reacted) → Turned (Heard w (actor.Client c)) state lines c client in_call reacted → looks lines later (reacts state w c stamp reacted).letters ≡ []
+    no_looks : (in_call : Bool) (reacted : Reaction) → Turned (Heard w (actor.Client c)) state lines c client in_call reacted → looks lines later (reacts state w c stamp reacted).letters ≡ []
     no_looks in_call reacted turned = all_empty (λ letter. look_of lines later letter letter.body) (stamped stamp (letters_of (client_sender state c) 0 reacted.posts))
         (λ letter h. let s = said (client_sender state c) stamp 0 reacted.posts letter h in no_look lines later letter letter.body (ap is_data s.body ∙ ask_data s.post.body (turned_asks _ state lines c client in_call reacted turned s.post s.there)))
 
-    unwritten : (in_call : Bool) (reacted : Reacted) → Turned (Heard w (actor.Client c)) state lines c client in_call reacted → (post : Post) → In post reacted.posts → (seq : ℕ) → post.body ≢ body.Written seq
+    unwritten : (in_call : Bool) (reacted : Reaction) → Turned (Heard w (actor.Client c)) state lines c client in_call reacted → (post : Post) → In post reacted.posts → (seq : ℕ) → post.body ≢ body.Written seq
     unwritten in_call reacted turned post h seq e = true_false (turned_asks _ state lines c client in_call reacted turned post h) (ap is_ask e)
 
-    nothing_taken : (reacted : Reacted) → takes setting w (after_turn reacted) ≡ Some []
+    nothing_taken : (reacted : Reaction) → takes setting w (after_turn reacted) ≡ Some []
     nothing_taken reacted = no_takes setting w (after_turn reacted) (λ b. refl)
 
     -- ### The frame
@@ -114,7 +114,7 @@ module _ (servers slots : ℕ) (lines : List Line) (state : State) (steady : IsS
         let top : done_to (at nat_cmp (owns_of w n).pairs.finished c) ≡ last.seq + 1 = ap done_to is in
         omega arith
 
-    module _ (k : Plain) (reacted : Reacted) (turn : TurnFollow w m k c reacted.client) where
+    module _ (k : Plain) (reacted : Reaction) (turn : TurnFollow w m k c reacted.client) where
       -- what was held is held, for the request that is still open
       held_still : (seq : ℕ) → seq ≤ client.seq → IsOpen reacted.client seq → (IsOpen client seq → is_held m c ≡ true) → is_held k c ≡ true
       held_still seq le still held = elim (turn.helds seq still) [ inl same ↦ same.1 (held same.0) | inr new ↦ absurd (omega arith) ]
@@ -162,7 +162,7 @@ module _ (servers slots : ℕ) (lines : List Line) (state : State) (steady : IsS
     begins_by false next = []
 
     -- what is told of a client's step
-    pub record ClientTold (in_call : Bool) (reacted : Reacted) : Type 0 where
+    pub record ClientTold (in_call : Bool) (reacted : Reaction) : Type 0 where
       pub es : List Event
       pub is : told_with (begins_by in_call (after_turn reacted)) (takes setting w (after_turn reacted)) (looks lines later (reacts state w c stamp reacted).letters ++ events.ended (open_write w c) reacted.answer) ≡ Some es
       pub may : Obeys m es
@@ -173,7 +173,7 @@ module _ (servers slots : ℕ) (lines : List Line) (state : State) (steady : IsS
     ended_none (Some write) = refl
 
     -- nothing is told
-    silent : (in_call : Bool) (reacted : Reacted) → Turned (Heard w (actor.Client c)) state lines c client in_call reacted → Asking state lines (after_turn reacted) → begins_by in_call (after_turn reacted) ≡ [] → events.ended (open_write w c) reacted.answer ≡ [] → TurnFollow w m m c reacted.client → ClientTold in_call reacted
+    silent : (in_call : Bool) (reacted : Reaction) → Turned (Heard w (actor.Client c)) state lines c client in_call reacted → Asking state lines (after_turn reacted) → begins_by in_call (after_turn reacted) ≡ [] → events.ended (open_write w c) reacted.answer ≡ [] → TurnFollow w m m c reacted.client → ClientTold in_call reacted
     silent in_call reacted turned next begins ends turn = record {
       es = [];
       is = (λ i. told_with (begins i) (nothing_taken reacted i) (no_looks in_call reacted turned i ++ ends i));
@@ -199,13 +199,13 @@ module _ (servers slots : ℕ) (lines : List Line) (state : State) (steady : IsS
     empty_seat : open_write w c ≡ None → open_of m.opened c ≡ None
     empty_seat none = subst (λ o. Seat o (open_of m.opened c)) none (follow.seats c)
 
-    open_now : (reacted : Reacted) → open_write (after_turn reacted) c ≡ write_asked c reacted.client.asked
+    open_now : (reacted : Reaction) → open_write (after_turn reacted) c ≡ write_asked c reacted.client.asked
     open_now reacted = ap (λ (x : Client). write_asked c x.asked) (put_same w.clients c reacted.client)
 
     begins_told : (line : Line) (is : next_line lines c client ≡ Some line) (free : client.asked ≡ None) → Asking state lines (after_turn (opens state c client line.number line.request)) → ClientTold true (opens state c client line.number line.request)
     begins_told line is free next = by (write_by c (client.seq + 1) line.request) refl
       where
-        reacted : Reacted
+        reacted : Reaction
         reacted = opens state c client line.number line.request
 
         by : (o : Option Write) → write_by c (client.seq + 1) line.request ≡ o → ClientTold true (opens state c client line.number line.request)
@@ -229,7 +229,7 @@ module _ (servers slots : ℕ) (lines : List Line) (state : State) (steady : IsS
               }) next (unwritten true reacted (Begins line is free));
             }
 
-    makes_told : (line : Line) (of_name tuple : List ℕ) (is : next_line lines c client ≡ Some line) (free : client.asked ≡ None) (e : line.request ≡ request.Disk of_name tuple) (reacted : Reacted) → reacted ≡ record { client = record client { seq = client.seq + 1 }; posts = []; answer = Some (line.number, answer.Ok) } → Turned (Heard w (actor.Client c)) state lines c client true reacted → reacted.client.asked ≡ client.asked
+    makes_told : (line : Line) (of_name tuple : List ℕ) (is : next_line lines c client ≡ Some line) (free : client.asked ≡ None) (e : line.request ≡ request.Disk of_name tuple) (reacted : Reaction) → reacted ≡ record { client = record client { seq = client.seq + 1 }; posts = []; answer = Some (line.number, answer.Ok) } → Turned (Heard w (actor.Client c)) state lines c client true reacted → reacted.client.asked ≡ client.asked
         → Asking state lines (after_turn reacted) → ClientTold true reacted
     makes_told line of_name tuple is free e reacted same turned asked next = silent true reacted turned next (ap begun (open_now reacted ∙ ap (write_asked c) (asked ∙ free))) (ap (λ o. events.ended o reacted.answer) (no_write free))
         (quiet_turn reacted.client (subst (λ o. Seat (write_asked c o) (open_of m.opened c)) (sym (asked ∙ free)) (empty_seat (no_write free))) (λ seq h. none_some (asked ∙ free) h.is))
@@ -271,7 +271,7 @@ module _ (servers slots : ℕ) (lines : List Line) (state : State) (steady : IsS
           }) next (unwritten false reacted (Ends asked how h is writes));
         }
 
-    pub turn_told : (in_call : Bool) (reacted : Reacted) → Turned (Heard w (actor.Client c)) state lines c client in_call reacted → Asking state lines (after_turn reacted) → ClientTold in_call reacted
+    pub turn_told : (in_call : Bool) (reacted : Reaction) → Turned (Heard w (actor.Client c)) state lines c client in_call reacted → Asking state lines (after_turn reacted) → ClientTold in_call reacted
     turn_told _ _ Rests next = rests_told next
     turn_told _ _ (Sends_anew asked is) next = anew_told asked is next
     turn_told _ _ (Begins line is free) next = begins_told line is free next

@@ -4,7 +4,7 @@ use Rattle.std.specs.Prelude.{is_some}
 use Rattle.petal_base.specs.Tuple.{is_tuple, tuple_of}
 use Rattle.script_words.specs.Words.{Word, ◌>>=◌, is_word, or_else, front_word, no_word, one_word, two_words, three_words, four_words}
 use Rattle.script_words.specs.Fields.{a_name, a_block, a_byte, a_tuple, a_server, a_call, a_device, a_kind, in_limits, numbers_of, version_of}
-use Rattle.petal_script.specs.Client.{spread_of, disk_of, move_of, filled_of, owns_of, write_by, write_of, read_of, snap_of, client_request}
+use Rattle.petal_script.specs.Client.{spread_of, disk_of, move_of, filled_of, halves_of, write_by, write_of, read_of, snap_of, client_request}
 use Rattle.petal_script.specs.Operator.{stop_at, stop_of, fault_of, boot_of, operator_request}
 use Rattle.petal_script.specs.Script.{TextLine, script_of, text_lines, lines_behind, first_line, servers_line, net_line}
 use Rattle.script_words.specs.Text.{pieces, words_of}
@@ -75,8 +75,8 @@ module _ (servers : ℕ) where
   unfolding filled_of
   filled_fits disk place how x = then_ok _ (a_name disk) _ (λ name e. then_ok _ (a_block place) _ (λ block f. then_ok _ (a_byte x) _ (λ y g. tt)))
 
-  halves_fits : (disk place x y : Word) → Fit (owns_of disk place x y)
-  unfolding owns_of
+  halves_fits : (disk place x y : Word) → Fit (halves_of disk place x y)
+  unfolding halves_of
   halves_fits disk place x y = then_ok _ (a_name disk) _ (λ name e. then_ok _ (a_block place) _ (λ block f. then_ok _ (a_byte x) _ (λ a g. then_ok _ (a_byte y) _ (λ b h. tt))))
 
   write_by_fits : (disk place kind : Word) (numbers : List Word) → Fit (write_by disk place kind numbers)

@@ -1,7 +1,7 @@
 -- What a job has to show so that servers and clients stay tied to the plain machine.
 use Rattle.std.proofs.Common.{◌≡◌, ◌≢◌, ◌≤◌, ◌<◌, ◌+◌, ℕ, List, true, Some, sym, ap, ◌∙◌, subst, ◌⊎◌, inl, inr, arith}
 use Rattle.std.specs.Ordering.{nat_cmp}
-use Rattle.petal_base.specs.declared.place.Cell.{Cell}
+use Rattle.petal_base.specs.declared.cell.Cell.{Cell}
 use Rattle.petal_table.specs.Table.{Table, at}
 use Rattle.petal_machine.specs.Machine.{Plain, content}
 use Rattle.petal_msg.specs.declared.body.Body.TheVariants as body

@@ -3,7 +3,7 @@ use Rattle.std.proofs.Common.{◌≡◌, ◌≢◌, ◌<◌, ◌==◌, ◌&&◌,
 use Rattle.std.specs.Prelude.{map}
 use Rattle.std.specs.List.{range_with_len, filter_map}
 use Rattle.std.proofs.lemmas.Cmp.{nat_list_eq_equiv}
-use Rattle.petal_base.specs.declared.place.Cell.{Cell}
+use Rattle.petal_base.specs.declared.cell.Cell.{Cell}
 use Rattle.petal_table.specs.Table.{at}
 use Rattle.petal_machine.specs.declared.event.Event.{Event}
 use Rattle.petal_machine.specs.declared.event.Event.TheVariants.{Take}

@@ -1,7 +1,7 @@
 -- What ties servers and clients to the plain machine.
 use Rattle.std.specs.Prelude.{◌≡◌, ◌≤◌, ◌+◌, ◌⊎◌, ℕ, true, List, [], ◌∷◌, Some}
 use Rattle.std.specs.Ordering.{nat_cmp}
-use Rattle.petal_base.specs.declared.place.Cell.{Cell}
+use Rattle.petal_base.specs.declared.cell.Cell.{Cell}
 use Rattle.petal_table.specs.Table.{Table, at}
 use Rattle.petal_machine.specs.Machine.{Plain, content, open_of}
 use Rattle.petal_msg.specs.declared.body.Body.TheVariants as body

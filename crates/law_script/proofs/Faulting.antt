@@ -10,10 +10,10 @@ use Rattle.script_words.specs.Text.{words_of}
 use Rattle.script_words.specs.Number.{is_number, value}
 use Rattle.script_words.specs.Words.{Word, ◌>>=◌, or_else, is_word, no_word, one_word, two_words, three_words, four_words}
 use Rattle.script_words.specs.Fields.{a_name, in_limits, a_server, a_call, numbers_of, a_tuple, version_by, version_of}
-use Rattle.petal_script.specs.Client.{spread_of, disk_of, move_of, filled_of, owns_of, write_of, read_of, snap_of, client_request}
+use Rattle.petal_script.specs.Client.{spread_of, disk_of, move_of, filled_of, halves_of, write_of, read_of, snap_of, client_request}
 use Rattle.petal_script.specs.Operator.{stop_at, stop_of, fault_of, boot_of, operator_request}
 use Rattle.petal_script.specs.Script.{TextLine, is_skipped, is_client, servers_line, net_line, adds, later_line, first_line, counted, line_verdict, too_many, no_majority}
-use Rattle.law_script.specs.Faults.{Places, place, numbers_only, server_place, servers_places, net_places, bare_places, spread_places, write_places, version_names, read_places, snap_places, client_places, stop_places, boot_places, is_device, is_kind, fault_places, operator_places, line_places, is_good, bad_name, bad_number, is_unfit, bad_tuple, lacks_servers, with_request, lines_with, are_too_many, leave_no_majority, servers_in, has_fault, in_order, told}
+use Rattle.law_script.specs.Faults.{Positions, place, numbers_only, server_place, servers_positions, net_positions, bare_positions, spread_positions, write_positions, version_names, read_positions, snap_positions, client_positions, stop_positions, boot_positions, is_device, is_kind, fault_positions, operator_positions, line_positions, is_good, bad_name, bad_number, is_unfit, bad_tuple, lacks_servers, with_request, lines_with, are_too_many, leave_no_majority, servers_in, has_fault, in_order, told}
 use Rattle.petal_disk.specs.declared.shelf.Which.{Which}
 use Rattle.petal_disk.specs.declared.shelf.Which.TheVariants as devices
 use Rattle.petal_disk.specs.declared.planned.CallKind.{CallKind}
@@ -74,15 +74,15 @@ numbered least most word f t later same = told_bind (in_limits least most word) 
 -- ### Words in their places
 
 -- what words in their places are told, and what comes behind them
-abbrev places_told : ℕ → Option Places → Option Cause → Option Cause
+abbrev places_told : ℕ → Option Positions → Option Cause → Option Cause
 places_told servers places later =
     cond (is_none places) (Some BadLine) (cond (bad_name places) (Some BadName) (cond (bad_number places) (Some BadNumber) (cond (bad_tuple servers places) (Some BadTuple) later)))
 
-split : {A : Type 0} (n : ℕ) (b : Bool) (r s : Result A Cause) (p q : Option Places) → told r ≡ places_told n p None → told s ≡ places_told n q None → told (cond b r s) ≡ places_told n (cond b p q) None
+split : {A : Type 0} (n : ℕ) (b : Bool) (r s : Result A Cause) (p q : Option Positions) → told r ≡ places_told n p None → told s ≡ places_told n q None → told (cond b r s) ≡ places_told n (cond b p q) None
 split n true r s p q here there = here
 split n false r s p q here there = there
 
-split_not : {A : Type 0} (n : ℕ) (b : Bool) (r : Result A Cause) (p : Option Places) → told r ≡ places_told n p None → told (cond (not b) (Err BadLine) r) ≡ places_told n (cond b p None) None
+split_not : {A : Type 0} (n : ℕ) (b : Bool) (r : Result A Cause) (p : Option Positions) → told r ≡ places_told n p None → told (cond (not b) (Err BadLine) r) ≡ places_told n (cond b p None) None
 split_not n true r p same = same
 split_not n false r p same = refl
 
@@ -96,7 +96,7 @@ not_one n = let more : suc (suc (suc n)) ≢ 1 = omega arith in ne_eqb (suc (suc
 not_two : (n : ℕ) → (suc (suc (suc n)) == 2) ≡ false
 not_two n = let more : suc (suc (suc n)) ≢ 2 = omega arith in ne_eqb (suc (suc (suc n))) 2 more
 
-without_form : (n : ℕ) (b : Bool) (p : Option Places) → b ≡ false → Some BadLine ≡ places_told n (cond b p None) None
+without_form : (n : ℕ) (b : Bool) (p : Option Positions) → b ≡ false → Some BadLine ≡ places_told n (cond b p None) None
 without_form n true p is = absurd (cc)
 without_form n false p is = refl
 
@@ -125,18 +125,18 @@ both_told : (servers : ℕ) (disk : Word) (words : List Word) → told (both ser
 both_told servers disk words =
     named {B = List ℕ × List ℕ} disk (λ name. a_tuple servers words >>= (λ tuple. Ok (name, tuple))) false _ (λ name. told_last {B = List ℕ × List ℕ} (a_tuple servers words) (λ tuple. (name, tuple)) ∙ tuple_told servers words)
 
-spread_told : (servers : ℕ) (words : List Word) → told (spread_of servers words) ≡ places_told servers (spread_places words) None
+spread_told : (servers : ℕ) (words : List Word) → told (spread_of servers words) ≡ places_told servers (spread_positions words) None
 unfolding spread_of
 spread_told servers [] = refl
 spread_told servers (disk ∷ []) = refl
 spread_told servers (disk ∷ on ∷ []) = elim (cases_Bool (is_word on (codes "on"))) [ inl is ↦ rw is refl | inr is ↦ rw is refl ]
 spread_told servers (disk ∷ on ∷ server ∷ words) = elim (cases_Bool (is_word on (codes "on"))) [ inl is ↦ rw (is, not_none (length words)) (both_told servers disk (server ∷ words)) | inr is ↦ rw is refl ]
 
-disk_told : (servers : ℕ) (words : List Word) → told (disk_of servers words) ≡ places_told servers (spread_places words) None
+disk_told : (servers : ℕ) (words : List Word) → told (disk_of servers words) ≡ places_told servers (spread_positions words) None
 unfolding disk_of
 disk_told servers words = told_last (spread_of servers words) _ ∙ spread_told servers words
 
-move_told : (servers : ℕ) (words : List Word) → told (move_of servers words) ≡ places_told servers (spread_places words) None
+move_told : (servers : ℕ) (words : List Word) → told (move_of servers words) ≡ places_told servers (spread_positions words) None
 unfolding move_of
 move_told servers words = told_last (spread_of servers words) _ ∙ spread_told servers words
 
@@ -145,12 +145,12 @@ unfolding filled_of
 filled_told n disk block x pattern =
     named disk _ false _ (λ name. numbered 0 281474976710655 block _ (not (is_good (place 0 255 x)) || false) None (λ b. numbered 0 255 x _ false None (λ y. refl)))
 
-halves_told : (n : ℕ) (disk block x y : Word) → told (owns_of disk block x y) ≡ places_told n (Some (record { names = disk ∷ []; numbers = place 0 281474976710655 block ∷ place 0 255 x ∷ place 0 255 y ∷ []; tuple = None })) None
-unfolding owns_of
+halves_told : (n : ℕ) (disk block x y : Word) → told (halves_of disk block x y) ≡ places_told n (Some (record { names = disk ∷ []; numbers = place 0 281474976710655 block ∷ place 0 255 x ∷ place 0 255 y ∷ []; tuple = None })) None
+unfolding halves_of
 halves_told n disk block x y =
     named disk _ false _ (λ name. numbered 0 281474976710655 block _ (not (is_good (place 0 255 x)) || (not (is_good (place 0 255 y)) || false)) None (λ b. numbered 0 255 x _ (not (is_good (place 0 255 y)) || false) None (λ c. numbered 0 255 y _ false None (λ d. refl))))
 
-by_length : (n : ℕ) (fill ramp halves : Bool) (count : ℕ) (filled ramped halved : Result Request Cause) (p : Option Places) → told filled ≡ places_told n (cond (count == 1) p None) None → told ramped ≡ places_told n (cond (count == 1) p None) None → told halved ≡ places_told n (cond (count == 2) p None) None → (count == 0) ≡ false → told (cond fill filled (cond ramp ramped (cond halves halved (Err BadLine)))) ≡ places_told n (cond (count == cond fill 1 (cond ramp 1 (cond halves 2 0))) p None) None
+by_length : (n : ℕ) (fill ramp halves : Bool) (count : ℕ) (filled ramped halved : Result Request Cause) (p : Option Positions) → told filled ≡ places_told n (cond (count == 1) p None) None → told ramped ≡ places_told n (cond (count == 1) p None) None → told halved ≡ places_told n (cond (count == 2) p None) None → (count == 0) ≡ false → told (cond fill filled (cond ramp ramped (cond halves halved (Err BadLine)))) ≡ places_told n (cond (count == cond fill 1 (cond ramp 1 (cond halves 2 0))) p None) None
 by_length n true ramp halves count filled ramped halved p f r h some = f
 by_length n false true halves count filled ramped halved p f r h some = r
 by_length n false false true count filled ramped halved p f r h some = h
@@ -162,7 +162,7 @@ bare_write false true halves = refl
 bare_write false false true = refl
 bare_write false false false = refl
 
-write_told : (n : ℕ) (words : List Word) → told (write_of words) ≡ places_told n (write_places words) None
+write_told : (n : ℕ) (words : List Word) → told (write_of words) ≡ places_told n (write_positions words) None
 unfolding write_of one_word two_words
 write_told n [] = refl
 write_told n (disk ∷ []) = refl
@@ -186,7 +186,7 @@ version_told : (word : Word) → told (version_of word) ≡ cond (list_any (λ w
 unfolding version_of
 version_told word = version_by_told word (position (nat_eq 64) word)
 
-read_told : (n : ℕ) (words : List Word) → told (read_of words) ≡ places_told n (read_places words) None
+read_told : (n : ℕ) (words : List Word) → told (read_of words) ≡ places_told n (read_positions words) None
 unfolding read_of one_word two_words
 read_told n [] = refl
 read_told n (disk ∷ []) = refl
@@ -197,14 +197,14 @@ read_told n (disk ∷ block ∷ []) =
     ∙ or_cond (list_any (λ w. not (is_name w)) (version_names disk (position (nat_eq 64) disk))) BadName later
 read_told n (disk ∷ block ∷ other ∷ more) = refl
 
-snap_told : (n : ℕ) (words : List Word) → told (snap_of words) ≡ places_told n (snap_places words) None
+snap_told : (n : ℕ) (words : List Word) → told (snap_of words) ≡ places_told n (snap_positions words) None
 unfolding snap_of one_word two_words
 snap_told n [] = refl
 snap_told n (disk ∷ []) = refl
 snap_told n (disk ∷ snap ∷ []) = named disk _ (not (is_name snap) || false) None (λ name. named snap _ false None (λ s. refl))
 snap_told n (disk ∷ snap ∷ other ∷ more) = refl
 
-client_told : (servers : ℕ) (words : List Word) → told (client_request servers words) ≡ places_told servers (client_places words) None
+client_told : (servers : ℕ) (words : List Word) → told (client_request servers words) ≡ places_told servers (client_positions words) None
 unfolding client_request
 client_told servers [] = refl
 client_told servers (verb ∷ words) =
@@ -222,7 +222,7 @@ one_server n servers s f = numbered 0 (servers - 1) s _ false None (λ server. r
 server_and_call : (n servers : ℕ) (s k : Word) (f : ℕ → ℕ → Request) → told (a_server servers s >>= (λ server. a_call k >>= (λ at. Ok (f server at)))) ≡ places_told n (numbers_only (server_place servers s ∷ place 1 1000000 k ∷ [])) None
 server_and_call n servers s k f = numbered 0 (servers - 1) s _ (not (is_good (place 1 1000000 k)) || false) None (λ server. numbered 1 1000000 k _ false None (λ at. refl))
 
-stop_told : (n servers : ℕ) (words : List Word) → told (stop_of servers words) ≡ places_told n (stop_places servers words) None
+stop_told : (n servers : ℕ) (words : List Word) → told (stop_of servers words) ≡ places_told n (stop_positions servers words) None
 unfolding stop_of stop_at one_word two_words
 stop_told n servers [] = refl
 stop_told n servers (s ∷ []) = one_server n servers s _
@@ -230,28 +230,28 @@ stop_told n servers (s ∷ at ∷ []) = refl
 stop_told n servers (s ∷ at ∷ k ∷ []) = split_not n (is_word at (codes "at")) _ _ (server_and_call n servers s k _)
 stop_told n servers (s ∷ at ∷ k ∷ other ∷ more) = rw (not_none (suc (suc (length more)))) refl
 
-boot_told : (n servers : ℕ) (request : ℕ → Request) (words : List Word) → told (boot_of servers request words) ≡ places_told n (boot_places servers words) None
+boot_told : (n servers : ℕ) (request : ℕ → Request) (words : List Word) → told (boot_of servers request words) ≡ places_told n (boot_positions servers words) None
 unfolding boot_of one_word
 boot_told n servers request [] = refl
 boot_told n servers request (s ∷ []) = one_server n servers s request
 boot_told n servers request (s ∷ other ∷ more) = refl
 
-device_split : {B : Type 0} (n : ℕ) (a b : Bool) (f : Which → Result B Cause) (p : Option Places) → ((which : Which) → told (f which) ≡ places_told n p None) → told (cond a (Ok devices.Data) (cond b (Ok devices.State) (Err BadLine)) >>= f) ≡ places_told n (cond (a || b) p None) None
+device_split : {B : Type 0} (n : ℕ) (a b : Bool) (f : Which → Result B Cause) (p : Option Positions) → ((which : Which) → told (f which) ≡ places_told n p None) → told (cond a (Ok devices.Data) (cond b (Ok devices.State) (Err BadLine)) >>= f) ≡ places_told n (cond (a || b) p None) None
 device_split n true b f p same = same devices.Data
 device_split n false true f p same = same devices.State
 device_split n false false f p same = refl
 
-kind_split : {B : Type 0} (n : ℕ) (a b c : Bool) (f : CallKind → Result B Cause) (p : Option Places) → ((kind : CallKind) → told (f kind) ≡ places_told n p None) → told (cond a (Ok calls.Read) (cond b (Ok calls.Write) (cond c (Ok calls.Sync) (Err BadLine))) >>= f) ≡ places_told n (cond ((a || b) || c) p None) None
+kind_split : {B : Type 0} (n : ℕ) (a b c : Bool) (f : CallKind → Result B Cause) (p : Option Positions) → ((kind : CallKind) → told (f kind) ≡ places_told n p None) → told (cond a (Ok calls.Read) (cond b (Ok calls.Write) (cond c (Ok calls.Sync) (Err BadLine))) >>= f) ≡ places_told n (cond ((a || b) || c) p None) None
 kind_split n true b c f p same = same calls.Read
 kind_split n false true c f p same = same calls.Write
 kind_split n false false true f p same = same calls.Sync
 kind_split n false false false f p same = refl
 
-and_cond : (n : ℕ) (a b : Bool) (p : Option Places) → places_told n (cond a (cond b p None) None) None ≡ places_told n (cond (a && b) p None) None
+and_cond : (n : ℕ) (a b : Bool) (p : Option Positions) → places_told n (cond a (cond b p None) None) None ≡ places_told n (cond (a && b) p None) None
 and_cond n true b p = refl
 and_cond n false b p = refl
 
-fault_told : (n servers : ℕ) (words : List Word) → told (fault_of servers words) ≡ places_told n (fault_places servers words) None
+fault_told : (n servers : ℕ) (words : List Word) → told (fault_of servers words) ≡ places_told n (fault_positions servers words) None
 unfolding fault_of one_word two_words three_words four_words
 fault_told n servers [] = refl
 fault_told n servers (s ∷ []) = refl
@@ -264,11 +264,11 @@ fault_told n servers (s ∷ device ∷ kind ∷ k ∷ []) =
     ∙ and_cond n (is_device device) (is_kind kind) (numbers_only (server_place servers s ∷ place 1 1000000 k ∷ []))
 fault_told n servers (s ∷ device ∷ kind ∷ k ∷ other ∷ more) = refl
 
-settle_told : (n : ℕ) (request : Request) (words : List Word) → told (no_word words >>= (λ none. Ok request)) ≡ places_told n (bare_places words) None
+settle_told : (n : ℕ) (request : Request) (words : List Word) → told (no_word words >>= (λ none. Ok request)) ≡ places_told n (bare_positions words) None
 settle_told n request [] = refl
 settle_told n request (other ∷ more) = refl
 
-operator_told : (n servers : ℕ) (words : List Word) → told (operator_request servers words) ≡ places_told n (operator_places servers words) None
+operator_told : (n servers : ℕ) (words : List Word) → told (operator_request servers words) ≡ places_told n (operator_positions servers words) None
 unfolding operator_request
 operator_told n servers [] = refl
 operator_told n servers (verb ∷ words) =
@@ -280,7 +280,7 @@ operator_told n servers (verb ∷ words) =
 
 -- ### Other lines
 
-servers_told : (n : ℕ) (words : List Word) → told (servers_line words) ≡ places_told n (servers_places words) None
+servers_told : (n : ℕ) (words : List Word) → told (servers_line words) ≡ places_told n (servers_positions words) None
 unfolding servers_line one_word two_words three_words
 servers_told n [] = refl
 servers_told n (a ∷ []) = refl
@@ -288,13 +288,13 @@ servers_told n (a ∷ slots ∷ []) = refl
 servers_told n (a ∷ slots ∷ k ∷ []) = split_not n (is_word slots (codes "slots")) _ _ (numbered 2 8 a _ (not (is_good (place 1 1024 k)) || false) None (λ servers. numbered 1 1024 k _ false None (λ b. refl)))
 servers_told n (a ∷ slots ∷ k ∷ other ∷ more) = refl
 
-net_split : (n : ℕ) (l a b : Bool) (lose twice : Result Script Cause) (p : Option Places) → told lose ≡ places_told n p None → told twice ≡ places_told n p None → told (cond (not l) (Err BadLine) (cond a lose (cond b twice (Err BadLine)))) ≡ places_told n (cond (l && (a || b)) p None) None
+net_split : (n : ℕ) (l a b : Bool) (lose twice : Result Script Cause) (p : Option Positions) → told lose ≡ places_told n p None → told twice ≡ places_told n p None → told (cond (not l) (Err BadLine) (cond a lose (cond b twice (Err BadLine)))) ≡ places_told n (cond (l && (a || b)) p None) None
 net_split n false a b lose twice p x y = refl
 net_split n true true b lose twice p x y = x
 net_split n true false true lose twice p x y = y
 net_split n true false false lose twice p x y = refl
 
-net_told : (n : ℕ) (s : Script) (words : List Word) → told (net_line s words) ≡ places_told n (net_places s words) None
+net_told : (n : ℕ) (s : Script) (words : List Word) → told (net_line s words) ≡ places_told n (net_positions s words) None
 unfolding net_line one_word two_words
 net_told n s [] = refl
 net_told n s (what ∷ []) = refl
@@ -303,7 +303,7 @@ net_told n s (what ∷ k ∷ []) =
     (numbered 2 1000000 k _ false None (λ a. refl)) (numbered 2 1000000 k _ false None (λ a. refl))
 net_told n s (what ∷ k ∷ other ∷ more) = refl
 
-wait_told : (n : ℕ) (after : Script) (words : List Word) → told (no_word words >>= (λ none. Ok after)) ≡ places_told n (bare_places words) None
+wait_told : (n : ℕ) (after : Script) (words : List Word) → told (no_word words >>= (λ none. Ok after)) ≡ places_told n (bare_positions words) None
 wait_told n after [] = refl
 wait_told n after (other ∷ more) = refl
 
@@ -330,11 +330,11 @@ none_before false false true d later is = absurd (cc)
 none_before false false false true later is = absurd (cc)
 none_before false false false false later is = refl
 
-asks_told : (n : ℕ) (s : Script) (number client : ℕ) (r : Result Request Cause) (p : Option Places) → told r ≡ places_told n p None → told (r >>= adds s number client) ≡ places_told n p (limits_told s.servers (with_request s number client r))
+asks_told : (n : ℕ) (s : Script) (number client : ℕ) (r : Result Request Cause) (p : Option Positions) → told r ≡ places_told n p None → told (r >>= adds s number client) ≡ places_told n p (limits_told s.servers (with_request s number client r))
 asks_told n s number client (Ok request) p same = adds_told s number client request ∙ none_before (is_none p) (bad_name p) (bad_number p) (bad_tuple n p) (limits_told s.servers (with_request s number client (Ok request))) same
 asks_told n s number client (Err cause) p same = same
 
-later_split : (n m : ℕ) (servers net wait op client : Bool) (nets waits ops : Result Script Cause) (number : ℕ) (clients : ℕ → Result Script Cause) (pn pw po pc : Option Places) (lo lc : Option (List Line)) → told nets ≡ places_told n pn None → told waits ≡ places_told n pw None → told ops ≡ places_told n po (limits_told m lo) → told (clients number) ≡ places_told n pc (limits_told m lc) → told (cond servers (Err BadLine) (cond net nets (cond wait waits (cond op ops (cond client (Ok number) (Err BadLine) >>= clients))))) ≡ places_told n (cond servers None (cond net pn (cond wait pw (cond op po (cond client pc None))))) (limits_told m (cond (servers || (net || wait)) None (cond op lo (cond client lc None))))
+later_split : (n m : ℕ) (servers net wait op client : Bool) (nets waits ops : Result Script Cause) (number : ℕ) (clients : ℕ → Result Script Cause) (pn pw po pc : Option Positions) (lo lc : Option (List Line)) → told nets ≡ places_told n pn None → told waits ≡ places_told n pw None → told ops ≡ places_told n po (limits_told m lo) → told (clients number) ≡ places_told n pc (limits_told m lc) → told (cond servers (Err BadLine) (cond net nets (cond wait waits (cond op ops (cond client (Ok number) (Err BadLine) >>= clients))))) ≡ places_told n (cond servers None (cond net pn (cond wait pw (cond op po (cond client pc None))))) (limits_told m (cond (servers || (net || wait)) None (cond op lo (cond client lc None))))
 later_split n m true net wait op client nets waits ops number clients pn pw po pc lo lc a b c d = refl
 later_split n m false true wait op client nets waits ops number clients pn pw po pc lo lc a b c d = a
 later_split n m false false true op client nets waits ops number clients pn pw po pc lo lc a b c d = b
@@ -342,26 +342,26 @@ later_split n m false false false true client nets waits ops number clients pn p
 later_split n m false false false false true nets waits ops number clients pn pw po pc lo lc a b c d = d
 later_split n m false false false false false nets waits ops number clients pn pw po pc lo lc a b c d = refl
 
-later_told : (s : Script) (number : ℕ) (words : List Word) → told (later_line s number words) ≡ places_told s.servers (line_places (Some s) words) (limits_told s.servers (lines_with (Some s) number words))
+later_told : (s : Script) (number : ℕ) (words : List Word) → told (later_line s number words) ≡ places_told s.servers (line_positions (Some s) words) (limits_told s.servers (lines_with (Some s) number words))
 unfolding later_line
 later_told s number [] = refl
 later_told s number (first ∷ words) =
     later_split s.servers s.servers (is_word first (codes "servers")) (is_word first (codes "net")) (is_word first (codes "wait")) (is_word first (codes "op")) (is_client first) _ _ _ _ _ _ _ _ _ _ _
     (net_told s.servers s words)
     (wait_told s.servers _ words)
-    (asks_told s.servers s number 8 (operator_request s.servers words) (operator_places s.servers words) (operator_told s.servers s.servers words))
-    (asks_told s.servers s number (slice_index first 0 - 97) (client_request s.servers words) (client_places words) (client_told s.servers words))
+    (asks_told s.servers s number 8 (operator_request s.servers words) (operator_positions s.servers words) (operator_told s.servers s.servers words))
+    (asks_told s.servers s number (slice_index first 0 - 97) (client_request s.servers words) (client_positions words) (client_told s.servers words))
 
-first_split : (b : Bool) (r : Result Script Cause) (p : Option Places) → told r ≡ places_told 0 p None → told (cond b r (Err NoServersLine)) ≡ cond (not b) (Some NoServersLine) (places_told 0 p None)
+first_split : (b : Bool) (r : Result Script Cause) (p : Option Positions) → told r ≡ places_told 0 p None → told (cond b r (Err NoServersLine)) ≡ cond (not b) (Some NoServersLine) (places_told 0 p None)
 first_split true r p same = same
 first_split false r p same = refl
 
-first_told : (number : ℕ) (words : List Word) → told (first_line words) ≡ cond (lacks_servers None words) (Some NoServersLine) (places_told 0 (line_places None words) (limits_told 0 (lines_with None number words)))
+first_told : (number : ℕ) (words : List Word) → told (first_line words) ≡ cond (lacks_servers None words) (Some NoServersLine) (places_told 0 (line_positions None words) (limits_told 0 (lines_with None number words)))
 unfolding first_line
 first_told number [] = refl
-first_told number (first ∷ words) = first_split (is_word first (codes "servers")) (servers_line words) (servers_places words) (servers_told 0 words)
+first_told number (first ∷ words) = first_split (is_word first (codes "servers")) (servers_line words) (servers_positions words) (servers_told 0 words)
 
-counted_told : (before : Option Script) (number : ℕ) (words : List Word) → told (counted before number words) ≡ cond (lacks_servers before words) (Some NoServersLine) (places_told (servers_in before) (line_places before words) (limits_told (servers_in before) (lines_with before number words)))
+counted_told : (before : Option Script) (number : ℕ) (words : List Word) → told (counted before number words) ≡ cond (lacks_servers before words) (Some NoServersLine) (places_told (servers_in before) (line_positions before words) (limits_told (servers_in before) (lines_with before number words)))
 counted_told None number words = first_told number words
 counted_told (Some s) number words = later_told s number words
 

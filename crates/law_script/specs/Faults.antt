@@ -20,50 +20,50 @@ use Rattle.script_words.specs.declared.cause.Cause.TheVariants.{NotAscii, TooLon
 -- ### The forms of lines
 
 -- a word in a number's place, and the limits there
-pub record NumberPlace : Type 0 where
+pub record NumberPosition : Type 0 where
   pub word : Word
   pub least : ℕ
   pub most : ℕ
 
 -- the words of a line in their places; what stands behind `on`, if it does
-pub record Places : Type 0 where
+pub record Positions : Type 0 where
   pub names : List Word
-  pub numbers : List NumberPlace
+  pub numbers : List NumberPosition
   pub tuple : Option (List Word)
 
-abbrev pub place : ℕ → ℕ → Word → NumberPlace
+abbrev pub place : ℕ → ℕ → Word → NumberPosition
 place least most word = record { word = word; least = least; most = most }
 
-abbrev pub numbers_only : List NumberPlace → Option Places
+abbrev pub numbers_only : List NumberPosition → Option Positions
 numbers_only numbers = Some (record { names = []; numbers = numbers; tuple = None })
 
-abbrev pub server_place : ℕ → Word → NumberPlace
+abbrev pub server_place : ℕ → Word → NumberPosition
 server_place servers word = place 0 (servers - 1) word
 
 -- servers N slots K
-abbrev pub servers_places : List Word → Option Places
-servers_places (n ∷ slots ∷ k ∷ []) =
+abbrev pub servers_positions : List Word → Option Positions
+servers_positions (n ∷ slots ∷ k ∷ []) =
     if is_word slots (codes "slots") then numbers_only (place 2 8 n ∷ place 1 1024 k ∷ []) else None
-servers_places _ = None
+servers_positions _ = None
 
 -- net lose K, net twice K: each once, before the first request
-abbrev pub net_places : Script → List Word → Option Places
-net_places s (what ∷ k ∷ []) =
+abbrev pub net_positions : Script → List Word → Option Positions
+net_positions s (what ∷ k ∷ []) =
     if length s.lines == 0
     && ((is_word what (codes "lose") && not (is_some s.lose)) || (is_word what (codes "twice") && not (is_some s.twice)))
     then numbers_only (place 2 1000000 k ∷ []) else None
-net_places s _ = None
+net_positions s _ = None
 
 -- wait, op settle
-abbrev pub bare_places : List Word → Option Places
-bare_places [] = numbers_only []
-bare_places _ = None
+abbrev pub bare_positions : List Word → Option Positions
+bare_positions [] = numbers_only []
+bare_positions _ = None
 
 -- disk V on S S .., move V on S S ..
-abbrev pub spread_places : List Word → Option Places
-spread_places (disk ∷ on ∷ server ∷ servers) =
+abbrev pub spread_positions : List Word → Option Positions
+spread_positions (disk ∷ on ∷ server ∷ servers) =
     if is_word on (codes "on") then Some (record { names = disk ∷ []; numbers = []; tuple = Some (server ∷ servers) }) else None
-spread_places _ = None
+spread_positions _ = None
 
 -- how many bytes a pattern takes
 abbrev pub pattern_length : Word → ℕ
@@ -74,12 +74,12 @@ pattern_length kind =
     else 0
 
 -- write V B fill X, write V B ramp X, write V B halves X Y
-abbrev pub write_places : List Word → Option Places
-write_places (disk ∷ block ∷ kind ∷ byte ∷ bytes) =
+abbrev pub write_positions : List Word → Option Positions
+write_positions (disk ∷ block ∷ kind ∷ byte ∷ bytes) =
     if length (byte ∷ bytes) == pattern_length kind
     then Some (record { names = disk ∷ []; numbers = place 0 281474976710655 block ∷ map (place 0 255) (byte ∷ bytes); tuple = None })
     else None
-write_places _ = None
+write_positions _ = None
 
 -- V or V@T, parted at the first `@`
 abbrev pub version_names : Word → Option ℕ → List Word
@@ -87,38 +87,38 @@ version_names word None = word ∷ []
 version_names word (Some at) = take at word ∷ drop (at + 1) word ∷ []
 
 -- read V B, read V@T B
-abbrev pub read_places : List Word → Option Places
-read_places (disk ∷ block ∷ []) =
+abbrev pub read_positions : List Word → Option Positions
+read_positions (disk ∷ block ∷ []) =
     Some (record { names = version_names disk (position (nat_eq 64) disk); numbers = place 0 281474976710655 block ∷ []; tuple = None })
-read_places _ = None
+read_positions _ = None
 
 -- snap V T
-abbrev pub snap_places : List Word → Option Places
-snap_places (disk ∷ snap ∷ []) = Some (record { names = disk ∷ snap ∷ []; numbers = []; tuple = None })
-snap_places _ = None
+abbrev pub snap_positions : List Word → Option Positions
+snap_positions (disk ∷ snap ∷ []) = Some (record { names = disk ∷ snap ∷ []; numbers = []; tuple = None })
+snap_positions _ = None
 
 -- behind a client
-abbrev pub client_places : List Word → Option Places
-client_places [] = None
-client_places (verb ∷ words) =
-    if is_word verb (codes "disk") then spread_places words
-    else if is_word verb (codes "write") then write_places words
-    else if is_word verb (codes "read") then read_places words
-    else if is_word verb (codes "snap") then snap_places words
-    else if is_word verb (codes "move") then spread_places words
+abbrev pub client_positions : List Word → Option Positions
+client_positions [] = None
+client_positions (verb ∷ words) =
+    if is_word verb (codes "disk") then spread_positions words
+    else if is_word verb (codes "write") then write_positions words
+    else if is_word verb (codes "read") then read_positions words
+    else if is_word verb (codes "snap") then snap_positions words
+    else if is_word verb (codes "move") then spread_positions words
     else None
 
 -- op stop S, op stop S at K
-abbrev pub stop_places : ℕ → List Word → Option Places
-stop_places servers (s ∷ []) = numbers_only (server_place servers s ∷ [])
-stop_places servers (s ∷ at ∷ k ∷ []) =
+abbrev pub stop_positions : ℕ → List Word → Option Positions
+stop_positions servers (s ∷ []) = numbers_only (server_place servers s ∷ [])
+stop_positions servers (s ∷ at ∷ k ∷ []) =
     if is_word at (codes "at") then numbers_only (server_place servers s ∷ place 1 1000000 k ∷ []) else None
-stop_places servers _ = None
+stop_positions servers _ = None
 
 -- op start S, op blank S
-abbrev pub boot_places : ℕ → List Word → Option Places
-boot_places servers (s ∷ []) = numbers_only (server_place servers s ∷ [])
-boot_places servers _ = None
+abbrev pub boot_positions : ℕ → List Word → Option Positions
+boot_positions servers (s ∷ []) = numbers_only (server_place servers s ∷ [])
+boot_positions servers _ = None
 
 abbrev pub is_device : Word → Bool
 is_device word = is_word word (codes "data") || is_word word (codes "state")
@@ -127,41 +127,41 @@ abbrev pub is_kind : Word → Bool
 is_kind word = is_word word (codes "read") || is_word word (codes "write") || is_word word (codes "sync")
 
 -- op fault S data KIND K, op fault S state KIND K
-abbrev pub fault_places : ℕ → List Word → Option Places
-fault_places servers (s ∷ device ∷ kind ∷ k ∷ []) =
+abbrev pub fault_positions : ℕ → List Word → Option Positions
+fault_positions servers (s ∷ device ∷ kind ∷ k ∷ []) =
     if is_device device && is_kind kind then numbers_only (server_place servers s ∷ place 1 1000000 k ∷ []) else None
-fault_places servers _ = None
+fault_positions servers _ = None
 
 -- behind `op`
-abbrev pub operator_places : ℕ → List Word → Option Places
-operator_places servers [] = None
-operator_places servers (verb ∷ words) =
-    if is_word verb (codes "stop") then stop_places servers words
-    else if is_word verb (codes "start") then boot_places servers words
-    else if is_word verb (codes "blank") then boot_places servers words
-    else if is_word verb (codes "fault") then fault_places servers words
-    else if is_word verb (codes "settle") then bare_places words
+abbrev pub operator_positions : ℕ → List Word → Option Positions
+operator_positions servers [] = None
+operator_positions servers (verb ∷ words) =
+    if is_word verb (codes "stop") then stop_positions servers words
+    else if is_word verb (codes "start") then boot_positions servers words
+    else if is_word verb (codes "blank") then boot_positions servers words
+    else if is_word verb (codes "fault") then fault_positions servers words
+    else if is_word verb (codes "settle") then bare_positions words
     else None
 
 -- a line that counts; None where it has no form or may not stand there
-abbrev pub line_places : Option Script → List Word → Option Places
-line_places before [] = None
-line_places None (first ∷ words) = servers_places words
-line_places (Some s) (first ∷ words) =
+abbrev pub line_positions : Option Script → List Word → Option Positions
+line_positions before [] = None
+line_positions None (first ∷ words) = servers_positions words
+line_positions (Some s) (first ∷ words) =
     if is_word first (codes "servers") then None
-    else if is_word first (codes "net") then net_places s words
-    else if is_word first (codes "wait") then bare_places words
-    else if is_word first (codes "op") then operator_places s.servers words
-    else if is_client first then client_places words
+    else if is_word first (codes "net") then net_positions s words
+    else if is_word first (codes "wait") then bare_positions words
+    else if is_word first (codes "op") then operator_positions s.servers words
+    else if is_client first then client_positions words
     else None
 
 -- ### Faults of words in their places
 
 -- the place holds a number within its limits
-abbrev pub is_good : NumberPlace → Bool
+abbrev pub is_good : NumberPosition → Bool
 is_good p = is_number p.word && (nat_le p.least (value p.word) && nat_le (value p.word) p.most)
 
-abbrev pub bad_name : Option Places → Bool
+abbrev pub bad_name : Option Positions → Bool
 bad_name None = false
 bad_name (Some p) = list_any (λ word. not (is_name word)) p.names
 
@@ -170,7 +170,7 @@ abbrev pub unreadable : Option (List Word) → Bool
 unreadable None = false
 unreadable (Some words) = is_none (numbers_of words)
 
-abbrev pub bad_number : Option Places → Bool
+abbrev pub bad_number : Option Positions → Bool
 bad_number None = false
 bad_number (Some p) = unreadable p.tuple || list_any (λ n. not (is_good n)) p.numbers
 
@@ -183,7 +183,7 @@ abbrev pub unfit_words : ℕ → Option (List Word) → Bool
 unfit_words servers None = false
 unfit_words servers (Some words) = is_unfit servers (numbers_of words)
 
-abbrev pub bad_tuple : ℕ → Option Places → Bool
+abbrev pub bad_tuple : ℕ → Option Positions → Bool
 bad_tuple servers None = false
 bad_tuple servers (Some p) = unfit_words servers p.tuple
 
@@ -236,10 +236,10 @@ abbrev pub has_fault : Cause → Option Script → TextLine → Bool
 has_fault NotAscii before line = not (list_all is_ascii line.text)
 has_fault TooLong before line = nat_lt 256 (length line.text) || nat_lt 1048576 line.reach
 has_fault NoServersLine before line = counts line && lacks_servers before (words_of line.text)
-has_fault BadLine before line = counts line && is_none (line_places before (words_of line.text))
-has_fault BadName before line = counts line && bad_name (line_places before (words_of line.text))
-has_fault BadNumber before line = counts line && bad_number (line_places before (words_of line.text))
-has_fault BadTuple before line = counts line && bad_tuple (servers_in before) (line_places before (words_of line.text))
+has_fault BadLine before line = counts line && is_none (line_positions before (words_of line.text))
+has_fault BadName before line = counts line && bad_name (line_positions before (words_of line.text))
+has_fault BadNumber before line = counts line && bad_number (line_positions before (words_of line.text))
+has_fault BadTuple before line = counts line && bad_tuple (servers_in before) (line_positions before (words_of line.text))
 has_fault TooMany before line = counts line && are_too_many (lines_with before line.number (words_of line.text))
 has_fault NoMajority before line = counts line && leave_no_majority (servers_in before) (lines_with before line.number (words_of line.text))
 

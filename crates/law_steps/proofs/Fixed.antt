@@ -6,7 +6,7 @@ use Rattle.std.specs.Option.{option_map_or}
 use Rattle.std.proofs.Math.Nat.{mod_self, mod-eq_of_lt}
 use Rattle.std.proofs.lemmas.Bool.Decides.{Decides-eqb, nat_tests}
 use Rattle.petal_base.specs.Tuple.{is_tuple, distinct}
-use Rattle.petal_base.specs.declared.place.Cell.{Cell}
+use Rattle.petal_base.specs.declared.cell.Cell.{Cell}
 use Rattle.global_tables.specs.declared.fence.Member.TheVariants as member
 use Rattle.global_tables.specs.declared.link.LinkRow.{LinkRow}
 use Rattle.global_tables.specs.declared.link.LinkState.TheVariants.{Both}
@@ -14,10 +14,10 @@ use Rattle.global_tables.specs.Link.{is_link, link_at, new_row, new_rows, new_st
 use Rattle.global_tables.specs.View.{is_in}
 use Rattle.global_tables.specs.declared.disk.DiskRow.{DiskRow}
 use Rattle.global_tables.specs.Disk.{same_name, snapshot_named}
-use Rattle.global_tables.specs.Place.{link_of, region_of}
+use Rattle.global_tables.specs.Region.{link_of, region_of}
 use Rattle.global_tables.specs.Map.{tuple_of}
 use Rattle.petal_state.specs.State.{ups, start}
-use Rattle.petal_state.specs.Place.{live, live_under, leaving, cell_link, row_lead, state_lead, serves}
+use Rattle.petal_state.specs.CellState.{live, live_under, leaving, cell_link, row_lead, state_lead, serves}
 use Rattle.petal_state.specs.declared.answer.DiskView.{DiskView}
 use Rattle.petal_rules.specs.Lists.{In}
 use Rattle.petal_rules.specs.State as rules
@@ -228,7 +228,7 @@ module _ (servers : ℕ) (name tuple : List ℕ) (proper : (tuple ≡ []) ⊎ (i
   the_disk = record { disk = 0; map = 0; epoch = 0; old_map = None }
 
   disks : (other : List ℕ) (disk : DiskView) → rules.find s other ≡ Some disk → IsNewDisk s other disk
-  disks other disk e = by_test (λ o. option_map Rattle.petal_state.specs.Place.view_of o ≡ Some disk → IsNewDisk s other disk) (same_name name other) (Some the_row) None
+  disks other disk e = by_test (λ o. option_map Rattle.petal_state.specs.CellState.view_of o ≡ Some disk → IsNewDisk s other disk) (same_name name other) (Some the_row) None
       (λ t f. subst (IsNewDisk s other) (same_some {x = the_disk} f) (record { named = nat_lists_same name other t; under = refl; newest = refl })) (λ t f. none_some refl f) e
 
   pub fixed_steady : IsSteady s

@@ -10,7 +10,7 @@ use Rattle.petal_state.specs.declared.answer.DiskView.{DiskView}
 use Rattle.petal_rules.specs.Lists.{In}
 use Rattle.petal_rules.specs.State.{State, lead}
 use Rattle.petal_rules.specs.Server.{Post, post_to}
-use Rattle.petal_rules.specs.Clients.{Client, Reacted, posts_for, write_posts, read_posts, read_posts_at, epoch_for, cell_on, in_turn, readers}
+use Rattle.petal_rules.specs.Clients.{Client, Reaction, posts_for, write_posts, read_posts, read_posts_at, epoch_for, cell_on, in_turn, readers}
 use Rattle.law_steps.specs.Happens.{Turned, Rests, Sends_anew, Begins, Makes, Reads, Ends}
 
 -- a read or a write
@@ -43,7 +43,7 @@ asks_only state c seq turn (request.Write name block pattern) post h = write_ask
 asks_only state c seq turn (request.Read name snap block) post h = read_asks state c seq turn _ snap block post h
 asks_only state c seq turn _ post h = absurd h
 
-pub turned_asks : (heard : Body → Type 0) (state : State) (lines : List Line) (c : ℕ) (client : Client) (in_call : Bool) (reacted : Reacted) → Turned heard state lines c client in_call reacted → (post : Post) → In post reacted.posts → is_ask post.body ≡ true
+pub turned_asks : (heard : Body → Type 0) (state : State) (lines : List Line) (c : ℕ) (client : Client) (in_call : Bool) (reacted : Reaction) → Turned heard state lines c client in_call reacted → (post : Post) → In post reacted.posts → is_ask post.body ≡ true
 unfolding In
 turned_asks heard state lines c client _ _ Rests post h = absurd h
 turned_asks heard state lines c client _ _ (Sends_anew asked is) post h = asks_only state c asked.seq asked.turn asked.request post h

@@ -2,7 +2,7 @@
 use Rattle.std.proofs.Common.{◌≡◌, ◌<◌, ◌≤◌, ◌+◌, ◌==◌, ◌&&◌, ℕ, Bool, true, false, List, [], ◌∷◌, ◌++◌, Option, Some, None, refl, ◌∙◌, sym, ap, subst, inl, inr, arith}
 use Rattle.std.specs.Prelude.{is_some, max}
 use Rattle.std.specs.List.{flat_map}
-use Rattle.petal_base.specs.declared.place.Cell.{Cell}
+use Rattle.petal_base.specs.declared.cell.Cell.{Cell}
 use Rattle.petal_table.specs.Table.{at}
 use Rattle.petal_msg.specs.declared.body.Body.{Body}
 use Rattle.petal_msg.specs.declared.body.Body.TheVariants as body
@@ -19,7 +19,7 @@ use Rattle.petal_rules.specs.State.{State}
 use Rattle.petal_rules.specs.Server.{Own, Here, Post, Done, silent}
 use Rattle.petal_rules.specs.Writes.{pending_on}
 use Rattle.petal_rules.specs.Jobs.{Acted, here_of, works, tick_posts, sent_anew, awaited, does}
-use Rattle.petal_rules.specs.Clients.{Client, Asked, Reacted, opens, called, heard, hears_of, hears, counts, is_read, is_write, ticked, asks_anew}
+use Rattle.petal_rules.specs.Clients.{Client, Asked, Reaction, opens, called, heard, hears_of, hears, counts, is_read, is_write, ticked, asks_anew}
 use Rattle.petal_rules.specs.World.{Setting, World, acts, step, server_step, client_step, calls, line_in, next_line, received, clock_of, MayActor, MayServer, MayClient}
 use Rattle.petal_rules.specs.declared.job.Job.{Job}
 use Rattle.petal_rules.specs.declared.job.Job.TheVariants as job
@@ -67,10 +67,10 @@ module _ (state : State) (lines : List Line) (w : World) (c : ℕ) where
   abbrev client : Client
   client = w.clients c
 
-  abbrev Calls : Reacted → Type 0
+  abbrev Calls : Reaction → Type 0
   Calls reacted = Turned (Heard w (actor.Client c)) state lines c client true reacted
 
-  abbrev T : Reacted → Type 0
+  abbrev T : Reaction → Type 0
   T reacted = Turned (Heard w (actor.Client c)) state lines c client false reacted
 
   called_turns : (line : Line) → next_line lines c client ≡ Some line → client.asked ≡ None → (asked : Request) → line.request ≡ asked → Calls (called state c client line.number asked)

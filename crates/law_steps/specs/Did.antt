@@ -1,6 +1,6 @@
 -- What a server may have done: one constructor for each subject, whose rules stand in a file of their own.
 use Rattle.std.specs.Prelude.{◌≡◌, ℕ, true, false, Some}
-use Rattle.petal_base.specs.declared.place.Cell.{Cell}
+use Rattle.petal_base.specs.declared.cell.Cell.{Cell}
 use Rattle.petal_msg.specs.Kinds.{Refused, subject_of}
 use Rattle.petal_msg.specs.declared.body.Body.{Body}
 use Rattle.petal_msg.specs.declared.body.Body.TheVariants as body

@@ -1,6 +1,6 @@
 -- What a server may have done with a read that it did not refuse.
 use Rattle.std.specs.Prelude.{◌≡◌, ℕ, true, None}
-use Rattle.petal_base.specs.declared.place.Cell.{Cell}
+use Rattle.petal_base.specs.declared.cell.Cell.{Cell}
 use Rattle.petal_msg.specs.declared.body.Body.{Body}
 use Rattle.petal_msg.specs.declared.body.Body.TheVariants as body
 use Rattle.petal_msg.specs.declared.letter.Actor.TheVariants as actor

@@ -1,8 +1,8 @@
 -- What the second server of a cell may have done for a write, rule by rule, with what was so when it was done.
 use Rattle.std.specs.Prelude.{◌≡◌, ◌≤◌, ◌<◌, ℕ, ◌+◌, true, List, Some}
-use Rattle.petal_base.specs.declared.place.Cell.{Cell}
-use Rattle.petal_base.specs.declared.place.Key.{Key}
-use Rattle.petal_base.specs.Place.{cell_of}
+use Rattle.petal_base.specs.declared.cell.Cell.{Cell}
+use Rattle.petal_base.specs.declared.cell.Key.{Key}
+use Rattle.petal_base.specs.Cells.{cell_of}
 use Rattle.petal_msg.specs.declared.body.Body.{Body}
 use Rattle.petal_msg.specs.declared.body.Body.TheVariants as body
 use Rattle.petal_msg.specs.declared.operation.Far.{Far}

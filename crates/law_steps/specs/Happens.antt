@@ -16,7 +16,7 @@ use Rattle.petal_rules.specs.State.{State}
 use Rattle.petal_rules.specs.Server.{Server, Own, Here, Post, Done, sender, letters_of}
 use Rattle.petal_rules.specs.Writes.{ended}
 use Rattle.petal_rules.specs.Jobs.{Acted, here_of}
-use Rattle.petal_rules.specs.Clients.{Client, Asked, Reacted, rests, sends, opens, answers, is_read, is_write}
+use Rattle.petal_rules.specs.Clients.{Client, Asked, Reaction, rests, sends, opens, answers, is_read, is_write}
 use Rattle.petal_rules.specs.World.{World, acts, reacts, lines_of, next_line}
 use Rattle.petal_rules.specs.declared.job.Job.{Job}
 use Rattle.petal_rules.specs.declared.job.Job.TheVariants as job
@@ -83,7 +83,7 @@ answer_of ending.Written = answer.Ok
 answer_of ending.Full = answer.NoSpace
 
 -- what a client may have done, in a call or else having heard only what `heard` knows
-pub data Turned (heard : Body → Type 0) (state : State) (lines : List Line) (c : ℕ) (client : Client) : (in_call : Bool) → Reacted → Type 0 where
+pub data Turned (heard : Body → Type 0) (state : State) (lines : List Line) (c : ℕ) (client : Client) : (in_call : Bool) → Reaction → Type 0 where
   Rests : Turned heard state lines c client false (rests client)
   Sends_anew : (asked : Asked) → client.asked ≡ Some asked → Turned heard state lines c client false (sends state c client asked)
   Begins : (line : Line) → next_line lines c client ≡ Some line → client.asked ≡ None → Turned heard state lines c client true (opens state c client line.number line.request)
@@ -98,5 +98,5 @@ pub data Turned (heard : Body → Type 0) (state : State) (lines : List Line) (c
 pub data Happens (state : State) (lines : List Line) (w : World) : World → Type 0 where
   Serves : (n stamp : ℕ) (done : Done) (queue : List Job) → w.server_clocks n < stamp → Did (Handled w n) (here_of state n (w.servers n)) (w.servers n).own done → AreQueued w n queue
       → Happens state lines w (server_moves state w n stamp done queue)
-  Turns : (c stamp : ℕ) (in_call : Bool) (reacted : Reacted) → w.client_clocks c < stamp → c < 9 → Turned (Heard w (actor.Client c)) state lines c (w.clients c) in_call reacted
+  Turns : (c stamp : ℕ) (in_call : Bool) (reacted : Reaction) → w.client_clocks c < stamp → c < 9 → Turned (Heard w (actor.Client c)) state lines c (w.clients c) in_call reacted
       → Happens state lines w (reacts state w c stamp reacted).world

@@ -1,6 +1,6 @@
 -- What the laws need to know of a state that does not change.
 use Rattle.std.specs.Prelude.{◌≡◌, ◌≢◌, ◌⊎◌, ℕ, List, Some, None, true}
-use Rattle.petal_base.specs.declared.place.Cell.{Cell}
+use Rattle.petal_base.specs.declared.cell.Cell.{Cell}
 use Rattle.petal_state.specs.declared.answer.DiskView.{DiskView}
 use Rattle.petal_state.specs.declared.answer.Hold.TheVariants.{No}
 use Rattle.petal_history.specs.Contents.{first_name}

@@ -1,12 +1,12 @@
 -- A write that is opened.
 use Rattle.std.proofs.Common.{◌≡◌, ℕ, ◌+◌, Bool, true, false, not, Option, Some, None, Ok, refl, sym, ap, ◌∙◌, List}
 use Rattle.std.specs.Prelude.{if◌then◌else◌}
-use Rattle.petal_base.specs.declared.place.Cell.{Cell}
+use Rattle.petal_base.specs.declared.cell.Cell.{Cell}
 use Rattle.petal_table.specs.Table.{Table, at, put, without}
 use Rattle.petal_msg.specs.declared.body.Body.TheVariants as body
 use Rattle.petal_msg.specs.declared.letter.Letter.{Letter}
 use Rattle.petal_msg.specs.declared.operation.Action.TheVariants as action
-use Rattle.petal_state.specs.Place.{live, leaving}
+use Rattle.petal_state.specs.CellState.{live, leaving}
 use Rattle.petal_rules.specs.State.{State, is_the, is_lead, leads_link, second}
 use Rattle.petal_rules.specs.Server.{Own, Here, says_to, sender, letters_of, post_to}
 use Rattle.petal_rules.specs.Store.{Store, cell_cmp}

@@ -1,6 +1,6 @@
 -- An operation as a letter has moved it on.
 use Rattle.std.specs.Prelude.{◌≡◌, true, Some}
-use Rattle.petal_base.specs.declared.place.Cell.{Cell}
+use Rattle.petal_base.specs.declared.cell.Cell.{Cell}
 use Rattle.petal_table.specs.Table.{Table, at}
 use Rattle.petal_msg.specs.declared.operation.Pending.{Pending}
 use Rattle.petal_rules.specs.Store.{cell_cmp}

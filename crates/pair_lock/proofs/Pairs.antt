@@ -8,7 +8,7 @@ use Rattle.std.specs.List.{AllByRecursion}
 use Rattle.std.specs.List.Sorted.{IsStrictlySortedBy}
 use Rattle.std.specs.BTreeMap.{insert_entry, is_at}
 use Rattle.std.specs.Map.{lookup, set_value, remove_entry, keys_of}
-use Rattle.petal_base.specs.declared.place.Cell.{Cell}
+use Rattle.petal_base.specs.declared.cell.Cell.{Cell}
 use Rattle.petal_msg.specs.declared.operation.Pending.{Pending}
 use Rattle.petal_msg.specs.declared.operation.Stage.{Stage}
 use Rattle.petal_table.specs.Table.{Table, at, put, without}

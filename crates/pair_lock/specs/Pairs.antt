@@ -1,12 +1,12 @@
 -- Tables of pending operations, and what is asked of them.
 use Rattle.std.specs.Prelude.{◌≡◌, ℕ, Bool, true, false, ◌&&◌, ◌||◌, ◌==◌, nat_lt, find, Option, None, Some, option_map}
-use Rattle.petal_base.specs.declared.place.Cell.{Cell}
+use Rattle.petal_base.specs.declared.cell.Cell.{Cell}
 use Rattle.petal_msg.specs.declared.operation.OpKind.{OpKind}
 use Rattle.petal_msg.specs.declared.operation.OpKind.TheVariants.{Write, Fill, Copy}
 use Rattle.petal_msg.specs.declared.operation.Pending.{Pending}
 use Rattle.petal_msg.specs.declared.operation.Stage.{Stage}
 use Rattle.petal_table.specs.Table.{Table, at, put}
-use Rattle.global_tables.specs.Place.{region_of}
+use Rattle.global_tables.specs.Region.{region_of}
 use Rattle.petal_rules.specs.Store.{cell_cmp}
 use Rattle.pair_lock.specs.declared.error.PairError.{PairError}
 use Rattle.pair_lock.specs.declared.error.PairError.TheVariants as error

@@ -24,7 +24,7 @@ pub struct PairLock {
 
 impl Model for PairLock {
     ghost use Rattle.std.specs.Prelude.{List};
-    ghost use Rattle.petal_base.specs.declared.place.Cell.{Cell};
+    ghost use Rattle.petal_base.specs.declared.cell.Cell.{Cell};
     ghost use Rattle.petal_msg.specs.declared.operation.Pending.{Pending};
     ghost use Rattle.pair_lock.specs.Pairs.{EachAtItsCell};
 

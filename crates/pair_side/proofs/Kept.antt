@@ -1,7 +1,7 @@
 -- A slot that was set apart for a cell.
 use Rattle.std.proofs.Common.{◌≡◌, ℕ, Some, IsSome, sym, subst, ap, ◌∙◌, arith}
 use Rattle.std.specs.Prelude.{Contains}
-use Rattle.petal_base.specs.declared.place.Cell.{Cell}
+use Rattle.petal_base.specs.declared.cell.Cell.{Cell}
 use Rattle.petal_table.specs.Table.{Table, at}
 use Rattle.petal_rules.specs.Store.{cell_cmp}
 use Rattle.petal_rules.proofs.CellTables.{cell_same}

@@ -1,6 +1,6 @@
 -- Tickets by the cells for whose puts they are.
 use Rattle.std.specs.Prelude.{◌≡◌, ℕ, ◌++◌, ◌∷◌, [], ⊤, List, Some, Contains}
-use Rattle.petal_base.specs.declared.place.Cell.{Cell}
+use Rattle.petal_base.specs.declared.cell.Cell.{Cell}
 use Rattle.petal_table.specs.Table.{Table, at, put}
 use Rattle.petal_rules.specs.Store.{cell_cmp}
 use Rattle.server_store.specs.Holdings.{Holdings}

@@ -1,4 +1,4 @@
 pub mod Block
 pub mod Name
-pub mod Place
+pub mod Cells
 pub mod Tuple

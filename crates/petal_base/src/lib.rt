@@ -9,7 +9,7 @@ mod block;
 mod memory;
 mod name;
 mod number;
-mod place;
+mod cell;
 mod sequence;
 mod shared;
 mod tuple;
@@ -21,7 +21,7 @@ pub use number::{
     BLOCKS, BlockNo, CLIENTS, ClientId, DiskId, Epoch, Inc, MAX_SERVERS, MapId, OPERATOR, Op,
     REGIONS, Rev, Seq, ServerId, Stamp, Version,
 };
-pub use place::{Cell, Key};
+pub use cell::{Cell, Key};
 pub use sequence::Sequence;
 pub use shared::SharedBlock;
 pub use tuple::Tuple;

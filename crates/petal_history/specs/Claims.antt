@@ -1,7 +1,7 @@
 -- What every legal history keeps. These are statements; `law_run` shows them.
 use Rattle.std.specs.Prelude.{◌≡◌, ◌≢◌, ◌⊎◌, ◌+◌, ◌≤◌, ℕ, List, Option, Some, None, true, false}
 use Rattle.std.specs.Ordering.{nat_cmp}
-use Rattle.petal_base.specs.declared.place.Cell.{Cell}
+use Rattle.petal_base.specs.declared.cell.Cell.{Cell}
 use Rattle.petal_table.specs.Table.{at, put}
 use Rattle.petal_machine.specs.Machine.{Plain, blank, content, disk_of}
 use Rattle.petal_machine.specs.Run.{replay}

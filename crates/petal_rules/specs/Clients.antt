@@ -2,7 +2,7 @@
 use Rattle.std.specs.Prelude.{ℕ, ◌+◌, ◌%◌, ◌==◌, ◌&&◌, Bool, true, false, List, [], length, filter, slice_get, if◌then◌else◌, Option, Some, None}
 use Rattle.std.specs.List.{range_with_len}
 use Rattle.std.specs.Option.{option_map_or}
-use Rattle.petal_base.specs.declared.place.Cell.{Cell}
+use Rattle.petal_base.specs.declared.cell.Cell.{Cell}
 use Rattle.petal_msg.specs.Kinds.{About, about}
 use Rattle.petal_msg.specs.declared.body.Body.{Body}
 use Rattle.petal_msg.specs.declared.body.Body.TheVariants as body
@@ -37,13 +37,13 @@ abbrev pub first_client : Client
 first_client = record { rev = 1; seq = 0; asked = None }
 
 -- what a step of a client leaves, sends and answers, with the line that is answered
-pub record Reacted : Type 0 where
+pub record Reaction : Type 0 where
   pub client : Client
   pub posts : List Post
   pub answer : Option (ℕ × Answer)
 
 -- nothing happens
-abbrev pub rests : Client → Reacted
+abbrev pub rests : Client → Reaction
 rests client = record { client = client; posts = []; answer = None }
 
 -- ### Sending
@@ -86,7 +86,7 @@ posts_for state client seq turn (request.Read name snap block) = read_posts stat
 posts_for state client seq turn _ = []
 
 -- the open request is sent, at the client's revision
-abbrev pub sends : State → ℕ → Client → Asked → Reacted
+abbrev pub sends : State → ℕ → Client → Asked → Reaction
 sends state me client asked = record {
   client = record client { asked = Some (record asked { turn = asked.turn + 1; rev = state.rev }) };
   posts = posts_for state me asked.seq asked.turn asked.request;
@@ -96,13 +96,13 @@ sends state me client asked = record {
 -- ### A call
 
 -- the client with its next number open for this request
-abbrev pub opens : State → ℕ → Client → ℕ → Request → Reacted
+abbrev pub opens : State → ℕ → Client → ℕ → Request → Reaction
 opens state me client line asked =
     let seq = client.seq + 1 in
     sends state me (record client { seq = seq }) (record { line = line; seq = seq; request = asked; turn = 0; rev = state.rev })
 
 -- a request is called. That the one disk be made is answered at once at this stage, since the fixed state has it
-abbrev pub called : State → ℕ → Client → ℕ → Request → Reacted
+abbrev pub called : State → ℕ → Client → ℕ → Request → Reaction
 called state me client line (request.Disk name tuple) = record { client = record client { seq = client.seq + 1 }; posts = []; answer = Some (line, answer.Ok) }
 called state me client line (request.Write name block pattern) = opens state me client line (request.Write name block pattern)
 called state me client line (request.Read name snap block) = opens state me client line (request.Read name snap block)
@@ -130,12 +130,12 @@ abbrev pub replies : Asked → ℕ → About → Bool
 replies asked rev what = option_map_or (counts_as asked rev what.any_rev) what.seq false
 
 -- the open request is answered
-abbrev pub answers : Client → Asked → Answer → Reacted
+abbrev pub answers : Client → Asked → Answer → Reaction
 answers client asked given = record { client = record client { asked = None }; posts = []; answer = Some (asked.line, given) }
 
 -- Data answers only a read, Written and Full only a write. What was refused for a while, or at another revision, is sent
 -- again
-abbrev pub hears : State → ℕ → Client → Asked → ℕ → Body → Reacted
+abbrev pub hears : State → ℕ → Client → Asked → ℕ → Body → Reaction
 hears state me client asked rev (body.Data seq bytes) =
     if replies asked rev (about (body.Data seq bytes)) && is_read asked.request then answers client asked (answer.Data bytes) else rests client
 hears state me client asked rev (body.Written seq) =
@@ -154,22 +154,22 @@ hears state me client asked rev (body.PairFull number cell) = rests client
 hears state me client asked rev (body.Replicate number key version bytes) = rests client
 hears state me client asked rev (body.Replicated number cell) = rests client
 
-abbrev pub hears_of : State → ℕ → Client → Option Asked → Letter → Reacted
+abbrev pub hears_of : State → ℕ → Client → Option Asked → Letter → Reaction
 hears_of state me client None letter = rests client
 hears_of state me client (Some asked) letter = hears state me client asked letter.rev letter.body
 
 -- a letter comes
-unfoldable pub heard : State → ℕ → Client → Letter → Reacted
+unfoldable pub heard : State → ℕ → Client → Letter → Reaction
 heard state me client letter = hears_of state me client client.asked letter
 
 -- ### A tick
 
-abbrev pub asks_anew : State → ℕ → Client → Option Asked → Reacted
+abbrev pub asks_anew : State → ℕ → Client → Option Asked → Reaction
 asks_anew state me client None = rests client
 asks_anew state me client (Some asked) = sends state me client asked
 
 -- the letter of the open request goes out again
-unfoldable pub ticked : State → ℕ → Client → Reacted
+unfoldable pub ticked : State → ℕ → Client → Reaction
 ticked state me client = asks_anew state me client client.asked
 
 abbrev pub client_sender : State → ℕ → Sender

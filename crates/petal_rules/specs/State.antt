@@ -1,16 +1,16 @@
 -- What servers and clients ask of the global state. Rules speak of it through these readers alone.
 use Rattle.std.specs.Prelude.{ℕ, Bool, List, length, if◌then◌else◌, Option, Some, None, option_map, option_and_then}
-use Rattle.petal_base.specs.declared.place.Cell.{Cell}
+use Rattle.petal_base.specs.declared.cell.Cell.{Cell}
 use Rattle.global_tables.specs.declared.link.LinkRow.{LinkRow}
 use Rattle.global_tables.specs.declared.link.LinkState.{LinkState}
 use Rattle.global_tables.specs.declared.link.LinkState.TheVariants.{Both, Only, Lost}
 use Rattle.global_tables.specs.Disk.{named}
 use Rattle.petal_state.specs.State.{is_up_as}
-use Rattle.petal_state.specs.Place.{cell_link, view_of}
+use Rattle.petal_state.specs.CellState.{cell_link, view_of}
 use Rattle.petal_state.specs.declared.answer.DiskView.{DiskView}
 pub use Rattle.petal_state.specs.State.{State}
 pub use Rattle.petal_state.specs.Command.{fixed}
-pub use Rattle.petal_state.specs.Place.{live, lead, readable, held, snapshot}
+pub use Rattle.petal_state.specs.CellState.{live, lead, readable, held, snapshot}
 pub use Rattle.petal_state.specs.Role.{is_the, is_lead, leads_link, row_in_both, both, first, second, is_second}
 pub use Rattle.petal_state.specs.declared.answer.Hold.{Hold}
 

@@ -3,10 +3,10 @@ use Rattle.std.specs.Prelude.{ℕ, ◌+◌, ◌-◌, Bool, false, List, [], ◌�
 use Rattle.std.specs.declared.cmp.Ordering.{Ordering}
 use Rattle.std.specs.Ordering.{nat_cmp, ordering_then}
 use Rattle.busy_marks.specs.declared.marks.Mark.{Mark}
-use Rattle.petal_base.specs.declared.place.Cell.{Cell}
-use Rattle.petal_base.specs.declared.place.Key.{Key}
+use Rattle.petal_base.specs.declared.cell.Cell.{Cell}
+use Rattle.petal_base.specs.declared.cell.Key.{Key}
 use Rattle.petal_base.specs.Block.{zero_block}
-use Rattle.petal_base.specs.Place.{cell_of}
+use Rattle.petal_base.specs.Cells.{cell_of}
 use Rattle.petal_table.specs.Table.{Table, at, put}
 
 -- an entry: a block's bytes, and how often its cell had been put

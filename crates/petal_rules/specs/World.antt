@@ -14,7 +14,7 @@ use Rattle.petal_rules.specs.State.{State, fixed}
 use Rattle.petal_rules.specs.Store.{top_of}
 use Rattle.petal_rules.specs.Server.{Server, first_server, letters_of}
 use Rattle.petal_rules.specs.Jobs.{Acted, here_of, works, delivered, ticks}
-use Rattle.petal_rules.specs.Clients.{Client, Asked, Reacted, first_client, client_sender, rests, called, heard, ticked}
+use Rattle.petal_rules.specs.Clients.{Client, Asked, Reaction, first_client, client_sender, rests, called, heard, ticked}
 use Rattle.petal_rules.specs.declared.step.Step.{Step}
 use Rattle.petal_rules.specs.declared.step.Step.TheVariants.{Call, Deliver, Tick, Work}
 use Rattle.petal_rules.specs.declared.step.WorkEnd.TheVariants as work_end
@@ -100,12 +100,12 @@ server_step (Deliver letter) state me server = record { server = delivered serve
 server_step Tick state me server = ticks (here_of state me server) server
 server_step (Work work_end.Done) state me server = works (here_of state me server) server server.queue
 
-abbrev pub calls : State → ℕ → Client → Option Line → Reacted
+abbrev pub calls : State → ℕ → Client → Option Line → Reaction
 calls state me client None = rests client
 calls state me client (Some line) = called state me client line.number line.request
 
 -- a client's step, at its state, where this is its next line
-abbrev pub client_step : Step → State → ℕ → Client → Option Line → Reacted
+abbrev pub client_step : Step → State → ℕ → Client → Option Line → Reaction
 client_step (Call number) state me client line = calls state me client line
 client_step (Deliver letter) state me client line = heard state me client letter
 client_step Tick state me client line = ticked state me client
@@ -136,7 +136,7 @@ abbrev pub with_answer : Option (ℕ × Answer) → List (ℕ × Answer) → Lis
 with_answer None given = given
 with_answer (Some answer) given = answer ∷ given
 
-abbrev pub reacts : State → World → ℕ → ℕ → Reacted → Stepped
+abbrev pub reacts : State → World → ℕ → ℕ → Reaction → Stepped
 reacts state w c stamp reacted =
     let letters = stamped stamp (letters_of (client_sender state c) 0 reacted.posts) in
     record {

@@ -2,8 +2,8 @@
 
 ghost use Rattle.std.specs.Prelude.{◌≡◌, ◌≢◌, ◌↔◌, ◌≤◌, ◌+◌, ℕ, List, Some, None, false};
 ghost use Rattle.std.specs.Ordering.{nat_cmp};
-ghost use Rattle.petal_base.specs.Place.{cell_of};
-ghost use Rattle.petal_base.specs.declared.place.Key.{Key};
+ghost use Rattle.petal_base.specs.Cells.{cell_of};
+ghost use Rattle.petal_base.specs.declared.cell.Key.{Key};
 ghost use Rattle.petal_table.specs.Table.{at, put};
 ghost use Rattle.petal_msg.specs.declared.letter.Actor.{Actor};
 ghost use Rattle.petal_msg.specs.declared.letter.Letter.{Letter};

@@ -40,8 +40,8 @@ filled_of disk place pattern x = do
   Ok (Write name block (pattern x))
 
 -- V B halves X Y
-unfoldable pub owns_of : Word → Word → Word → Word → Result Request Cause
-owns_of disk place x y = do
+unfoldable pub halves_of : Word → Word → Word → Word → Result Request Cause
+halves_of disk place x y = do
   name ← a_name disk
   block ← a_block place
   x ← a_byte x
@@ -52,7 +52,7 @@ abbrev pub write_by : Word → Word → Word → List Word → Result Request Ca
 write_by disk place kind numbers =
     if is_word kind (codes "fill") then one_word numbers >>= filled_of disk place Fill
     else if is_word kind (codes "ramp") then one_word numbers >>= filled_of disk place Ramp
-    else if is_word kind (codes "halves") then two_words numbers >>= (λ xy. owns_of disk place xy.0 xy.1)
+    else if is_word kind (codes "halves") then two_words numbers >>= (λ xy. halves_of disk place xy.0 xy.1)
     else Err BadLine
 
 -- write V B and a pattern

@@ -2,7 +2,7 @@
 
 ghost use Rattle.std.specs.Prelude.{◌≡◌};
 ghost use Rattle.script_lines.specs.declared.request.Pattern.TheVariants.{Fill, Ramp};
-ghost use Rattle.petal_script.specs.Client.{spread_of, filled_of, owns_of, write_by, write_of, read_of, snap_of, disk_of, move_of, client_request};
+ghost use Rattle.petal_script.specs.Client.{spread_of, filled_of, halves_of, write_by, write_of, read_of, snap_of, disk_of, move_of, client_request};
 
 use petal_base::{Name, Tuple};
 use script_lines::{Pattern, Request};
@@ -68,9 +68,9 @@ fn ramp_request(disk: &[u8], place: &[u8], x: &[u8]) -> Result<Request, Cause>
     })
 }
 
-#[tactic(auto, unfolding(crate::specs::Client::owns_of))]
+#[tactic(auto, unfolding(crate::specs::Client::halves_of))]
 fn halves_request(disk: &[u8], place: &[u8], x: &[u8], y: &[u8]) -> Result<Request, Cause>
-    ensures { result ≡ owns_of disk.now place.now x.now y.now }
+    ensures { result ≡ halves_of disk.now place.now x.now y.now }
 {
     let name = name(disk)?;
     let block = block(place)?;

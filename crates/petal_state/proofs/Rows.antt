@@ -9,7 +9,7 @@ use Rattle.global_tables.specs.declared.disk.RegionState.{RegionState}
 use Rattle.global_tables.specs.declared.disk.RegionState.TheVariants.{Old, Fenced, New}
 use Rattle.petal_command.specs.declared.command.Command.TheVariants.{Join, Leave, Caught, MakeDisk, Snap, StartMove, Drained, Moved}
 use Rattle.petal_state.specs.State.{State, latest}
-use Rattle.petal_state.specs.Place.{lead, live, region_at}
+use Rattle.petal_state.specs.CellState.{lead, live, region_at}
 use Rattle.petal_state.specs.Command.{after, state_after}
 
 -- one disk over five servers

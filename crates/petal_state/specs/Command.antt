@@ -22,7 +22,7 @@ use Rattle.global_tables.specs.View as view
 use Rattle.petal_command.specs.declared.command.Command.{Command}
 use Rattle.petal_command.specs.declared.command.Command.TheVariants.{Join, Leave, Caught, MakeDisk, Snap, StartMove, Drained, Moved, Witness}
 use Rattle.petal_state.specs.State.{State, start, is_up_as, ups, latest, told, links_of, mover}
-use Rattle.petal_state.specs.Place.{move_region, is_fenced}
+use Rattle.petal_state.specs.CellState.{move_region, is_fenced}
 use Rattle.petal_state.specs.Fence.{settled}
 
 -- a server may join that is Out and whose incarnation is greater than its last

@@ -1,5 +1,5 @@
 pub mod State
-pub mod Place
+pub mod CellState
 pub mod Role
 pub mod Fence
 pub mod Command

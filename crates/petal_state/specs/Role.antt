@@ -1,12 +1,12 @@
 -- What a server is to a cell.
 use Rattle.std.specs.Prelude.{ℕ, Bool, false, ◌==◌, if◌then◌else◌, Option, Some, None, option_map, option_and_then}
 use Rattle.std.specs.Option.{option_map_or}
-use Rattle.petal_base.specs.declared.place.Cell.{Cell}
+use Rattle.petal_base.specs.declared.cell.Cell.{Cell}
 use Rattle.global_tables.specs.declared.link.LinkRow.{LinkRow}
 use Rattle.global_tables.specs.declared.link.LinkState.{LinkState}
 use Rattle.global_tables.specs.declared.link.LinkState.TheVariants.{Both, Only, Lost}
 use Rattle.petal_state.specs.State.{State}
-use Rattle.petal_state.specs.Place.{cell_link, row_lead, live, lead}
+use Rattle.petal_state.specs.CellState.{cell_link, row_lead, live, lead}
 
 -- there is one, and it is this server
 abbrev pub is_the : Option ℕ → ℕ → Bool

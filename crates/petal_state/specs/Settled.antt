@@ -8,7 +8,7 @@ use Rattle.global_tables.specs.declared.link.LinkState.{LinkState}
 use Rattle.global_tables.specs.declared.link.LinkState.TheVariants.{Both, Only, Lost}
 use Rattle.global_tables.specs.declared.disk.Move.{Move}
 use Rattle.petal_state.specs.State.{State, is_up, links_of}
-use Rattle.petal_state.specs.Place.{link_lead}
+use Rattle.petal_state.specs.CellState.{link_lead}
 
 -- a running server is In with its incarnation, a stopped one is Out
 abbrev pub agrees : Member → Option ℕ → Bool

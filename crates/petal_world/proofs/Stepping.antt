@@ -12,7 +12,7 @@ use Rattle.petal_rules.specs.Lists.{In, put_at}
 use Rattle.petal_rules.specs.State.{State}
 use Rattle.petal_rules.specs.Server.{Post, Sender, Server, letters_of, sender}
 use Rattle.petal_rules.specs.Jobs.{Acted, here_of, works}
-use Rattle.petal_rules.specs.Clients.{Reacted, client_sender}
+use Rattle.petal_rules.specs.Clients.{Reaction, client_sender}
 use Rattle.petal_rules.specs.World.{Setting, World, Stepped, step, stamped, clock_of, with_answer, client_step, server_step, next_line, lines_of}
 use Rattle.petal_rules.specs.declared.job.Job.{Job}
 use Rattle.petal_rules.specs.declared.step.Step.{Step}
@@ -103,7 +103,7 @@ module _ (setting : Setting) (steady : IsSteady setting) (w : World) (actors : A
     | inr ne ↦ let e = put_apart w.client_clocks c stamp d ne in omega arith
   ]
 
-  abbrev reacts_so : Reacted
+  abbrev reacts_so : Reaction
   reacts_so = client_step what (setting.states (w.clients c).rev) c (w.clients c) (next_line setting.lines c (w.clients c))
 
   -- the client's own seat is that of the world after

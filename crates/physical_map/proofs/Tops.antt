@@ -1,7 +1,7 @@
 -- The greatest version behind a put and behind a drop.
 use Rattle.std.proofs.Common.{◌≡◌, max, List, [], ◌∷◌, refl, arith, inl, inr}
 use Rattle.std.proofs.lemmas.Bool.{cases_Bool}
-use Rattle.petal_base.specs.declared.place.Key.{Key}
+use Rattle.petal_base.specs.declared.cell.Key.{Key}
 use Rattle.physical_map.specs.declared.entry.Entry.{Entry}
 use Rattle.physical_map.specs.Entries.{key_of, without_key, top_of}
 use Rattle.physical_map.specs.Keys.{key_below, same_key, placed, IsInOrder}

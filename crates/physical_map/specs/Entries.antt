@@ -1,7 +1,7 @@
 -- Lists of entries, and what is asked of them.
 use Rattle.std.specs.Prelude.{ℕ, Bool, true, ◌&&◌, ◌==◌, nat_lt, max, List, [], ◌∷◌, Option, None, Some, if◌then◌else◌, filter}
-use Rattle.petal_base.specs.declared.place.Cell.{Cell}
-use Rattle.petal_base.specs.declared.place.Key.{Key}
+use Rattle.petal_base.specs.declared.cell.Cell.{Cell}
+use Rattle.petal_base.specs.declared.cell.Key.{Key}
 use Rattle.physical_map.specs.declared.entry.Entry.{Entry}
 use Rattle.physical_map.specs.Keys.{same_key}
 

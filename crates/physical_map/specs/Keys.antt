@@ -1,6 +1,6 @@
 -- Keys in order, and lists of what stands under keys.
 use Rattle.std.specs.Prelude.{◌≡◌, Bool, true, ◌&&◌, ◌||◌, ◌==◌, nat_lt, nat_le, List, [], ◌∷◌, Option, None, Some, if◌then◌else◌}
-use Rattle.petal_base.specs.declared.place.Key.{Key}
+use Rattle.petal_base.specs.declared.cell.Key.{Key}
 
 -- by map, then by block, then by epoch
 abbrev pub key_below : Key → Key → Bool

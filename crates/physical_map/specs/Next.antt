@@ -1,6 +1,6 @@
 -- Where the search for a map's next block ends.
 use Rattle.std.specs.Prelude.{ℕ, Bool, ◌&&◌, ◌||◌, ◌==◌, not, nat_lt, Option}
-use Rattle.petal_base.specs.declared.place.Key.{Key}
+use Rattle.petal_base.specs.declared.cell.Key.{Key}
 use Rattle.physical_map.specs.Entries.{above}
 
 -- the key stands before all of the map's blocks above a number

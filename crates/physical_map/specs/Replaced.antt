@@ -1,6 +1,6 @@
 -- The entry that a put replaces or a drop takes out, and what a map keeps.
 use Rattle.std.specs.Prelude.{◌≡◌, ℕ, List, [], ◌∷◌, Option, None, Some, if◌then◌else◌}
-use Rattle.petal_base.specs.declared.place.Key.{Key}
+use Rattle.petal_base.specs.declared.cell.Key.{Key}
 use Rattle.physical_map.specs.declared.entry.Entry.{Entry}
 use Rattle.physical_map.specs.Entries.{key_of, top_of}
 use Rattle.physical_map.specs.Keys.{same_key, IsInOrder}

@@ -1,7 +1,7 @@
 //! The second server of a pair.
 
 ghost use Rattle.std.specs.Prelude.{◌≡◌, nat_lt, true, false, Some, Err, IfOk, OnOk, OnErr};
-ghost use Rattle.petal_base.specs.Place.{cell_of};
+ghost use Rattle.petal_base.specs.Cells.{cell_of};
 ghost use Rattle.petal_table.specs.Table.{at, put};
 ghost use Rattle.petal_rules.specs.Server.{letters_of, post_to, sender};
 ghost use Rattle.petal_rules.specs.State as rules;

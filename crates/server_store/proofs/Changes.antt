@@ -7,7 +7,7 @@ use Rattle.busy_marks.specs.declared.marks.Mark.{Mark}
 use Rattle.busy_marks.specs.declared.marks.MarkKind.{MarkKind}
 use Rattle.busy_marks.specs.declared.marks.MarkKind.TheVariants.{Busy, Stale}
 use Rattle.busy_marks.specs.Marks.{same_kind, same_mark, has_mark, with_mark, without_mark}
-use Rattle.petal_base.specs.declared.place.Key.{Key}
+use Rattle.petal_base.specs.declared.cell.Key.{Key}
 use Rattle.physical_map.specs.declared.entry.Entry.{Entry}
 use Rattle.physical_map.specs.Entries.{key_of, slot_of, without_key}
 use Rattle.physical_map.specs.Keys.{placed, same_key}

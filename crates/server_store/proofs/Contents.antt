@@ -3,7 +3,7 @@ use Rattle.std.proofs.Common.{◌≡◌, ◌≢◌, ℕ, suc, ◌+◌, ◌<◌, 
 use Rattle.std.proofs.lemmas.Bool.{cases_Bool, cases_lt}
 use Rattle.std.proofs.lemmas.List.{drop-take}
 use Rattle.std.specs.List.{All}
-use Rattle.petal_base.specs.declared.place.Key.{Key}
+use Rattle.petal_base.specs.declared.cell.Key.{Key}
 use Rattle.petal_disk.specs.Disk.{part, Torn, written}
 use Rattle.petal_disk.proofs.Tearing.{torn_front, torn_rest, part_written}
 use Rattle.physical_map.specs.declared.entry.Entry.{Entry}

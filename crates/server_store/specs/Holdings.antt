@@ -3,7 +3,7 @@ use Rattle.std.specs.Prelude.{ℕ, ◌+◌, ◌-◌, Bool, List, [], ◌∷◌, 
 use Rattle.busy_marks.specs.declared.marks.Mark.{Mark}
 use Rattle.busy_marks.specs.Marks.{next_marked_map}
 use Rattle.petal_base.specs.Block.{zero_block}
-use Rattle.petal_base.specs.declared.place.Key.{Key}
+use Rattle.petal_base.specs.declared.cell.Key.{Key}
 use Rattle.physical_map.specs.declared.entry.Entry.{Entry}
 use Rattle.physical_map.specs.Entries.{lesser, next_map_of}
 use Rattle.physical_map.specs.Keys.{same_key}

@@ -2,7 +2,7 @@
 
 ghost use Rattle.std.specs.Prelude.{◌≡◌, option_copied};
 ghost use Rattle.petal_state.specs.State.{leaves, mover};
-ghost use Rattle.petal_state.specs.Place.{move_region, is_fenced};
+ghost use Rattle.petal_state.specs.CellState.{move_region, is_fenced};
 
 use crate::tables::Tables;
 use global_tables::{DiskRow, Move, RegionState};

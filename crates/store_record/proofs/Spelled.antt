@@ -1,8 +1,8 @@
 -- What the bytes of a spelling tell: their number and the kind.
 use Rattle.std.proofs.Common.{◌≡◌, ℕ, List, length, get_or, refl, ap}
 use Rattle.busy_marks.specs.declared.marks.MarkKind.{MarkKind}
-use Rattle.petal_base.specs.declared.place.Cell.{Cell}
-use Rattle.petal_base.specs.declared.place.Key.{Key}
+use Rattle.petal_base.specs.declared.cell.Cell.{Cell}
+use Rattle.petal_base.specs.declared.cell.Key.{Key}
 use Rattle.store_record.specs.declared.record.StoreRecord.{StoreRecord}
 use Rattle.store_record.specs.declared.record.StoreRecord.TheVariants.{Put, Drop, Mark, Unmark, Settled}
 use Rattle.store_record.specs.Spelling.{spelling}

@@ -3,8 +3,8 @@
 
 ghost use Rattle.std.specs.Prelude.{◌≡◌, ℕ, Some, length, IfSome};
 ghost use Rattle.busy_marks.specs.declared.marks.MarkKind.{MarkKind};
-ghost use Rattle.petal_base.specs.declared.place.Cell.{Cell};
-ghost use Rattle.petal_base.specs.declared.place.Key.{Key};
+ghost use Rattle.petal_base.specs.declared.cell.Cell.{Cell};
+ghost use Rattle.petal_base.specs.declared.cell.Key.{Key};
 ghost use Rattle.store_record.specs.Spelling.{spelling, HasSpelling};
 ghost use Rattle.store_record.specs.declared.record.StoreRecord.{StoreRecord};
 ghost use Rattle.store_record.specs.declared.record.StoreRecord.TheVariants.{Put, Drop, Mark, Unmark, Settled};

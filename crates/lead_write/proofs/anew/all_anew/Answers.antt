@@ -1,4 +1,4 @@
-use Rattle.petal_base.specs.declared.place.Cell.{Cell}
+use Rattle.petal_base.specs.declared.cell.Cell.{Cell}
 use Rattle.petal_msg.specs.declared.operation.Pending.{Pending}
 use Rattle.petal_rules.specs.Server.{Own, letters_of, sender}
 use Rattle.petal_rules.specs.Jobs.{sent_anew}

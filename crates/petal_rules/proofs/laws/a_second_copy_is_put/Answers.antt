@@ -1,7 +1,7 @@
 -- It was put there.
 use Rattle.std.proofs.Common.{[], ap}
 use Rattle.std.specs.Prelude.{unwrap_or}
-use Rattle.petal_base.specs.Place.{cell_of}
+use Rattle.petal_base.specs.Cells.{cell_of}
 use Rattle.petal_rules.specs.Store.{Chain}
 use Rattle.petal_rules.proofs.CellTables.{cell_same}
 use Rattle.petal_rules.proofs.laws.a_second_copy_is_put.Goals as goal

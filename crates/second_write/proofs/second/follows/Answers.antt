@@ -1,5 +1,5 @@
 use Rattle.std.proofs.Common.{ℕ, Option, Ok, refl, sym, ap, subst, ◌∙◌}
-use Rattle.petal_base.specs.declared.place.Cell.{Cell}
+use Rattle.petal_base.specs.declared.cell.Cell.{Cell}
 use Rattle.petal_msg.specs.declared.body.Body.TheVariants as body
 use Rattle.petal_table.specs.Table.{at}
 use Rattle.petal_rules.specs.Server.{letters_of, post_to, sender}

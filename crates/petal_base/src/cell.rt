@@ -19,7 +19,7 @@ pub struct Key {
 
 impl Key {
     ghost use Rattle.std.specs.Prelude.{◌≡◌};
-    ghost use Rattle.petal_base.specs.Place.{cell_of};
+    ghost use Rattle.petal_base.specs.Cells.{cell_of};
 
     /// The cell whose entry this is.
     pub fn cell(&self) -> Cell

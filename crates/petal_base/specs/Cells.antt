@@ -1,7 +1,7 @@
 -- Cells and keys.
 use Rattle.std.specs.Prelude.{ℕ}
-use Rattle.petal_base.specs.declared.place.Cell.{Cell}
-use Rattle.petal_base.specs.declared.place.Key.{Key}
+use Rattle.petal_base.specs.declared.cell.Cell.{Cell}
+use Rattle.petal_base.specs.declared.cell.Key.{Key}
 
 -- the cell of a key
 abbrev pub cell_of : Key → Cell
