@@ -63,7 +63,8 @@ pub record IsAhead (lines : List Line) (given : List (ℕ × Answer)) (c : ℕ) 
 
 module _ (lines : List Line) (rise : AreRising lines) (given : List (ℕ × Answer)) where
   -- a line with an answer more is not due, nor open at another client
-  due_more : (row : ℕ × Answer) (c called : ℕ) → IsOpenAt lines given c called row.0 → (i : ℕ) (line : Line) → slice_get (lines_of lines c) i ≡ Some line → called ≤ i → (IsAnswered given line.number → ⊥) → IsAnswered (row ∷ given) line.number → ⊥
+  due_more : (row : ℕ × Answer) (c called : ℕ) → IsOpenAt lines given c called row.0 → (i : ℕ) (line : Line)
+      → slice_get (lines_of lines c) i ≡ Some line → called ≤ i → (IsAnswered given line.number → ⊥) → IsAnswered (row ∷ given) line.number → ⊥
   due_more row c called o i line is le new h = elim (which_answer row given line.number h) [
     | inl e ↦ (
         let same : i ≡ o.place = one_place lines rise c i o.place line o.line is o.is (e ∙ sym o.number_is) in
@@ -72,26 +73,37 @@ module _ (lines : List Line) (rise : AreRising lines) (given : List (ℕ × Answ
     | inr old ↦ new old
   ]
 
-  apart : (row : ℕ × Answer) (c d called i : ℕ) (line : Line) → c ≢ d → IsOpenAt lines given d called row.0 → slice_get (lines_of lines c) i ≡ Some line → (IsAnswered given line.number → ⊥) → IsAnswered (row ∷ given) line.number → ⊥
+  apart : (row : ℕ × Answer) (c d called i : ℕ) (line : Line) → c ≢ d → IsOpenAt lines given d called row.0
+      → slice_get (lines_of lines c) i ≡ Some line → (IsAnswered given line.number → ⊥) → IsAnswered (row ∷ given) line.number → ⊥
   apart row c d called i line ne o is new h = elim (which_answer row given line.number h) [
     | inl e ↦ ne (one_client lines rise c d i o.place line o.line is o.is (e ∙ sym o.number_is))
     | inr old ↦ new old
   ]
 
-  others_ahead : (row : ℕ × Answer) (c d called : ℕ) (client : Client) → c ≢ d → IsOpenAt lines given d called row.0 → IsAhead lines given c client → IsAhead lines (row ∷ given) c client
+  others_ahead : (row : ℕ × Answer) (c d called : ℕ) (client : Client) → c ≢ d → IsOpenAt lines given d called row.0 → IsAhead lines given c client
+      → IsAhead lines (row ∷ given) c client
   others_ahead row c d called client ne o a = record {
     due = λ i line is le. apart row c d called i line ne o is (a.due i line is le);
     asked = λ asked is.
         let k = a.asked asked is in
-        let new : IsAnswered (row ∷ given) k.line.number → ⊥ = apart row c d called k.place k.line ne o k.is (λ h. k.new (subst (IsAnswered given) k.number_is h)) in
-        record { place = k.place; line = k.line; is = k.is; before = k.before; number_is = k.number_is; new = λ h. new (subst (IsAnswered (row ∷ given)) (sym k.number_is) h) };
+        let new : IsAnswered (row ∷ given) k.line.number → ⊥ =
+        apart row c d called k.place k.line ne o k.is (λ h. k.new (subst (IsAnswered given) k.number_is h)) in
+        record {
+          place = k.place;
+          line = k.line;
+          is = k.is;
+          before = k.before;
+          number_is = k.number_is;
+          new = λ h. new (subst (IsAnswered (row ∷ given)) (sym k.number_is) h);
+        };
   }
 
   -- what a client answers is open at it: the line that it has called by then
   abbrev OwnAnswer : ℕ → ℕ → Option (ℕ × Answer) → Type 0
   OwnAnswer c called answer = (row : ℕ × Answer) → answer ≡ Some row → IsOpenAt lines given c called row.0
 
-  others_after : (answer : Option (ℕ × Answer)) (c d called : ℕ) (client : Client) → c ≢ d → OwnAnswer d called answer → IsAhead lines given c client → IsAhead lines (with_answer answer given) c client
+  others_after : (answer : Option (ℕ × Answer)) (c d called : ℕ) (client : Client) → c ≢ d → OwnAnswer d called answer → IsAhead lines given c client
+      → IsAhead lines (with_answer answer given) c client
   others_after None c d called client ne own a = a
   others_after (Some row) c d called client ne own a = others_ahead row c d called client ne (own row refl) a
 
@@ -102,9 +114,11 @@ module _ (lines : List Line) (rise : AreRising lines) (given : List (ℕ × Answ
 
   module _ (heard : Body → Type 0) (state : State) (c : ℕ) (client : Client) (a : IsAhead lines given c client) where
     next_open : (line : Line) → next_line lines c client ≡ Some line → IsOpenAt lines given c (client.seq + 1) line.number
-    next_open line is = record { place = client.seq; line = line; is = is; before = omega arith; number_is = refl; new = a.due client.seq line is (omega arith) }
+    next_open line is =
+        record { place = client.seq; line = line; is = is; before = omega arith; number_is = refl; new = a.due client.seq line is (omega arith) }
 
-    none_ahead : (row : ℕ × Answer) (to : Client) → client.seq ≤ to.seq → to.asked ≡ None → IsOpenAt lines given c to.seq row.0 → IsAhead lines (row ∷ given) c to
+    none_ahead : (row : ℕ × Answer) (to : Client) → client.seq ≤ to.seq → to.asked ≡ None → IsOpenAt lines given c to.seq row.0
+        → IsAhead lines (row ∷ given) c to
     none_ahead row to up free o = record {
       due = λ i line is le. due_more row c to.seq o i line is le (a.due i line is (omega arith));
       asked = λ asked is. none_some free is;
@@ -169,7 +183,8 @@ module _ (servers slots : ℕ) (lines : List Line) (state : State) (rise : AreRi
   steps (actor.Server n) what w stamp ahead may = record { ahead = ahead; answers = refl; new = λ row e. none_some refl e }
   steps (actor.Client c) what w stamp ahead may =
       let reacted = client_step what state c (w.clients c) (next_line lines c (w.clients c)) in
-      let t = turned lines rise w.answers (Heard w (actor.Client c)) state c (w.clients c) (ahead c) (is_call what) reacted (client_turns state lines w c servers slots what may.1) in
+      let t = turned lines rise w.answers (Heard w (actor.Client c)) state c (w.clients c) (ahead c) (is_call what) reacted
+      (client_turns state lines w c servers slots what may.1) in
       record {
         ahead = all_put_apart w.clients c reacted.client (λ d client. IsAhead lines (with_answer reacted.answer w.answers) d client)
             (λ d ne. others_after lines rise w.answers reacted.answer d c reacted.client.seq (w.clients d) ne t.own (ahead d)) t.ahead;
@@ -191,23 +206,29 @@ module _ (servers slots : ℕ) (lines : List Line) (state : State) (rise : AreRi
     pub given : (number : ℕ) → is_some (at nat_cmp table number) ≡ true → IsAnswered w.answers number
     pub lines_too : (number : ℕ) → is_some (at nat_cmp table number) ≡ true → (line : Line) × In line lines × (line.number ≡ number)
 
-  put_at_once : (table : Table ℕ Answer) (row : ℕ × Answer) (P : ℕ → Type 0) → P row.0 → ((number : ℕ) → is_some (at nat_cmp table number) ≡ true → P number) → (number : ℕ) → is_some (at nat_cmp (put nat_cmp table row.0 row.1) number) ≡ true → P number
+  put_at_once : (table : Table ℕ Answer) (row : ℕ × Answer) (P : ℕ → Type 0) → P row.0
+      → ((number : ℕ) → is_some (at nat_cmp table number) ≡ true → P number) → (number : ℕ)
+      → is_some (at nat_cmp (put nat_cmp table row.0 row.1) number) ≡ true → P number
   put_at_once table row P now old number h = elim (same_or_apart number row.0) [
     | inl e ↦ subst P (sym e) now
     | inr ne ↦ old number (ap is_some (sym (at_apart table row.0 row.1 number ne)) ∙ h)
   ]
 
-  told_more : (w v : World) (table : Table ℕ Answer) (o : Option (ℕ × Answer)) → v.answers ≡ with_answer o w.answers → ((row : ℕ × Answer) → o ≡ Some row → IsNew lines w row.0) → IsTold w table → IsTold v (with_given table o)
-  told_more w v table None e new t = record { given = λ n h. subst (λ (given : List (ℕ × Answer)). IsAnswered given n) (sym e) (t.given n h); lines_too = t.lines_too }
+  told_more : (w v : World) (table : Table ℕ Answer) (o : Option (ℕ × Answer)) → v.answers ≡ with_answer o w.answers
+      → ((row : ℕ × Answer) → o ≡ Some row → IsNew lines w row.0) → IsTold w table → IsTold v (with_given table o)
+  told_more w v table None e new t =
+      record { given = λ n h. subst (λ (given : List (ℕ × Answer)). IsAnswered given n) (sym e) (t.given n h); lines_too = t.lines_too }
   told_more w v table (Some row) e new t =
       let fresh = new row refl in
       record {
-        given = put_at_once table row (IsAnswered v.answers) (subst (λ (given : List (ℕ × Answer)). IsAnswered given row.0) (sym e) (answered_now row w.answers))
+        given = put_at_once table row (IsAnswered v.answers)
+            (subst (λ (given : List (ℕ × Answer)). IsAnswered given row.0) (sym e) (answered_now row w.answers))
             (λ n h. subst (λ (given : List (ℕ × Answer)). IsAnswered given n) (sym e) (answered_more (Some row) w.answers n (t.given n h)));
         lines_too = put_at_once table row (λ n. (line : Line) × In line lines × (line.number ≡ n)) (fresh.line, fresh.there, fresh.is) t.lines_too;
       }
 
-  pub told_after : (w : World) (table : Table ℕ Answer) (records : List Record) → Ahead lines w → IsTold w table → IsLegalFrom setting w records → IsTold (world_after setting w records) (fold (λ rows own. with_given rows own.answer) table records)
+  pub told_after : (w : World) (table : Table ℕ Answer) (records : List Record) → Ahead lines w → IsTold w table → IsLegalFrom setting w records
+      → IsTold (world_after setting w records) (fold (λ rows own. with_given rows own.answer) table records)
   told_after w table [] ahead t legal = t
   told_after w table (own ∷ later) ahead t legal =
       let s = stepped_is w own ahead legal.0 in
@@ -216,7 +237,8 @@ module _ (servers slots : ℕ) (lines : List Line) (state : State) (rise : AreRi
       let more = told_more w v table own.answer (s.answers ∙ ap (λ o. with_answer o w.answers) (sym same)) (λ row e. s.new row (sym same ∙ e)) t in
       told_after v (with_given table own.answer) later s.ahead more legal.1
 
-  pub front_legal : (w : World) (front behind : List Record) → IsLegalFrom setting w (front ++ behind) → IsLegalFrom setting w front × IsLegalFrom setting (world_after setting w front) behind
+  pub front_legal : (w : World) (front behind : List Record) → IsLegalFrom setting w (front ++ behind)
+      → IsLegalFrom setting w front × IsLegalFrom setting (world_after setting w front) behind
   front_legal w [] behind legal = (tt, legal)
   front_legal w (own ∷ front) behind legal = let rest = front_legal (stepped setting w own).world front behind legal.1 in ((legal.0, rest.0), rest.1)
 
@@ -230,14 +252,21 @@ module _ (servers slots : ℕ) (lines : List Line) (state : State) (rise : AreRi
   pub told_start : IsTold (start setting) []
   told_start = record { given = λ n h. none_told n h; lines_too = λ n h. none_told n h }
 
-  pub open_line : (front : List Record) (own : Record) → IsLegalFrom setting (start setting) (front ++ own ∷ []) → (number : ℕ) (given : Answer) → own.answer ≡ Some (number, given) → IsOpenLine lines front number
+  pub open_line : (front : List Record) (own : Record) → IsLegalFrom setting (start setting) (front ++ own ∷ []) → (number : ℕ) (given : Answer)
+      → own.answer ≡ Some (number, given) → IsOpenLine lines front number
   open_line front own legal number given e =
       let parts = front_legal (start setting) front (own ∷ []) legal in
       let w = world_after setting (start setting) front in
       let ahead = ahead_after (start setting) front ahead_start parts.0 in
       let told = told_after (start setting) [] front ahead_start told_start parts.0 in
       let fresh = (stepped_is w own ahead parts.1.0).new (number, given) (sym parts.1.0.answer ∙ e) in
-      record { line = fresh.line; there = fresh.there; is = fresh.is; open_yet = by_bool (is_answered front number) (λ yes. absurd (fresh.new (told.given number yes))) (λ no. no) }
+      record {
+        line = fresh.line;
+        there = fresh.there;
+        is = fresh.is;
+        open_yet = by_bool (is_answered front number) (λ yes. absurd (fresh.new (told.given number yes))) (λ no. no);
+      }
 
-pub once : (script : Script) (front : List Record) (own : Record) → AreRising script.lines → IsLegal script (front ++ own ∷ []) → (number : ℕ) (given : Answer) → own.answer ≡ Some (number, given) → IsOpenLine script.lines front number
+pub once : (script : Script) (front : List Record) (own : Record) → AreRising script.lines → IsLegal script (front ++ own ∷ [])
+    → (number : ℕ) (given : Answer) → own.answer ≡ Some (number, given) → IsOpenLine script.lines front number
 once script front own rise legal = open_line script.servers script.slots script.lines (chosen_state (setting_of script)) rise front own legal

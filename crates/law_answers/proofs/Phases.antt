@@ -34,7 +34,8 @@ AreBelow table number = (row : ℕ × Answer) → In row table → row.0 < numbe
 greater : (n m : ℕ) → m < n → nat_cmp n m ≡ Greater
 greater n m lt = grind (arith, nat_tests)
 
-insert_behind : (a b : Table ℕ Answer) (number : ℕ) (answer : Answer) → AreBelow a number → insert_entry nat_cmp (a ++ b) number answer ≡ a ++ insert_entry nat_cmp b number answer
+insert_behind : (a b : Table ℕ Answer) (number : ℕ) (answer : Answer) → AreBelow a number
+    → insert_entry nat_cmp (a ++ b) number answer ≡ a ++ insert_entry nat_cmp b number answer
 unfolding In
 insert_behind [] b number answer below = refl
 insert_behind (row ∷ rows) b number answer below =
@@ -47,7 +48,8 @@ put_behind : (a b : Table ℕ Answer) (number : ℕ) (answer : Answer) → AreBe
 unfolding put
 put_behind a b number answer below = insert_behind a b number answer below
 
-given_behind : (a b : Table ℕ Answer) (o : Option (ℕ × Answer)) → ((row : ℕ × Answer) → o ≡ Some row → AreBelow a row.0) → with_given (a ++ b) o ≡ a ++ with_given b o
+given_behind : (a b : Table ℕ Answer) (o : Option (ℕ × Answer)) → ((row : ℕ × Answer) → o ≡ Some row → AreBelow a row.0)
+    → with_given (a ++ b) o ≡ a ++ with_given b o
 given_behind a b None below = refl
 given_behind a b (Some row) below = put_behind a b row.0 row.1 (below row refl)
 
@@ -84,14 +86,19 @@ module _ (servers slots : ℕ) (lines : List Line) (state : State) (rise : AreRi
       let below : (row : ℕ × Answer) → own.answer ≡ Some row → AreBelow a row.0 = λ row e.
       let fresh = s.new row (sym legal.0.answer ∙ e) in
       subst (AreBelow a) fresh.is (before fresh.line fresh.there (λ h. fresh.new (subst (IsAnswered w.answers) fresh.is h))) in
-      let still : IsBefore a v = λ line there none. before line there (λ h. none (subst (λ (given : List (ℕ × Answer)). IsAnswered given line.number) (sym s.answers) (answered_more (stepped setting w own).answer w.answers line.number h))) in
+      let still : IsBefore a v =
+      λ line there none. before line there (λ h. none
+      (subst (λ (given : List (ℕ × Answer)). IsAnswered given line.number) (sym s.answers)
+      (answered_more (stepped setting w own).answer w.answers line.number h))) in
       ap (λ rows. fold (λ rows own. with_given rows own.answer) rows later) (given_behind a b own.answer below)
       ∙ behind a (with_given b own.answer) v later s.ahead still legal.1
 
   -- where what is answered comes first, its table is before what has no answer
-  comes_before : (front : List Record) → IsLegalFrom setting (start setting) front → AnsweredComeFirst lines front → IsBefore (answers_of front) (world_after setting (start setting) front)
+  comes_before : (front : List Record) → IsLegalFrom setting (start setting) front → AnsweredComeFirst lines front
+      → IsBefore (answers_of front) (world_after setting (start setting) front)
   comes_before front legal first line there none row i =
-      let told = told_after servers slots lines state rise (start setting) [] front (ahead_start servers slots lines state rise) (told_start servers slots lines state rise) legal in
+      let told = told_after servers slots lines state rise (start setting) [] front (ahead_start servers slots lines state rise)
+      (told_start servers slots lines state rise) legal in
       let found = row_found (answers_of front) row i in
       let one = told.lines_too row.0 found in
       let no : is_answered front line.number ≡ false = by_bool (is_answered front line.number) (λ yes. absurd (none (told.given line.number yes))) (λ no. no) in
@@ -103,7 +110,8 @@ module _ (servers slots : ℕ) (lines : List Line) (state : State) (rise : AreRi
   append_nil [] = refl
   append_nil (row ∷ rows) = ap (λ more. row ∷ more) (append_nil rows)
 
-  joins : (front back : List Record) → IsLegalFrom setting (start setting) (front ++ back) → AnsweredComeFirst lines front → answers_of (front ++ back) ≡ answers_of front ++ answers_of back
+  joins : (front back : List Record) → IsLegalFrom setting (start setting) (front ++ back) → AnsweredComeFirst lines front
+      → answers_of (front ++ back) ≡ answers_of front ++ answers_of back
   joins front back legal first =
       let parts = front_legal servers slots lines state rise (start setting) front back legal in
       let ahead = ahead_after servers slots lines state rise (start setting) front (ahead_start servers slots lines state rise) parts.0 in
@@ -111,10 +119,12 @@ module _ (servers slots : ℕ) (lines : List Line) (state : State) (rise : AreRi
       ∙ ap (λ rows. fold (λ rows own. with_given rows own.answer) rows back) (sym (append_nil (answers_of front)))
       ∙ behind (answers_of front) [] (world_after setting (start setting) front) back ahead (comes_before front parts.0 first) parts.1
 
-pub answers_join : (script : Script) (front back : List Record) → AreRising script.lines → IsLegal script (front ++ back) → AnsweredComeFirst script.lines front → answers_of (front ++ back) ≡ answers_of front ++ answers_of back
+pub answers_join : (script : Script) (front back : List Record) → AreRising script.lines → IsLegal script (front ++ back)
+    → AnsweredComeFirst script.lines front → answers_of (front ++ back) ≡ answers_of front ++ answers_of back
 answers_join script front back rise legal first = joins script.servers script.slots script.lines (chosen_state (setting_of script)) rise front back legal first
 
-pub text_joins : (script : Script) (front back : List Record) → AreRising script.lines → IsLegal script (front ++ back) → AnsweredComeFirst script.lines front → text_of (front ++ back) ≡ text_of front ++ text_of back
+pub text_joins : (script : Script) (front back : List Record) → AreRising script.lines → IsLegal script (front ++ back)
+    → AnsweredComeFirst script.lines front → text_of (front ++ back) ≡ text_of front ++ text_of back
 text_joins script front back rise legal first =
     ap (λ rows. flat_map (λ row. answer_line row.0 row.1) rows) (answers_join script front back rise legal first)
     ∙ flat_map-append (λ (row : ℕ × Answer). answer_line row.0 row.1) (answers_of front) (answers_of back)

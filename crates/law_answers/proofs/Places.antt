@@ -10,13 +10,14 @@ use Rattle.petal_history.specs.Order.{AreRising}
 kept_line : (p : Line → Bool) (lines : List Line) (line : Line) → In line (filter p lines) → In line lines × (p line ≡ true)
 unfolding In
 kept_line p [] line h = absurd h
-kept_line p (first ∷ lines) line h = elim (p first) as (λ b. p first ≡ b → In line (cond b (first ∷ filter p lines) (filter p lines)) → In line (first ∷ lines) × (p line ≡ true)) [
-  | true ↦ λ is i. elim i [
-    | inl e ↦ (inl e, ap p e ∙ is)
-    | inr j ↦ (let rest = kept_line p lines line j in (inr rest.0, rest.1))
-  ]
-  | false ↦ λ is i. let rest = kept_line p lines line i in (inr rest.0, rest.1)
-] refl h
+kept_line p (first ∷ lines) line h =
+    elim (p first) as (λ b. p first ≡ b → In line (cond b (first ∷ filter p lines) (filter p lines)) → In line (first ∷ lines) × (p line ≡ true)) [
+      | true ↦ λ is i. elim i [
+        | inl e ↦ (inl e, ap p e ∙ is)
+        | inr j ↦ (let rest = kept_line p lines line j in (inr rest.0, rest.1))
+      ]
+      | false ↦ λ is i. let rest = kept_line p lines line i in (inr rest.0, rest.1)
+    ] refl h
 
 kept_rise : (p : Line → Bool) (lines : List Line) → AreRising lines → AreRising (filter p lines)
 kept_rise p [] h = tt
@@ -34,7 +35,8 @@ found_in (first ∷ lines) zero line is = inl (sym (same_some is))
 found_in (first ∷ lines) (suc i) line is = inr (found_in lines i line is)
 
 -- a line that stands further on has a greater number
-further : (lines : List Line) → AreRising lines → (i j : ℕ) (one other : Line) → slice_get lines i ≡ Some one → slice_get lines j ≡ Some other → i < j → one.number < other.number
+further : (lines : List Line) → AreRising lines → (i j : ℕ) (one other : Line) → slice_get lines i ≡ Some one → slice_get lines j ≡ Some other → i < j
+    → one.number < other.number
 further [] rise i j one other is there lt = none_some refl is
 further (first ∷ lines) rise i zero one other is there lt = absurd (omega arith)
 further (first ∷ lines) rise zero (suc j) one other is there lt =
@@ -59,14 +61,16 @@ line_at lines c i line is =
     (kept.0, same_numbers line.client c kept.1)
 
 -- a number is of one client
-pub one_client : (lines : List Line) → AreRising lines → (c d i j : ℕ) (one other : Line) → slice_get (lines_of lines c) i ≡ Some one → slice_get (lines_of lines d) j ≡ Some other → one.number ≡ other.number → c ≡ d
+pub one_client : (lines : List Line) → AreRising lines → (c d i j : ℕ) (one other : Line) → slice_get (lines_of lines c) i ≡ Some one
+    → slice_get (lines_of lines d) j ≡ Some other → one.number ≡ other.number → c ≡ d
 one_client lines rise c d i j one other is there e =
     let h = line_at lines c i one is in
     let k = line_at lines d j other there in
     sym h.1 ∙ ap (λ (l : Line). l.client) (same_line lines rise one other h.0 k.0 e) ∙ k.1
 
 -- and of one place
-pub one_place : (lines : List Line) → AreRising lines → (c i j : ℕ) (one other : Line) → slice_get (lines_of lines c) i ≡ Some one → slice_get (lines_of lines c) j ≡ Some other → one.number ≡ other.number → i ≡ j
+pub one_place : (lines : List Line) → AreRising lines → (c i j : ℕ) (one other : Line) → slice_get (lines_of lines c) i ≡ Some one
+    → slice_get (lines_of lines c) j ≡ Some other → one.number ≡ other.number → i ≡ j
 one_place lines rise c i j one other is there e =
     let risen = kept_rise (λ l. l.client == c) lines rise in
     let up : i < j → one.number < other.number = further (lines_of lines c) risen i j one other is there in

@@ -1,5 +1,5 @@
 -- Every step keeps the pairs, and so does every legal history.
-use Rattle.std.proofs.Common.{◌≡◌, ◌∙◌, ℕ, true, false, List, [], Some, None, refl, ap, sym, subst, inl, inr, arith}
+use Rattle.std.proofs.Common.{◌≡◌, ℕ, true, false, List, [], refl, ap, sym, subst, inl, inr, arith}
 use Rattle.petal_base.specs.declared.cell.Cell.{Cell}
 use Rattle.petal_table.specs.Table.{at}
 use Rattle.petal_table.proofs.Rows.{at-empty}
@@ -23,7 +23,7 @@ use Rattle.law_steps.specs.Steady.{IsSteady}
 use Rattle.law_steps.specs.Happens.{Happens, Serves, Turns, server_moves, served}
 use Rattle.law_steps.specs.Ready.{Ready}
 use Rattle.law_steps.proofs.Letters.{said}
-use Rattle.law_steps.proofs.Sending.{is_ask, turned_asks}
+use Rattle.law_steps.proofs.Sending.{turned_asks}
 use Rattle.petal_rules.proofs.Tests.{true_false}
 use Rattle.law_steps.proofs.Scripts.{script_steady, start_ready}
 use Rattle.law_steps.proofs.Stepping.{kept_after}
@@ -47,13 +47,20 @@ module _ (state : State) (steady : IsSteady state) (lines : List Line) where
   happens_good w _ ready good (Serves n stamp done queue lt did queued) =
       let v = server_moves state w n stamp done queue in
       let server = served (w.servers n) done queue in
-      let changes : Changes (owns_of w) (owns_of v) n done.own = record { here = ap (λ (s : Server). s.own) (put_same w.servers n server); others = λ m ne. ap (λ (s : Server). s.own) (put_apart w.servers n server m ne) } in
+      let changes : Changes (owns_of w) (owns_of v) n done.own =
+      record {
+        here = ap (λ (s : Server). s.own) (put_same w.servers n server);
+        others = λ m ne. ap (λ (s : Server). s.own) (put_apart w.servers n server m ne);
+      } in
       let keeps = job_keeps state steady w ready good n done did in
-      let kept = λ (cell : Cell) (i j : ℕ) (pair : IsPair state cell i j). pairs_kept state steady (owns_of w) (owns_of v) n done.own changes done.posts keeps same cell i j pair (good.pairs cell i j pair) in
+      let kept = λ (cell : Cell) (i j : ℕ) (pair : IsPair state cell i j). pairs_kept state steady (owns_of w)
+      (owns_of v) n done.own changes done.posts keeps same cell i j pair (good.pairs cell i j pair) in
       record {
         pairs = λ cell i j pair. (kept cell i j pair).ok;
         letters = λ letter h. elim (in-append letter _ w.sent h) [
-          | inl new ↦ let s = said (sender (here_of state n (w.servers n))) stamp 0 done.posts letter new in subst (SaidOk state (owns_of v)) (sym s.body) (keeps.says (owns_of v) changes s.post s.there)
+          | inl new ↦ let s =
+              said (sender (here_of state n (w.servers n))) stamp 0 done.posts letter new in subst (SaidOk state (owns_of v)) (sym s.body)
+              (keeps.says (owns_of v) changes s.post s.there)
           | inr old ↦ (λ cell i j is pair. known_later _ _ (kept cell i j pair).grows letter.body (good.letters letter old cell i j is pair))
         ];
       }
@@ -63,15 +70,29 @@ module _ (state : State) (steady : IsSteady state) (lines : List Line) where
       | inl new ↦
           let s = said (client_sender state c) stamp 0 reacted.posts letter new in
           let asks = turned_asks _ state lines c (w.clients c) in_call reacted turned s.post s.there in
-          subst (SaidOk state (owns_of w)) (sym s.body) (no_cell state (owns_of w) s.post.body (unpaired s.post.body (asked_unpaired (subject_of s.post.body) asks)))
+          subst (SaidOk state (owns_of w)) (sym s.body)
+          (no_cell state (owns_of w) s.post.body (unpaired s.post.body (asked_unpaired (subject_of s.post.body) asks)))
       | inr old ↦ good.letters letter old
     ];
   }
 
-empty_ok : (one two : Own) (cell : Cell) → one.store.chains ≡ [] → two.store.chains ≡ [] → one.pairs.pending ≡ [] → one.pairs.next ≡ 1 → two.pairs.last ≡ [] → PairOk (pair_of one two cell)
+empty_ok : (one two : Own) (cell : Cell) → one.store.chains ≡ [] → two.store.chains ≡ [] → one.pairs.pending ≡ [] → one.pairs.next ≡ 1
+    → two.pairs.last ≡ [] → PairOk (pair_of one two cell)
 empty_ok one two cell first second pending next last =
-    subst PairOk (λ i. record { first = chain_in (sym first i) cell; second = chain_in (sym second i) cell; pending = at cell_cmp (sym pending i) cell; next = sym next i; last = at cell_cmp (sym last i) cell })
-    (subst PairOk (λ i. record { first = chain_in [] cell; second = chain_in [] cell; pending = sym (at-empty cell_cmp cell) i; next = 1; last = sym (at-empty cell_cmp cell) i })
+    subst PairOk (λ i. record {
+      first = chain_in (sym first i) cell;
+      second = chain_in (sym second i) cell;
+      pending = at cell_cmp (sym pending i) cell;
+      next = sym next i;
+      last = at cell_cmp (sym last i) cell;
+    })
+    (subst PairOk (λ i. record {
+      first = chain_in [] cell;
+      second = chain_in [] cell;
+      pending = sym (at-empty cell_cmp cell) i;
+      next = 1;
+      last = sym (at-empty cell_cmp cell) i;
+    })
     (record { copies = refl; below = omega arith; fresh = omega arith }))
 
 pub pair_copies : (pair : Pair) → PairOk pair → Copies pair.first pair.second pair.pending
@@ -86,11 +107,15 @@ start_good state script = record {
 
 -- ### Histories
 
-pub good_after : (script : Script) (records : List Record) → IsSound script → IsLegal script records → Good (chosen_state (setting_of script)) (world_after (setting_of script) (start (setting_of script)) records)
+pub good_after : (script : Script) (records : List Record) → IsSound script → IsLegal script records
+    → Good (chosen_state (setting_of script)) (world_after (setting_of script) (start (setting_of script)) records)
 good_after script records sound legal =
     let state = chosen_state (setting_of script) in
     let steady = script_steady script sound in
-    kept_after script.servers script.slots script.lines state steady (Good state) (happens_good state steady script.lines) (start (setting_of script)) records (start_ready state script) (start_good state script) legal
+    kept_after script.servers script.slots script.lines state steady (Good state) (happens_good state steady script.lines)
+    (start (setting_of script)) records (start_ready state script) (start_good state script) legal
 
-pub copies_after : (script : Script) (records : List Record) → IsSound script → IsLegal script records → (cell : Cell) → TwoCopies (chosen_state (setting_of script)) (world_after (setting_of script) (start (setting_of script)) records) cell
-copies_after script records sound legal cell n m leads follows = pair_copies _ ((good_after script records sound legal).pairs cell n m (record { leads = leads; follows = follows }))
+pub copies_after : (script : Script) (records : List Record) → IsSound script → IsLegal script records → (cell : Cell)
+    → TwoCopies (chosen_state (setting_of script)) (world_after (setting_of script) (start (setting_of script)) records) cell
+copies_after script records sound legal cell n m leads follows =
+    pair_copies _ ((good_after script records sound legal).pairs cell n m (record { leads = leads; follows = follows }))

@@ -76,7 +76,8 @@ module _ (state : State) (steady : IsSteady state) where
         λ i. pair_of (p i) (q i) cell
 
     -- each pair is kept
-    pub pairs_kept : (posts : List Post) → JobKeeps state halves k new posts → ((pair : Pair) → PairOk pair → Keeps pair pair) → (cell : Cell) (n m : ℕ) → IsPair state cell n m → PairOk (pair_of (halves n) (halves m) cell)
+    pub pairs_kept : (posts : List Post) → JobKeeps state halves k new posts → ((pair : Pair) → PairOk pair → Keeps pair pair)
+        → (cell : Cell) (n m : ℕ) → IsPair state cell n m → PairOk (pair_of (halves n) (halves m) cell)
         → Keeps (pair_of (halves n) (halves m) cell) (pair_of (later n) (later m) cell)
     pairs_kept posts keeps same cell n m pair ok = elim (same_or_apart n k) [
       | inl e ↦
@@ -93,7 +94,8 @@ module _ (state : State) (steady : IsSteady state) where
     ]
 
     -- what is known of a letter about a cell that the server is the first of, or the second
-    pub known_first : (said : Body) (cell : Cell) (m : ℕ) → IsPair state cell k m → pair_cell said ≡ Some cell → Known (pair_of new (halves m) cell) said → SaidOk state later said
+    pub known_first : (said : Body) (cell : Cell) (m : ℕ) → IsPair state cell k m → pair_cell said ≡ Some cell
+        → Known (pair_of new (halves m) cell) said → SaidOk state later said
     known_first said cell m mine is h c n j e pair =
         let same : cell ≡ c = same_some (sym is ∙ e) in
         let pair' : IsPair state cell n j = subst (λ (q : Cell). IsPair state q n j) (sym same) pair in
@@ -102,7 +104,8 @@ module _ (state : State) (steady : IsSteady state) where
         (subst (λ i. Known (pair_of (later i) (later j) cell) said) (same_first cell k m n j mine pair')
         (subst (λ i. Known (pair_of (later k) (later i) cell) said) (same_second cell k m n j mine pair') known))
 
-    pub known_second : (said : Body) (cell : Cell) (n : ℕ) → IsPair state cell n k → pair_cell said ≡ Some cell → Known (pair_of (halves n) new cell) said → SaidOk state later said
+    pub known_second : (said : Body) (cell : Cell) (n : ℕ) → IsPair state cell n k → pair_cell said ≡ Some cell
+        → Known (pair_of (halves n) new cell) said → SaidOk state later said
     known_second said cell n mine is h c i j e pair =
         let same : cell ≡ c = same_some (sym is ∙ e) in
         let pair' : IsPair state cell i j = subst (λ (q : Cell). IsPair state q i j) (sym same) pair in

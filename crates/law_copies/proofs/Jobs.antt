@@ -1,5 +1,5 @@
 -- Each kind of job keeps the pairs of its server.
-use Rattle.std.proofs.Common.{◌≡◌, ◌≢◌, ℕ, ◌+◌, ◌≤◌, List, [], ◌∷◌, true, Option, Some, None, refl, ap, sym, ◌∙◌, subst, ◌⊎◌, inl, inr, arith}
+use Rattle.std.proofs.Common.{◌≡◌, ◌≢◌, ℕ, ◌+◌, ◌≤◌, List, [], true, Some, None, refl, ap, sym, ◌∙◌, subst, ◌⊎◌, inl, inr, arith}
 use Rattle.std.specs.Prelude.{unwrap_or}
 use Rattle.std.specs.Ordering.{nat_cmp}
 use Rattle.petal_base.specs.declared.cell.Cell.{Cell}
@@ -9,7 +9,6 @@ use Rattle.petal_table.specs.Table.{Table, at, put, without}
 use Rattle.petal_msg.specs.Kinds.{is_paired}
 use Rattle.petal_msg.specs.declared.body.Body.{Body}
 use Rattle.petal_msg.specs.declared.body.Body.TheVariants as body
-use Rattle.petal_msg.specs.declared.letter.Actor.{Actor}
 use Rattle.petal_msg.specs.declared.operation.Ending.{Ending}
 use Rattle.petal_msg.specs.declared.operation.Ending.TheVariants as ending
 use Rattle.petal_msg.specs.declared.operation.Far.{Far}
@@ -27,10 +26,10 @@ use Rattle.petal_rules.specs.World.{World}
 use Rattle.petal_rules.proofs.CellTables.{cell_same, cell_apart, cell_gone, cell_gone_apart}
 use Rattle.law_steps.specs.Steady.{IsSteady}
 use Rattle.law_steps.specs.Operations.{waiting, copying, progress}
-use Rattle.law_steps.specs.DidRead.{DidRead, Shows}
+use Rattle.law_steps.specs.DidRead.{DidRead}
 use Rattle.law_steps.specs.DidLead.{DidLead, Asks_for, Repeats, Is_full, Opens, Puts, Gives_up, Closes, Asks, A_slot, A_copy}
 use Rattle.law_steps.specs.DidSecond.{DidSecond, Sets_apart, Promises, Declines, Follows}
-use Rattle.law_steps.specs.Did.{Did, Ignores, Refuses, IsRefusal, By_read, By_lead, By_second}
+use Rattle.law_steps.specs.Did.{Did, Ignores, Refuses, By_read, By_lead, By_second}
 use Rattle.law_steps.specs.Happens.{Handled}
 use Rattle.law_steps.specs.Ready.{Ready}
 use Rattle.petal_rules.proofs.Tests.{same_some, is_the_one}
@@ -48,7 +47,8 @@ ended_known pair seq ending.Full = tt
 pub chain_put : (chains : Table Cell Chain) (cell : Cell) (chain : Chain) → chain_in (put cell_cmp chains cell chain) cell ≡ chain
 chain_put chains cell chain = ap (λ o. unwrap_or {T = Chain} o []) (cell_same chains cell chain)
 
-pub chain_apart : (chains : Table Cell Chain) (cell : Cell) (chain : Chain) (q : Cell) → q ≢ cell → chain_in (put cell_cmp chains cell chain) q ≡ chain_in chains q
+pub chain_apart : (chains : Table Cell Chain) (cell : Cell) (chain : Chain) (q : Cell) → q ≢ cell
+    → chain_in (put cell_cmp chains cell chain) q ≡ chain_in chains q
 chain_apart chains cell chain q ne = ap (λ o. unwrap_or {T = Chain} o []) (cell_apart chains cell chain q ne)
 
 module _ (state : State) (steady : IsSteady state) (w : World) (ready : Ready state w) (good : Good state w) (k : ℕ) where
@@ -88,20 +88,36 @@ module _ (state : State) (steady : IsSteady state) (w : World) (ready : Ready st
   heard_known said h = subst (SaidOk state halves) h.is (good.letters h.letter h.sent)
 
   -- a cell that the job of its first server does not touch, and one that the job of its second does not
-  off_first : (new other : Own) (cell : Cell) → PairOk (pair_of own other cell) → chain_in new.store.chains cell ≡ chain_in own.store.chains cell → at cell_cmp new.pairs.pending cell ≡ at cell_cmp own.pairs.pending cell → own.pairs.next ≤ new.pairs.next
+  off_first : (new other : Own) (cell : Cell) → PairOk (pair_of own other cell) → chain_in new.store.chains cell ≡ chain_in own.store.chains cell
+      → at cell_cmp new.pairs.pending cell ≡ at cell_cmp own.pairs.pending cell → own.pairs.next ≤ new.pairs.next
       → Keeps (pair_of own other cell) (pair_of new other cell)
   off_first new other cell ok chain pending next =
-      subst (Keeps (pair_of own other cell)) (λ i. record { first = sym chain i; second = chain_in other.store.chains cell; pending = sym pending i; next = new.pairs.next; last = at cell_cmp other.pairs.last cell })
+      subst (Keeps (pair_of own other cell)) (λ i. record {
+        first = sym chain i;
+        second = chain_in other.store.chains cell;
+        pending = sym pending i;
+        next = new.pairs.next;
+        last = at cell_cmp other.pairs.last cell;
+      })
       (moves.stays (pair_of own other cell) new.pairs.next ok next)
 
-  off_second : (new other : Own) (cell : Cell) → PairOk (pair_of other own cell) → chain_in new.store.chains cell ≡ chain_in own.store.chains cell → at cell_cmp new.pairs.last cell ≡ at cell_cmp own.pairs.last cell
+  off_second : (new other : Own) (cell : Cell) → PairOk (pair_of other own cell) → chain_in new.store.chains cell ≡ chain_in own.store.chains cell
+      → at cell_cmp new.pairs.last cell ≡ at cell_cmp own.pairs.last cell
       → Keeps (pair_of other own cell) (pair_of other new cell)
   off_second new other cell ok chain last =
-      subst (Keeps (pair_of other own cell)) (λ i. record { first = chain_in other.store.chains cell; second = sym chain i; pending = at cell_cmp other.pairs.pending cell; next = other.pairs.next; last = sym last i })
+      subst (Keeps (pair_of other own cell)) (λ i. record {
+        first = chain_in other.store.chains cell;
+        second = sym chain i;
+        pending = at cell_cmp other.pairs.pending cell;
+        next = other.pairs.next;
+        last = sym last i;
+      })
       (moves.stays (pair_of other own cell) other.pairs.next ok (omega arith))
 
   -- a job of the first server of a cell, that changes the copy and the operation of that cell
-  first_job : (new : Own) (posts : List Post) (cell : Cell) (m : ℕ) → IsPair state cell k m → ((q : Cell) → q ≢ cell → chain_in new.store.chains q ≡ chain_in own.store.chains q) → ((q : Cell) → q ≢ cell → at cell_cmp new.pairs.pending q ≡ at cell_cmp own.pairs.pending q)
+  first_job : (new : Own) (posts : List Post) (cell : Cell) (m : ℕ) → IsPair state cell k m
+      → ((q : Cell) → q ≢ cell → chain_in new.store.chains q ≡ chain_in own.store.chains q)
+      → ((q : Cell) → q ≢ cell → at cell_cmp new.pairs.pending q ≡ at cell_cmp own.pairs.pending q)
       → ((q : Cell) → at cell_cmp new.pairs.last q ≡ at cell_cmp own.pairs.last q) → own.pairs.next ≤ new.pairs.next
       → Keeps (pair_of own (halves m) cell) (pair_of new (halves m) cell)
       → ((later : ℕ → Own) → Changes halves later k new → (post : Post) → In post posts → SaidOk state later post.body)
@@ -110,7 +126,8 @@ module _ (state : State) (steady : IsSteady state) (w : World) (ready : Ready st
     as_first = λ q j mine. elim (same_cell_or_apart q cell) [
       | inl e ↦
           let same : m ≡ j = same_some (sym pair.follows ∙ ap (second state) (sym e) ∙ mine.follows) in
-          subst (λ (c : Cell). Keeps (pair_of own (halves j) c) (pair_of new (halves j) c)) (sym e) (subst (λ i. Keeps (pair_of own (halves i) cell) (pair_of new (halves i) cell)) same keeps)
+          subst (λ (c : Cell). Keeps (pair_of own (halves j) c) (pair_of new (halves j) c)) (sym e)
+          (subst (λ i. Keeps (pair_of own (halves i) cell) (pair_of new (halves i) cell)) same keeps)
       | inr ne ↦ off_first new (halves j) q (ok_first q j mine) (chains q ne) (pending q ne) next
     ];
     as_second = λ q n mine. off_second new (halves n) q (ok_second q n mine)
@@ -119,7 +136,9 @@ module _ (state : State) (steady : IsSteady state) (w : World) (ready : Ready st
   }
 
   -- a job of the second server of a cell, that changes the copy and how far it is
-  second_job : (new : Own) (posts : List Post) (cell : Cell) (n : ℕ) → IsPair state cell n k → ((q : Cell) → q ≢ cell → chain_in new.store.chains q ≡ chain_in own.store.chains q) → ((q : Cell) → at cell_cmp new.pairs.pending q ≡ at cell_cmp own.pairs.pending q)
+  second_job : (new : Own) (posts : List Post) (cell : Cell) (n : ℕ) → IsPair state cell n k
+      → ((q : Cell) → q ≢ cell → chain_in new.store.chains q ≡ chain_in own.store.chains q)
+      → ((q : Cell) → at cell_cmp new.pairs.pending q ≡ at cell_cmp own.pairs.pending q)
       → ((q : Cell) → q ≢ cell → at cell_cmp new.pairs.last q ≡ at cell_cmp own.pairs.last q) → own.pairs.next ≤ new.pairs.next
       → Keeps (pair_of (halves n) own cell) (pair_of (halves n) new cell)
       → ((later : ℕ → Own) → Changes halves later k new → (post : Post) → In post posts → SaidOk state later post.body)
@@ -130,19 +149,23 @@ module _ (state : State) (steady : IsSteady state) (w : World) (ready : Ready st
     as_second = λ q i mine. elim (same_cell_or_apart q cell) [
       | inl e ↦
           let same : n ≡ i = same_some (sym pair.leads ∙ ap (first state) (sym e) ∙ mine.leads) in
-          subst (λ (c : Cell). Keeps (pair_of (halves i) own c) (pair_of (halves i) new c)) (sym e) (subst (λ x. Keeps (pair_of (halves x) own cell) (pair_of (halves x) new cell)) same keeps)
+          subst (λ (c : Cell). Keeps (pair_of (halves i) own c) (pair_of (halves i) new c)) (sym e)
+          (subst (λ x. Keeps (pair_of (halves x) own cell) (pair_of (halves x) new cell)) same keeps)
       | inr ne ↦ off_second new (halves i) q (ok_second q i mine) (chains q ne) (last q ne)
     ];
     says = says;
   }
 
   -- a job that leaves copies and operations as they are
-  talks : (new : Own) (posts : List Post) → ((other : Own) (q : Cell) → pair_of new other q ≡ pair_of own other q) → ((other : Own) (q : Cell) → pair_of other new q ≡ pair_of other own q)
+  talks : (new : Own) (posts : List Post) → ((other : Own) (q : Cell) → pair_of new other q ≡ pair_of own other q)
+      → ((other : Own) (q : Cell) → pair_of other new q ≡ pair_of other own q)
       → ((later : ℕ → Own) → Changes halves later k new → (post : Post) → In post posts → SaidOk state later post.body)
       → J new posts
   talks new posts first second says = record {
-    as_first = λ q j mine. subst (Keeps (pair_of own (halves j) q)) (sym (first (halves j) q)) (moves.stays (pair_of own (halves j) q) own.pairs.next (ok_first q j mine) (omega arith));
-    as_second = λ q n mine. subst (Keeps (pair_of (halves n) own q)) (sym (second (halves n) q)) (moves.stays (pair_of (halves n) own q) (halves n).pairs.next (ok_second q n mine) (omega arith));
+    as_first = λ q j mine. subst (Keeps (pair_of own (halves j) q)) (sym (first (halves j) q))
+        (moves.stays (pair_of own (halves j) q) own.pairs.next (ok_first q j mine) (omega arith));
+    as_second = λ q n mine. subst (Keeps (pair_of (halves n) own q)) (sym (second (halves n) q))
+        (moves.stays (pair_of (halves n) own q) (halves n).pairs.next (ok_second q n mine) (omega arith));
     says = says;
   }
 
@@ -150,9 +173,11 @@ module _ (state : State) (steady : IsSteady state) (w : World) (ready : Ready st
   speaks : (posts : List Post) → ((later : ℕ → Own) → Changes halves later k own → (post : Post) → In post posts → SaidOk state later post.body) → J own posts
   speaks posts says = talks own posts (λ other q. refl) (λ other q. refl) says
 
-  talked : (done : Done) → done.own ≡ own → ((later : ℕ → Own) → Changes halves later k done.own → (post : Post) → In post done.posts → SaidOk state later post.body)
+  talked : (done : Done) → done.own ≡ own
+      → ((later : ℕ → Own) → Changes halves later k done.own → (post : Post) → In post done.posts → SaidOk state later post.body)
       → J done.own done.posts
-  talked done same says = talks done.own done.posts (λ other q. ap (λ (o : Own). pair_of o other q) same) (λ other q. ap (λ (o : Own). pair_of other o q) same) says
+  talked done same says =
+      talks done.own done.posts (λ other q. ap (λ (o : Own). pair_of o other q) same) (λ other q. ap (λ (o : Own). pair_of other o q) same) says
 
   -- the letter says this, of which nothing need be known
   says_any : (later : ℕ → Own) (said : Body) (post : Post) → post.body ≡ said → ((pair : Pair) → Known pair said) → SaidOk state later post.body
@@ -175,33 +200,39 @@ module _ (state : State) (steady : IsSteady state) (w : World) (ready : Ready st
       known_first state steady halves later k own changes (body.Replicate op.op op.key op.version op.bytes) op.cell pair.0 pair.1 (ap Some keyed)
       (inl (record { op = op; is = is; number_is = refl; put = ap (λ (s : Stage). s.put) stage; key_is = refl; bytes_is = refl }))
 
-  tells_known : (later : ℕ → Own) (new : Own) → Changes halves later k new → (cell : Cell) (number : ℕ) (how : Far) (n : ℕ) → IsPair state cell n k → at cell_cmp new.pairs.last cell ≡ Some (record { op = number; far = how }) → (post : Post) → In post (tells here new cell number how).posts → SaidOk state later post.body
+  tells_known : (later : ℕ → Own) (new : Own) → Changes halves later k new → (cell : Cell) (number : ℕ) (how : Far) (n : ℕ) → IsPair state cell n k
+      → at cell_cmp new.pairs.last cell ≡ Some (record { op = number; far = how }) → (post : Post) → In post (tells here new cell number how).posts
+      → SaidOk state later post.body
   tells_known later new changes cell number far_is.Reserved n pair is post i =
       let e : progress (at cell_cmp new.pairs.last cell) ≡ number + number = ap progress is in
       says_so later _ post (posted _ _ post i) (known_second state steady halves later k new changes (body.Reserved number cell) cell n pair refl (omega arith))
   tells_known later new changes cell number far_is.Replicated n pair is post i =
       let e : progress (at cell_cmp new.pairs.last cell) ≡ number + number + 1 = ap progress is in
-      says_so later _ post (posted _ _ post i) (known_second state steady halves later k new changes (body.Replicated number cell) cell n pair refl (omega arith))
+      says_so later _ post (posted _ _ post i)
+      (known_second state steady halves later k new changes (body.Replicated number cell) cell n pair refl (omega arith))
 
   -- ### The first server's jobs
 
   abbrev hears : Body → Type 0
   hears = Handled w k
 
-  opens_keeps : (want : Wanted) → is_lead state k want.cell ≡ true → at cell_cmp own.pairs.pending want.cell ≡ None → J (opened here own want) (post_to (second state want.cell) (body.Reserve own.pairs.next want.cell))
+  opens_keeps : (want : Wanted) → is_lead state k want.cell ≡ true → at cell_cmp own.pairs.pending want.cell ≡ None
+      → J (opened here own want) (post_to (second state want.cell) (body.Reserve own.pairs.next want.cell))
   opens_keeps want lead none =
       let pair = lead_pair want.cell lead in
       let op = operation here own.pairs.next want in
       let new = opened here own want in
       let there : at cell_cmp new.pairs.pending want.cell ≡ Some op = cell_same own.pairs.pending want.cell op in
       first_job new _ want.cell pair.0 pair.1 (λ q ne. refl) (λ q ne. cell_apart own.pairs.pending want.cell op q ne) (λ q. refl) (omega arith)
-      (subst (λ o. Keeps (pair_of own (halves pair.0) want.cell) (record (pair_of own (halves pair.0) want.cell) { pending = o; next = own.pairs.next + 1 })) (sym there)
+      (subst (λ o. Keeps (pair_of own (halves pair.0) want.cell)
+      (record (pair_of own (halves pair.0) want.cell) { pending = o; next = own.pairs.next + 1 })) (sym there)
       (moves.opens (pair_of own (halves pair.0) want.cell) op (ok_first want.cell pair.0 pair.1) none refl refl))
       (λ later changes post i. says_so later _ post (posted _ _ post i)
       (known_first state steady halves later k new changes (body.Reserve own.pairs.next want.cell) want.cell pair.0 pair.1 refl
       (subst (λ o. Known (record (pair_of new (halves pair.0) want.cell) { pending = o }) (body.Reserve own.pairs.next want.cell)) (sym there) (omega arith))))
 
-  puts_keeps : (op : Pending) → hears (body.Reserved op.op op.cell) → at cell_cmp own.pairs.pending op.cell ≡ Some op → op.stage ≡ waiting → J (puts (with_pending own (with_reserved op)) (with_reserved op)).own []
+  puts_keeps : (op : Pending) → hears (body.Reserved op.op op.cell) → at cell_cmp own.pairs.pending op.cell ≡ Some op → op.stage ≡ waiting
+      → J (puts (with_pending own (with_reserved op)) (with_reserved op)).own []
   unfolding In
   puts_keeps op h is stage =
       let pair = staged_pair op is in
@@ -226,7 +257,8 @@ module _ (state : State) (steady : IsSteady state) (w : World) (ready : Ready st
       (λ later changes post i. absurd i)
 
   -- an operation is done with
-  done_keeps : (op : Pending) (new : Own) (posts : List Post) → at cell_cmp own.pairs.pending op.cell ≡ Some op → new.store.chains ≡ own.store.chains → new.pairs.last ≡ own.pairs.last → new.pairs.next ≡ own.pairs.next
+  done_keeps : (op : Pending) (new : Own) (posts : List Post) → at cell_cmp own.pairs.pending op.cell ≡ Some op → new.store.chains ≡ own.store.chains
+      → new.pairs.last ≡ own.pairs.last → new.pairs.next ≡ own.pairs.next
       → at cell_cmp new.pairs.pending op.cell ≡ None → ((q : Cell) → q ≢ op.cell → at cell_cmp new.pairs.pending q ≡ at cell_cmp own.pairs.pending q)
       → ((m : ℕ) → IsPair state op.cell k m → Keeps (pair_of own (halves m) op.cell) (record (pair_of own (halves m) op.cell) { pending = None }))
       → ((later : ℕ → Own) → Changes halves later k new → (post : Post) → In post posts → SaidOk state later post.body)
@@ -234,16 +266,28 @@ module _ (state : State) (steady : IsSteady state) (w : World) (ready : Ready st
   done_keeps op new posts is chains last next gone others keeps says =
       let pair = staged_pair op is in
       first_job new posts op.cell pair.0 pair.1 (λ q ne. ap (λ c. chain_in c q) chains) others (λ q. ap (λ t. at cell_cmp t q) last) (omega arith)
-      (subst (Keeps (pair_of own (halves pair.0) op.cell)) (λ i. record { first = chain_in (sym chains i) op.cell; second = chain_in (halves pair.0).store.chains op.cell; pending = sym gone i; next = sym next i; last = at cell_cmp (halves pair.0).pairs.last op.cell }) (keeps pair.0 pair.1))
+      (subst (Keeps (pair_of own (halves pair.0) op.cell))
+      (λ i. record {
+        first = chain_in (sym chains i) op.cell;
+        second = chain_in (halves pair.0).store.chains op.cell;
+        pending = sym gone i;
+        next = sym next i;
+        last = at cell_cmp (halves pair.0).pairs.last op.cell;
+      }) (keeps pair.0 pair.1))
       says
 
-  gives_up_keeps : (op : Pending) (new : Own) (posts : List Post) → at cell_cmp own.pairs.pending op.cell ≡ Some op → op.stage ≡ waiting → new.store.chains ≡ own.store.chains → new.pairs.last ≡ own.pairs.last → new.pairs.next ≡ own.pairs.next → new.pairs.pending ≡ without cell_cmp own.pairs.pending op.cell
+  gives_up_keeps : (op : Pending) (new : Own) (posts : List Post) → at cell_cmp own.pairs.pending op.cell ≡ Some op → op.stage ≡ waiting
+      → new.store.chains ≡ own.store.chains → new.pairs.last ≡ own.pairs.last → new.pairs.next ≡ own.pairs.next → new.pairs.pending
+      ≡ without cell_cmp own.pairs.pending op.cell
       → ((later : ℕ → Own) → Changes halves later k new → (post : Post) → In post posts → SaidOk state later post.body) → J new posts
   gives_up_keeps op new posts is stage chains last next pending says =
-      done_keeps op new posts is chains last next (ap (λ t. at cell_cmp t op.cell) pending ∙ cell_gone own.pairs.pending op.cell) (λ q ne. ap (λ t. at cell_cmp t q) pending ∙ cell_gone_apart own.pairs.pending op.cell q ne)
+      done_keeps op new posts is chains last next (ap (λ t. at cell_cmp t op.cell) pending ∙ cell_gone own.pairs.pending op.cell)
+      (λ q ne. ap (λ t. at cell_cmp t q) pending ∙ cell_gone_apart own.pairs.pending op.cell q ne)
       (λ m pair. moves.refuses (pair_of own (halves m) op.cell) op (ok_first op.cell m pair) is (ap (λ (s : Stage). s.put) stage)) says
 
-  closes_keeps : (op : Pending) (new : Own) (posts : List Post) → hears (body.Replicated op.op op.cell) → at cell_cmp own.pairs.pending op.cell ≡ Some op → op.stage ≡ copying → new.store.chains ≡ own.store.chains → new.pairs.last ≡ own.pairs.last → new.pairs.next ≡ own.pairs.next
+  closes_keeps : (op : Pending) (new : Own) (posts : List Post) → hears (body.Replicated op.op op.cell)
+      → at cell_cmp own.pairs.pending op.cell ≡ Some op → op.stage ≡ copying → new.store.chains ≡ own.store.chains → new.pairs.last ≡ own.pairs.last
+      → new.pairs.next ≡ own.pairs.next
       → new.pairs.pending ≡ without cell_cmp (put cell_cmp own.pairs.pending op.cell (with_paired op)) op.cell
       → ((later : ℕ → Own) → Changes halves later k new → (post : Post) → In post posts → SaidOk state later post.body) → J new posts
   closes_keeps op new posts h is stage chains last next pending says =
@@ -251,29 +295,42 @@ module _ (state : State) (steady : IsSteady state) (w : World) (ready : Ready st
       let u = put cell_cmp t op.cell (with_paired op) in
       done_keeps op new posts is chains last next (ap (λ t. at cell_cmp t op.cell) pending ∙ cell_gone u op.cell)
       (λ q ne. ap (λ t. at cell_cmp t q) pending ∙ cell_gone_apart u op.cell q ne ∙ cell_apart t op.cell (with_paired op) q ne)
-      (λ m pair. moves.closes (pair_of own (halves m) op.cell) op (ok_first op.cell m pair) is (ap (λ (s : Stage). s.put) stage) (heard_known _ h op.cell k m refl pair)) says
+      (λ m pair. moves.closes (pair_of own (halves m) op.cell) op (ok_first op.cell m pair) is (ap (λ (s : Stage). s.put) stage)
+      (heard_known _ h op.cell k m refl pair)) says
 
   -- ### The second server's jobs
 
-  reserves_keeps : (number : ℕ) (cell : Cell) (store : Store) → hears (body.Reserve number cell) → is_second state k cell ≡ true → store.chains ≡ own.store.chains → progress (at cell_cmp own.pairs.last cell) ≤ number + number
-      → (new : Own) → new.store ≡ store → new.pairs.pending ≡ own.pairs.pending → new.pairs.next ≡ own.pairs.next → new.pairs.last ≡ put cell_cmp own.pairs.last cell (record { op = number; far = far_is.Reserved })
+  reserves_keeps : (number : ℕ) (cell : Cell) (store : Store) → hears (body.Reserve number cell) → is_second state k cell ≡ true
+      → store.chains ≡ own.store.chains → progress (at cell_cmp own.pairs.last cell) ≤ number + number
+      → (new : Own) → new.store ≡ store → new.pairs.pending ≡ own.pairs.pending → new.pairs.next ≡ own.pairs.next → new.pairs.last
+      ≡ put cell_cmp own.pairs.last cell (record { op = number; far = far_is.Reserved })
       → J new (tells here new cell number far_is.Reserved).posts
   reserves_keeps number cell store h s same le new store_is pending next last =
       let pair = second_pair cell s in
       let now : LastOp = record { op = number; far = far_is.Reserved } in
       let there : at cell_cmp new.pairs.last cell ≡ Some now = ap (λ t. at cell_cmp t cell) last ∙ cell_same own.pairs.last cell now in
       let chains : new.store.chains ≡ own.store.chains = ap (λ (x : Store). x.chains) store_is ∙ same in
-      second_job new _ cell pair.0 pair.1 (λ q ne. ap (λ c. chain_in c q) chains) (λ q. ap (λ t. at cell_cmp t q) pending) (λ q ne. ap (λ t. at cell_cmp t q) last ∙ cell_apart own.pairs.last cell now q ne) (omega arith)
-      (subst (Keeps (pair_of (halves pair.0) own cell)) (λ i. record { first = chain_in (halves pair.0).store.chains cell; second = chain_in (sym chains i) cell; pending = at cell_cmp (halves pair.0).pairs.pending cell; next = (halves pair.0).pairs.next; last = sym there i })
+      second_job new _ cell pair.0 pair.1 (λ q ne. ap (λ c. chain_in c q) chains) (λ q. ap (λ t. at cell_cmp t q) pending)
+      (λ q ne. ap (λ t. at cell_cmp t q) last ∙ cell_apart own.pairs.last cell now q ne) (omega arith)
+      (subst (Keeps (pair_of (halves pair.0) own cell))
+      (λ i. record {
+        first = chain_in (halves pair.0).store.chains cell;
+        second = chain_in (sym chains i) cell;
+        pending = at cell_cmp (halves pair.0).pairs.pending cell;
+        next = (halves pair.0).pairs.next;
+        last = sym there i;
+      })
       (moves.reserves (pair_of (halves pair.0) own cell) number (ok_second cell pair.0 pair.1) le (heard_known _ h cell pair.0 k refl pair.1)))
       (λ later changes post i. tells_known later new changes cell number far_is.Reserved pair.0 pair.1 there post i)
 
   -- a second server that has not followed was asked to by an operation that is pending
-  pub asked : (number : ℕ) (key : Key) (bytes : List ℕ) (pair : Pair) → pair.last ≡ Some (record { op = number; far = far_is.Reserved }) → IsPutting pair.pending number key bytes ⊎ (number + number + 1 ≤ far pair) → IsPutting pair.pending number key bytes
+  pub asked : (number : ℕ) (key : Key) (bytes : List ℕ) (pair : Pair) → pair.last ≡ Some (record { op = number; far = far_is.Reserved })
+      → IsPutting pair.pending number key bytes ⊎ (number + number + 1 ≤ far pair) → IsPutting pair.pending number key bytes
   asked number key bytes pair last (inl putting) = putting
   asked number key bytes pair last (inr past) = let e : far pair ≡ number + number = ap progress last in absurd (omega arith)
 
-  follows_keeps : (number : ℕ) (key : Key) (version : ℕ) (bytes : List ℕ) → hears (body.Replicate number key version bytes) → is_second state k (cell_of key) ≡ true → at cell_cmp own.pairs.last (cell_of key) ≡ Some (record { op = number; far = far_is.Reserved })
+  follows_keeps : (number : ℕ) (key : Key) (version : ℕ) (bytes : List ℕ) → hears (body.Replicate number key version bytes)
+      → is_second state k (cell_of key) ≡ true → at cell_cmp own.pairs.last (cell_of key) ≡ Some (record { op = number; far = far_is.Reserved })
       → J (follows here own number key bytes).own (follows here own number key bytes).posts
   follows_keeps number key version bytes h s is =
       let cell = cell_of key in
@@ -284,12 +341,21 @@ module _ (state : State) (steady : IsSteady state) (w : World) (ready : Ready st
       let there : at cell_cmp new.pairs.last cell ≡ Some now = cell_same own.pairs.last cell now in
       let chain : Chain = put nat_cmp (chain_in chains cell) key.epoch (record { version = version_of (chain_in chains cell) + 1; bytes = bytes }) in
       let putting = asked number key bytes (pair_of (halves pair.0) own cell) is (heard_known _ h cell pair.0 k refl pair.1) in
-      second_job new _ cell pair.0 pair.1 (λ q ne. chain_apart chains cell chain q ne) (λ q. refl) (λ q ne. cell_apart own.pairs.last cell now q ne) (omega arith)
-      (subst (Keeps (pair_of (halves pair.0) own cell)) (λ i. record { first = chain_in (halves pair.0).store.chains cell; second = sym (chain_put chains cell chain) i; pending = at cell_cmp (halves pair.0).pairs.pending cell; next = (halves pair.0).pairs.next; last = sym there i })
+      second_job new _ cell pair.0 pair.1 (λ q ne. chain_apart chains cell chain q ne) (λ q. refl) (λ q ne. cell_apart own.pairs.last cell now q ne)
+      (omega arith)
+      (subst (Keeps (pair_of (halves pair.0) own cell))
+      (λ i. record {
+        first = chain_in (halves pair.0).store.chains cell;
+        second = sym (chain_put chains cell chain) i;
+        pending = at cell_cmp (halves pair.0).pairs.pending cell;
+        next = (halves pair.0).pairs.next;
+        last = sym there i;
+      })
       (moves.follows (pair_of (halves pair.0) own cell) number key bytes (ok_second cell pair.0 pair.1) is putting))
       (λ later changes post i. tells_known later new changes cell number far_is.Replicated pair.0 pair.1 there post i)
 
-  promises_keeps : (number : ℕ) (cell : Cell) (how : Far) → is_second state k cell ≡ true → at cell_cmp own.pairs.last cell ≡ Some (record { op = number; far = how })
+  promises_keeps : (number : ℕ) (cell : Cell) (how : Far) → is_second state k cell ≡ true
+      → at cell_cmp own.pairs.last cell ≡ Some (record { op = number; far = how })
       → J (tells here own cell number how).own (tells here own cell number how).posts
   promises_keeps number cell how s is =
       let pair = second_pair cell s in

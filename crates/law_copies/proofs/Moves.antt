@@ -14,12 +14,17 @@ pub stays : (pair : Pair) (next : ℕ) → PairOk pair → pair.next ≤ next �
 stays pair next ok le = grind arith
 
 -- a new operation opens
-pub opens : (pair : Pair) (op : Pending) → PairOk pair → pair.pending ≡ None → op.op ≡ pair.next → op.stage.put ≡ false → Keeps pair (record pair { pending = Some op; next = pair.next + 1 })
+pub opens : (pair : Pair) (op : Pending) → PairOk pair → pair.pending ≡ None → op.op ≡ pair.next → op.stage.put ≡ false
+    → Keeps pair (record pair { pending = Some op; next = pair.next + 1 })
 opens pair op ok none number stage = grind arith
 
 -- the first server puts its copy, once the second has set a slot apart
-pub puts : (pair : Pair) (op new : Pending) → PairOk pair → pair.pending ≡ Some op → op.stage.put ≡ false → op.op + op.op ≤ far pair → new.op ≡ op.op → new.key ≡ op.key → new.bytes ≡ op.bytes → new.stage.put ≡ true
-    → Keeps pair (record pair { first = put nat_cmp pair.first op.key.epoch (record { version = version_of pair.first + 1; bytes = op.bytes }); pending = Some new })
+pub puts : (pair : Pair) (op new : Pending) → PairOk pair → pair.pending ≡ Some op → op.stage.put ≡ false → op.op + op.op ≤ far pair → new.op ≡ op.op
+    → new.key ≡ op.key → new.bytes ≡ op.bytes → new.stage.put ≡ true
+    → Keeps pair (record pair {
+      first = put nat_cmp pair.first op.key.epoch (record { version = version_of pair.first + 1; bytes = op.bytes });
+      pending = Some new;
+    })
 puts pair op new ok some at begun number key bytes stage = grind arith
 
 -- the second server has no room
@@ -27,14 +32,20 @@ pub refuses : (pair : Pair) (op : Pending) → PairOk pair → pair.pending ≡ 
 refuses pair op ok some at = grind arith
 
 -- the operation is done with, once the second server has followed
-pub closes : (pair : Pair) (op : Pending) → PairOk pair → pair.pending ≡ Some op → op.stage.put ≡ true → op.op + op.op + 1 ≤ far pair → Keeps pair (record pair { pending = None })
+pub closes : (pair : Pair) (op : Pending) → PairOk pair → pair.pending ≡ Some op → op.stage.put ≡ true → op.op + op.op + 1 ≤ far pair
+    → Keeps pair (record pair { pending = None })
 closes pair op ok some at past = grind arith
 
 -- the second server sets a slot apart
-pub reserves : (pair : Pair) (number : ℕ) → PairOk pair → progress pair.last ≤ number + number → number < ceiling pair → Keeps pair (record pair { last = Some (record { op = number; far = Reserved }) })
+pub reserves : (pair : Pair) (number : ℕ) → PairOk pair → progress pair.last ≤ number + number → number < ceiling pair
+    → Keeps pair (record pair { last = Some (record { op = number; far = Reserved }) })
 reserves pair number ok newer asked = grind arith
 
 -- the second server follows
-pub follows : (pair : Pair) (number : ℕ) (key : Key) (bytes : List ℕ) → PairOk pair → pair.last ≡ Some (record { op = number; far = Reserved }) → IsPutting pair.pending number key bytes
-    → Keeps pair (record pair { second = put nat_cmp pair.second key.epoch (record { version = version_of pair.second + 1; bytes = bytes }); last = Some (record { op = number; far = Replicated }) })
+pub follows : (pair : Pair) (number : ℕ) (key : Key) (bytes : List ℕ) → PairOk pair → pair.last ≡ Some (record { op = number; far = Reserved })
+    → IsPutting pair.pending number key bytes
+    → Keeps pair (record pair {
+      second = put nat_cmp pair.second key.epoch (record { version = version_of pair.second + 1; bytes = bytes });
+      last = Some (record { op = number; far = Replicated });
+    })
 follows pair number key bytes ok at h = grind arith

@@ -2,7 +2,6 @@
 use Rattle.std.specs.Prelude.{◌≡◌, ℕ, ◌+◌, ◌≤◌, ◌<◌, ◌⊎◌, Bool, true, false, List, Option, Some, None}
 use Rattle.petal_base.specs.declared.cell.Cell.{Cell}
 use Rattle.petal_base.specs.declared.cell.Key.{Key}
-use Rattle.petal_base.specs.Cells.{cell_of}
 use Rattle.petal_table.specs.Table.{at}
 use Rattle.petal_msg.specs.Kinds.{pair_cell}
 use Rattle.petal_msg.specs.declared.body.Body.{Body}
@@ -85,7 +84,8 @@ pub record IsPutting (pending : Option Pending) (number : ℕ) (key : Key) (byte
 pub record Grows (old new : Pair) : Type 0 where
   pub onward : far old ≤ far new
   pub higher : ceiling old ≤ ceiling new
-  pub putting : (number : ℕ) (key : Key) (bytes : List ℕ) → IsPutting old.pending number key bytes → IsPutting new.pending number key bytes ⊎ (number + number + 1 ≤ far new)
+  pub putting : (number : ℕ) (key : Key) (bytes : List ℕ) → IsPutting old.pending number key bytes
+      → IsPutting new.pending number key bytes ⊎ (number + number + 1 ≤ far new)
 
 pub record Keeps (old new : Pair) : Type 0 where
   pub ok : PairOk new

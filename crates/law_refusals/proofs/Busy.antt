@@ -33,7 +33,8 @@ not_refused : (what : Body) → is_refused (subject_of what) ≡ false → is_bu
 not_refused (body.BlockBusy seq) e = true_false refl e
 not_refused _ e = refl
 
-lead_quiet : (heard : Body → Type 0) (here : Here) (own : Own) (done : Done) → DidLead heard here own done → (post : Post) → In post done.posts → is_busy post.body ≡ false
+lead_quiet : (heard : Body → Type 0) (here : Here) (own : Own) (done : Done) → DidLead heard here own done → (post : Post) → In post done.posts
+    → is_busy post.body ≡ false
 unfolding In
 lead_quiet heard here own _ (Asks_for posts h) post i = asks_quiet here own post (h post i)
 lead_quiet heard here own _ (Repeats want last h lead is f) post i = ap is_busy (one_post _ _ post i).1 ∙ ended_quiet want.seq last.ending

@@ -36,12 +36,15 @@ pub record Was (own : Own) (cell : Cell) (op : Pending) : Type 0 where
 
 -- What a job has to show: of what it remembers, of what is pending, and of what it sends.
 pub record JobRefuses (R : ℕ → ℕ → Type 0) (state : State) (w : World) (n : ℕ) (new : Own) (posts : List Post) : Type 0 where
-  pub finished : (c : ℕ) (last : Finished) → at nat_cmp new.pairs.finished c ≡ Some last → last.ending ≡ ending.Full → (at nat_cmp (owns_of w n).pairs.finished c ≡ Some last) ⊎ R c last.seq
+  pub finished : (c : ℕ) (last : Finished) → at nat_cmp new.pairs.finished c ≡ Some last → last.ending ≡ ending.Full
+      → (at nat_cmp (owns_of w n).pairs.finished c ≡ Some last) ⊎ R c last.seq
   pub pending : (cell : Cell) (op : Pending) → at cell_cmp new.pairs.pending cell ≡ Some op → Was (owns_of w n) cell op ⊎ (op.op ≡ (owns_of w n).pairs.next)
   pub next : (owns_of w n).pairs.next ≤ new.pairs.next
   pub letters : (post : Post) (c seq : ℕ) → In post posts → post.to ≡ actor.Client c → post.body ≡ body.Full seq → R c seq
-  pub numbers : (post : Post) (number p : ℕ) (cell : Cell) → In post posts → post.body ≡ body.PairFull number cell → first state cell ≡ Some p → (p ≢ n) × (number < (owns_of w p).pairs.next)
-  pub declined : (post : Post) (number p : ℕ) (cell : Cell) (op : Pending) → In post posts → post.body ≡ body.PairFull number cell → first state cell ≡ Some p → at cell_cmp (owns_of w p).pairs.pending cell ≡ Some op → op.op ≡ number → R op.client op.seq
+  pub numbers : (post : Post) (number p : ℕ) (cell : Cell) → In post posts → post.body ≡ body.PairFull number cell → first state cell ≡ Some p
+      → (p ≢ n) × (number < (owns_of w p).pairs.next)
+  pub declined : (post : Post) (number p : ℕ) (cell : Cell) (op : Pending) → In post posts → post.body ≡ body.PairFull number cell
+      → first state cell ≡ Some p → at cell_cmp (owns_of w p).pairs.pending cell ≡ Some op → op.op ≡ number → R op.client op.seq
 
 -- a server in a world where R holds of each request that was refused so far, which implies what is to hold after its step
 pub record Scene (R S : ℕ → ℕ → Type 0) : Type 0 where
@@ -54,7 +57,8 @@ pub record Scene (R S : ℕ → ℕ → Type 0) : Type 0 where
   pub more : (c seq : ℕ) → R c seq → S c seq
   pub refusals : Refusals R state w
 
-module _ (R S : ℕ → ℕ → Type 0) (scene : Scene R S) (stamp : ℕ) (done : Done) (queue : List Job) (job : JobRefuses S scene.state scene.w scene.n done.own done.posts) where
+module _ (R S : ℕ → ℕ → Type 0) (scene : Scene R S) (stamp : ℕ) (done : Done) (queue : List Job)
+    (job : JobRefuses S scene.state scene.w scene.n done.own done.posts) where
   abbrev state : State
   state = scene.state
 
@@ -98,7 +102,8 @@ module _ (R S : ℕ → ℕ → Type 0) (scene : Scene R S) (stamp : ℕ) (done 
   ]
 
   -- what was declined is the operation that it was
-  old_declined : (letter : Letter) (number p : ℕ) (cell : Cell) (op : Pending) → In letter w.sent → letter.body ≡ body.PairFull number cell → first state cell ≡ Some p → at cell_cmp (owns_of later p).pairs.pending cell ≡ Some op → op.op ≡ number → S op.client op.seq
+  old_declined : (letter : Letter) (number p : ℕ) (cell : Cell) (op : Pending) → In letter w.sent → letter.body ≡ body.PairFull number cell
+      → first state cell ≡ Some p → at cell_cmp (owns_of later p).pairs.pending cell ≡ Some op → op.op ≡ number → S op.client op.seq
   old_declined letter number p cell op h says leads is same = elim (same_or_apart p n) [
     | inl e ↦ elim (job.pending cell op (sym (ap (λ h. at cell_cmp h.pairs.pending cell) (ap (owns_of later) e ∙ own_now)) ∙ is)) [
       | inl was ↦
@@ -106,13 +111,15 @@ module _ (R S : ℕ → ℕ → Type 0) (scene : Scene R S) (stamp : ℕ) (done 
           (more was.was.client was.was.seq (refusals.declined letter number n cell was.was h says (leads ∙ ap Some e) was.is (was.number ∙ same))))
       | inr fresh ↦ let lt = refusals.numbers letter number n cell h says (leads ∙ ap Some e) in absurd (omega arith)
     ]
-    | inr ne ↦ more op.client op.seq (refusals.declined letter number p cell op h says leads (sym (ap (λ h. at cell_cmp h.pairs.pending cell) (own_other p ne)) ∙ is) same)
+    | inr ne ↦ more op.client op.seq (refusals.declined letter number p cell op h says leads
+        (sym (ap (λ h. at cell_cmp h.pairs.pending cell) (own_other p ne)) ∙ is) same)
   ]
 
   pub job_refusals : Refusals S state later
   job_refusals = record {
     letters = λ letter c seq h to says. elim (in-append letter _ w.sent h) [
-      | inl new ↦ let s = said (sender (here_of state n (w.servers n))) stamp 0 done.posts letter new in job.letters s.post c seq s.there (sym s.to ∙ to) (sym s.body ∙ says)
+      | inl new ↦ let s =
+          said (sender (here_of state n (w.servers n))) stamp 0 done.posts letter new in job.letters s.post c seq s.there (sym s.to ∙ to) (sym s.body ∙ says)
       | inr old ↦ more c seq (refusals.letters letter c seq old to says)
     ];
     finished = finished;

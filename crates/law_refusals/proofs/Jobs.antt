@@ -56,7 +56,8 @@ asks_not_full : (here : Here) (own : Own) (post : Post) → Asks here own post �
 asks_not_full here own _ (A_slot op to is stage e) = refl
 asks_not_full here own _ (A_copy op to is stage e) = refl
 
-tells_not_full : (here : Here) (new : Own) (cell : Cell) (number : ℕ) (how : Far) (post : Post) → In post (tells here new cell number how).posts → is_full post.body ≡ false
+tells_not_full : (here : Here) (new : Own) (cell : Cell) (number : ℕ) (how : Far) (post : Post) → In post (tells here new cell number how).posts
+    → is_full post.body ≡ false
 tells_not_full here new cell number far.Reserved post i = ap is_full (posted _ _ post i)
 tells_not_full here new cell number far.Replicated post i = ap is_full (posted _ _ post i)
 
@@ -113,8 +114,11 @@ module _ (R S : ℕ → ℕ → Type 0) (scene : Scene R S)
   Says posts = (post : Post) (c seq : ℕ) → In post posts → post.to ≡ actor.Client c → post.body ≡ body.Full seq → S c seq
 
   -- a job that tells nobody of a want of slots
-  quiet : (new : Own) (posts : List Post) → ((c : ℕ) (last : Finished) → at nat_cmp new.pairs.finished c ≡ Some last → last.ending ≡ ending.Full → (at nat_cmp own.pairs.finished c ≡ Some last) ⊎ S c last.seq)
-      → ((cell : Cell) (op : Pending) → at cell_cmp new.pairs.pending cell ≡ Some op → Was own cell op ⊎ (op.op ≡ own.pairs.next)) → own.pairs.next ≤ new.pairs.next → ((post : Post) → In post posts → is_full post.body ≡ false) → J new posts
+  quiet : (new : Own) (posts : List Post)
+      → ((c : ℕ) (last : Finished) → at nat_cmp new.pairs.finished c ≡ Some last → last.ending ≡ ending.Full
+      → (at nat_cmp own.pairs.finished c ≡ Some last) ⊎ S c last.seq)
+      → ((cell : Cell) (op : Pending) → at cell_cmp new.pairs.pending cell ≡ Some op → Was own cell op ⊎ (op.op ≡ own.pairs.next))
+      → own.pairs.next ≤ new.pairs.next → ((post : Post) → In post posts → is_full post.body ≡ false) → J new posts
   quiet new posts finished pending next unsaid = record {
     finished = finished;
     pending = pending;
@@ -125,9 +129,11 @@ module _ (R S : ℕ → ℕ → Type 0) (scene : Scene R S)
   }
 
   -- and leaves what is pending and finished
-  still : (posts : List Post) (new : Own) → new.pairs.finished ≡ own.pairs.finished → new.pairs.pending ≡ own.pairs.pending → new.pairs.next ≡ own.pairs.next → ((post : Post) → In post posts → is_full post.body ≡ false) → J new posts
+  still : (posts : List Post) (new : Own) → new.pairs.finished ≡ own.pairs.finished → new.pairs.pending ≡ own.pairs.pending
+      → new.pairs.next ≡ own.pairs.next → ((post : Post) → In post posts → is_full post.body ≡ false) → J new posts
   still posts new finished pending next unsaid = quiet new posts
-      (λ c last is how. inl (ap (λ t. at nat_cmp t c) (sym finished) ∙ is)) (λ cell op is. inl (was_same cell op (ap (λ t. at cell_cmp t cell) (sym pending) ∙ is))) (omega arith) unsaid
+      (λ c last is how. inl (ap (λ t. at nat_cmp t c) (sym finished) ∙ is))
+      (λ cell op is. inl (was_same cell op (ap (λ t. at cell_cmp t cell) (sym pending) ∙ is))) (omega arith) unsaid
 
   -- a reply that tells a client of it
   one_full : (c seq : ℕ) → S c seq → Says (record { to = actor.Client c; body = body.Full seq } ∷ [])
@@ -137,17 +143,22 @@ module _ (R S : ℕ → ℕ → Type 0) (scene : Scene R S)
       let number : seq ≡ k = full_seq (sym p.1 ∙ says) in
       subst (S j) number (subst (λ x. S x seq) same s)
 
-  full_is : (t : Table ℕ Finished) (client seq : ℕ) → S client seq → (c : ℕ) (last : Finished) → at nat_cmp (put nat_cmp t client (record { seq = seq; ending = ending.Full })) c ≡ Some last → (at nat_cmp t c ≡ Some last) ⊎ S c last.seq
+  full_is : (t : Table ℕ Finished) (client seq : ℕ) → S client seq → (c : ℕ) (last : Finished)
+      → at nat_cmp (put nat_cmp t client (record { seq = seq; ending = ending.Full })) c ≡ Some last → (at nat_cmp t c ≡ Some last) ⊎ S c last.seq
   full_is t client seq s c last is = elim (same_or_apart c client) [
     | inl e ↦
-        let last_is : record { seq = seq; ending = ending.Full } ≡ last = same_some (sym (at_same t client _) ∙ subst (λ i. at nat_cmp (put nat_cmp t client (record { seq = seq; ending = ending.Full })) i ≡ Some last) e is) in
+        let last_is : record { seq = seq; ending = ending.Full } ≡ last =
+        same_some (sym (at_same t client _) ∙ subst
+        (λ i. at nat_cmp (put nat_cmp t client (record { seq = seq; ending = ending.Full })) i ≡ Some last) e is) in
         inr (subst (λ x. S x last.seq) (sym e) (subst (S client) (ap (λ (f : Finished). f.seq) last_is) s))
     | inr ne ↦ inl (sym (at_apart t client _ c ne) ∙ is)
   ]
 
   -- the server finishes a request for want of a slot
-  fills : (client seq : ℕ) (new : Own) → S client seq → new.pairs.finished ≡ put nat_cmp own.pairs.finished client (record { seq = seq; ending = ending.Full }) → own.pairs.next ≤ new.pairs.next
-      → ((cell : Cell) (op : Pending) → at cell_cmp new.pairs.pending cell ≡ Some op → Was own cell op ⊎ (op.op ≡ own.pairs.next)) → J new (record { to = actor.Client client; body = body.Full seq } ∷ [])
+  fills : (client seq : ℕ) (new : Own) → S client seq
+      → new.pairs.finished ≡ put nat_cmp own.pairs.finished client (record { seq = seq; ending = ending.Full }) → own.pairs.next ≤ new.pairs.next
+      → ((cell : Cell) (op : Pending) → at cell_cmp new.pairs.pending cell ≡ Some op → Was own cell op ⊎ (op.op ≡ own.pairs.next))
+      → J new (record { to = actor.Client client; body = body.Full seq } ∷ [])
   fills client seq new s finished next pending = record {
     finished = λ c last is how. full_is own.pairs.finished client seq s c last (ap (λ t. at nat_cmp t c) (sym finished) ∙ is);
     pending = pending;
@@ -160,7 +171,9 @@ module _ (R S : ℕ → ℕ → Type 0) (scene : Scene R S)
       not_pair : {B : Type 0} {what : Body} {seq number : ℕ} {cell : Cell} → what ≡ body.Full seq → what ≡ body.PairFull number cell → B
       not_pair e f = absurd (let g : body.Full _ ≡ body.PairFull _ _ = sym e ∙ f in cc)
 
-  gone : (op : Pending) (t : Table Cell Pending) → at cell_cmp t op.cell ≡ None → ((q : Cell) → q ≢ op.cell → at cell_cmp t q ≡ at cell_cmp own.pairs.pending q) → (cell : Cell) (o : Pending) → at cell_cmp t cell ≡ Some o → Was own cell o ⊎ (o.op ≡ own.pairs.next)
+  gone : (op : Pending) (t : Table Cell Pending) → at cell_cmp t op.cell ≡ None
+      → ((q : Cell) → q ≢ op.cell → at cell_cmp t q ≡ at cell_cmp own.pairs.pending q) → (cell : Cell) (o : Pending) → at cell_cmp t cell ≡ Some o
+      → Was own cell o ⊎ (o.op ≡ own.pairs.next)
   gone op t none others cell o is = elim (same_cell_or_apart cell op.cell) [
     | inl e ↦ none_some none (subst (λ (x : Cell). at cell_cmp t x ≡ Some o) e is)
     | inr ne ↦ inl (was_same cell o (sym (others cell ne) ∙ is))
@@ -172,7 +185,8 @@ module _ (R S : ℕ → ℕ → Type 0) (scene : Scene R S)
       let pair = lead_pair state steady w ready good n op.cell ((ready.pending n).staged op.cell op is).lead in
       more op.client op.seq (refusals.declined h.letter op.op n op.cell op h.sent h.is pair.1.leads is refl)
 
-  declines : (number : ℕ) (cell : Cell) → hears (body.Reserve number cell) → is_second state n cell ≡ true → FoundNoSlot own cell number → J own (post_to (first state cell) (body.PairFull number cell))
+  declines : (number : ℕ) (cell : Cell) → hears (body.Reserve number cell) → is_second state n cell ≡ true → FoundNoSlot own cell number
+      → J own (post_to (first state cell) (body.PairFull number cell))
   declines number cell h s no_room =
       let pair = second_pair state steady w ready good n cell s in
       record {
@@ -187,13 +201,15 @@ module _ (R S : ℕ → ℕ → Type 0) (scene : Scene R S)
             let mine : IsPair state cell p n = subst (λ j. IsPair state cell j n) one pair.1 in
             let ok = good.pairs cell p n mine in
             let fresh = ok.fresh in
-            let known : number < ceiling_of (at cell_cmp (owns_of w p).pairs.pending cell) (owns_of w p).pairs.next = heard_known state steady w ready good n _ h cell p n refl mine in
+            let known : number < ceiling_of (at cell_cmp (owns_of w p).pairs.pending cell) (owns_of w p).pairs.next =
+            heard_known state steady w ready good n _ h cell p n refl mine in
             let number_is = same.0 in
             (apart state steady cell p n mine, omega arith);
         declined = λ post k p q op i says leads is numbered.
             let same = full_cell (sym (posted _ _ post i) ∙ says) in
             let there : at cell_cmp (owns_of w p).pairs.pending cell ≡ Some op = ap (at cell_cmp (owns_of w p).pairs.pending) same.1 ∙ is in
-            now op.client op.seq (At_the_second p n cell op refl refl (ap (first state) same.1 ∙ leads) pair.1.follows there refl refl (subst (λ j. hears (body.Reserve j cell)) (same.0 ∙ sym numbered) h) (subst (FoundNoSlot own cell) (same.0 ∙ sym numbered) no_room));
+            now op.client op.seq (At_the_second p n cell op refl refl (ap (first state) same.1 ∙ leads) pair.1.follows there refl refl
+            (subst (λ j. hears (body.Reserve j cell)) (same.0 ∙ sym numbered) h) (subst (FoundNoSlot own cell) (same.0 ∙ sym numbered) no_room));
       }
     where
       full_cell : {a b : ℕ} {c d : Cell} → body.PairFull a c ≡ body.PairFull b d → (a ≡ b) × (c ≡ d)
@@ -213,21 +229,28 @@ module _ (R S : ℕ → ℕ → Type 0) (scene : Scene R S)
   lead_refuses _ (Repeats want last h lead is e) = repeats last.ending refl
     where
       repeats : (how : Ending) → last.ending ≡ how → J own (record { to = actor.Client want.client; body = ended want.seq how } ∷ [])
-      repeats ending.Written f = still (record { to = actor.Client want.client; body = body.Written want.seq } ∷ []) own refl refl refl (λ post i. ap is_full (one_post (actor.Client want.client) (body.Written want.seq) post i).1)
+      repeats ending.Written f =
+          still (record { to = actor.Client want.client; body = body.Written want.seq } ∷ []) own refl refl refl
+          (λ post i. ap is_full (one_post (actor.Client want.client) (body.Written want.seq) post i).1)
       repeats ending.Full f = record {
         finished = λ c l there how. inl there;
         pending = λ cell op there. inl (was_same cell op there);
         next = omega arith;
         letters = one_full want.client want.seq (subst (S want.client) (sym e) (more want.client last.seq (refusals.finished n want.client last is f)));
         numbers = λ post number p cell i says leads. absurd (let g : body.Full want.seq ≡ body.PairFull number cell = sym (one_post _ _ post i).1 ∙ says in cc);
-        declined = λ post number p cell op i says leads there same. absurd (let g : body.Full want.seq ≡ body.PairFull number cell = sym (one_post _ _ post i).1 ∙ says in cc);
+        declined = λ post number p cell op i says leads there same. absurd
+            (let g : body.Full want.seq ≡ body.PairFull number cell = sym (one_post _ _ post i).1 ∙ says in cc);
       }
-  lead_refuses _ (Is_full want h lead new none no_room) = fills want.client want.seq _ (now want.client want.seq (At_the_lead n want.cell want.epoch want.bytes refl refl lead h new none no_room)) refl (omega arith) (λ cell op is. inl (was_same cell op is))
+  lead_refuses _ (Is_full want h lead new none no_room) =
+      fills want.client want.seq _ (now want.client want.seq (At_the_lead n want.cell want.epoch want.bytes refl refl lead h new none no_room)) refl
+      (omega arith) (λ cell op is. inl (was_same cell op is))
   lead_refuses _ (Opens want h lead new none) =
       let op = operation here own.pairs.next want in
       quiet (opened here own want) (post_to (second state want.cell) (body.Reserve own.pairs.next want.cell)) (λ c last is how. inl is)
       (λ cell o is. elim (same_cell_or_apart cell want.cell) [
-        | inl e ↦ inr (ap (λ (x : Pending). x.op) (sym (same_some {x = op} (sym (cell_same own.pairs.pending want.cell op) ∙ subst (λ (q : Cell). at cell_cmp (put cell_cmp own.pairs.pending want.cell op) q ≡ Some o) e is))))
+        | inl e ↦ inr (ap (λ (x : Pending). x.op)
+            (sym (same_some {x = op} (sym (cell_same own.pairs.pending want.cell op)
+            ∙ subst (λ (q : Cell). at cell_cmp (put cell_cmp own.pairs.pending want.cell op) q ≡ Some o) e is))))
         | inr ne ↦ inl (was_same cell o (sym (cell_apart own.pairs.pending want.cell op cell ne) ∙ is))
       ]) (omega arith) (λ post i. ap is_full (posted (second state want.cell) (body.Reserve own.pairs.next want.cell) post i))
   lead_refuses _ (Puts op h is stage) =
@@ -237,22 +260,35 @@ module _ (R S : ℕ → ℕ → Type 0) (scene : Scene R S)
       quiet _ [] (λ c last is how. inl is)
       (λ cell o there. elim (same_cell_or_apart cell op.cell) [
         | inl e ↦
-            let same : two ≡ o = same_some (sym (cell_same (put cell_cmp t op.cell one) op.cell two) ∙ subst (λ (x : Cell). at cell_cmp (put cell_cmp (put cell_cmp t op.cell one) op.cell two) x ≡ Some o) e there) in
-            inl (record { was = op; is = subst (λ (x : Cell). at cell_cmp t x ≡ Some op) (sym e) is; number = ap (λ (x : Pending). x.op) same; client = ap (λ (x : Pending). x.client) same; seq = ap (λ (x : Pending). x.seq) same })
+            let same : two ≡ o =
+            same_some (sym (cell_same (put cell_cmp t op.cell one) op.cell two)
+            ∙ subst (λ (x : Cell). at cell_cmp (put cell_cmp (put cell_cmp t op.cell one) op.cell two) x ≡ Some o) e there) in
+            inl (record {
+              was = op;
+              is = subst (λ (x : Cell). at cell_cmp t x ≡ Some op) (sym e) is;
+              number = ap (λ (x : Pending). x.op) same;
+              client = ap (λ (x : Pending). x.client) same;
+              seq = ap (λ (x : Pending). x.seq) same;
+            })
         | inr ne ↦ inl (was_same cell o (sym (cell_apart (put cell_cmp t op.cell one) op.cell two cell ne ∙ cell_apart t op.cell one cell ne) ∙ there))
       ]) (omega arith) (λ post i. absurd i)
-  lead_refuses _ (Gives_up op h is stage) = fills op.client op.seq _ (declined_op op h is) refl (omega arith) (gone op (without cell_cmp own.pairs.pending op.cell) (cell_gone own.pairs.pending op.cell) (λ q ne. cell_gone_apart own.pairs.pending op.cell q ne))
+  lead_refuses _ (Gives_up op h is stage) =
+      fills op.client op.seq _ (declined_op op h is) refl (omega arith)
+      (gone op (without cell_cmp own.pairs.pending op.cell) (cell_gone own.pairs.pending op.cell) (λ q ne. cell_gone_apart own.pairs.pending op.cell q ne))
   lead_refuses _ (Closes op h is stage) =
       let u = put cell_cmp own.pairs.pending op.cell (with_paired op) in
       quiet _ (record { to = actor.Client op.client; body = body.Written op.seq } ∷ [])
       (λ c last there how. elim (same_or_apart c op.client) [
         | inl e ↦
             let now_last : Finished = record { seq = op.seq; ending = ending.Written } in
-            let same : now_last ≡ last = same_some (sym (at_same own.pairs.finished op.client now_last) ∙ subst (λ i. at nat_cmp (put nat_cmp own.pairs.finished op.client now_last) i ≡ Some last) e there) in
+            let same : now_last ≡ last =
+            same_some (sym (at_same own.pairs.finished op.client now_last)
+            ∙ subst (λ i. at nat_cmp (put nat_cmp own.pairs.finished op.client now_last) i ≡ Some last) e there) in
             absurd (let f : ending.Written ≡ ending.Full = ap (λ (x : Finished). x.ending) same ∙ how in cc)
         | inr ne ↦ inl (sym (at_apart own.pairs.finished op.client _ c ne) ∙ there)
       ])
-      (gone op (without cell_cmp u op.cell) (cell_gone u op.cell) (λ q ne. cell_gone_apart u op.cell q ne ∙ cell_apart own.pairs.pending op.cell (with_paired op) q ne)) (omega arith)
+      (gone op (without cell_cmp u op.cell) (cell_gone u op.cell)
+      (λ q ne. cell_gone_apart u op.cell q ne ∙ cell_apart own.pairs.pending op.cell (with_paired op) q ne)) (omega arith)
       (λ post i. ap is_full (one_post (actor.Client op.client) (body.Written op.seq) post i).1)
 
   second_refuses : (done : Done) → DidSecond hears here own done → J done.own done.posts
@@ -275,12 +311,15 @@ module _ (R S : ℕ → ℕ → Type 0) (scene : Scene R S)
   job_refuses _ (By_second done d) = second_refuses done d
 
 -- a step that does nothing but ask once more
-pub idle_refuses : (S : ℕ → ℕ → Type 0) (state : State) (w : World) (n : ℕ) (done : Done) → IsIdle (here_of state n (w.servers n)) (owns_of w n) done → JobRefuses S state w n done.own done.posts
+pub idle_refuses : (S : ℕ → ℕ → Type 0) (state : State) (w : World) (n : ℕ) (done : Done) → IsIdle (here_of state n (w.servers n)) (owns_of w n) done
+    → JobRefuses S state w n done.own done.posts
 idle_refuses S state w n done idle = subst (λ (h : Own). JobRefuses S state w n h done.posts) (sym idle.same) (record {
   finished = λ c last is how. inl is;
   pending = λ cell op is. inl (record { was = op; is = is; number = refl; client = refl; seq = refl });
   next = omega arith;
   letters = λ post c seq i to says. true_false (ap is_full says) (asks_not_full (here_of state n (w.servers n)) (owns_of w n) post (idle.asks post i));
-  numbers = λ post number p cell i says leads. true_false (ap is_full says) (asks_not_full (here_of state n (w.servers n)) (owns_of w n) post (idle.asks post i));
-  declined = λ post number p cell op i says leads is same. true_false (ap is_full says) (asks_not_full (here_of state n (w.servers n)) (owns_of w n) post (idle.asks post i));
+  numbers = λ post number p cell i says leads. true_false (ap is_full says)
+      (asks_not_full (here_of state n (w.servers n)) (owns_of w n) post (idle.asks post i));
+  declined = λ post number p cell op i says leads is same. true_false (ap is_full says)
+      (asks_not_full (here_of state n (w.servers n)) (owns_of w n) post (idle.asks post i));
 })

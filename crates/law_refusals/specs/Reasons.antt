@@ -34,9 +34,12 @@ use Rattle.law_steps.specs.Happens.{Handled}
 -- finished for its client, nothing is pending on the cell, and no slot is free. At the second server the operation of the
 -- request, which is pending at the lead, is newer than the last one on the cell, of which no slot is left over, and none is free
 pub data HadNoSlot (state : State) (w : World) (who : Actor) (what : Step) (client seq : ℕ) : Type 0 where
-  At_the_lead : (n : ℕ) (cell : Cell) (epoch : ℕ) (bytes : List ℕ) → who ≡ actor.Server n → what ≡ Work work_end.Done → is_lead state n cell ≡ true → Handled w n (body.Write client seq cell epoch bytes)
-      → done_to (at nat_cmp (w.servers n).own.pairs.finished client) ≤ seq → pending_on (w.servers n).own cell ≡ None → free_of (w.servers n).own.store ≡ 0 → HadNoSlot state w who what client seq
-  At_the_second : (n m : ℕ) (cell : Cell) (op : Pending) → who ≡ actor.Server m → what ≡ Work work_end.Done → first state cell ≡ Some n → second state cell ≡ Some m → at cell_cmp (w.servers n).own.pairs.pending cell ≡ Some op → op.client ≡ client → op.seq ≡ seq
+  At_the_lead : (n : ℕ) (cell : Cell) (epoch : ℕ) (bytes : List ℕ) → who ≡ actor.Server n → what ≡ Work work_end.Done → is_lead state n cell ≡ true
+      → Handled w n (body.Write client seq cell epoch bytes)
+      → done_to (at nat_cmp (w.servers n).own.pairs.finished client) ≤ seq → pending_on (w.servers n).own cell ≡ None
+      → free_of (w.servers n).own.store ≡ 0 → HadNoSlot state w who what client seq
+  At_the_second : (n m : ℕ) (cell : Cell) (op : Pending) → who ≡ actor.Server m → what ≡ Work work_end.Done → first state cell ≡ Some n
+      → second state cell ≡ Some m → at cell_cmp (w.servers n).own.pairs.pending cell ≡ Some op → op.client ≡ client → op.seq ≡ seq
       → Handled w m (body.Reserve op.op cell) → FoundNoSlot (w.servers m).own cell op.op → HadNoSlot state w who what client seq
 
 -- one of these records tells of such a step
@@ -73,5 +76,7 @@ pub record FoundBusy (state : State) (w : World) (who : Actor) (seq : ℕ) : Typ
 pub record Refusals (R : ℕ → ℕ → Type 0) (state : State) (w : World) : Type 0 where
   pub letters : (letter : Letter) (c seq : ℕ) → In letter w.sent → letter.to ≡ actor.Client c → letter.body ≡ body.Full seq → R c seq
   pub finished : (n c : ℕ) (last : Finished) → at nat_cmp (w.servers n).own.pairs.finished c ≡ Some last → last.ending ≡ ending.Full → R c last.seq
-  pub numbers : (letter : Letter) (number n : ℕ) (cell : Cell) → In letter w.sent → letter.body ≡ body.PairFull number cell → first state cell ≡ Some n → number < (w.servers n).own.pairs.next
-  pub declined : (letter : Letter) (number n : ℕ) (cell : Cell) (op : Pending) → In letter w.sent → letter.body ≡ body.PairFull number cell → first state cell ≡ Some n → at cell_cmp (w.servers n).own.pairs.pending cell ≡ Some op → op.op ≡ number → R op.client op.seq
+  pub numbers : (letter : Letter) (number n : ℕ) (cell : Cell) → In letter w.sent → letter.body ≡ body.PairFull number cell
+      → first state cell ≡ Some n → number < (w.servers n).own.pairs.next
+  pub declined : (letter : Letter) (number n : ℕ) (cell : Cell) (op : Pending) → In letter w.sent → letter.body ≡ body.PairFull number cell
+      → first state cell ≡ Some n → at cell_cmp (w.servers n).own.pairs.pending cell ≡ Some op → op.op ≡ number → R op.client op.seq

@@ -72,10 +72,12 @@ SaysOk state lines w n new to _ = Unit {0}
 
 pub record JobTells (state : State) (lines : List Line) (w : World) (n : ℕ) (new : Own) (posts : List Post) : Type 0 where
   pub finished : (c : ℕ) → (done_by new c ≡ done_by (w.servers n).own c) ⊎ Ends state lines w n new c
-  pub pending : (cell : Cell) (op : Pending) → at cell_cmp new.pairs.pending cell ≡ Some op → Stays state w n cell op ⊎ PendingFor state lines (w.clients op.client) (done_by (w.servers n).own op.client) cell op
+  pub pending : (cell : Cell) (op : Pending) → at cell_cmp new.pairs.pending cell ≡ Some op
+      → Stays state w n cell op ⊎ PendingFor state lines (w.clients op.client) (done_by (w.servers n).own op.client) cell op
   pub says : (post : Post) → In post posts → SaysOk state lines w n new post.to post.body
 
-module _ (state : State) (lines : List Line) (w : World) (asking : Asking state lines w) (n stamp : ℕ) (done : Done) (queue : List Job) (tells : JobTells state lines w n done.own done.posts) where
+module _ (state : State) (lines : List Line) (w : World) (asking : Asking state lines w) (n stamp : ℕ) (done : Done) (queue : List Job)
+    (tells : JobTells state lines w n done.own done.posts) where
   abbrev later : World
   later = server_moves state w n stamp done queue
 
@@ -94,7 +96,8 @@ module _ (state : State) (lines : List Line) (w : World) (asking : Asking state 
 
   dones : (m c : ℕ) → done_by (w.servers m).own c ≤ done_by (later.servers m).own c
   dones m c = elim (same_or_apart m n) [
-    | inl e ↦ subst (λ i. done_by (w.servers i).own c ≤ done_by (later.servers i).own c) (sym e) (subst (λ h. done_by old c ≤ done_by h c) (sym own_now) (rises c))
+    | inl e ↦ subst (λ i. done_by (w.servers i).own c ≤ done_by (later.servers i).own c) (sym e)
+        (subst (λ h. done_by old c ≤ done_by h c) (sym own_now) (rises c))
     | inr ne ↦ let same : done_by (later.servers m).own c ≡ done_by (w.servers m).own c = ap (λ h. done_by h c) (own_other m ne) in omega arith
   ]
 
@@ -111,11 +114,13 @@ module _ (state : State) (lines : List Line) (w : World) (asking : Asking state 
           | inl same ↦ let b = asking.finished n c in omega arith
           | inr ends ↦ let b = open_below c ends.seq ends.still in let a = ends.after in omega arith
         ]))
-    | inr ne ↦ let same : done_by (later.servers m).own c ≡ done_by (w.servers m).own c = ap (λ h. done_by h c) (own_other m ne) in let b = asking.finished m c in omega arith
+    | inr ne ↦ let same : done_by (later.servers m).own c ≡ done_by (w.servers m).own c = ap (λ h. done_by h c) (own_other m ne) in let b =
+        asking.finished m c in omega arith
   ]
 
   -- the operation was pending, or is its client's open write
-  was_pending : (cell : Cell) (op : Pending) → Stays state w n cell op ⊎ PendingFor state lines (w.clients op.client) (done_by old op.client) cell op → PendingFor state lines (w.clients op.client) (done_by old op.client) cell op
+  was_pending : (cell : Cell) (op : Pending) → Stays state w n cell op ⊎ PendingFor state lines (w.clients op.client) (done_by old op.client) cell op
+      → PendingFor state lines (w.clients op.client) (done_by old op.client) cell op
   was_pending cell op (inr p) = p
   was_pending cell op (inl s) =
       let p = asking.pending n cell s.was s.is in
@@ -126,26 +131,32 @@ module _ (state : State) (lines : List Line) (w : World) (asking : Asking state 
       }
 
   -- and no other that was just finished
-  not_past : (cell : Cell) (op : Pending) → at cell_cmp done.own.pairs.pending cell ≡ Some op → PendingFor state lines (w.clients op.client) (done_by old op.client) cell op → done_by done.own op.client ≤ op.seq
+  not_past : (cell : Cell) (op : Pending) → at cell_cmp done.own.pairs.pending cell ≡ Some op
+      → PendingFor state lines (w.clients op.client) (done_by old op.client) cell op → done_by done.own op.client ≤ op.seq
   not_past cell op is p = elim (tells.finished op.client) [
     | inl same ↦ let u = p.unfinished in omega arith
     | inr ends ↦
         let seq : op.seq ≡ ends.seq = one_open (w.clients op.client) op.seq ends.seq p.still ends.still in
-        let write : IsWrite state lines op.client op.seq ends.cell ends.epoch ends.bytes = subst (λ i. IsWrite state lines op.client i ends.cell ends.epoch ends.bytes) (sym seq) ends.write in
+        let write : IsWrite state lines op.client op.seq ends.cell ends.epoch ends.bytes =
+        subst (λ i. IsWrite state lines op.client i ends.cell ends.epoch ends.bytes) (sym seq) ends.write in
         let same : cell ≡ ends.cell = one_cell state lines op.client op.seq cell ends.cell op.key.epoch ends.epoch op.bytes ends.bytes p.write write in
         none_some ends.gone (subst (λ (q : Cell). at cell_cmp done.own.pairs.pending q ≡ Some op) same is)
   ]
 
-  pending_now : (cell : Cell) (op : Pending) → at cell_cmp done.own.pairs.pending cell ≡ Some op → PendingFor state lines (w.clients op.client) (done_by done.own op.client) cell op
+  pending_now : (cell : Cell) (op : Pending) → at cell_cmp done.own.pairs.pending cell ≡ Some op
+      → PendingFor state lines (w.clients op.client) (done_by done.own op.client) cell op
   pending_now cell op is =
       let p = was_pending cell op (tells.pending cell op is) in
       record { write = p.write; still = p.still; unfinished = not_past cell op is p }
 
-  pending : (m : ℕ) (cell : Cell) (op : Pending) → at cell_cmp (later.servers m).own.pairs.pending cell ≡ Some op → PendingFor state lines (w.clients op.client) (done_by (later.servers m).own op.client) cell op
+  pending : (m : ℕ) (cell : Cell) (op : Pending) → at cell_cmp (later.servers m).own.pairs.pending cell ≡ Some op
+      → PendingFor state lines (w.clients op.client) (done_by (later.servers m).own op.client) cell op
   pending m cell op is = elim (same_or_apart m n) [
     | inl e ↦
-        let there : at cell_cmp done.own.pairs.pending cell ≡ Some op = sym (ap (λ h. at cell_cmp h.pairs.pending cell) (ap (λ i. (later.servers i).own) e ∙ own_now)) ∙ is in
-        subst (λ h. PendingFor state lines (w.clients op.client) (done_by h op.client) cell op) (sym (ap (λ i. (later.servers i).own) e ∙ own_now)) (pending_now cell op there)
+        let there : at cell_cmp done.own.pairs.pending cell ≡ Some op =
+        sym (ap (λ h. at cell_cmp h.pairs.pending cell) (ap (λ i. (later.servers i).own) e ∙ own_now)) ∙ is in
+        subst (λ h. PendingFor state lines (w.clients op.client) (done_by h op.client) cell op) (sym (ap (λ i. (later.servers i).own) e ∙ own_now))
+        (pending_now cell op there)
     | inr ne ↦
         let there : at cell_cmp (w.servers m).own.pairs.pending cell ≡ Some op = sym (ap (λ h. at cell_cmp h.pairs.pending cell) (own_other m ne)) ∙ is in
         subst (λ h. PendingFor state lines (w.clients op.client) (done_by h op.client) cell op) (sym (own_other m ne)) (asking.pending m cell op there)
@@ -178,7 +189,8 @@ module _ (state : State) (lines : List Line) (w : World) (asking : Asking state 
     letters = λ letter h. elim (in-append letter _ w.sent h) [
       | inl new ↦
           let s = said (sender (here_of state n (w.servers n))) stamp 0 done.posts letter new in
-          subst (λ (b : Body). Known state lines (seen later) letter.to b) (sym s.body) (subst (λ (a : Actor). Known state lines (seen later) a s.post.body) (sym s.to) (says s.post.to s.post.body (tells.says s.post s.there)))
+          subst (λ (b : Body). Known state lines (seen later) letter.to b) (sym s.body)
+          (subst (λ (a : Actor). Known state lines (seen later) a s.post.body) (sym s.to) (says s.post.to s.post.body (tells.says s.post s.there)))
       | inr sent ↦ known_later state lines (seen w) (seen later) goes_on letter.to letter.body (asking.letters letter sent)
     ];
     pending = pending;
@@ -190,7 +202,8 @@ module _ (state : State) (lines : List Line) (w : World) (asking : Asking state 
 pub record TurnOk (state : State) (lines : List Line) (w : World) (c : ℕ) (client : Client) (posts : List Post) : Type 0 where
   pub seqs : (w.clients c).seq ≤ client.seq
   pub asked : (asked : Asked) → client.asked ≡ Some asked → IsAsked lines c client asked
-  pub closes : (seq : ℕ) → IsOpen (w.clients c) seq → IsOpen client seq ⊎ ((cell : Cell) (epoch : ℕ) (bytes : List ℕ) → IsWrite state lines c seq cell epoch bytes → IsPast state (seen w) cell c seq)
+  pub closes : (seq : ℕ) → IsOpen (w.clients c) seq
+      → IsOpen client seq ⊎ ((cell : Cell) (epoch : ℕ) (bytes : List ℕ) → IsWrite state lines c seq cell epoch bytes → IsPast state (seen w) cell c seq)
   pub says : (v : Seen) → v.clients c ≡ client → (post : Post) → In post posts → Known state lines v post.to post.body
 
 -- a world in which requests are as they should be
@@ -228,7 +241,10 @@ module _ (scene : Scene) (c stamp : ℕ) (reacted : Reaction) (turn : TurnOk sce
   turn_later = record {
     seqs = all_put w.clients c reacted.client (λ j client. (w.clients j).seq ≤ client.seq) (λ j. omega arith) turn.seqs;
     dones = λ n j. omega arith;
-    closes = all_put w.clients c reacted.client (λ j client. (seq : ℕ) → IsOpen (w.clients j) seq → IsOpen client seq ⊎ ((cell : Cell) (epoch : ℕ) (bytes : List ℕ) → IsWrite state lines j seq cell epoch bytes → IsPast state (seen w) cell j seq)) (λ j seq h. inl h) turn.closes;
+    closes = all_put w.clients c reacted.client
+        (λ j client. (seq : ℕ) → IsOpen (w.clients j) seq
+        → IsOpen client seq ⊎ ((cell : Cell) (epoch : ℕ) (bytes : List ℕ) → IsWrite state lines j seq cell epoch bytes
+        → IsPast state (seen w) cell j seq)) (λ j seq h. inl h) turn.closes;
   }
 
   -- a pending write is open still, since its lead is not past it
@@ -248,7 +264,9 @@ module _ (scene : Scene) (c stamp : ℕ) (reacted : Reaction) (turn : TurnOk sce
     letters = λ letter h. elim (in-append letter _ w.sent h) [
       | inl new ↦
           let s = said (client_sender state c) stamp 0 reacted.posts letter new in
-          subst (λ (b : Body). Known state lines (seen after) letter.to b) (sym s.body) (subst (λ (a : Actor). Known state lines (seen after) a s.post.body) (sym s.to) (turn.says (seen after) (put_same w.clients c reacted.client) s.post s.there))
+          subst (λ (b : Body). Known state lines (seen after) letter.to b) (sym s.body)
+          (subst (λ (a : Actor). Known state lines (seen after) a s.post.body) (sym s.to)
+          (turn.says (seen after) (put_same w.clients c reacted.client) s.post s.there))
       | inr sent ↦ known_later state lines (seen w) (seen after) turn_later letter.to letter.body (asking.letters letter sent)
     ];
     pending = λ n cell op is. let p = asking.pending n cell op is in record { write = p.write; still = pending_open n cell op is; unfinished = p.unfinished };

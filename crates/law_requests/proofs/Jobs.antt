@@ -1,5 +1,5 @@
 -- Each kind of job keeps what is known of requests.
-use Rattle.std.proofs.Common.{◌≡◌, ◌≢◌, ◌≤◌, ◌+◌, ℕ, List, [], ◌∷◌, true, Option, Some, None, refl, ap, sym, ◌∙◌, subst, inl, inr, arith, Bool, false}
+use Rattle.std.proofs.Common.{◌≡◌, ◌≢◌, ◌≤◌, ◌+◌, ℕ, List, [], ◌∷◌, true, Some, None, refl, ap, sym, ◌∙◌, subst, inl, inr, arith, Bool, false}
 use Rattle.std.specs.Ordering.{nat_cmp}
 use Rattle.petal_base.specs.declared.cell.Cell.{Cell}
 use Rattle.petal_table.specs.Table.{at, put}
@@ -11,8 +11,6 @@ use Rattle.petal_msg.specs.declared.letter.Actor.{Actor}
 use Rattle.petal_msg.specs.declared.letter.Actor.TheVariants as actor
 use Rattle.petal_msg.specs.declared.operation.Ending.{Ending}
 use Rattle.petal_msg.specs.declared.operation.Ending.TheVariants as ending
-use Rattle.petal_msg.specs.declared.operation.Far.{Far}
-use Rattle.petal_msg.specs.declared.operation.Far.TheVariants as far
 use Rattle.petal_msg.specs.declared.operation.Finished.{Finished}
 use Rattle.petal_msg.specs.declared.operation.Pending.{Pending}
 use Rattle.script_lines.specs.declared.request.Line.{Line}
@@ -26,10 +24,10 @@ use Rattle.petal_rules.specs.World.{World}
 use Rattle.petal_rules.proofs.CellTables.{cell_same, cell_apart, cell_gone, cell_gone_apart}
 use Rattle.law_steps.specs.Steady.{IsSteady}
 use Rattle.law_steps.specs.Operations.{done_to}
-use Rattle.law_steps.specs.DidRead.{DidRead, Shows}
+use Rattle.law_steps.specs.DidRead.{DidRead}
 use Rattle.law_steps.specs.DidLead.{DidLead, Asks_for, Repeats, Is_full, Opens, Puts, Gives_up, Closes, Asks, A_slot, A_copy}
-use Rattle.law_steps.specs.DidSecond.{DidSecond, Sets_apart, Promises, Declines, Follows}
-use Rattle.law_steps.specs.Did.{Did, Ignores, Refuses, IsRefusal, By_read, By_lead, By_second}
+use Rattle.law_steps.specs.DidSecond.{DidSecond}
+use Rattle.law_steps.specs.Did.{Did, Ignores, Refuses, By_read, By_lead, By_second}
 use Rattle.law_steps.specs.Happens.{Handled}
 use Rattle.law_steps.specs.Ready.{Ready}
 use Rattle.petal_rules.proofs.Tests.{same_or_apart, same_some, none_some, is_the_one, true_false}
@@ -68,19 +66,26 @@ module _ (state : State) (steady : IsSteady state) (lines : List Line) (w : Worl
   first_of cell e = sym (steady.leads cell) ∙ is_the_one _ n e
 
   pub known_of : (said : Body) → hears said → Known state lines (seen w) (actor.Server n) said
-  known_of said h = subst (λ (b : Body). Known state lines (seen w) (actor.Server n) b) h.is (subst (λ (a : Actor). Known state lines (seen w) a h.letter.body) h.own (asking.letters h.letter h.sent))
+  known_of said h =
+      subst (λ (b : Body). Known state lines (seen w) (actor.Server n) b) h.is
+      (subst (λ (a : Actor). Known state lines (seen w) a h.letter.body) h.own (asking.letters h.letter h.sent))
 
   stays : (cell : Cell) (op : Pending) → at cell_cmp own.pairs.pending cell ≡ Some op → Stays state w n cell op
   stays cell op is = record { was = op; is = is; client = refl; seq = refl; key = refl; bytes = refl }
 
-  says_as : (new : Own) (to : Actor) (said : Body) (post : Post) → Says to said post → SaysOk state lines w n new to said → SaysOk state lines w n new post.to post.body
-  says_as new to said post e h = subst (λ (b : Body). SaysOk state lines w n new post.to b) (sym e.1) (subst (λ (a : Actor). SaysOk state lines w n new a said) (sym e.0) h)
+  says_as : (new : Own) (to : Actor) (said : Body) (post : Post) → Says to said post → SaysOk state lines w n new to said
+      → SaysOk state lines w n new post.to post.body
+  says_as new to said post e h =
+      subst (λ (b : Body). SaysOk state lines w n new post.to b) (sym e.1) (subst (λ (a : Actor). SaysOk state lines w n new a said) (sym e.0) h)
 
-  says_any : (new : Own) (said : Body) (post : Post) → post.body ≡ said → ((to : Actor) → SaysOk state lines w n new to said) → SaysOk state lines w n new post.to post.body
+  says_any : (new : Own) (said : Body) (post : Post) → post.body ≡ said → ((to : Actor) → SaysOk state lines w n new to said)
+      → SaysOk state lines w n new post.to post.body
   says_any new said post e h = subst (λ (b : Body). SaysOk state lines w n new post.to b) (sym e) (h post.to)
 
   -- a job that ends no request and opens none
-  calm : (new : Own) (posts : List Post) → ((c : ℕ) → done_by new c ≡ done_by own c) → ((cell : Cell) (op : Pending) → at cell_cmp new.pairs.pending cell ≡ Some op → Stays state w n cell op) → ((post : Post) → In post posts → SaysOk state lines w n new post.to post.body) → J new posts
+  calm : (new : Own) (posts : List Post) → ((c : ℕ) → done_by new c ≡ done_by own c)
+      → ((cell : Cell) (op : Pending) → at cell_cmp new.pairs.pending cell ≡ Some op → Stays state w n cell op)
+      → ((post : Post) → In post posts → SaysOk state lines w n new post.to post.body) → J new posts
   calm new posts same pending says = record { finished = λ c. inl (same c); pending = λ cell op is. inl (pending cell op is); says = says }
 
   -- what speaks of no request
@@ -108,12 +113,17 @@ module _ (state : State) (steady : IsSteady state) (lines : List Line) (w : Worl
   ended_says new c seq ending.Full t = t
 
   -- a write that is not finished is open still
-  still_open : (want : Wanted) → hears (body.Write want.client want.seq want.cell want.epoch want.bytes) → is_lead state n want.cell ≡ true → done_by own want.client ≤ want.seq → IsOpen (w.clients want.client) want.seq
+  still_open : (want : Wanted) → hears (body.Write want.client want.seq want.cell want.epoch want.bytes) → is_lead state n want.cell ≡ true
+      → done_by own want.client ≤ want.seq → IsOpen (w.clients want.client) want.seq
   still_open want h lead new = elim (known_of _ h).still [ inl still ↦ still | inr past ↦ let lt = past n (first_of want.cell lead) in absurd (omega arith) ]
 
   -- the server finishes a request
-  finish_tells : (new : Own) (c seq : ℕ) (cell : Cell) (epoch : ℕ) (bytes : List ℕ) (how : Ending) → new.pairs.finished ≡ put nat_cmp own.pairs.finished c (record { seq = seq; ending = how }) → first state cell ≡ Some n → IsWrite state lines c seq cell epoch bytes → IsOpen (w.clients c) seq
-      → done_by own c ≤ seq → at cell_cmp new.pairs.pending cell ≡ None → ((q : Cell) (op : Pending) → at cell_cmp new.pairs.pending q ≡ Some op → at cell_cmp own.pairs.pending q ≡ Some op) → J new (record { to = actor.Client c; body = ended seq how } ∷ [])
+  finish_tells : (new : Own) (c seq : ℕ) (cell : Cell) (epoch : ℕ) (bytes : List ℕ) (how : Ending)
+      → new.pairs.finished ≡ put nat_cmp own.pairs.finished c (record { seq = seq; ending = how }) → first state cell ≡ Some n
+      → IsWrite state lines c seq cell epoch bytes → IsOpen (w.clients c) seq
+      → done_by own c ≤ seq → at cell_cmp new.pairs.pending cell ≡ None
+      → ((q : Cell) (op : Pending) → at cell_cmp new.pairs.pending q ≡ Some op → at cell_cmp own.pairs.pending q ≡ Some op)
+      → J new (record { to = actor.Client c; body = ended seq how } ∷ [])
   finish_tells new c seq cell epoch bytes how finished leads write still before gone pending =
       let last : Finished = record { seq = seq; ending = how } in
       let after : done_by new c ≡ seq + 1 = ap (λ t. done_to (at nat_cmp t c)) finished ∙ ap done_to (at_same own.pairs.finished c last) in
@@ -122,14 +132,25 @@ module _ (state : State) (steady : IsSteady state) (lines : List Line) (w : Worl
       let top = a.last in
       record {
         finished = λ j. elim (same_or_apart j c) [
-          | inl e ↦ inr (subst (λ i. Ends state lines w n new i) (sym e) (record { seq = seq; cell = cell; epoch = epoch; bytes = bytes; write = write; still = still; before = before; after = after; gone = gone }))
+          | inl e ↦ inr (subst (λ i. Ends state lines w n new i) (sym e)
+              (record { seq = seq; cell = cell; epoch = epoch; bytes = bytes; write = write; still = still; before = before; after = after; gone = gone }))
           | inr ne ↦ inl (ap (λ t. done_to (at nat_cmp t j)) finished ∙ ap done_to (at_apart own.pairs.finished c last j ne))
         ];
         pending = λ q op is. inl (stays q op (pending q op is));
-        says = λ post i. says_as new _ _ post (one_post _ _ post i) (ended_says new c seq how (record { cell = cell; epoch = epoch; bytes = bytes; write = write; leads = leads; old = omega arith; past = omega arith }));
+        says = λ post i. says_as new _ _ post (one_post _ _ post i)
+            (ended_says new c seq how (record {
+              cell = cell;
+              epoch = epoch;
+              bytes = bytes;
+              write = write;
+              leads = leads;
+              old = omega arith;
+              past = omega arith;
+            }));
       }
 
-  opens_tells : (want : Wanted) → hears (body.Write want.client want.seq want.cell want.epoch want.bytes) → is_lead state n want.cell ≡ true → done_by own want.client ≤ want.seq → J (opened here own want) (post_to (second state want.cell) (body.Reserve own.pairs.next want.cell))
+  opens_tells : (want : Wanted) → hears (body.Write want.client want.seq want.cell want.epoch want.bytes) → is_lead state n want.cell ≡ true
+      → done_by own want.client ≤ want.seq → J (opened here own want) (post_to (second state want.cell) (body.Reserve own.pairs.next want.cell))
   opens_tells want h lead new =
       let op = operation here own.pairs.next want in
       let t = own.pairs.pending in
@@ -138,9 +159,11 @@ module _ (state : State) (steady : IsSteady state) (lines : List Line) (w : Worl
         finished = λ c. inl refl;
         pending = λ cell o is. elim (same_cell_or_apart cell want.cell) [
           | inl e ↦
-              let same : op ≡ o = same_some (sym (cell_same t want.cell op) ∙ subst (λ (q : Cell). at cell_cmp (put cell_cmp t want.cell op) q ≡ Some o) e is) in
+              let same : op ≡ o =
+              same_some (sym (cell_same t want.cell op) ∙ subst (λ (q : Cell). at cell_cmp (put cell_cmp t want.cell op) q ≡ Some o) e is) in
               inr (subst (λ (q : Cell). PendingFor state lines (w.clients o.client) (done_by own o.client) q o) (sym e)
-              (subst (λ (x : Pending). PendingFor state lines (w.clients x.client) (done_by own x.client) want.cell x) same (record { write = k.write; still = still_open want h lead new; unfinished = new })))
+              (subst (λ (x : Pending). PendingFor state lines (w.clients x.client) (done_by own x.client) want.cell x) same
+              (record { write = k.write; still = still_open want h lead new; unfinished = new })))
           | inr ne ↦ inl (stays cell o (sym (cell_apart t want.cell op cell ne) ∙ is))
         ];
         says = λ post i. says_any _ _ post (posted _ _ post i) (λ to. tt);
@@ -155,15 +178,20 @@ module _ (state : State) (steady : IsSteady state) (lines : List Line) (w : Worl
       calm _ [] (λ c. refl)
       (λ cell o there. elim (same_cell_or_apart cell op.cell) [
         | inl e ↦
-            let same : two ≡ o = same_some (sym (cell_same (put cell_cmp t op.cell one) op.cell two) ∙ subst (λ (q : Cell). at cell_cmp (put cell_cmp (put cell_cmp t op.cell one) op.cell two) q ≡ Some o) e there) in
-            subst (λ (q : Cell). Stays state w n q o) (sym e) (subst (Stays state w n op.cell) same (record { was = op; is = is; client = refl; seq = refl; key = refl; bytes = refl }))
+            let same : two ≡ o =
+            same_some (sym (cell_same (put cell_cmp t op.cell one) op.cell two)
+            ∙ subst (λ (q : Cell). at cell_cmp (put cell_cmp (put cell_cmp t op.cell one) op.cell two) q ≡ Some o) e there) in
+            subst (λ (q : Cell). Stays state w n q o) (sym e)
+            (subst (Stays state w n op.cell) same (record { was = op; is = is; client = refl; seq = refl; key = refl; bytes = refl }))
         | inr ne ↦ stays cell o (sym (cell_apart (put cell_cmp t op.cell one) op.cell two cell ne ∙ cell_apart t op.cell one cell ne) ∙ there)
       ])
       (λ post i. absurd i)
 
   -- the operation is done with
-  done_tells : (op : Pending) (new : Own) (how : Ending) → at cell_cmp own.pairs.pending op.cell ≡ Some op → new.pairs.finished ≡ put nat_cmp own.pairs.finished op.client (record { seq = op.seq; ending = how }) → at cell_cmp new.pairs.pending op.cell ≡ None
-      → ((q : Cell) → q ≢ op.cell → at cell_cmp new.pairs.pending q ≡ at cell_cmp own.pairs.pending q) → J new (record { to = actor.Client op.client; body = ended op.seq how } ∷ [])
+  done_tells : (op : Pending) (new : Own) (how : Ending) → at cell_cmp own.pairs.pending op.cell ≡ Some op
+      → new.pairs.finished ≡ put nat_cmp own.pairs.finished op.client (record { seq = op.seq; ending = how }) → at cell_cmp new.pairs.pending op.cell ≡ None
+      → ((q : Cell) → q ≢ op.cell → at cell_cmp new.pairs.pending q ≡ at cell_cmp own.pairs.pending q)
+      → J new (record { to = actor.Client op.client; body = ended op.seq how } ∷ [])
   done_tells op new how is finished gone others =
       let p = asking.pending n op.cell op is in
       let lead = ((ready.pending n).staged op.cell op is).lead in
@@ -191,7 +219,8 @@ module _ (state : State) (steady : IsSteady state) (lines : List Line) (w : Worl
       })))
   lead_tells _ (Is_full want h lead new none no_room) =
       let k = known_of _ h in
-      finish_tells _ want.client want.seq want.cell want.epoch want.bytes ending.Full refl (first_of want.cell lead) k.write (still_open want h lead new) new none
+      finish_tells _ want.client want.seq want.cell want.epoch want.bytes ending.Full refl (first_of want.cell lead) k.write
+      (still_open want h lead new) new none
       (λ q op is. is)
   lead_tells _ (Opens want h lead new none) = opens_tells want h lead new
   lead_tells _ (Puts op h is stage) = puts_tells op is
@@ -217,7 +246,8 @@ module _ (state : State) (steady : IsSteady state) (lines : List Line) (w : Worl
   pub job_tells : (done : Done) → Did hears here own done → J done.own done.posts
   unfolding In
   job_tells _ Ignores = speaks _ (λ post i. absurd i)
-  job_tells _ (Refuses to said is why) = speaks _ (λ post i. says_as own to said post (one_post to said post i) (nothing_said own to said (ap tells_request is)))
+  job_tells _ (Refuses to said is why) =
+      speaks _ (λ post i. says_as own to said post (one_post to said post i) (nothing_said own to said (ap tells_request is)))
   job_tells _ (By_read done d) = read_tells done d
   job_tells _ (By_lead done d) = lead_tells done d
   job_tells _ (By_second done d) = second_tells done d

@@ -22,11 +22,13 @@ block_named : Request → Option ℕ
 block_named asked = (names asked).block
 
 -- a write of one number is of one cell
-pub one_cell : (state : State) (lines : List Line) (client seq : ℕ) (cell other : Cell) (epoch epoch' : ℕ) (bytes bytes' : List ℕ) → IsWrite state lines client seq cell epoch bytes → IsWrite state lines client seq other epoch' bytes' → cell ≡ other
+pub one_cell : (state : State) (lines : List Line) (client seq : ℕ) (cell other : Cell) (epoch epoch' : ℕ) (bytes bytes' : List ℕ)
+    → IsWrite state lines client seq cell epoch bytes → IsWrite state lines client seq other epoch' bytes' → cell ≡ other
 unfolding disk_named block_named
 one_cell state lines client seq cell other epoch epoch' bytes bytes' one two =
     let line : one.line ≡ two.line = same_some (sym one.is ∙ two.is) in
-    let asks : request.Write one.name one.block one.pattern ≡ request.Write two.name two.block two.pattern = sym one.asks ∙ ap (λ (l : Line). l.request) line ∙ two.asks in
+    let asks : request.Write one.name one.block one.pattern ≡ request.Write two.name two.block two.pattern =
+    sym one.asks ∙ ap (λ (l : Line). l.request) line ∙ two.asks in
     let name : one.name ≡ two.name = same_some (ap disk_named asks) in
     let block : one.block ≡ two.block = same_some (ap block_named asks) in
     let disk : one.disk ≡ two.disk = same_some (sym one.found ∙ ap (find state) name ∙ two.found) in
@@ -40,7 +42,8 @@ one_open client seq seq' one two = sym one.same ∙ ap (λ (a : Asked). a.seq) (
 pub record Later (state : State) (lines : List Line) (v u : Seen) : Type 0 where
   pub seqs : (c : ℕ) → (v.clients c).seq ≤ (u.clients c).seq
   pub dones : (n c : ℕ) → v.done n c ≤ u.done n c
-  pub closes : (c seq : ℕ) → IsOpen (v.clients c) seq → IsOpen (u.clients c) seq ⊎ ((cell : Cell) (epoch : ℕ) (bytes : List ℕ) → IsWrite state lines c seq cell epoch bytes → IsPast state u cell c seq)
+  pub closes : (c seq : ℕ) → IsOpen (v.clients c) seq
+      → IsOpen (u.clients c) seq ⊎ ((cell : Cell) (epoch : ℕ) (bytes : List ℕ) → IsWrite state lines c seq cell epoch bytes → IsPast state u cell c seq)
 
 module _ (state : State) (lines : List Line) (v u : Seen) (later : Later state lines v u) where
   past_later : (cell : Cell) (c seq : ℕ) → IsPast state v cell c seq → IsPast state u cell c seq

@@ -1,48 +1,31 @@
--- Each kind of step of a client keeps what is known of requests, and so does every legal history.
+-- Each kind of step of a client keeps what is known of requests.
 use Rattle.std.proofs.Common.{◌≡◌, ◌≤◌, ◌<◌, ◌+◌, ◌-◌, ℕ, List, [], Bool, true, Option, Some, None, refl, ap, sym, ◌∙◌, subst, inl, inr, arith}
-use Rattle.std.specs.Ordering.{nat_cmp}
 use Rattle.std.specs.Prelude.{slice_get}
 use Rattle.petal_base.specs.declared.cell.Cell.{Cell}
-use Rattle.petal_table.proofs.Rows.{at-empty}
 use Rattle.petal_msg.specs.declared.body.Body.{Body}
 use Rattle.petal_msg.specs.declared.letter.Actor.{Actor}
 use Rattle.petal_msg.specs.declared.letter.Actor.TheVariants as actor
-use Rattle.petal_msg.specs.declared.letter.Letter.{Letter}
 use Rattle.petal_msg.specs.declared.operation.Ending.{Ending}
 use Rattle.petal_msg.specs.declared.operation.Ending.TheVariants as ending
-use Rattle.petal_msg.specs.declared.operation.Finished.{Finished}
 use Rattle.script_lines.specs.Pattern.{pattern_block}
 use Rattle.script_lines.specs.declared.request.Line.{Line}
 use Rattle.script_lines.specs.declared.request.Pattern.{Pattern}
 use Rattle.script_lines.specs.declared.request.Request.{Request}
 use Rattle.script_lines.specs.declared.request.Request.TheVariants as request
-use Rattle.script_lines.specs.declared.script.Script.{Script}
 use Rattle.petal_state.specs.declared.answer.DiskView.{DiskView}
 use Rattle.petal_rules.specs.Lists.{In}
-use Rattle.petal_rules.specs.State.{State, find, is_lead}
+use Rattle.petal_rules.specs.State.{State, find}
 use Rattle.petal_rules.specs.Server.{Post, post_to}
 use Rattle.petal_rules.specs.Writes.{ended}
-use Rattle.petal_rules.specs.Store.{cell_cmp}
 use Rattle.petal_rules.specs.Clients.{Client, Asked, Reaction, posts_for, write_posts, read_posts, read_posts_at, epoch_for, cell_on, is_read}
-use Rattle.petal_rules.specs.World.{World, lines_of, start, setting_of}
-use Rattle.petal_history.specs.Claims.{Requests, IsOver, IsLateAt, HasFinished}
-use Rattle.petal_history.specs.Contents.{chosen_state}
-use Rattle.petal_history.specs.Legal.{IsLegal, world_after}
-use Rattle.petal_history.specs.Sound.{IsSound}
-use Rattle.petal_history.specs.declared.record.Record.{Record}
-use Rattle.law_steps.specs.Steady.{IsSteady}
-use Rattle.law_steps.specs.Operations.{done_to}
-use Rattle.law_steps.specs.Happens.{Heard, Happens, Serves, Turns, Turned, Rests, Sends_anew, Begins, Makes, Reads, line_by}
+use Rattle.petal_rules.specs.World.{World, lines_of}
+use Rattle.law_steps.specs.Happens.{Heard, Turned, Rests, Sends_anew, Begins, Makes, Reads, line_by}
 use Rattle.law_steps.specs.Happens as happens
-use Rattle.law_steps.specs.Ready.{Ready}
-use Rattle.law_steps.proofs.Scripts.{script_steady, start_ready}
-use Rattle.law_steps.proofs.Stepping.{kept_after}
-use Rattle.petal_rules.proofs.Tests.{by_bool, same_some, none_some, true_false, is_the_one}
+use Rattle.petal_rules.proofs.Tests.{same_some, none_some, true_false}
 use Rattle.law_requests.specs.Asked.{IsWrite, IsAsked, IsOpen}
-use Rattle.law_requests.specs.Known.{Seen, seen, done_by, IsPast, WriteKnown, EndKnown, Known, Asking}
+use Rattle.law_requests.specs.Known.{Seen, seen, IsPast, EndKnown, Known, Asking}
 use Rattle.law_requests.proofs.Later.{one_cell}
-use Rattle.law_requests.proofs.Frames.{TurnOk, job_asking, turn_asking, Scene}
-use Rattle.law_requests.proofs.Jobs.{job_tells}
+use Rattle.law_requests.proofs.Frames.{TurnOk}
 
 in_post : (o : Option ℕ) (said : Body) (post : Post) → In post (post_to o said) → post.body ≡ said
 unfolding In
@@ -56,23 +39,38 @@ not_read asked name block pattern e f = true_false f (ap is_read e)
 module _ (state : State) (lines : List Line) (c : ℕ) where
   -- ### What a client sends for its open request
 
-  module _ (client : Client) (v : Seen) (now : v.clients c ≡ client) (asked : Asked) (is : client.asked ≡ Some asked) (known : IsAsked lines c client asked) where
+  module _ (client : Client) (v : Seen) (now : v.clients c ≡ client) (asked : Asked) (is : client.asked ≡ Some asked)
+      (known : IsAsked lines c client asked) where
     abbrev KnownOf : Post → Type 0
     KnownOf post = Known state lines v post.to post.body
 
     known_as : (said : Body) (post : Post) → post.body ≡ said → ((to : Actor) → Known state lines v to said) → KnownOf post
     known_as said post e h = subst (λ (b : Body). Known state lines v post.to b) (sym e) (h post.to)
 
-    write_known : (name : List ℕ) (block : ℕ) (pattern : Pattern) → asked.request ≡ request.Write name block pattern → (o : Option DiskView) → find state name ≡ o → (post : Post) → In post (write_posts state o c asked.seq block (pattern_block pattern)) → KnownOf post
+    write_known : (name : List ℕ) (block : ℕ) (pattern : Pattern) → asked.request ≡ request.Write name block pattern → (o : Option DiskView)
+        → find state name ≡ o → (post : Post) → In post (write_posts state o c asked.seq block (pattern_block pattern)) → KnownOf post
     unfolding In
     write_known name block pattern asks None found post h = absurd h
     write_known name block pattern asks (Some disk) found post h = known_as _ post (in_post _ _ post h) (λ to. record {
-      write = record { line = known.line; is = known.is; name = name; block = block; pattern = pattern; asks = sym known.asks ∙ asks; disk = disk; found = found; cell_is = refl; epoch_is = refl; bytes_is = refl };
+      write = record {
+        line = known.line;
+        is = known.is;
+        name = name;
+        block = block;
+        pattern = pattern;
+        asks = sym known.asks ∙ asks;
+        disk = disk;
+        found = found;
+        cell_is = refl;
+        epoch_is = refl;
+        bytes_is = refl;
+      };
       old = subst (λ (x : Client). asked.seq ≤ x.seq) (sym now) (let last = known.last in omega arith);
       still = inl (subst (λ (x : Client). IsOpen x asked.seq) (sym now) (record { asked = asked; is = is; same = refl }));
     })
 
-    read_known : (name : List ℕ) (snap : Option (List ℕ)) (block turn : ℕ) → asked.request ≡ request.Read name snap block → (o : Option DiskView) → find state name ≡ o → (post : Post) → In post (read_posts state o snap c asked.seq (block, turn)) → KnownOf post
+    read_known : (name : List ℕ) (snap : Option (List ℕ)) (block turn : ℕ) → asked.request ≡ request.Read name snap block → (o : Option DiskView)
+        → find state name ≡ o → (post : Post) → In post (read_posts state o snap c asked.seq (block, turn)) → KnownOf post
     unfolding In
     read_known name snap block turn asks None found post h = absurd h
     read_known name snap block turn asks (Some disk) found post h = at_epoch (epoch_for state disk snap) refl h
@@ -80,7 +78,18 @@ module _ (state : State) (lines : List Line) (c : ℕ) where
         at_epoch : (o : Option ℕ) → epoch_for state disk snap ≡ o → In post (read_posts_at state (cell_on disk block) o c asked.seq turn) → KnownOf post
         at_epoch None e i = absurd i
         at_epoch (Some epoch) e i = known_as _ post (in_post _ _ post i)
-            (λ to. record { line = known.line; is = known.is; name = name; snap = snap; block = block; asks = sym known.asks ∙ asks; disk = disk; found = found; cell_is = refl; epoch_is = e })
+            (λ to. record {
+              line = known.line;
+              is = known.is;
+              name = name;
+              snap = snap;
+              block = block;
+              asks = sym known.asks ∙ asks;
+              disk = disk;
+              found = found;
+              cell_is = refl;
+              epoch_is = e;
+            })
 
     sends_known : (turn : ℕ) (what : Request) → asked.request ≡ what → (post : Post) → In post (posts_for state c asked.seq turn what) → KnownOf post
     unfolding In
@@ -99,13 +108,16 @@ module _ (state : State) (lines : List Line) (c : ℕ) where
     Closed seq = (cell : Cell) (epoch : ℕ) (bytes : List ℕ) → IsWrite state lines c seq cell epoch bytes → IsPast state (seen w) cell c seq
 
     known_of : (said : Body) → Heard w (actor.Client c) said → Known state lines (seen w) (actor.Client c) said
-    known_of said h = subst (λ (b : Body). Known state lines (seen w) (actor.Client c) b) h.is (subst (λ (a : Actor). Known state lines (seen w) a h.letter.body) h.own (asking.letters h.letter h.sent))
+    known_of said h =
+        subst (λ (b : Body). Known state lines (seen w) (actor.Client c) b) h.is
+        (subst (λ (a : Actor). Known state lines (seen w) a h.letter.body) h.own (asking.letters h.letter h.sent))
 
     rests_ok : T client []
     unfolding In
     rests_ok = record { seqs = omega arith; asked = asking.asked c; closes = λ seq h. inl h; says = λ v now post h. absurd h }
 
-    anew_ok : (asked new : Asked) (turn : ℕ) → client.asked ≡ Some asked → new.line ≡ asked.line → new.seq ≡ asked.seq → new.request ≡ asked.request → (to : Client) → to.seq ≡ client.seq → to.asked ≡ Some new → T to (posts_for state c asked.seq turn asked.request)
+    anew_ok : (asked new : Asked) (turn : ℕ) → client.asked ≡ Some asked → new.line ≡ asked.line → new.seq ≡ asked.seq → new.request ≡ asked.request
+        → (to : Client) → to.seq ≡ client.seq → to.asked ≡ Some new → T to (posts_for state c asked.seq turn asked.request)
     anew_ok asked new turn is line seq req to last there =
         let a = asking.asked c asked is in
         let known : IsAsked lines c to new = record {
@@ -120,7 +132,9 @@ module _ (state : State) (lines : List Line) (c : ℕ) where
           seqs = omega arith;
           asked = λ other e. subst (IsAsked lines c to) (same_some (sym there ∙ e)) known;
           closes = λ s h. inl (record { asked = new; is = there; same = seq ∙ ap (λ (x : Asked). x.seq) (same_some (sym is ∙ h.is)) ∙ h.same });
-          says = λ v now post h. sends_known to v now new there known turn new.request refl post (subst (λ (r : Request). In post (posts_for state c new.seq turn r)) (sym req) (subst (λ i. In post (posts_for state c i turn asked.request)) (sym seq) h));
+          says = λ v now post h. sends_known to v now new there known turn new.request refl post
+              (subst (λ (r : Request). In post (posts_for state c new.seq turn r)) (sym req)
+              (subst (λ i. In post (posts_for state c i turn asked.request)) (sym seq) h));
         }
 
     -- nothing was open
@@ -130,20 +144,25 @@ module _ (state : State) (lines : List Line) (c : ℕ) where
     counted : (n : ℕ) → (n + 1) - 1 ≡ n
     counted n = omega arith
 
-    begins_ok : (line : Line) (asked : Asked) (to : Client) → line_by lines c (client.seq + 1) ≡ Some line → client.asked ≡ None → asked.line ≡ line.number → asked.seq ≡ client.seq + 1 → asked.request ≡ line.request → to.seq ≡ client.seq + 1 → to.asked ≡ Some asked
+    begins_ok : (line : Line) (asked : Asked) (to : Client) → line_by lines c (client.seq + 1) ≡ Some line → client.asked ≡ None
+        → asked.line ≡ line.number → asked.seq ≡ client.seq + 1 → asked.request ≡ line.request → to.seq ≡ client.seq + 1 → to.asked ≡ Some asked
         → T to (posts_for state c (client.seq + 1) 0 line.request)
     begins_ok line asked to is free number seq req last there =
-        let known : IsAsked lines c to asked = record { line = line; is = ap (line_by lines c) seq ∙ is; number = number; asks = req; last = seq ∙ sym last; within = within } in
+        let known : IsAsked lines c to asked =
+        record { line = line; is = ap (line_by lines c) seq ∙ is; number = number; asks = req; last = seq ∙ sym last; within = within } in
         record {
           seqs = omega arith;
           asked = λ other e. subst (IsAsked lines c to) (same_some (sym there ∙ e)) known;
           closes = λ s h. none_open free s h;
-          says = λ v now post h. sends_known to v now asked there known 0 asked.request refl post (subst (λ (r : Request). In post (posts_for state c asked.seq 0 r)) (sym req) (subst (λ i. In post (posts_for state c i 0 line.request)) (sym seq) h));
+          says = λ v now post h. sends_known to v now asked there known 0 asked.request refl post
+              (subst (λ (r : Request). In post (posts_for state c asked.seq 0 r)) (sym req)
+              (subst (λ i. In post (posts_for state c i 0 line.request)) (sym seq) h));
         }
 
     makes_ok : client.asked ≡ None → (to : Client) → to.seq ≡ client.seq + 1 → to.asked ≡ client.asked → T to []
     unfolding In
-    makes_ok free to last same = record { seqs = omega arith; asked = λ asked e. none_some (same ∙ free) e; closes = λ s h. none_open free s h; says = λ v now post h. absurd h }
+    makes_ok free to last same =
+        record { seqs = omega arith; asked = λ asked e. none_some (same ∙ free) e; closes = λ s h. none_open free s h; says = λ v now post h. absurd h }
 
     -- the open request is answered
     answers_ok : (asked : Asked) → client.asked ≡ Some asked → Closed asked.seq → (to : Client) → to.seq ≡ client.seq → to.asked ≡ None → T to []
@@ -158,7 +177,8 @@ module _ (state : State) (lines : List Line) (c : ℕ) where
     read_closed : (asked : Asked) → client.asked ≡ Some asked → is_read asked.request ≡ true → Closed asked.seq
     read_closed asked is reads cell epoch bytes write =
         let a = asking.asked c asked is in
-        let same : asked.request ≡ request.Write write.name write.block write.pattern = a.asks ∙ ap (λ (l : Line). l.request) (same_some (sym a.is ∙ write.is)) ∙ write.asks in
+        let same : asked.request ≡ request.Write write.name write.block write.pattern =
+        a.asks ∙ ap (λ (l : Line). l.request) (same_some (sym a.is ∙ write.is)) ∙ write.asks in
         absurd (not_read asked.request write.name write.block write.pattern same reads)
 
     end_closed : (seq : ℕ) → EndKnown state lines (seen w) c seq → Closed seq
@@ -176,51 +196,3 @@ module _ (state : State) (lines : List Line) (c : ℕ) where
     turn_ok _ _ (Makes line name tuple is free e) = makes_ok free _ refl refl
     turn_ok _ _ (Reads asked bytes h is reads) = answers_ok asked is (read_closed asked is reads) _ refl refl
     turn_ok _ _ (happens.Ends asked how h is writes) = answers_ok asked is (ended_closed asked.seq how h) _ refl refl
-
--- ### Steps and histories
-
-pub happens_asking : (state : State) (steady : IsSteady state) (lines : List Line) (w v : World) → Ready state w → Asking state lines w → Happens state lines w v → Asking state lines v
-happens_asking state steady lines w _ ready asking (Serves n stamp done queue lt did queued) =
-    job_asking state lines w asking n stamp done queue (job_tells state steady lines w ready asking n done did)
-happens_asking state steady lines w _ ready asking (Turns c stamp in_call reacted lt within turned) =
-    let scene : Scene = record { state = state; steady = steady; lines = lines; w = w; ready = ready; asking = asking } in
-    turn_asking scene c stamp reacted (turn_ok state lines c w asking within in_call reacted turned)
-
-pub start_asking : (state : State) (script : Script) → Asking state script.lines (start (setting_of script))
-unfolding In
-start_asking state script = record {
-  asked = λ c asked e. none_some refl e;
-  letters = λ letter h. absurd h;
-  pending = λ n cell op is. none_some (at-empty cell_cmp cell) is;
-  finished = λ n c. let none : done_by ((start (setting_of script)).servers n).own c ≡ 0 = ap done_to (at-empty nat_cmp c) in omega arith;
-}
-
-pub asking_after : (script : Script) (records : List Record) → IsSound script → IsLegal script records → Asking (chosen_state (setting_of script)) script.lines (world_after (setting_of script) (start (setting_of script)) records)
-asking_after script records sound legal =
-    let state = chosen_state (setting_of script) in
-    let steady = script_steady script sound in
-    kept_after script.servers script.slots script.lines state steady (Asking state script.lines) (happens_asking state steady script.lines) (start (setting_of script)) records (start_ready state script) (start_asking state script) legal
-
--- ### The rule of requests
-
-over_open : (w : World) (c seq : ℕ) → IsOver w c seq → IsOpen (w.clients c) seq → ⊥
-over_open w c seq over open_now = over.answered open_now.asked open_now.is open_now.same
-
-has_finished : (o : Option Finished) (seq : ℕ) → seq < done_to o → HasFinished o seq
-has_finished None seq lt = absurd (omega arith)
-has_finished (Some last) seq lt = record { last = last; is = refl; past = omega arith }
-
-late_at : (state : State) (steady : IsSteady state) (w : World) (letter : Letter) (c seq : ℕ) (cell : Cell) (n : ℕ) → IsPast state (seen w) cell c seq → IsLateAt state w letter c seq cell n
-late_at state steady w letter c seq cell n past runs rev = by_bool (is_lead state n cell)
-    (λ leads. inl (has_finished _ seq (past n (sym (steady.leads cell) ∙ is_the_one _ n leads)))) (λ none. inr (inl none))
-
-pub rule : (state : State) (steady : IsSteady state) (lines : List Line) (w : World) → Asking state lines w → Requests state w
-rule state steady lines w asking = record {
-  pending = λ n cell op runs is over. over_open w op.client op.seq over (asking.pending n cell op is).still;
-  late = λ letter c seq epoch cell bytes sent is over n.
-      let k : WriteKnown state lines (seen w) c seq cell epoch bytes = subst (λ (b : Body). Known state lines (seen w) letter.to b) is (asking.letters letter sent) in
-      late_at state steady w letter c seq cell n (elim k.still [ inl still ↦ absurd (over_open w c seq over still) | inr past ↦ past ]);
-}
-
-pub requests_after : (script : Script) (records : List Record) → IsSound script → IsLegal script records → Requests (chosen_state (setting_of script)) (world_after (setting_of script) (start (setting_of script)) records)
-requests_after script records sound legal = rule (chosen_state (setting_of script)) (script_steady script sound) script.lines _ (asking_after script records sound legal)

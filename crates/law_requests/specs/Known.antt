@@ -71,5 +71,6 @@ pub record PendingFor (state : State) (lines : List Line) (client : Client) (don
 pub record Asking (state : State) (lines : List Line) (w : World) : Type 0 where
   pub asked : (c : ℕ) (asked : Asked) → (w.clients c).asked ≡ Some asked → IsAsked lines c (w.clients c) asked
   pub letters : (letter : Letter) → In letter w.sent → Known state lines (seen w) letter.to letter.body
-  pub pending : (n : ℕ) (cell : Cell) (op : Pending) → at cell_cmp (w.servers n).own.pairs.pending cell ≡ Some op → PendingFor state lines (w.clients op.client) (done_by (w.servers n).own op.client) cell op
+  pub pending : (n : ℕ) (cell : Cell) (op : Pending) → at cell_cmp (w.servers n).own.pairs.pending cell ≡ Some op
+      → PendingFor state lines (w.clients op.client) (done_by (w.servers n).own op.client) cell op
   pub finished : (n c : ℕ) → done_by (w.servers n).own c ≤ (w.clients c).seq + 1

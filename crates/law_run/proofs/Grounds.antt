@@ -9,18 +9,15 @@ use Rattle.petal_table.specs.Table.{Table, at, put}
 use Rattle.petal_table.proofs.Rows.{at-empty}
 use Rattle.petal_msg.specs.declared.body.Body.{Body}
 use Rattle.petal_msg.specs.declared.body.Body.TheVariants as body
-use Rattle.petal_msg.specs.declared.operation.Far.{Far}
 use Rattle.petal_msg.specs.declared.operation.Far.TheVariants as far
 use Rattle.script_lines.specs.declared.request.Line.{Line}
 use Rattle.script_lines.specs.declared.script.Script.{Script}
 use Rattle.petal_rules.specs.State.{State, is_second}
 use Rattle.petal_rules.specs.Store.{Chain, Stored, cell_cmp, chain_in}
 use Rattle.petal_rules.specs.Server.{Own, Here, Done}
-use Rattle.petal_rules.specs.Writes.{tells}
 use Rattle.petal_rules.specs.Jobs.{here_of}
 use Rattle.petal_rules.specs.World.{World, start, setting_of}
 use Rattle.law_steps.specs.Steady.{IsSteady}
-use Rattle.law_steps.specs.DidRead.{DidRead, Shows}
 use Rattle.law_steps.specs.DidLead.{DidLead, Asks_for, Repeats, Is_full, Opens, Puts, Gives_up, Closes}
 use Rattle.law_steps.specs.DidSecond.{DidSecond, Sets_apart, Promises, Declines, Follows}
 use Rattle.law_steps.specs.Did.{Did, Ignores, Refuses, By_read, By_lead, By_second}
@@ -35,7 +32,7 @@ use Rattle.law_copies.proofs.Jobs.{chain_put, chain_apart, asked, heard_known, s
 use Rattle.law_copies.proofs.Copying.{happens_good, start_good}
 use Rattle.law_requests.specs.Asked.{IsWrite}
 use Rattle.law_requests.specs.Known.{Asking}
-use Rattle.law_requests.proofs.Turning.{happens_asking, start_asking}
+use Rattle.law_requests.proofs.Histories.{happens_asking, start_asking}
 use Rattle.law_run.specs.Follow.{IsShort, Ground}
 use Rattle.law_run.proofs.Names.{happens_named, start_named}
 use Rattle.law_steps.proofs.Subjects.{of_read, told_own}
@@ -45,7 +42,8 @@ unfolding put
 short_put chain epoch entry zero (inl e) = inr (entry, λ i. put nat_cmp (e i) (zero i) entry)
 short_put chain epoch entry zero (inr h) = inr (entry, λ i. put nat_cmp (h.1 i) (zero i) entry)
 
-pub write_epoch : (state : State) → IsSteady state → (lines : List Line) (client seq : ℕ) (cell : Cell) (epoch : ℕ) (bytes : List ℕ) → IsWrite state lines client seq cell epoch bytes → epoch ≡ 0
+pub write_epoch : (state : State) → IsSteady state → (lines : List Line) (client seq : ℕ) (cell : Cell) (epoch : ℕ) (bytes : List ℕ)
+    → IsWrite state lines client seq cell epoch bytes → epoch ≡ 0
 write_epoch state steady lines client seq cell epoch bytes w = w.epoch_is ∙ (steady.disks w.name w.disk w.found).newest
 
 module _ (state : State) (steady : IsSteady state) (lines : List Line) where
@@ -65,10 +63,17 @@ module _ (state : State) (steady : IsSteady state) (lines : List Line) where
       pub pair : IsPair state (cell_of key) p n
       pub putting : IsPutting (at cell_cmp (owns_of w p).pairs.pending (cell_of key)) number key bytes
 
-    pub followed : (number : ℕ) (key : Key) (version : ℕ) (bytes : List ℕ) → hears (body.Replicate number key version bytes) → is_second state n (cell_of key) ≡ true → at cell_cmp own.pairs.last (cell_of key) ≡ Some (record { op = number; far = far.Reserved }) → Followed number key bytes
+    pub followed : (number : ℕ) (key : Key) (version : ℕ) (bytes : List ℕ) → hears (body.Replicate number key version bytes)
+        → is_second state n (cell_of key) ≡ true → at cell_cmp own.pairs.last (cell_of key) ≡ Some (record { op = number; far = far.Reserved })
+        → Followed number key bytes
     followed number key version bytes h s is =
         let pair = second_pair state steady w ready good n (cell_of key) s in
-        record { p = pair.0; pair = pair.1; putting = asked state steady w ready good n number key bytes (pair_of (owns_of w pair.0) own (cell_of key)) is (heard_known state steady w ready good n _ h (cell_of key) pair.0 n refl pair.1) }
+        record {
+          p = pair.0;
+          pair = pair.1;
+          putting = asked state steady w ready good n number key bytes
+              (pair_of (owns_of w pair.0) own (cell_of key)) is (heard_known state steady w ready good n _ h (cell_of key) pair.0 n refl pair.1);
+        }
 
     pub key_epoch : (number : ℕ) (key : Key) (bytes : List ℕ) → Followed number key bytes → key.epoch ≡ 0
     key_epoch number key bytes f =
@@ -76,7 +81,8 @@ module _ (state : State) (steady : IsSteady state) (lines : List Line) where
         let p = asking.pending f.p (cell_of key) op f.putting.is in
         ap (λ (k : Key). k.epoch) (sym f.putting.key_is) ∙ write_epoch state steady lines op.client op.seq (cell_of key) op.key.epoch op.bytes p.write
 
-    short_at : (chains : Table Cell Chain) (cell q : Cell) (chain : Chain) → IsShort chain → IsShort (chain_in chains q) → IsShort (chain_in (put cell_cmp chains cell chain) q)
+    short_at : (chains : Table Cell Chain) (cell q : Cell) (chain : Chain) → IsShort chain → IsShort (chain_in chains q)
+        → IsShort (chain_in (put cell_cmp chains cell chain) q)
     short_at chains cell q chain new old = elim (same_cell_or_apart q cell) [
       | inl e ↦ subst (λ (c : Cell). IsShort (chain_in (put cell_cmp chains cell chain) c)) (sym e) (subst IsShort (sym (chain_put chains cell chain)) new)
       | inr ne ↦ subst IsShort (sym (chain_apart chains cell chain q ne)) old
@@ -86,7 +92,9 @@ module _ (state : State) (steady : IsSteady state) (lines : List Line) where
         → (cell : Cell) → IsShort (chain_in done.own.store.chains cell)
     lead_short short _ (Puts op h is stage) cell =
         let p = asking.pending n op.cell op is in
-        short_at own.store.chains (cell_of op.key) cell _ (short_put (chain_in own.store.chains (cell_of op.key)) op.key.epoch _ (write_epoch state steady lines op.client op.seq op.cell op.key.epoch op.bytes p.write) (short (cell_of op.key))) (short cell)
+        short_at own.store.chains (cell_of op.key) cell _
+        (short_put (chain_in own.store.chains (cell_of op.key)) op.key.epoch _
+        (write_epoch state steady lines op.client op.seq op.cell op.key.epoch op.bytes p.write) (short (cell_of op.key))) (short cell)
     lead_short short _ (Asks_for posts h) cell = short cell
     lead_short short _ (Repeats want last h lead is e) cell = short cell
     lead_short short _ (Is_full want h lead new none no_room) cell = short cell
@@ -101,19 +109,23 @@ module _ (state : State) (steady : IsSteady state) (lines : List Line) where
         subst (λ (o : Own). IsShort (chain_in o.store.chains cell)) (sym (told_own here own c number how)) (short cell)
     second_short short _ (Declines number c h s no_room) cell = short cell
     second_short short _ (Follows number key version bytes h s is) cell =
-        short_at own.store.chains (cell_of key) cell _ (short_put (chain_in own.store.chains (cell_of key)) key.epoch _ (key_epoch number key bytes (followed number key version bytes h s is)) (short (cell_of key))) (short cell)
+        short_at own.store.chains (cell_of key) cell _
+        (short_put (chain_in own.store.chains (cell_of key)) key.epoch _ (key_epoch number key bytes (followed number key version bytes h s is))
+        (short (cell_of key))) (short cell)
 
     did_short : ((cell : Cell) → IsShort (chain_in own.store.chains cell)) → (done : Done) → Did hears here own done
         → (cell : Cell) → IsShort (chain_in done.own.store.chains cell)
     did_short short _ Ignores cell = short cell
     did_short short _ (Refuses to said is why) cell = short cell
-    did_short short _ (By_read done d) cell = subst (λ (o : Own). IsShort (chain_in o.store.chains cell)) (sym (of_read hears here own done d).same) (short cell)
+    did_short short _ (By_read done d) cell =
+        subst (λ (o : Own). IsShort (chain_in o.store.chains cell)) (sym (of_read hears here own done d).same) (short cell)
     did_short short _ (By_lead done d) cell = lead_short short done d cell
     did_short short _ (By_second done d) cell = second_short short done d cell
 
   short_later : (w v : World) → Ground state lines w → Happens state lines w v → (n : ℕ) (cell : Cell) → IsShort (chain_in (owns_of v n).store.chains cell)
   short_later w _ ground (Serves n stamp done queue lt did queued) =
-      all_put w.servers n (served (w.servers n) done queue) (λ k server. (cell : Cell) → IsShort (chain_in server.own.store.chains cell)) ground.short (did_short w ground.ready ground.good ground.asking n (ground.short n) done did)
+      all_put w.servers n (served (w.servers n) done queue) (λ k server. (cell : Cell) → IsShort (chain_in server.own.store.chains cell)) ground.short
+      (did_short w ground.ready ground.good ground.asking n (ground.short n) done did)
   short_later w _ ground (Turns c stamp in_call reacted lt within turned) = ground.short
 
   pub happens_ground : (servers slots : ℕ) (w v : World) → Ground state lines w → Happens state lines w v → Ground state lines v

@@ -5,8 +5,15 @@ pub mod Grounds
 pub mod Takes
 pub mod ServerFrames
 pub mod ServerJobs
+pub mod Chains
 pub mod Looks
+pub mod Quiet
+pub mod Calm
+pub mod Shows
+pub mod Placed
+pub mod Puts
 pub mod ServerSteps
+pub mod ClientFrames
 pub mod ClientSteps
 pub mod Running
 pub mod ReadScripts

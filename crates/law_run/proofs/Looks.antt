@@ -20,7 +20,7 @@ use Rattle.petal_rules.specs.State.{State}
 use Rattle.petal_rules.specs.Clients.{Client, Asked, heard, hears, hears_of, counts, is_read}
 use Rattle.petal_rules.specs.World.{Setting, World, step, MayActor}
 use Rattle.petal_rules.specs.declared.step.Step.{Step}
-use Rattle.petal_rules.specs.declared.step.Step.TheVariants.{Call, Deliver, Tick, Work}
+use Rattle.petal_rules.specs.declared.step.Step.TheVariants.{Deliver}
 use Rattle.petal_rules.proofs.ListLemmas.{in_later, in-append}
 use Rattle.petal_history.specs.Events.{accepted, accepts, data_line, first_of, same_name, look_by, look_for, look_of}
 use Rattle.petal_history.specs.Legal.{IsLegalFrom, stepped}
@@ -47,7 +47,8 @@ pub record Looked (m : Plain) (name : List ℕ) (blocks : Table ℕ (List ℕ)) 
   pub mindful : IsMindful (replay m es)
   pub onward : Onward m (replay m es)
 
-pub looked : (m : Plain) (name : List ℕ) (blocks : Table ℕ (List ℕ)) (block : ℕ) (bytes : List ℕ) → HasOnly m name blocks → IsMindful m → content blocks block ≡ bytes → (es : List Event) → AllLooks name block bytes es → Looked m name blocks es
+pub looked : (m : Plain) (name : List ℕ) (blocks : Table ℕ (List ℕ)) (block : ℕ) (bytes : List ℕ) → HasOnly m name blocks → IsMindful m
+    → content blocks block ≡ bytes → (es : List Event) → AllLooks name block bytes es → Looked m name blocks es
 unfolding In
 looked m name blocks block bytes only mindful has [] all = record { may = tt; only = only; mindful = mindful; onward = onward_itself m }
 looked m name blocks block bytes only mindful has (e ∷ es) all =
@@ -55,7 +56,15 @@ looked m name blocks block bytes only mindful has (e ∷ es) all =
     let only' : HasOnly k name blocks = disks_after m (Look name None block bytes) ∙ only in
     let rest = looked k name blocks block bytes only' (after_mindful m (Look name None block bytes)) has es (λ x h. all x (inr h)) in
     subst (λ x. Looked m name blocks (x ∷ es)) (sym (all e (inl refl))) (record {
-      may = (record { known = record { disk = one_disk name blocks; is = disk_there m name name blocks only refl }; blocks = blocks; is = refl; has = has }, rest.may);
+      may = (
+        record {
+          known = record { disk = one_disk name blocks; is = disk_there m name name blocks only refl };
+          blocks = blocks;
+          is = refl;
+          has = has;
+        },
+        rest.may,
+      );
       only = rest.only;
       mindful = rest.mindful;
       onward = onward_joined m k (replay k es) (look_onward m name None block bytes mindful) rest.onward;
@@ -90,24 +99,33 @@ module _ (servers slots : ℕ) (lines : List Line) (state : State) (steady : IsS
   setting = fixed_setting servers slots lines state
 
   -- a client that answers with data had asked under this number
-  hears_data : (c : ℕ) (client : Client) (asked : Asked) (rev seq : ℕ) (bytes : List ℕ) (number : ℕ) → data_line (hears state c client asked rev (body.Data seq bytes)).answer ≡ Some number → (seq ≡ asked.seq) × (asked.line ≡ number)
+  hears_data : (c : ℕ) (client : Client) (asked : Asked) (rev seq : ℕ) (bytes : List ℕ) (number : ℕ)
+      → data_line (hears state c client asked rev (body.Data seq bytes)).answer ≡ Some number → (seq ≡ asked.seq) × (asked.line ≡ number)
   hears_data c client asked rev seq bytes number e =
       by_bool (counts asked rev seq && is_read asked.request)
       (λ t.
       let tests = both_true (counts asked rev seq) (is_read asked.request) t in
       let same = both_true (seq == asked.seq) (rev == asked.rev) tests.0 in
-      let given : Some asked.line ≡ Some number = sym (ap (λ b. data_line (if b then Rattle.petal_rules.specs.Clients.answers client asked (answer.Data bytes) else Rattle.petal_rules.specs.Clients.rests client).answer) t) ∙ e in
+      let given : Some asked.line ≡ Some number =
+      sym (ap (λ b. data_line (if b then Rattle.petal_rules.specs.Clients.answers client asked
+      (answer.Data bytes) else Rattle.petal_rules.specs.Clients.rests client).answer) t) ∙ e in
       (same_numbers seq asked.seq same.0, same_some given))
-      (λ f. none_some (ap (λ b. data_line (if b then Rattle.petal_rules.specs.Clients.answers client asked (answer.Data bytes) else Rattle.petal_rules.specs.Clients.rests client).answer) f) e)
+      (λ f. none_some (ap (λ b. data_line (if b then Rattle.petal_rules.specs.Clients.answers client asked
+      (answer.Data bytes) else Rattle.petal_rules.specs.Clients.rests client).answer) f) e)
 
-  open_accepts : (w : World) → Ground state lines w → (letter : Letter) (seq : ℕ) (bytes : List ℕ) (number c : ℕ) (o : Option Asked) → (w.clients c).asked ≡ o → letter.to ≡ actor.Client c → letter.body ≡ body.Data seq bytes → data_line (hears_of state c (w.clients c) o letter).answer ≡ Some number → Accepts lines letter seq number
+  open_accepts : (w : World) → Ground state lines w → (letter : Letter) (seq : ℕ) (bytes : List ℕ) (number c : ℕ) (o : Option Asked)
+      → (w.clients c).asked ≡ o → letter.to ≡ actor.Client c → letter.body ≡ body.Data seq bytes
+      → data_line (hears_of state c (w.clients c) o letter).answer ≡ Some number → Accepts lines letter seq number
   open_accepts w ground letter seq bytes number c None is to says e = none_some refl e
   open_accepts w ground letter seq bytes number c (Some asked) is to says e =
-      let h = hears_data c (w.clients c) asked letter.rev seq bytes number (subst (λ (b : Body). data_line (hears state c (w.clients c) asked letter.rev b).answer ≡ Some number) says e) in
+      let h = hears_data c (w.clients c) asked letter.rev seq bytes number
+      (subst (λ (b : Body). data_line (hears state c (w.clients c) asked letter.rev b).answer ≡ Some number) says e) in
       let a = ground.asking.asked c asked is in
       record { client = c; to = to; line = a.line; is = ap (line_by lines c) h.0 ∙ a.is; number_is = sym a.number ∙ h.1 }
 
-  delivery_accepts : (w : World) → Ground state lines w → (who : Actor) (letter other : Letter) (stamp seq : ℕ) (bytes : List ℕ) (number : ℕ) → MayActor who (Deliver other) setting w → In letter w.sent → letter.body ≡ body.Data seq bytes → same_name letter other ≡ true → data_line (step who (Deliver other) setting w stamp).answer ≡ Some number → Accepts lines letter seq number
+  delivery_accepts : (w : World) → Ground state lines w → (who : Actor) (letter other : Letter) (stamp seq : ℕ) (bytes : List ℕ) (number : ℕ)
+      → MayActor who (Deliver other) setting w → In letter w.sent → letter.body ≡ body.Data seq bytes → same_name letter other ≡ true
+      → data_line (step who (Deliver other) setting w stamp).answer ≡ Some number → Accepts lines letter seq number
   unfolding step heard
   delivery_accepts w ground (actor.Server n) letter other stamp seq bytes number may h says same e = none_some refl e
   delivery_accepts w ground (actor.Client c) letter other stamp seq bytes number may h says same e =
@@ -115,10 +133,13 @@ module _ (servers slots : ℕ) (lines : List Line) (state : State) (steady : IsS
       open_accepts w ground letter seq bytes number c (w.clients c).asked refl (subst (λ (l : Letter). l.to ≡ actor.Client c) (sym one) may.1.own) says
       (subst (λ (l : Letter). data_line (hears_of state c (w.clients c) (w.clients c).asked l).answer ≡ Some number) (sym one) e)
 
-  record_accepts : (w : World) → Ground state lines w → (who : Actor) (what : Step) (letter : Letter) (stamp seq : ℕ) (bytes : List ℕ) (number : ℕ) → MayActor who what setting w → In letter w.sent → letter.body ≡ body.Data seq bytes → accepts letter what (step who what setting w stamp).answer ≡ Some number → Accepts lines letter seq number
+  record_accepts : (w : World) → Ground state lines w → (who : Actor) (what : Step) (letter : Letter) (stamp seq : ℕ) (bytes : List ℕ) (number : ℕ)
+      → MayActor who what setting w → In letter w.sent → letter.body ≡ body.Data seq bytes
+      → accepts letter what (step who what setting w stamp).answer ≡ Some number → Accepts lines letter seq number
   record_accepts w ground who (Deliver other) letter stamp seq bytes number may h says e =
       by_bool (same_name letter other)
-      (λ t. delivery_accepts w ground who letter other stamp seq bytes number may h says t (sym (ap (λ b. if b then data_line (step who (Deliver other) setting w stamp).answer else None) t) ∙ e))
+      (λ t. delivery_accepts w ground who letter other stamp seq bytes number may h says t
+      (sym (ap (λ b. if b then data_line (step who (Deliver other) setting w stamp).answer else None) t) ∙ e))
       (λ f. none_some (ap (λ b. if b then data_line (step who (Deliver other) setting w stamp).answer else None) f) e)
   record_accepts w ground who _ letter stamp seq bytes number may h says e = none_some refl e
 
@@ -127,36 +148,46 @@ module _ (servers slots : ℕ) (lines : List Line) (state : State) (steady : IsS
   sent_later w (actor.Server n) what stamp letter h = in_later letter _ w.sent h
   sent_later w (actor.Client c) what stamp letter h = in_later letter _ w.sent h
 
-  pub who_accepts : (w : World) (records : List Record) → Ground state lines w → IsLegalFrom setting w records → (letter : Letter) (seq : ℕ) (bytes : List ℕ) (number : ℕ) → In letter w.sent → letter.body ≡ body.Data seq bytes → accepted records letter ≡ Some number → Accepts lines letter seq number
+  pub who_accepts : (w : World) (records : List Record) → Ground state lines w → IsLegalFrom setting w records
+      → (letter : Letter) (seq : ℕ) (bytes : List ℕ) (number : ℕ) → In letter w.sent → letter.body ≡ body.Data seq bytes → accepted records letter
+      ≡ Some number → Accepts lines letter seq number
   who_accepts w [] ground legal letter seq bytes number h says e = none_some refl e
   who_accepts w (own ∷ later) ground legal letter seq bytes number h says e =
       let follows = legal.0 in
       let next = (stepped setting w own).world in
       elim (some_first (accepts letter own.step own.answer) (accepted later letter) number e) [
-        | inl now ↦ record_accepts w ground own.actor own.step letter own.stamp seq bytes number follows.may.may h says (subst (λ o. accepts letter own.step o ≡ Some number) follows.answer now)
+        | inl now ↦ record_accepts w ground own.actor own.step letter own.stamp seq bytes number follows.may.may h says
+            (subst (λ o. accepts letter own.step o ≡ Some number) follows.answer now)
         | inr behind ↦
-            who_accepts next later (happens_ground state steady lines servers slots w next ground (happens servers slots lines state steady w own ground.ready follows)) legal.1 letter seq bytes number
+            who_accepts next later (happens_ground state steady lines servers slots w next ground
+            (happens servers slots lines state steady w own ground.ready follows)) legal.1 letter seq bytes number
             (sent_later w own.actor own.step own.stamp letter h) says behind
       ]
 
 -- ### What is told of a letter
 
-in_looks : (lines : List Line) (number : ℕ) (bytes : List ℕ) (e : Event) → In e (look_for lines (Some number) bytes) → (line : Line) × In line lines × (line.number ≡ number) × In e (look_by line.request bytes)
+in_looks : (lines : List Line) (number : ℕ) (bytes : List ℕ) (e : Event) → In e (look_for lines (Some number) bytes)
+    → (line : Line) × In line lines × (line.number ≡ number) × In e (look_by line.request bytes)
 unfolding In
 in_looks [] number bytes e h = absurd h
-in_looks (line ∷ lines) number bytes e h = elim (in-append e (if line.number == number then look_by line.request bytes else []) (look_for lines (Some number) bytes) h) [
-  | inl now ↦
-      by_test (λ es. In e es → (other : Line) × In other (line ∷ lines) × (other.number ≡ number) × In e (look_by other.request bytes)) (line.number == number) _ _
-      (λ t i. (line, inl refl, same_numbers line.number number t, i)) (λ f i. absurd i) now
-  | inr later ↦ let found = in_looks lines number bytes e later in (found.0, inr found.1, found.2, found.3)
-]
+in_looks (line ∷ lines) number bytes e h =
+    elim (in-append e (if line.number == number then look_by line.request bytes else []) (look_for lines (Some number) bytes) h) [
+      | inl now ↦
+          by_test (λ es. In e es → (other : Line) × In other (line ∷ lines) × (other.number ≡ number) × In e (look_by other.request bytes))
+          (line.number == number) _ _
+          (λ t i. (line, inl refl, same_numbers line.number number t, i)) (λ f i. absurd i) now
+      | inr later ↦ let found = in_looks lines number bytes e later in (found.0, inr found.1, found.2, found.3)
+    ]
 
-look_is : (asked : Request) (name : List ℕ) (block : ℕ) (bytes : List ℕ) (e : Event) → asked ≡ request.Read name None block → In e (look_by asked bytes) → e ≡ Look name None block bytes
+look_is : (asked : Request) (name : List ℕ) (block : ℕ) (bytes : List ℕ) (e : Event) → asked ≡ request.Read name None block
+    → In e (look_by asked bytes) → e ≡ Look name None block bytes
 unfolding In
 look_is asked name block bytes e is h = elim (subst (λ r. In e (look_by r bytes)) is h) [ inl same ↦ same | inr none ↦ absurd none ]
 
 -- a letter with data that is accepted, or not
-pub letter_looks : (lines : List Line) → ((one other : Line) → In one lines → In other lines → one.number ≡ other.number → one ≡ other) → (letter : Letter) (seq client : ℕ) (name : List ℕ) (block : ℕ) (bytes : List ℕ) (line : Line) → letter.to ≡ actor.Client client → line_by lines client seq ≡ Some line → line.request ≡ request.Read name None block
+pub letter_looks : (lines : List Line) → ((one other : Line) → In one lines → In other lines → one.number ≡ other.number → one ≡ other)
+    → (letter : Letter) (seq client : ℕ) (name : List ℕ) (block : ℕ) (bytes : List ℕ) (line : Line) → letter.to ≡ actor.Client client
+    → line_by lines client seq ≡ Some line → line.request ≡ request.Read name None block
     → (o : Option ℕ) → ((number : ℕ) → o ≡ Some number → Accepts lines letter seq number) → AllLooks name block bytes (look_for lines o bytes)
 unfolding In
 letter_looks lines numbered letter seq client name block bytes line to is asks None accepts e h = absurd h
@@ -165,7 +196,8 @@ letter_looks lines numbered letter seq client name block bytes line to is asks (
     let found = in_looks lines number bytes e h in
     let same_client : a.client ≡ client = one_client (sym a.to ∙ to) in
     let same_line : a.line ≡ line = same_some (sym a.is ∙ ap (λ c. line_by lines c seq) same_client ∙ is) in
-    let the_line : found.0 ≡ line = numbered found.0 line found.1 (line_in lines client seq line is) (found.2 ∙ sym a.number_is ∙ ap (λ (l : Line). l.number) same_line) in
+    let the_line : found.0 ≡ line =
+    numbered found.0 line found.1 (line_in lines client seq line is) (found.2 ∙ sym a.number_is ∙ ap (λ (l : Line). l.number) same_line) in
     look_is found.0.request name block bytes e (ap (λ (l : Line). l.request) the_line ∙ asks) found.3
   where
     one_client : {c d : ℕ} → actor.Client c ≡ actor.Client d → c ≡ d

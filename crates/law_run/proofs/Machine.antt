@@ -32,17 +32,20 @@ replay-append m (e ∷ es) fs = replay-append (after m e) es fs
 pub found_disk : (name : List ℕ) (blocks : Table ℕ (List ℕ)) → disk_of (one_disk name blocks ∷ []) name ≡ Some (one_disk name blocks)
 found_disk name blocks = ap (λ b. cond b (Some (one_disk name blocks)) None) (nat_list_eq_equiv.refl name)
 
-pub disk_there : (m : Plain) (name other : List ℕ) (blocks : Table ℕ (List ℕ)) → HasOnly m name blocks → other ≡ name → disk_of m.disks other ≡ Some (one_disk name blocks)
+pub disk_there : (m : Plain) (name other : List ℕ) (blocks : Table ℕ (List ℕ)) → HasOnly m name blocks → other ≡ name
+    → disk_of m.disks other ≡ Some (one_disk name blocks)
 disk_there m name other blocks only e = (λ i. disk_of (only i) (e i)) ∙ found_disk name blocks
 
-pub stands_there : (m : Plain) (name : List ℕ) (blocks : Table ℕ (List ℕ)) (w : Write) → HasOnly m name blocks → w.disk ≡ name → stands m.disks w ≡ same_bytes (content blocks w.block) w.bytes
+pub stands_there : (m : Plain) (name : List ℕ) (blocks : Table ℕ (List ℕ)) (w : Write) → HasOnly m name blocks → w.disk ≡ name
+    → stands m.disks w ≡ same_bytes (content blocks w.block) w.bytes
 stands_there m name blocks w only e = ap (has_content w) (disk_there m name w.disk blocks only e)
 
 pub content_same : (blocks : Table ℕ (List ℕ)) (block : ℕ) (bytes : List ℕ) → content (put nat_cmp blocks block bytes) block ≡ bytes
 unfolding content
 content_same blocks block bytes = ap (λ o. unwrap_or o zero_block) (at_same blocks block bytes)
 
-pub content_apart : (blocks : Table ℕ (List ℕ)) (block : ℕ) (bytes : List ℕ) (other : ℕ) → other ≢ block → content (put nat_cmp blocks block bytes) other ≡ content blocks other
+pub content_apart : (blocks : Table ℕ (List ℕ)) (block : ℕ) (bytes : List ℕ) (other : ℕ) → other ≢ block
+    → content (put nat_cmp blocks block bytes) other ≡ content blocks other
 unfolding content
 content_apart blocks block bytes other ne = ap (λ o. unwrap_or o zero_block) (at_apart blocks block bytes other ne)
 
@@ -52,7 +55,8 @@ remember_each : (disks : List Disk) (opened : List Open) (c : ℕ) → open_of (
 remember_each disks [] c = refl
 remember_each disks (o ∷ os) c =
     let later = remember_each disks os c in
-    elim (o.write.client == c) as (λ b. cond b (Some (remembers disks o)) (open_of (map (remembers disks) os) c) ≡ option_map (remembers disks) (cond b (Some o) (open_of os c))) [ true ↦ refl | false ↦ later ]
+    elim (o.write.client == c) as (λ b. cond b (Some (remembers disks o)) (open_of (map (remembers disks) os) c)
+    ≡ option_map (remembers disks) (cond b (Some o) (open_of os c))) [ true ↦ refl | false ↦ later ]
 
 pub opened_after : (m : Plain) (e : Event) (c : ℕ) → open_of (after m e).opened c ≡ option_map (remembers (changed m e).disks) (open_of (changed m e).opened c)
 unfolding after
@@ -95,7 +99,12 @@ still m c (Some o) e h = λ i. Some (record { write = o.write; held = or_so o.he
 pub onward_by : (m k : Plain) (disks : List Disk) → ((c : ℕ) → open_of k.opened c ≡ option_map (remembers disks) (open_of m.opened c)) → Onward m k
 onward_by m k disks h = record {
   none = λ c e. h c ∙ ap (option_map (remembers disks)) e;
-  some = λ c o e. record { now = remembers disks o; is = h c ∙ ap (option_map (remembers disks)) e; same = refl; held = λ t. or_former o.held (stands disks o.write) t };
+  some = λ c o e. record {
+    now = remembers disks o;
+    is = h c ∙ ap (option_map (remembers disks)) e;
+    same = refl;
+    held = λ t. or_former o.held (stands disks o.write) t;
+  };
 }
 
 pub onward_itself : (m : Plain) → Onward m m
@@ -124,19 +133,28 @@ seat_onward m k c (Some write) h s =
 
 -- ### Looks, begins and ends
 
-pub look_onward : (m : Plain) (name : List ℕ) (snap : Option (List ℕ)) (block : ℕ) (bytes : List ℕ) → IsMindful m → Onward m (after m (Look name snap block bytes))
+pub look_onward : (m : Plain) (name : List ℕ) (snap : Option (List ℕ)) (block : ℕ) (bytes : List ℕ) → IsMindful m
+    → Onward m (after m (Look name snap block bytes))
 look_onward m name snap block bytes h = record {
   none = λ c e. opened_after m (Look name snap block bytes) c ∙ still m c (open_of m.opened c) refl h ∙ e;
-  some = λ c o e. record { now = o; is = opened_after m (Look name snap block bytes) c ∙ still m c (open_of m.opened c) refl h ∙ e; same = refl; held = λ t. t };
+  some = λ c o e. record {
+    now = o;
+    is = opened_after m (Look name snap block bytes) c ∙ still m c (open_of m.opened c) refl h ∙ e;
+    same = refl;
+    held = λ t. t;
+  };
 }
 
-begun : (o : Option Open) (w : Write) (c : ℕ) → o ≡ None → c ≡ w.client → option_or o (find (is_of c) (record { write = w; held = false } ∷ [])) ≡ Some (record { write = w; held = false })
+begun : (o : Option Open) (w : Write) (c : ℕ) → o ≡ None → c ≡ w.client
+    → option_or o (find (is_of c) (record { write = w; held = false } ∷ [])) ≡ Some (record { write = w; held = false })
 begun o w c none e =
-    ap (λ x. option_or x (find (is_of c) (record { write = w; held = false } ∷ []))) none ∙ ap (λ b. cond b (Some (record { write = w; held = false })) None) (ap (λ i. w.client == i) e ∙ number_itself w.client)
+    ap (λ x. option_or x (find (is_of c) (record { write = w; held = false } ∷ []))) none
+    ∙ ap (λ b. cond b (Some (record { write = w; held = false })) None) (ap (λ i. w.client == i) e ∙ number_itself w.client)
 
 unbegun : (o : Option Open) (w : Write) (c : ℕ) → c ≢ w.client → option_or o (find (is_of c) (record { write = w; held = false } ∷ [])) ≡ o
 unbegun o w c ne =
-    ap (λ b. option_or o (cond b (Some (record { write = w; held = false })) None)) (by_bool (w.client == c) (λ t. absurd (ne (sym (same_numbers w.client c t)))) (λ f. f)) ∙ or_none o
+    ap (λ b. option_or o (cond b (Some (record { write = w; held = false })) None))
+    (by_bool (w.client == c) (λ t. absurd (ne (sym (same_numbers w.client c t)))) (λ f. f)) ∙ or_none o
   where
     or_none : (o : Option Open) → option_or o None ≡ o
     or_none None = refl
@@ -145,12 +163,14 @@ unbegun o w c ne =
 -- the write is under way
 pub begin_seat : (m : Plain) (w : Write) → open_of m.opened w.client ≡ None → Seat (Some w) (open_of (after m (Begin w)).opened w.client)
 begin_seat m w none =
-    let e : open_of (m.opened ++ record { write = w; held = false } ∷ []) w.client ≡ Some (record { write = w; held = false }) = find-append (is_of w.client) m.opened (record { write = w; held = false } ∷ []) ∙ begun (open_of m.opened w.client) w w.client none refl in
+    let e : open_of (m.opened ++ record { write = w; held = false } ∷ []) w.client ≡ Some (record { write = w; held = false }) =
+    find-append (is_of w.client) m.opened (record { write = w; held = false } ∷ []) ∙ begun (open_of m.opened w.client) w w.client none refl in
     (false || stands m.disks w, opened_after m (Begin w) w.client ∙ ap (option_map (remembers m.disks)) e)
 
 pub begin_others : (m : Plain) (w : Write) (c : ℕ) → IsMindful m → c ≢ w.client → open_of (after m (Begin w)).opened c ≡ open_of m.opened c
 begin_others m w c h ne =
-    opened_after m (Begin w) c ∙ ap (option_map (remembers m.disks)) (find-append (is_of c) m.opened (record { write = w; held = false } ∷ []) ∙ unbegun (open_of m.opened c) w c ne) ∙ still m c (open_of m.opened c) refl h
+    opened_after m (Begin w) c ∙ ap (option_map (remembers m.disks))
+    (find-append (is_of c) m.opened (record { write = w; held = false } ∷ []) ∙ unbegun (open_of m.opened c) w c ne) ∙ still m c (open_of m.opened c) refl h
 
 but_gone : (opened : List Open) (c : ℕ) → open_of (but_of opened c) c ≡ None
 but_gone [] c = refl
@@ -165,7 +185,8 @@ but_others : (opened : List Open) (c j : ℕ) → j ≢ c → open_of (but_of op
 but_others [] c j ne = refl
 but_others (o ∷ os) c j ne =
     let later = but_others os c j ne in
-    elim (o.write.client == c) as (λ b. (o.write.client == c) ≡ b → open_of (cond (not b) (o ∷ but_of os c) (but_of os c)) j ≡ cond (o.write.client == j) (Some o) (open_of os j)) [
+    elim (o.write.client == c) as (λ b. (o.write.client == c) ≡ b → open_of (cond (not b) (o ∷ but_of os c) (but_of os c)) j
+    ≡ cond (o.write.client == j) (Some o) (open_of os j)) [
       | true ↦ λ e. later ∙ sym (ap (λ b. cond b (Some o) (open_of os j)) (other o.write.client (same_numbers o.write.client c e)))
       | false ↦ λ e. ap (cond (o.write.client == j) (Some o)) later
     ] refl
@@ -177,12 +198,14 @@ pub end_seat : (m : Plain) (w : Write) (how : WriteEnd) → open_of (after m (En
 end_seat m w how = opened_after m (End w how) w.client ∙ ap (option_map (remembers m.disks)) (but_gone m.opened w.client)
 
 pub end_others : (m : Plain) (w : Write) (how : WriteEnd) (c : ℕ) → IsMindful m → c ≢ w.client → open_of (after m (End w how)).opened c ≡ open_of m.opened c
-end_others m w how c h ne = opened_after m (End w how) c ∙ ap (option_map (remembers m.disks)) (but_others m.opened w.client c ne) ∙ still m c (open_of m.opened c) refl h
+end_others m w how c h ne =
+    opened_after m (End w how) c ∙ ap (option_map (remembers m.disks)) (but_others m.opened w.client c ne) ∙ still m c (open_of m.opened c) refl h
 
 -- ### Takes
 
 -- a write whose block has its bytes has had them
-pub stands_held : (m : Plain) (name : List ℕ) (blocks : Table ℕ (List ℕ)) (c : ℕ) (w : Write) → HasOnly m name blocks → IsMindful m → Seat (Some w) (open_of m.opened c) → w.disk ≡ name → content blocks w.block ≡ w.bytes → held_in (open_of m.opened c) ≡ true
+pub stands_held : (m : Plain) (name : List ℕ) (blocks : Table ℕ (List ℕ)) (c : ℕ) (w : Write) → HasOnly m name blocks → IsMindful m
+    → Seat (Some w) (open_of m.opened c) → w.disk ≡ name → content blocks w.block ≡ w.bytes → held_in (open_of m.opened c) ≡ true
 stands_held m name blocks c w only mindful seat disk has =
     ap held_in seat.1 ∙ mindful c (record { write = w; held = seat.0 }) seat.1
     (stands_there m name blocks w only disk ∙ ap (λ b. same_bytes b w.bytes) has ∙ nat_list_eq_equiv.refl w.bytes)
@@ -200,7 +223,8 @@ pub record Taken (m : Plain) (name : List ℕ) (blocks : Table ℕ (List ℕ)) (
 seat_open : (m : Plain) (w : Write) → Seat (Some w) (open_of m.opened w.client) → IsOpen m.opened w
 seat_open m w s = record { held = s.0; is = s.1 }
 
-disks_take : (m : Plain) (name : List ℕ) (blocks : Table ℕ (List ℕ)) (w : Write) → HasOnly m name blocks → w.disk ≡ name → HasOnly (after m (Take w)) name (put nat_cmp blocks w.block w.bytes)
+disks_take : (m : Plain) (name : List ℕ) (blocks : Table ℕ (List ℕ)) (w : Write) → HasOnly m name blocks → w.disk ≡ name
+    → HasOnly (after m (Take w)) name (put nat_cmp blocks w.block w.bytes)
 disks_take m name blocks w only e =
     disks_after m (Take w) ∙ (λ i. with_disk (only i) (e i) (written w.block w.bytes))
     ∙ ap (λ b. cond b (one_disk name (put nat_cmp blocks w.block w.bytes) ∷ []) (one_disk name blocks ∷ [])) (nat_list_eq_equiv.refl name)
@@ -210,21 +234,25 @@ abbrev pub AllTakes : Write → List Event → Type 0
 AllTakes w [] = Unit {0}
 AllTakes w (e ∷ es) = (e ≡ Take w) × AllTakes w es
 
-take_one : (m : Plain) (name : List ℕ) (blocks : Table ℕ (List ℕ)) (w : Write) → HasOnly m name blocks → w.disk ≡ name → Seat (Some w) (open_of m.opened w.client) → May m (Take w)
+take_one : (m : Plain) (name : List ℕ) (blocks : Table ℕ (List ℕ)) (w : Write) → HasOnly m name blocks → w.disk ≡ name
+    → Seat (Some w) (open_of m.opened w.client) → May m (Take w)
 take_one m name blocks w only e seat = (seat_open m w seat, record { disk = one_disk name blocks; is = disk_there m name w.disk blocks only e })
 
 take_onward : (m : Plain) (w : Write) → Onward m (after m (Take w))
 take_onward m w = onward_by m (after m (Take w)) (changed m (Take w)).disks (opened_after m (Take w))
 
 -- takes of a write whose block has its bytes
-more_taken : (m : Plain) (name : List ℕ) (blocks : Table ℕ (List ℕ)) (w : Write) → HasOnly m name blocks → IsMindful m → w.disk ≡ name → Seat (Some w) (open_of m.opened w.client) → content blocks w.block ≡ w.bytes → (es : List Event) → AllTakes w es → Taken m name blocks w.block w.bytes es
-more_taken m name blocks w only mindful e seat has [] all = record { may = tt; later = blocks; only = only; has = has; others = λ other ne. refl; mindful = mindful; onward = onward_itself m }
+more_taken : (m : Plain) (name : List ℕ) (blocks : Table ℕ (List ℕ)) (w : Write) → HasOnly m name blocks → IsMindful m → w.disk ≡ name
+    → Seat (Some w) (open_of m.opened w.client) → content blocks w.block ≡ w.bytes → (es : List Event) → AllTakes w es → Taken m name blocks w.block w.bytes es
+more_taken m name blocks w only mindful e seat has [] all =
+    record { may = tt; later = blocks; only = only; has = has; others = λ other ne. refl; mindful = mindful; onward = onward_itself m }
 more_taken m name blocks w only mindful e seat has (x ∷ es) all =
     subst (λ y. Taken m name blocks w.block w.bytes (y ∷ es)) (sym all.0) (
     let k = after m (Take w) in
     let blocks' = put nat_cmp blocks w.block w.bytes in
     let onward = take_onward m w in
-    let rest = more_taken k name blocks' w (disks_take m name blocks w only e) (after_mindful m (Take w)) e (seat_onward m k w.client (Some w) onward seat) (content_same blocks w.block w.bytes) es all.1 in
+    let rest = more_taken k name blocks' w (disks_take m name blocks w only e) (after_mindful m (Take w)) e
+    (seat_onward m k w.client (Some w) onward seat) (content_same blocks w.block w.bytes) es all.1 in
     record {
       may = (take_one m name blocks w only e seat, rest.may);
       later = rest.later;
@@ -237,13 +265,15 @@ more_taken m name blocks w only mindful e seat has (x ∷ es) all =
     )
 
 -- at least one take of a write
-pub takes_taken : (m : Plain) (name : List ℕ) (blocks : Table ℕ (List ℕ)) (w : Write) → HasOnly m name blocks → w.disk ≡ name → Seat (Some w) (open_of m.opened w.client) → (e : Event) (es : List Event) → AllTakes w (e ∷ es) → Taken m name blocks w.block w.bytes (e ∷ es)
+pub takes_taken : (m : Plain) (name : List ℕ) (blocks : Table ℕ (List ℕ)) (w : Write) → HasOnly m name blocks → w.disk ≡ name
+    → Seat (Some w) (open_of m.opened w.client) → (e : Event) (es : List Event) → AllTakes w (e ∷ es) → Taken m name blocks w.block w.bytes (e ∷ es)
 takes_taken m name blocks w only e seat x es all =
     subst (λ y. Taken m name blocks w.block w.bytes (y ∷ es)) (sym all.0) (
     let k = after m (Take w) in
     let blocks' = put nat_cmp blocks w.block w.bytes in
     let onward = take_onward m w in
-    let rest = more_taken k name blocks' w (disks_take m name blocks w only e) (after_mindful m (Take w)) e (seat_onward m k w.client (Some w) onward seat) (content_same blocks w.block w.bytes) es all.1 in
+    let rest = more_taken k name blocks' w (disks_take m name blocks w only e) (after_mindful m (Take w)) e
+    (seat_onward m k w.client (Some w) onward seat) (content_same blocks w.block w.bytes) es all.1 in
     record {
       may = (take_one m name blocks w only e seat, rest.may);
       later = rest.later;

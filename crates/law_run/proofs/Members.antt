@@ -43,7 +43,8 @@ pub of_filter : {A : Type 0} (p : A → Bool) (xs : List A) (x : A) → In x (fi
 unfolding In
 of_filter p [] x h = absurd h
 of_filter {A} p (y ∷ ys) x h =
-    elim (p y) as (λ b. p y ≡ b → (In x (filter p ys) → In x ys × (p x ≡ true)) → In x (cond b (y ∷ filter p ys) (filter p ys)) → In x (y ∷ ys) × (p x ≡ true)) [
+    elim (p y) as (λ b. p y ≡ b → (In x (filter p ys) → In x ys × (p x ≡ true)) → In x (cond b (y ∷ filter p ys) (filter p ys))
+    → In x (y ∷ ys) × (p x ≡ true)) [
       | true ↦ λ is later i. elim i [ inl e ↦ (inl e, subst (λ (z : A). p z ≡ true) (sym e) is) | inr j ↦ let l = later j in (inr l.0, l.1) ]
       | false ↦ λ is later i. let l = later i in (inr l.0, l.1)
     ] refl (of_filter p ys x) h
@@ -80,7 +81,8 @@ pub found_one : {A : Type 0} (p : A → Bool) (xs : List A) (x : A) → In x xs 
 unfolding In
 found_one p [] x h e = absurd h
 found_one {A} p (z ∷ zs) x h e =
-    elim (p z) as (λ b. p z ≡ b → (In x zs → (y : A) × (find p zs ≡ Some y) × In y zs × (p y ≡ true)) → (y : A) × (cond b (Some z) (find p zs) ≡ Some y) × In y (z ∷ zs) × (p y ≡ true)) [
+    elim (p z) as (λ b. p z ≡ b → (In x zs → (y : A) × (find p zs ≡ Some y) × In y zs × (p y ≡ true))
+    → (y : A) × (cond b (Some z) (find p zs) ≡ Some y) × In y (z ∷ zs) × (p y ≡ true)) [
       | true ↦ λ is later. (z, refl, inl refl, is)
       | false ↦ λ is later. elim h [
         | inl same ↦ absurd (let f : true ≡ false = sym (ap p (sym same) ∙ e) ∙ is in cc)
@@ -98,7 +100,8 @@ pub row_at : {K X : Type 0} (R : K → K → Ordering) (t : Table K X) (k : K) (
 unfolding at In
 row_at R [] k x e = none_some refl e
 row_at {K} {X} R (e ∷ es) k x h =
-    elim (is_eq (R k e.0)) as (λ b. is_eq (R k e.0) ≡ b → (lookup (is_at (R k)) es ≡ Some x → (row : K × X) × In row es × (R k row.0 ≡ Equal)) → cond b (Some e.1) (lookup (is_at (R k)) es) ≡ Some x → (row : K × X) × In row (e ∷ es) × (R k row.0 ≡ Equal)) [
+    elim (is_eq (R k e.0)) as (λ b. is_eq (R k e.0) ≡ b → (lookup (is_at (R k)) es ≡ Some x → (row : K × X) × In row es × (R k row.0 ≡ Equal))
+    → cond b (Some e.1) (lookup (is_at (R k)) es) ≡ Some x → (row : K × X) × In row (e ∷ es) × (R k row.0 ≡ Equal)) [
       | true ↦ λ is later i. (e, inl refl, tied _ is)
       | false ↦ λ is later i. let l = later i in (l.0, inr l.1, l.2)
     ] refl (row_at R es k x) h

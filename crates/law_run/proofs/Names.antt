@@ -42,16 +42,20 @@ at_least who stamp nth [] letter h = absurd h
 at_least who stamp nth (post ∷ posts) letter (inl e) = let f : letter.nth ≡ nth = ap (λ (l : Letter). l.nth) e in omega arith
 at_least who stamp nth (post ∷ posts) letter (inr h) = let later = at_least who stamp (nth + 1) posts letter h in omega arith
 
-one_place : (who : Sender) (stamp nth : ℕ) (posts : List Post) (one other : Letter) → In one (stamped stamp (letters_of who nth posts)) → In other (stamped stamp (letters_of who nth posts)) → one.nth ≡ other.nth → one ≡ other
+one_place : (who : Sender) (stamp nth : ℕ) (posts : List Post) (one other : Letter) → In one (stamped stamp (letters_of who nth posts))
+    → In other (stamped stamp (letters_of who nth posts)) → one.nth ≡ other.nth → one ≡ other
 unfolding In
 one_place who stamp nth [] one other h g e = absurd h
 one_place who stamp nth (post ∷ posts) one other (inl h) (inl g) e = h ∙ sym g
-one_place who stamp nth (post ∷ posts) one other (inl h) (inr g) e = let f : one.nth ≡ nth = ap (λ (l : Letter). l.nth) h in let later = at_least who stamp (nth + 1) posts other g in absurd (omega arith)
-one_place who stamp nth (post ∷ posts) one other (inr h) (inl g) e = let f : other.nth ≡ nth = ap (λ (l : Letter). l.nth) g in let later = at_least who stamp (nth + 1) posts one h in absurd (omega arith)
+one_place who stamp nth (post ∷ posts) one other (inl h) (inr g) e = let f : one.nth ≡ nth = ap (λ (l : Letter). l.nth) h in let later =
+    at_least who stamp (nth + 1) posts other g in absurd (omega arith)
+one_place who stamp nth (post ∷ posts) one other (inr h) (inl g) e = let f : other.nth ≡ nth = ap (λ (l : Letter). l.nth) g in let later =
+    at_least who stamp (nth + 1) posts one h in absurd (omega arith)
 one_place who stamp nth (post ∷ posts) one other (inr h) (inr g) e = one_place who stamp (nth + 1) posts one other h g e
 
 -- the letters of a step join those that were sent
-named_more : (w v : World) (who : Sender) (stamp : ℕ) (posts : List Post) → Named w → v.sent ≡ stamped stamp (letters_of who 0 posts) ++ w.sent → clock_of w who.from < stamp → stamp ≤ clock_of v who.from → ((a : Actor) → clock_of w a ≤ clock_of v a) → Named v
+named_more : (w v : World) (who : Sender) (stamp : ℕ) (posts : List Post) → Named w → v.sent ≡ stamped stamp (letters_of who 0 posts) ++ w.sent
+    → clock_of w who.from < stamp → stamp ≤ clock_of v who.from → ((a : Actor) → clock_of w a ≤ clock_of v a) → Named v
 named_more w v who stamp posts named joined before now rises = record {
   unique = λ one other h g e.
       let n = named_same one other e in

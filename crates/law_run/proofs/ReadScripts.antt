@@ -61,11 +61,14 @@ module _ (servers : ℕ) where
   unfolding spread_of
   spread_fits words = then_ok _ (front_word words) _ (λ disk e. then_ok _ (front_word disk.1) _ (λ on f.
       by_test (EachOk (λ (parts : List ℕ × List ℕ). is_tuple servers parts.1 ≡ true)) (not (is_word on.0 (codes "on")) || length on.1 == 0) _ _ (λ t. tt)
-      (λ t. then_ok _ (a_name disk.0) _ (λ name g. then_ok _ (a_tuple servers on.1) _ (λ tuple k. ok_is (λ x. is_tuple servers x ≡ true) (a_tuple servers on.1) tuple (a_tuple_fits on.1) k)))))
+      (λ t. then_ok _ (a_name disk.0) _ (λ name g. then_ok _ (a_tuple servers on.1) _
+      (λ tuple k. ok_is (λ x. is_tuple servers x ≡ true) (a_tuple servers on.1) tuple (a_tuple_fits on.1) k)))))
 
   disk_fits : (words : List Word) → Fit (disk_of servers words)
   unfolding disk_of
-  disk_fits words = then_ok _ (spread_of servers words) _ (λ parts e. ok_is (λ (x : List ℕ × List ℕ). is_tuple servers x.1 ≡ true) (spread_of servers words) parts (spread_fits words) e)
+  disk_fits words =
+      then_ok _ (spread_of servers words) _ (λ parts e. ok_is (λ (x : List ℕ × List ℕ). is_tuple servers x.1 ≡ true) (spread_of servers words) parts
+      (spread_fits words) e)
 
   move_fits : (words : List Word) → Fit (move_of servers words)
   unfolding move_of
@@ -77,7 +80,8 @@ module _ (servers : ℕ) where
 
   halves_fits : (disk place x y : Word) → Fit (halves_of disk place x y)
   unfolding halves_of
-  halves_fits disk place x y = then_ok _ (a_name disk) _ (λ name e. then_ok _ (a_block place) _ (λ block f. then_ok _ (a_byte x) _ (λ a g. then_ok _ (a_byte y) _ (λ b h. tt))))
+  halves_fits disk place x y =
+      then_ok _ (a_name disk) _ (λ name e. then_ok _ (a_block place) _ (λ block f. then_ok _ (a_byte x) _ (λ a g. then_ok _ (a_byte y) _ (λ b h. tt))))
 
   write_by_fits : (disk place kind : Word) (numbers : List Word) → Fit (write_by disk place kind numbers)
   write_by_fits disk place kind numbers =
@@ -87,7 +91,9 @@ module _ (servers : ℕ) where
 
   write_fits : (words : List Word) → Fit (write_of words)
   unfolding write_of
-  write_fits words = then_ok _ (front_word words) _ (λ disk e. then_ok _ (front_word disk.1) _ (λ place f. then_ok _ (front_word place.1) _ (λ kind g. write_by_fits disk.0 place.0 kind.0 kind.1)))
+  write_fits words =
+      then_ok _ (front_word words) _ (λ disk e. then_ok _ (front_word disk.1) _
+      (λ place f. then_ok _ (front_word place.1) _ (λ kind g. write_by_fits disk.0 place.0 kind.0 kind.1)))
 
   read_fits : (words : List Word) → Fit (read_of words)
   unfolding read_of
@@ -108,15 +114,21 @@ module _ (servers : ℕ) where
 
   stop_at_fits : (s : Word) (calls : Word × Word) → Fit (stop_at servers s calls)
   unfolding stop_at
-  stop_at_fits s calls = by_test Fit (not (is_word calls.0 (codes "at"))) _ _ (λ t. tt) (λ t. then_ok _ (a_server servers s) _ (λ server e. then_ok _ (a_call calls.1) _ (λ at f. tt)))
+  stop_at_fits s calls =
+      by_test Fit (not (is_word calls.0 (codes "at"))) _ _ (λ t. tt)
+      (λ t. then_ok _ (a_server servers s) _ (λ server e. then_ok _ (a_call calls.1) _ (λ at f. tt)))
 
   stop_fits : (words : List Word) → Fit (stop_of servers words)
   unfolding stop_of
-  stop_fits words = then_ok _ (front_word words) _ (λ s e. by_test Fit (length s.1 == 0) _ _ (λ t. then_ok _ (a_server servers s.0) _ (λ server f. tt)) (λ t. then_ok _ (two_words s.1) _ (λ calls f. stop_at_fits s.0 calls)))
+  stop_fits words =
+      then_ok _ (front_word words) _ (λ s e. by_test Fit (length s.1 == 0) _ _ (λ t. then_ok _ (a_server servers s.0) _ (λ server f. tt))
+      (λ t. then_ok _ (two_words s.1) _ (λ calls f. stop_at_fits s.0 calls)))
 
   fault_fits : (words : List Word) → Fit (fault_of servers words)
   unfolding fault_of
-  fault_fits words = then_ok _ (four_words words) _ (λ parts e. then_ok _ (a_device parts.1) _ (λ which f. then_ok _ (a_kind parts.2) _ (λ kind g. then_ok _ (a_server servers parts.0) _ (λ server h. then_ok _ (a_call parts.3) _ (λ at k. tt)))))
+  fault_fits words =
+      then_ok _ (four_words words) _ (λ parts e. then_ok _ (a_device parts.1) _
+      (λ which f. then_ok _ (a_kind parts.2) _ (λ kind g. then_ok _ (a_server servers parts.0) _ (λ server h. then_ok _ (a_call parts.3) _ (λ at k. tt)))))
 
   boot_fits : (of : ℕ → Request) → ((server : ℕ) → IsFit servers (of server)) → (words : List Word) → Fit (boot_of servers of words)
   unfolding boot_of
@@ -149,8 +161,10 @@ net_like : (s : Script) (words : List Word) → EachOk (IsLike s) (net_line s wo
 unfolding net_line
 net_like s words = then_ok _ (two_words words) _ (λ parts e.
     by_test (EachOk (IsLike s)) (not (length s.lines == 0)) _ _ (λ t. tt) (λ t.
-    by_test (EachOk (IsLike s)) (is_word parts.0 (codes "lose") && not (is_some s.lose)) _ _ (λ t. then_ok _ (in_limits 2 1000000 parts.1) _ (λ k f. record { servers = refl; lines = refl })) (λ t.
-    by_test (EachOk (IsLike s)) (is_word parts.0 (codes "twice") && not (is_some s.twice)) _ _ (λ t. then_ok _ (in_limits 2 1000000 parts.1) _ (λ k f. record { servers = refl; lines = refl })) (λ t. tt))))
+    by_test (EachOk (IsLike s)) (is_word parts.0 (codes "lose") && not (is_some s.lose)) _ _
+    (λ t. then_ok _ (in_limits 2 1000000 parts.1) _ (λ k f. record { servers = refl; lines = refl })) (λ t.
+    by_test (EachOk (IsLike s)) (is_word parts.0 (codes "twice") && not (is_some s.twice)) _ _
+    (λ t. then_ok _ (in_limits 2 1000000 parts.1) _ (λ k f. record { servers = refl; lines = refl })) (λ t. tt))))
 
 begun_empty : (words : List Word) → EachOk (λ (s : Script). s.lines ≡ []) (first_line words)
 unfolding first_line servers_line
@@ -201,7 +215,8 @@ like_so_far s t above like h = record {
 higher : (s : Script) (low high : ℕ) → low ≤ high → IsSoFar s low → IsSoFar s high
 higher s low high le h = record { numbered = h.numbered; below = λ line i. let b = h.below line i in omega arith; spread = h.spread }
 
-more_so_far : (s t : Script) (above : ℕ) (line : Line) → above < line.number → t.servers ≡ s.servers → t.lines ≡ s.lines ++ line ∷ [] → IsFit s.servers line.request → IsSoFar s above → IsSoFar t line.number
+more_so_far : (s t : Script) (above : ℕ) (line : Line) → above < line.number → t.servers ≡ s.servers → t.lines ≡ s.lines ++ line ∷ []
+    → IsFit s.servers line.request → IsSoFar s above → IsSoFar t line.number
 unfolding In
 more_so_far s t above line lt servers lines fit h = record {
   numbered = λ one other i j e. elim (in-append one s.lines (line ∷ []) (subst (In one) lines i)) [
@@ -235,17 +250,22 @@ more_so_far s t above line lt servers lines fit h = record {
 
 does_so_far : (s : Script) (told : TextLine) (t : Script) (above : ℕ) → Does s told t → above < told.number → IsSoFar s above → IsSoFar t told.number
 does_so_far s told t above (skipped is same) lt h = subst (λ x. IsSoFar x told.number) (sym same) (higher s above told.number (omega arith) h)
-does_so_far s told t above (nets first words spelled is took) lt h = like_so_far s t told.number (ok_is (IsLike s) (net_line s words) t (net_like s words) took) (higher s above told.number (omega arith) h)
-does_so_far s told t above (waits first spelled is same) lt h = subst (λ x. IsSoFar x told.number) (sym same) (record { numbered = h.numbered; below = λ line i. let b = h.below line i in omega arith; spread = h.spread })
+does_so_far s told t above (nets first words spelled is took) lt h =
+    like_so_far s t told.number (ok_is (IsLike s) (net_line s words) t (net_like s words) took) (higher s above told.number (omega arith) h)
+does_so_far s told t above (waits first spelled is same) lt h =
+    subst (λ x. IsSoFar x told.number) (sym same) (record { numbered = h.numbered; below = λ line i. let b = h.below line i in omega arith; spread = h.spread })
 does_so_far s told t above (asks first words client asked spelled asks_for few many same) lt h =
-    more_so_far s t above (line_at s told.number client asked) lt (ap (λ (x : Script). x.servers) same) (ap (λ (x : Script). x.lines) same) (asks_fits s.servers first words client asked asks_for) h
+    more_so_far s t above (line_at s told.number client asked) lt (ap (λ (x : Script). x.servers) same) (ap (λ (x : Script). x.lines) same)
+    (asks_fits s.servers first words client asked asks_for) h
 
 follows_so_far : (lines : List TextLine) (s t : Script) (above : ℕ) → Follows s lines t → AreAbove above lines → AreRising lines → IsSoFar s above → IsSound t
 unfolding In
 follows_so_far [] s t above follows high rises h = subst IsSound (sym follows) (record { numbered = h.numbered; spread = h.spread })
-follows_so_far (told ∷ more) s t above follows high rises h = follows_so_far more follows.0 t told.number follows.2 rises.0 rises.1 (does_so_far s told follows.0 above follows.1 (high told (inl refl)) h)
+follows_so_far (told ∷ more) s t above follows high rises h =
+    follows_so_far more follows.0 t told.number follows.2 rises.0 rises.1 (does_so_far s told follows.0 above follows.1 (high told (inl refl)) h)
 
-above_zero : (lines : List TextLine) → AreAbove 0 lines → (front : List TextLine) (told : TextLine) (behind : List TextLine) → lines ≡ front ++ told ∷ behind → AreAbove 0 behind
+above_zero : (lines : List TextLine) → AreAbove 0 lines → (front : List TextLine) (told : TextLine) (behind : List TextLine)
+    → lines ≡ front ++ told ∷ behind → AreAbove 0 behind
 unfolding In
 above_zero lines h front told behind e other i = h other (subst (In other) (sym e) (later front))
   where
@@ -258,7 +278,8 @@ pub read_sound : (text : List ℕ) (script : Script) → script_of text ≡ Ok s
 unfolding In
 read_sound text script e =
     let a = is_accepted text script e in
-    let empty : a.begun.lines ≡ [] = ok_is (λ (s : Script). s.lines ≡ []) (first_line (words_of a.servers.text)) a.begun (begun_empty (words_of a.servers.text)) a.begins in
+    let empty : a.begun.lines ≡ [] =
+    ok_is (λ (s : Script). s.lines ≡ []) (first_line (words_of a.servers.text)) a.begun (begun_empty (words_of a.servers.text)) a.begins in
     follows_so_far a.behind a.begun script 0 a.follows
     (above_zero (text_lines text) (lines_above 0 0 (pieces text)) a.front a.servers a.behind a.lies)
     (behind_rises a.front a.servers a.behind (subst AreRising a.lies (lines_rise 0 0 (pieces text))))

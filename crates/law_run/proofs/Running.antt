@@ -19,7 +19,7 @@ use Rattle.petal_rules.specs.Store.{Chain, cell_cmp, chain_in, entry_at, bytes_o
 use Rattle.petal_rules.specs.Jobs.{Acted}
 use Rattle.petal_rules.specs.World.{Setting, World, acts, reacts, step, start, setting_of, server_step, client_step, next_line, MayActor}
 use Rattle.petal_rules.specs.declared.step.Step.{Step}
-use Rattle.petal_rules.specs.declared.step.Step.TheVariants.{Call, Deliver, Tick, Work}
+use Rattle.petal_rules.specs.declared.step.Step.TheVariants.{Call}
 use Rattle.petal_history.specs.Claims.{Law, Holds, machine_after}
 use Rattle.petal_history.specs.Contents.{chosen_state, cell_of_block, content_at, content_by, disk_name}
 use Rattle.petal_history.specs.Events.{begins, ended, ends, open_write, takes, looks, told, told_from, told_with, joined, made, events_of, IsRunOf}
@@ -31,16 +31,19 @@ use Rattle.law_steps.proofs.Scripts.{script_steady}
 use Rattle.law_steps.proofs.Stepping.{fixed_setting, is_call, server_serves, client_turns, happens}
 use Rattle.petal_rules.proofs.Tests.{none_some}
 use Rattle.law_copies.proofs.Copying.{copies_after}
-use Rattle.law_requests.proofs.Turning.{requests_after}
+use Rattle.law_requests.proofs.Histories.{requests_after}
 use Rattle.law_run.specs.Follow.{Ground, Follow}
 use Rattle.law_run.specs.Onward.{one_disk}
+use Rattle.law_run.proofs.ClientFrames.{ClientStep}
 use Rattle.law_run.proofs.ClientSteps.{begins_by, turn_told}
 use Rattle.law_run.proofs.Grounds.{happens_ground, start_ground}
 use Rattle.law_run.proofs.Looks.{who_accepts}
 use Rattle.law_run.proofs.Machine.{Obeys-append, replay-append, disk_there, after_mindful}
-use Rattle.law_run.proofs.ServerSteps.{by_second, did_told, ServerTold}
+use Rattle.law_run.proofs.Calm.{ServerStep, ServerTold, by_second}
+use Rattle.law_run.proofs.ServerSteps.{did_told}
 
-module _ (servers slots : ℕ) (lines : List Line) (state : State) (steady : IsSteady state) (numbered : (one other : Line) → In one lines → In other lines → one.number ≡ other.number → one ≡ other) where
+module _ (servers slots : ℕ) (lines : List Line) (state : State) (steady : IsSteady state)
+    (numbered : (one other : Line) → In one lines → In other lines → one.number ≡ other.number → one ≡ other) where
   abbrev setting : Setting
   setting = fixed_setting servers slots lines state
 
@@ -58,47 +61,87 @@ module _ (servers slots : ℕ) (lines : List Line) (state : State) (steady : IsS
   server_begins (Call line) n next = refl
   server_begins _ n next = refl
 
-  client_begins : (w : World) (m : Plain) (ground : Ground state lines w) (follow : Follow state name w m) (c stamp : ℕ) (later : List Record) (what : Step) (next : World) → begins what (actor.Client c) next ≡ begins_by servers slots lines state steady w m ground follow c stamp later (is_call what) next
-  client_begins w m ground follow c stamp later (Call line) next = refl
-  client_begins w m ground follow c stamp later _ next = refl
+  client_begins : (c : ℕ) (what : Step) (next : World) → begins what (actor.Client c) next ≡ begins_by c (is_call what) next
+  client_begins c (Call line) next = refl
+  client_begins c _ next = refl
 
   -- a step of an actor, with the letters that it sent and the answer that it gave
-  step_tells : (w : World) (m : Plain) → Ground state lines w → Follow state name w m → (who : Actor) (what : Step) (stamp : ℕ) (later : List Record) → MayActor who what setting w → Ground state lines (step who what setting w stamp).world → IsLegalFrom setting (step who what setting w stamp).world later
-      → Tells m (step who what setting w stamp).world (told_with (begins what who (step who what setting w stamp).world) (takes setting w (step who what setting w stamp).world) (looks lines later (step who what setting w stamp).letters ++ ends who w (step who what setting w stamp).answer))
+  step_tells : (w : World) (m : Plain) → Ground state lines w → Follow state name w m → (who : Actor) (what : Step) (stamp : ℕ) (later : List Record)
+      → MayActor who what setting w → Ground state lines (step who what setting w stamp).world → IsLegalFrom setting (step who what setting w stamp).world later
+      → Tells m (step who what setting w stamp).world
+      (told_with (begins what who (step who what setting w stamp).world) (takes setting w (step who what setting w stamp).world)
+      (looks lines later (step who what setting w stamp).letters ++ ends who w (step who what setting w stamp).answer))
   unfolding step
   step_tells w m ground follow (actor.Server n) what stamp later may next legal =
       let acted = server_step what state n (w.servers n) in
       let s = server_serves state steady lines w ground.ready n what may.1 in
-      let t = did_told servers slots lines state steady w m ground follow n stamp later may.0 numbered s.done s.queue s.did
-      (λ letter seq bytes number sent says e. who_accepts servers slots lines state steady _ later (subst (λ (x : Acted). Ground state lines (acts w n stamp x).world) s.is next) (subst (λ (x : Acted). IsLegalFrom setting (acts w n stamp x).world later) s.is legal) letter seq bytes number sent says e) in
-      let told_so : ServerTold servers slots lines state steady w m ground follow n stamp later acted = subst (ServerTold servers slots lines state steady w m ground follow n stamp later) (sym s.is) t in
+      let this : ServerStep = record {
+        servers = servers;
+        slots = slots;
+        lines = lines;
+        state = state;
+        steady = steady;
+        w = w;
+        m = m;
+        ground = ground;
+        follow = follow;
+        n = n;
+        stamp = stamp;
+        later = later;
+      } in
+      let t = did_told this may.0 numbered s.done s.queue s.did
+      (λ letter seq bytes number sent says e. who_accepts servers slots lines state steady _ later
+      (subst (λ (x : Acted). Ground state lines (acts w n stamp x).world) s.is next)
+      (subst (λ (x : Acted). IsLegalFrom setting (acts w n stamp x).world later) s.is legal) letter seq bytes number sent says e) in
+      let told_so : ServerTold this acted = subst (ServerTold this) (sym s.is) t in
       record {
         es = told_so.es;
-        is = ap (λ b. told_with b (takes setting w (acts w n stamp acted).world) (looks lines later (acts w n stamp acted).letters ++ [])) (server_begins what n (acts w n stamp acted).world) ∙ told_so.is;
+        is = ap (λ b. told_with b (takes setting w (acts w n stamp acted).world) (looks lines later (acts w n stamp acted).letters ++ []))
+            (server_begins what n (acts w n stamp acted).world) ∙ told_so.is;
         may = told_so.may;
         follows = told_so.follows;
       }
   step_tells w m ground follow (actor.Client c) what stamp later may next legal =
       let reacted = client_step what state c (w.clients c) (next_line lines c (w.clients c)) in
-      let t = turn_told servers slots lines state steady w m ground follow c stamp later (is_call what) reacted (client_turns state lines w c servers slots what may.1) next.asking in
+      let this : ClientStep = record {
+        servers = servers;
+        slots = slots;
+        lines = lines;
+        state = state;
+        steady = steady;
+        w = w;
+        m = m;
+        ground = ground;
+        follow = follow;
+        c = c;
+        stamp = stamp;
+        later = later;
+      } in
+      let t = turn_told this (is_call what) reacted (client_turns state lines w c servers slots what may.1) next.asking in
       record {
         es = t.es;
-        is = ap (λ b. told_with b (takes setting w (reacts state w c stamp reacted).world) (looks lines later (reacts state w c stamp reacted).letters ++ ended (open_write w c) reacted.answer)) (client_begins w m ground follow c stamp later what (reacts state w c stamp reacted).world) ∙ t.is;
+        is = ap (λ b. told_with b (takes setting w (reacts state w c stamp reacted).world)
+            (looks lines later (reacts state w c stamp reacted).letters ++ ended (open_write w c) reacted.answer))
+            (client_begins c what (reacts state w c stamp reacted).world) ∙ t.is;
         may = t.may;
         follows = t.follows;
       }
 
-  record_tells : (w : World) (m : Plain) → Ground state lines w → Follow state name w m → (own : Record) (later : List Record) → Follows setting w own → Ground state lines (stepped setting w own).world → IsLegalFrom setting (stepped setting w own).world later → Tells m (stepped setting w own).world (told setting w own later)
+  record_tells : (w : World) (m : Plain) → Ground state lines w → Follow state name w m → (own : Record) (later : List Record) → Follows setting w own
+      → Ground state lines (stepped setting w own).world → IsLegalFrom setting (stepped setting w own).world later
+      → Tells m (stepped setting w own).world (told setting w own later)
   record_tells w m ground follow own later follows next legal =
       let t = step_tells w m ground follow own.actor own.step own.stamp later follows.may.may next legal in
       record {
         es = t.es;
-        is = (λ i. told_with (begins own.step own.actor (stepped setting w own).world) (takes setting w (stepped setting w own).world) (looks lines later (follows.sent i) ++ ends own.actor w (follows.answer i))) ∙ t.is;
+        is = (λ i. told_with (begins own.step own.actor (stepped setting w own).world) (takes setting w (stepped setting w own).world)
+            (looks lines later (follows.sent i) ++ ends own.actor w (follows.answer i))) ∙ t.is;
         may = t.may;
         follows = t.follows;
       }
 
-  pub history_tells : (w : World) (m : Plain) (records : List Record) → Ground state lines w → Follow state name w m → IsLegalFrom setting w records → Tells m (world_after setting w records) (told_from setting w records)
+  pub history_tells : (w : World) (m : Plain) (records : List Record) → Ground state lines w → Follow state name w m → IsLegalFrom setting w records
+      → Tells m (world_after setting w records) (told_from setting w records)
   history_tells w m [] ground follow legal = record { es = []; is = refl; may = tt; follows = follow }
   history_tells w m (own ∷ later) ground follow legal =
       let next = (stepped setting w own).world in
@@ -120,12 +163,14 @@ zero w empty (Some n) cell =
     ap (λ chains. bytes_of (entry_at (chain_in chains cell) 0)) (empty n)
     ∙ ap (λ (o : Option Chain). bytes_of (entry_at (unwrap_or o []) 0)) (at-empty cell_cmp cell)
 
-start_follow : (script : Script) → Follow (chosen_state (setting_of script)) (disk_name (setting_of script)) (start (setting_of script)) (after blank (Make (disk_name (setting_of script))))
+start_follow : (script : Script)
+    → Follow (chosen_state (setting_of script)) (disk_name (setting_of script)) (start (setting_of script)) (after blank (Make (disk_name (setting_of script))))
 unfolding after content In
 start_follow script = record {
   blocks = [];
   only = refl;
-  now = λ block. ap (λ o. unwrap_or o zero_block) (at-empty nat_cmp block) ∙ sym (zero (start (setting_of script)) (λ n. refl) (second (chosen_state (setting_of script)) (cell_of_block block)) (cell_of_block block));
+  now = λ block. ap (λ o. unwrap_or o zero_block) (at-empty nat_cmp block)
+      ∙ sym (zero (start (setting_of script)) (λ n. refl) (second (chosen_state (setting_of script)) (cell_of_block block)) (cell_of_block block));
   mindful = after_mindful blank (Make (disk_name (setting_of script)));
   seats = λ c. refl;
   letters = λ letter c seq h to says still. absurd h;
@@ -151,8 +196,10 @@ module _ (script : Script) (records : List Record) (sound : IsSound script) (leg
   steady_state : IsSteady fixed_state
   steady_state = script_steady script sound
 
-  tells : Tells script.servers script.slots script.lines fixed_state steady_state sound.numbered made_disk last_world (told_from of_script (start of_script) records)
-  tells = history_tells script.servers script.slots script.lines fixed_state steady_state sound.numbered (start of_script) made_disk records (start_ground fixed_state script) (start_follow script) legal
+  tells : Tells script.servers script.slots script.lines fixed_state steady_state sound.numbered made_disk last_world
+      (told_from of_script (start of_script) records)
+  tells = history_tells script.servers script.slots script.lines fixed_state steady_state sound.numbered (start of_script) made_disk records
+      (start_ground fixed_state script) (start_follow script) legal
 
   told_all : events_of script records ≡ Some (Make (disk_name of_script) ∷ tells.es)
   told_all = ap (λ o. made o (disk_name of_script)) tells.is

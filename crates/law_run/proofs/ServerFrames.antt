@@ -41,9 +41,12 @@ pub record Was (own : Own) (cell : Cell) (op : Pending) : Type 0 where
 
 -- what a job of this server shows, where the machine goes on to k
 pub record JobFollow (state : State) (w : World) (k : Plain) (n : ℕ) (new : Own) (posts : List Post) : Type 0 where
-  pub finished : (c : ℕ) (last : Finished) → at nat_cmp new.pairs.finished c ≡ Some last → last.ending ≡ ending.Written → IsOpen (w.clients c) last.seq → (at nat_cmp (owns_of w n).pairs.finished c ≡ Some last) ⊎ (is_held k c ≡ true)
-  pub as_first : (cell : Cell) (q : ℕ) (op : Pending) → IsPair state cell n q → at cell_cmp new.pairs.pending cell ≡ Some op → Was (owns_of w n) cell op ⊎ (progress (at cell_cmp (owns_of w q).pairs.last cell) < op.op + op.op + 1)
-  pub as_second : (cell : Cell) (p : ℕ) (op : Pending) → IsPair state cell p n → at cell_cmp (owns_of w p).pairs.pending cell ≡ Some op → op.op + op.op + 1 ≤ progress (at cell_cmp new.pairs.last cell)
+  pub finished : (c : ℕ) (last : Finished) → at nat_cmp new.pairs.finished c ≡ Some last → last.ending ≡ ending.Written
+      → IsOpen (w.clients c) last.seq → (at nat_cmp (owns_of w n).pairs.finished c ≡ Some last) ⊎ (is_held k c ≡ true)
+  pub as_first : (cell : Cell) (q : ℕ) (op : Pending) → IsPair state cell n q → at cell_cmp new.pairs.pending cell ≡ Some op
+      → Was (owns_of w n) cell op ⊎ (progress (at cell_cmp (owns_of w q).pairs.last cell) < op.op + op.op + 1)
+  pub as_second : (cell : Cell) (p : ℕ) (op : Pending) → IsPair state cell p n → at cell_cmp (owns_of w p).pairs.pending cell ≡ Some op
+      → op.op + op.op + 1 ≤ progress (at cell_cmp new.pairs.last cell)
       → (op.op + op.op + 1 ≤ progress (at cell_cmp (owns_of w n).pairs.last cell)) ⊎ (is_held k op.client ≡ true)
   pub says : (post : Post) (c seq : ℕ) → In post posts → post.to ≡ actor.Client c → post.body ≡ body.Written seq → IsOpen (w.clients c) seq → is_held k c ≡ true
 
@@ -105,7 +108,8 @@ module _ (scene : Scene) (stamp : ℕ) (done : Done) (queue : List Job) (job : J
   own_other : (i : ℕ) → i ≢ n → owns_of later i ≡ owns_of w i
   own_other i ne = ap (λ s. s.own) (put_apart w.servers n (served (w.servers n) done queue) i ne)
 
-  finished : (i c : ℕ) (last : Finished) → at nat_cmp (owns_of later i).pairs.finished c ≡ Some last → last.ending ≡ ending.Written → IsOpen (w.clients c) last.seq → is_held k c ≡ true
+  finished : (i c : ℕ) (last : Finished) → at nat_cmp (owns_of later i).pairs.finished c ≡ Some last → last.ending ≡ ending.Written
+      → IsOpen (w.clients c) last.seq → is_held k c ≡ true
   finished i c last is how still = elim (same_or_apart i n) [
     | inl e ↦
         let there : at nat_cmp done.own.pairs.finished c ≡ Some last = sym (ap (λ h. at nat_cmp h.pairs.finished c) (ap (owns_of later) e ∙ own_now)) ∙ is in
@@ -114,7 +118,8 @@ module _ (scene : Scene) (stamp : ℕ) (done : Done) (queue : List Job) (job : J
   ]
 
   -- the operation of a cell that this server is the first of
-  first_held : (cell : Cell) (q : ℕ) (op : Pending) → IsPair state cell n q → at cell_cmp done.own.pairs.pending cell ≡ Some op → op.op + op.op + 1 ≤ progress (at cell_cmp (owns_of w q).pairs.last cell) → is_held k op.client ≡ true
+  first_held : (cell : Cell) (q : ℕ) (op : Pending) → IsPair state cell n q → at cell_cmp done.own.pairs.pending cell ≡ Some op
+      → op.op + op.op + 1 ≤ progress (at cell_cmp (owns_of w q).pairs.last cell) → is_held k op.client ≡ true
   first_held cell q op pair is past = elim (job.as_first cell q op pair is) [
     | inl was ↦
         let number = was.number in
@@ -122,13 +127,15 @@ module _ (scene : Scene) (stamp : ℕ) (done : Done) (queue : List Job) (job : J
     | inr early ↦ absurd (omega arith)
   ]
 
-  second_held : (cell : Cell) (p : ℕ) (op : Pending) → IsPair state cell p n → at cell_cmp (owns_of w p).pairs.pending cell ≡ Some op → op.op + op.op + 1 ≤ progress (at cell_cmp done.own.pairs.last cell) → is_held k op.client ≡ true
+  second_held : (cell : Cell) (p : ℕ) (op : Pending) → IsPair state cell p n → at cell_cmp (owns_of w p).pairs.pending cell ≡ Some op
+      → op.op + op.op + 1 ≤ progress (at cell_cmp done.own.pairs.last cell) → is_held k op.client ≡ true
   second_held cell p op pair is past = elim (job.as_second cell p op pair is past) [
     | inl was ↦ held_onward m k op.client onward (follow.pending cell p n op pair is was)
     | inr held ↦ held
   ]
 
-  pending : (cell : Cell) (p q : ℕ) (op : Pending) → IsPair state cell p q → at cell_cmp (owns_of later p).pairs.pending cell ≡ Some op → op.op + op.op + 1 ≤ progress (at cell_cmp (owns_of later q).pairs.last cell) → is_held k op.client ≡ true
+  pending : (cell : Cell) (p q : ℕ) (op : Pending) → IsPair state cell p q → at cell_cmp (owns_of later p).pairs.pending cell ≡ Some op
+      → op.op + op.op + 1 ≤ progress (at cell_cmp (owns_of later q).pairs.last cell) → is_held k op.client ≡ true
   pending cell p q op pair is past = elim (same_or_apart p n) [
     | inl e ↦
         let mine : IsPair state cell n q = subst (λ i. IsPair state cell i q) e pair in
@@ -138,8 +145,10 @@ module _ (scene : Scene) (stamp : ℕ) (done : Done) (queue : List Job) (job : J
     | inr ne ↦
         let there : at cell_cmp (owns_of w p).pairs.pending cell ≡ Some op = sym (ap (λ h. at cell_cmp h.pairs.pending cell) (own_other p ne)) ∙ is in
         elim (same_or_apart q n) [
-          | inl e ↦ second_held cell p op (subst (λ i. IsPair state cell p i) e pair) there (subst (λ h. op.op + op.op + 1 ≤ progress (at cell_cmp h.pairs.last cell)) (ap (owns_of later) e ∙ own_now) past)
-          | inr ne' ↦ held_onward m k op.client onward (follow.pending cell p q op pair there (subst (λ h. op.op + op.op + 1 ≤ progress (at cell_cmp h.pairs.last cell)) (own_other q ne') past))
+          | inl e ↦ second_held cell p op (subst (λ i. IsPair state cell p i) e pair) there
+              (subst (λ h. op.op + op.op + 1 ≤ progress (at cell_cmp h.pairs.last cell)) (ap (owns_of later) e ∙ own_now) past)
+          | inr ne' ↦ held_onward m k op.client onward
+              (follow.pending cell p q op pair there (subst (λ h. op.op + op.op + 1 ≤ progress (at cell_cmp h.pairs.last cell)) (own_other q ne') past))
         ]
   ]
 

@@ -2,7 +2,6 @@
 use Rattle.std.proofs.Common.{◌≡◌, ◌≢◌, ◌≤◌, ◌<◌, ◌+◌, ℕ, List, [], ◌∷◌, Bool, true, false, Option, Some, None, refl, sym, ap, ◌∙◌, subst, ◌⊎◌, inl, inr, arith}
 use Rattle.std.specs.Ordering.{nat_cmp}
 use Rattle.petal_base.specs.declared.cell.Cell.{Cell}
-use Rattle.petal_base.specs.Cells.{cell_of}
 use Rattle.petal_table.specs.Table.{Table, at, put, without}
 use Rattle.petal_table.proofs.Rows.{at_same, at_apart}
 use Rattle.petal_machine.specs.Machine.{Plain}
@@ -19,7 +18,7 @@ use Rattle.petal_msg.specs.declared.operation.Finished.{Finished}
 use Rattle.petal_msg.specs.declared.operation.Pending.{Pending}
 use Rattle.petal_rules.specs.Lists.{In}
 use Rattle.petal_rules.specs.State.{State, first, second}
-use Rattle.petal_rules.specs.Store.{cell_cmp, chain_in, entry_at, bytes_of, version_of}
+use Rattle.petal_rules.specs.Store.{cell_cmp, chain_in, version_of}
 use Rattle.petal_rules.specs.Server.{Own, Here, Post, Done, post_to}
 use Rattle.petal_rules.specs.Writes.{Wanted, operation, opened, puts, with_pending, with_reserved, with_paired, ended, tells}
 use Rattle.petal_rules.specs.Jobs.{here_of}
@@ -27,7 +26,7 @@ use Rattle.petal_rules.specs.World.{World}
 use Rattle.petal_rules.proofs.CellTables.{cell_same, cell_apart, cell_gone, cell_gone_apart}
 use Rattle.law_steps.specs.Steady.{IsSteady}
 use Rattle.law_steps.specs.Operations.{progress}
-use Rattle.law_steps.specs.DidRead.{DidRead, Shows}
+use Rattle.law_steps.specs.DidRead.{DidRead}
 use Rattle.law_steps.specs.DidLead.{DidLead, Asks_for, Repeats, Is_full, Opens, Puts, Gives_up, Closes, Asks, A_slot, A_copy}
 use Rattle.law_steps.specs.DidSecond.{DidSecond, Sets_apart, Promises, Declines, Follows}
 use Rattle.law_steps.specs.Did.{Did, Ignores, Refuses, IsRefusal, By_read, By_lead, By_second}
@@ -36,8 +35,7 @@ use Rattle.law_steps.specs.Ready.{Ready}
 use Rattle.petal_rules.proofs.Tests.{same_or_apart, same_some, none_some, true_false}
 use Rattle.law_steps.proofs.Staged.{same_cell_or_apart}
 use Rattle.law_copies.specs.Pair.{IsPair, ceiling_of, owns_of, Good}
-use Rattle.law_copies.proofs.Frames.{apart}
-use Rattle.law_copies.proofs.Jobs.{chain_apart, heard_known, lead_pair}
+use Rattle.law_copies.proofs.Jobs.{heard_known, lead_pair}
 use Rattle.law_requests.specs.Asked.{IsOpen}
 use Rattle.law_run.specs.Onward.{is_held, Onward}
 use Rattle.law_run.specs.Follow.{Follow}
@@ -47,7 +45,7 @@ use Rattle.law_steps.proofs.Letters.{one_post, posted}
 use Rattle.law_steps.proofs.Subjects.{of_read, told_own}
 
 -- all kinds of job but one: a second server puts
-abbrev IsCalmSecond : {heard : Body → Type 0} {here : Here} {own : Own} {done : Done} → DidSecond heard here own done → Type 0
+abbrev pub IsCalmSecond : {heard : Body → Type 0} {here : Here} {own : Own} {done : Done} → DidSecond heard here own done → Type 0
 IsCalmSecond (Follows number key version bytes h s is) = ⊥
 IsCalmSecond _ = Unit {0}
 
@@ -68,7 +66,8 @@ asks_unwritten : (here : Here) (own : Own) (post : Post) → Asks here own post 
 asks_unwritten here own _ (A_slot op to is stage e) = refl
 asks_unwritten here own _ (A_copy op to is stage e) = refl
 
-tells_unwritten : (here : Here) (new : Own) (cell : Cell) (number : ℕ) (how : Far) (post : Post) → In post (tells here new cell number how).posts → is_written post.body ≡ false
+tells_unwritten : (here : Here) (new : Own) (cell : Cell) (number : ℕ) (how : Far) (post : Post) → In post (tells here new cell number how).posts
+    → is_written post.body ≡ false
 tells_unwritten here new cell number far.Reserved post i = ap is_written (posted _ _ post i)
 tells_unwritten here new cell number far.Replicated post i = ap is_written (posted _ _ post i)
 
@@ -119,7 +118,8 @@ module _ (scene : Scene) where
   hears = Handled w n
 
   abbrev SaysOk : List Post → Type 0
-  SaysOk posts = (post : Post) (c seq : ℕ) → In post posts → post.to ≡ actor.Client c → post.body ≡ body.Written seq → IsOpen (w.clients c) seq → is_held k c ≡ true
+  SaysOk posts = (post : Post) (c seq : ℕ) → In post posts → post.to ≡ actor.Client c → post.body ≡ body.Written seq → IsOpen (w.clients c) seq
+      → is_held k c ≡ true
 
   unwritten : (posts : List Post) → ((post : Post) → In post posts → is_written post.body ≡ false) → SaysOk posts
   unwritten posts h post c seq i to says still = true_false (ap is_written says) (h post i)
@@ -134,7 +134,9 @@ module _ (scene : Scene) where
   says_far new cell number how = unwritten (tells here new cell number how).posts (λ post i. tells_unwritten here new cell number how post i)
 
   -- a job that leaves operations as they are
-  same : (new : Own) (posts : List Post) → ((c : ℕ) → at nat_cmp new.pairs.finished c ≡ at nat_cmp own.pairs.finished c) → ((cell : Cell) → at cell_cmp new.pairs.pending cell ≡ at cell_cmp own.pairs.pending cell) → ((cell : Cell) → at cell_cmp new.pairs.last cell ≡ at cell_cmp own.pairs.last cell) → SaysOk posts → J new posts
+  same : (new : Own) (posts : List Post) → ((c : ℕ) → at nat_cmp new.pairs.finished c ≡ at nat_cmp own.pairs.finished c)
+      → ((cell : Cell) → at cell_cmp new.pairs.pending cell ≡ at cell_cmp own.pairs.pending cell)
+      → ((cell : Cell) → at cell_cmp new.pairs.last cell ≡ at cell_cmp own.pairs.last cell) → SaysOk posts → J new posts
   same new posts finished pending last says = record {
     finished = λ c l is how still. inl (sym (finished c) ∙ is);
     as_first = λ cell q op pair is. inl (record { was = op; is = sym (pending cell) ∙ is; number = refl; client = refl });
@@ -149,7 +151,9 @@ module _ (scene : Scene) where
   ended_full c seq = says_one (actor.Client c) (ended seq ending.Full) refl
 
   -- a request of this client is finished, for want of a slot
-  finish_full : (t : Table ℕ Finished) (client seq : ℕ) (c : ℕ) (last : Finished) → at nat_cmp (put nat_cmp t client (record { seq = seq; ending = ending.Full })) c ≡ Some last → last.ending ≡ ending.Written → (at nat_cmp t c ≡ Some last) ⊎ (is_held k c ≡ true)
+  finish_full : (t : Table ℕ Finished) (client seq : ℕ) (c : ℕ) (last : Finished)
+      → at nat_cmp (put nat_cmp t client (record { seq = seq; ending = ending.Full })) c ≡ Some last → last.ending ≡ ending.Written
+      → (at nat_cmp t c ≡ Some last) ⊎ (is_held k c ≡ true)
   finish_full t client seq c last is how = elim (same_or_apart c client) [
     | inl e ↦
         let now : Finished = record { seq = seq; ending = ending.Full } in
@@ -159,7 +163,13 @@ module _ (scene : Scene) where
     | inr ne ↦ inl (sym (at_apart t client _ c ne) ∙ is)
   ]
 
-  full_job : (want : Wanted) → J (record own { pairs = record own.pairs { finished = put nat_cmp own.pairs.finished want.client (record { seq = want.seq; ending = ending.Full }) } }) (record { to = actor.Client want.client; body = ended want.seq ending.Full } ∷ [])
+  full_job : (want : Wanted)
+      → J (record own {
+        pairs = record own.pairs {
+          finished = put nat_cmp own.pairs.finished want.client
+              (record { seq = want.seq; ending = ending.Full });
+        };
+      }) (record { to = actor.Client want.client; body = ended want.seq ending.Full } ∷ [])
   full_job want = record {
     finished = λ c last is how still. finish_full own.pairs.finished want.client want.seq c last is how;
     as_first = λ cell q op pair is. inl (was_same cell op is);
@@ -167,7 +177,8 @@ module _ (scene : Scene) where
     says = ended_full want.client want.seq;
   }
 
-  opens_job : (want : Wanted) → at cell_cmp own.pairs.pending want.cell ≡ None → J (opened here own want) (post_to (second state want.cell) (body.Reserve own.pairs.next want.cell))
+  opens_job : (want : Wanted) → at cell_cmp own.pairs.pending want.cell ≡ None
+      → J (opened here own want) (post_to (second state want.cell) (body.Reserve own.pairs.next want.cell))
   opens_job want none =
       let op = operation here own.pairs.next want in
       let t = own.pairs.pending in
@@ -175,7 +186,8 @@ module _ (scene : Scene) where
         finished = λ c last is how still. inl is;
         as_first = λ cell q o pair is. elim (same_cell_or_apart cell want.cell) [
           | inl e ↦
-              let same : op ≡ o = same_some (sym (cell_same t want.cell op) ∙ subst (λ (x : Cell). at cell_cmp (put cell_cmp t want.cell op) x ≡ Some o) e is) in
+              let same : op ≡ o =
+              same_some (sym (cell_same t want.cell op) ∙ subst (λ (x : Cell). at cell_cmp (put cell_cmp t want.cell op) x ≡ Some o) e is) in
               let ok = good.pairs cell n q pair in
               let top : ceiling_of (at cell_cmp t cell) own.pairs.next ≡ own.pairs.next = ap (λ x. ceiling_of x own.pairs.next) (ap (at cell_cmp t) e ∙ none) in
               let below = ok.below in
@@ -197,8 +209,15 @@ module _ (scene : Scene) where
         finished = λ c last is how still. inl is;
         as_first = λ cell q o pair there. elim (same_cell_or_apart cell op.cell) [
           | inl e ↦
-              let same : two ≡ o = same_some (sym (cell_same (put cell_cmp t op.cell one) op.cell two) ∙ subst (λ (x : Cell). at cell_cmp (put cell_cmp (put cell_cmp t op.cell one) op.cell two) x ≡ Some o) e there) in
-              inl (record { was = op; is = subst (λ (x : Cell). at cell_cmp t x ≡ Some op) (sym e) is; number = ap (λ (x : Pending). x.op) same; client = ap (λ (x : Pending). x.client) same })
+              let same : two ≡ o =
+              same_some (sym (cell_same (put cell_cmp t op.cell one) op.cell two)
+              ∙ subst (λ (x : Cell). at cell_cmp (put cell_cmp (put cell_cmp t op.cell one) op.cell two) x ≡ Some o) e there) in
+              inl (record {
+                was = op;
+                is = subst (λ (x : Cell). at cell_cmp t x ≡ Some op) (sym e) is;
+                number = ap (λ (x : Pending). x.op) same;
+                client = ap (λ (x : Pending). x.client) same;
+              })
           | inr ne ↦ inl (was_same cell o (sym (cell_apart (put cell_cmp t op.cell one) op.cell two cell ne ∙ cell_apart t op.cell one cell ne) ∙ there))
         ];
         as_second = λ cell p o pair is past. inl past;
@@ -206,7 +225,9 @@ module _ (scene : Scene) where
       }
 
   -- an operation is pending no more
-  gone_first : (op : Pending) (t : Table Cell Pending) → at cell_cmp t op.cell ≡ None → ((q : Cell) → q ≢ op.cell → at cell_cmp t q ≡ at cell_cmp own.pairs.pending q) → (cell : Cell) (o : Pending) → at cell_cmp t cell ≡ Some o → Was own cell o
+  gone_first : (op : Pending) (t : Table Cell Pending) → at cell_cmp t op.cell ≡ None
+      → ((q : Cell) → q ≢ op.cell → at cell_cmp t q ≡ at cell_cmp own.pairs.pending q) → (cell : Cell) (o : Pending) → at cell_cmp t cell ≡ Some o
+      → Was own cell o
   gone_first op t gone others cell o is = elim (same_cell_or_apart cell op.cell) [
     | inl e ↦ none_some gone (subst (λ (x : Cell). at cell_cmp t x ≡ Some o) e is)
     | inr ne ↦ was_same cell o (sym (others cell ne) ∙ is)
@@ -221,15 +242,23 @@ module _ (scene : Scene) where
   one_client : {c d : ℕ} → actor.Client c ≡ actor.Client d → c ≡ d
   one_client e = cc
 
-  reserves_job : (number : ℕ) (cell : Cell) (new : Own) → hears (body.Reserve number cell) → new.pairs.finished ≡ own.pairs.finished → new.pairs.pending ≡ own.pairs.pending → new.pairs.last ≡ put cell_cmp own.pairs.last cell (record { op = number; far = far.Reserved }) → J new (tells here new cell number far.Reserved).posts
+  reserves_job : (number : ℕ) (cell : Cell) (new : Own) → hears (body.Reserve number cell) → new.pairs.finished ≡ own.pairs.finished
+      → new.pairs.pending ≡ own.pairs.pending → new.pairs.last ≡ put cell_cmp own.pairs.last cell (record { op = number; far = far.Reserved })
+      → J new (tells here new cell number far.Reserved).posts
   reserves_job number cell new h finished pending last = record {
     finished = λ c l is how still. inl (ap (λ t. at nat_cmp t c) (sym finished) ∙ is);
     as_first = λ q j op pair is. inl (was_same q op (ap (λ t. at cell_cmp t q) (sym pending) ∙ is));
     as_second = λ q p op pair is past. elim (same_cell_or_apart q cell) [
       | inl e ↦
-          let there : progress (at cell_cmp new.pairs.last q) ≡ number + number = ap (λ t. progress (at cell_cmp t q)) last ∙ ap (λ (x : Cell). progress (at cell_cmp (put cell_cmp own.pairs.last cell (record { op = number; far = far.Reserved })) x)) e ∙ ap progress (cell_same own.pairs.last cell (record { op = number; far = far.Reserved })) in
-          let known : number < ceiling_of (at cell_cmp (owns_of w p).pairs.pending q) (owns_of w p).pairs.next = subst (λ (x : Cell). number < ceiling_of (at cell_cmp (owns_of w p).pairs.pending x) (owns_of w p).pairs.next) (sym e) (heard_known state steady w ready good n _ h cell p n refl (subst (λ (x : Cell). IsPair state x p n) e pair)) in
-          let top : ceiling_of (at cell_cmp (owns_of w p).pairs.pending q) (owns_of w p).pairs.next ≡ op.op + 1 = ap (λ o. ceiling_of o (owns_of w p).pairs.next) is in
+          let there : progress (at cell_cmp new.pairs.last q) ≡ number + number =
+          ap (λ t. progress (at cell_cmp t q)) last
+          ∙ ap (λ (x : Cell). progress (at cell_cmp (put cell_cmp own.pairs.last cell (record { op = number; far = far.Reserved })) x)) e
+          ∙ ap progress (cell_same own.pairs.last cell (record { op = number; far = far.Reserved })) in
+          let known : number < ceiling_of (at cell_cmp (owns_of w p).pairs.pending q) (owns_of w p).pairs.next =
+          subst (λ (x : Cell). number < ceiling_of (at cell_cmp (owns_of w p).pairs.pending x) (owns_of w p).pairs.next) (sym e)
+          (heard_known state steady w ready good n _ h cell p n refl (subst (λ (x : Cell). IsPair state x p n) e pair)) in
+          let top : ceiling_of (at cell_cmp (owns_of w p).pairs.pending q) (owns_of w p).pairs.next ≡ op.op + 1 =
+          ap (λ o. ceiling_of o (owns_of w p).pairs.next) is in
           absurd (omega arith)
       | inr ne ↦ inl (subst (λ o. op.op + op.op + 1 ≤ progress o) (ap (λ t. at cell_cmp t q) last ∙ cell_apart own.pairs.last cell _ q ne) past)
     ];
@@ -263,13 +292,15 @@ module _ (scene : Scene) where
       let said : ended want.seq last.ending ≡ body.Written seq = sym p.1 ∙ says in
       let how = ended_written want.seq last.ending seq said in
       let number : seq ≡ last.seq = sym (ended_seq want.seq last.ending seq said) ∙ e in
-      held_onward m k c onward (follow.finished n c last (ap (at nat_cmp own.pairs.finished) (sym same_client) ∙ is) how (subst (IsOpen (w.clients c)) number still)))
+      held_onward m k c onward (follow.finished n c last (ap (at nat_cmp own.pairs.finished) (sym same_client) ∙ is) how
+      (subst (IsOpen (w.clients c)) number still)))
   lead_job _ (Is_full want h lead new none no_room) = full_job want
   lead_job _ (Opens want h lead new none) = opens_job want none
   lead_job _ (Puts op h is stage) = puts_job op is
   lead_job _ (Gives_up op h is stage) = record {
     finished = λ c last is how still. finish_full own.pairs.finished op.client op.seq c last is how;
-    as_first = λ cell q o pair there. inl (gone_first op (without cell_cmp own.pairs.pending op.cell) (cell_gone own.pairs.pending op.cell) (λ q ne. cell_gone_apart own.pairs.pending op.cell q ne) cell o there);
+    as_first = λ cell q o pair there. inl (gone_first op (without cell_cmp own.pairs.pending op.cell) (cell_gone own.pairs.pending op.cell)
+        (λ q ne. cell_gone_apart own.pairs.pending op.cell q ne) cell o there);
     as_second = λ cell p o pair is past. inl past;
     says = ended_full op.client op.seq;
   }
@@ -281,7 +312,8 @@ module _ (scene : Scene) where
           | inl e ↦ inr (subst (λ i. is_held k i ≡ true) (sym e) held)
           | inr ne ↦ inl (sym (at_apart own.pairs.finished op.client _ c ne) ∙ there)
         ];
-        as_first = λ cell q o pair there. inl (gone_first op (without cell_cmp u op.cell) (cell_gone u op.cell) (λ q ne. cell_gone_apart u op.cell q ne ∙ cell_apart own.pairs.pending op.cell (with_paired op) q ne) cell o there);
+        as_first = λ cell q o pair there. inl (gone_first op (without cell_cmp u op.cell) (cell_gone u op.cell)
+            (λ q ne. cell_gone_apart u op.cell q ne ∙ cell_apart own.pairs.pending op.cell (with_paired op) q ne) cell o there);
         as_second = λ cell p o pair is past. inl past;
         says = λ post c seq i to says still. subst (λ i. is_held k i ≡ true) (one_client (sym (one_post _ _ post i).0 ∙ to)) held;
       }
@@ -306,33 +338,3 @@ module _ (scene : Scene) where
   calm_job _ (By_read done d) calm = read_job done d
   calm_job _ (By_lead done d) calm = lead_job done d
   calm_job _ (By_second done d) calm = second_job done d calm
-
-  -- and the copies that count stay as they are
-  lead_chains : (done : Done) → DidLead hears here own done → (cell : Cell) → second state cell ≡ Some n
-      → chain_in done.own.store.chains cell ≡ chain_in own.store.chains cell
-  lead_chains _ (Puts op h is stage) cell follows =
-      let s = (ready.pending n).staged op.cell op is in
-      let pair = lead_pair state steady w ready good n op.cell s.lead in
-      chain_apart own.store.chains (cell_of op.key) _ cell
-      (λ e. apart state steady op.cell n n (record { leads = pair.1.leads; follows = subst (λ (c : Cell). second state c ≡ Some n) (e ∙ s.keyed) follows }) refl)
-  lead_chains _ (Asks_for posts h) cell follows = refl
-  lead_chains _ (Repeats want last h lead is e) cell follows = refl
-  lead_chains _ (Is_full want h lead new none no_room) cell follows = refl
-  lead_chains _ (Opens want h lead new none) cell follows = refl
-  lead_chains _ (Gives_up op h is stage) cell follows = refl
-  lead_chains _ (Closes op h is stage) cell follows = refl
-
-  second_chains : (done : Done) (d : DidSecond hears here own done) → IsCalmSecond d → (cell : Cell)
-      → chain_in done.own.store.chains cell ≡ chain_in own.store.chains cell
-  second_chains _ (Sets_apart number c store h s e le) calm cell = ap (λ t. chain_in t cell) e
-  second_chains _ (Promises number c how s is) calm cell = ap (λ (o : Own). chain_in o.store.chains cell) (told_own here own c number how)
-  second_chains _ (Declines number c h s no_room) calm cell = refl
-  second_chains _ (Follows number key version bytes h s is) calm cell = absurd calm
-
-  pub calm_chains : (done : Done) (d : Did hears here own done) → IsCalm d → (cell : Cell) → second state cell ≡ Some n
-      → chain_in done.own.store.chains cell ≡ chain_in own.store.chains cell
-  calm_chains _ Ignores calm cell follows = refl
-  calm_chains _ (Refuses to said is why) calm cell follows = refl
-  calm_chains _ (By_read done d) calm cell follows = ap (λ (o : Own). chain_in o.store.chains cell) (of_read hears here own done d).same
-  calm_chains _ (By_lead done d) calm cell follows = lead_chains done d cell follows
-  calm_chains _ (By_second done d) calm cell follows = second_chains done d calm cell

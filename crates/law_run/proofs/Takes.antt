@@ -45,12 +45,17 @@ module _ (setting : Setting) (w later : World) where
       (none_pass (λ b. not (same_bytes (content_at setting w 0 b) (content_at setting later 0 b))) (blocks_in setting later) (λ b h. unlike _ _ (same b)))
 
   -- a block of which a server has an entry is among those that are looked at
-  pub block_there : (n : ℕ) (block : ℕ) (chain : Chain) → n < setting.servers → at cell_cmp (later.servers n).own.store.chains (cell_of_block block) ≡ Some chain → In block (blocks_in setting later)
+  pub block_there : (n : ℕ) (block : ℕ) (chain : Chain) → n < setting.servers
+      → at cell_cmp (later.servers n).own.store.chains (cell_of_block block) ≡ Some chain → In block (blocks_in setting later)
   block_there n block chain lt is =
       let row = row_at cell_cmp (later.servers n).own.store.chains (cell_of_block block) chain is in
       let same : cell_of_block block ≡ row.0.0 = cell_cmp_same (cell_of_block block) row.0.0 row.2 in
-      let there : In block (blocks_of (later.servers n)) = subst (λ i. In i (blocks_of (later.servers n))) (ap (λ (c : Cell). c.block) (sym same)) (into_map (λ row. row.0.block) (later.servers n).own.store.chains row.0 row.1) in
-      key_at _ block block (put_key _ [] block (into_flat_map (λ k. blocks_of (later.servers k)) (range_with_len 0 setting.servers) n block (into_range 0 setting.servers n (omega arith) (omega arith)) there))
+      let there : In block (blocks_of (later.servers n)) =
+      subst (λ i. In i (blocks_of (later.servers n))) (ap (λ (c : Cell). c.block) (sym same))
+      (into_map (λ row. row.0.block) (later.servers n).own.store.chains row.0 row.1) in
+      key_at _ block block (put_key _ [] block
+      (into_flat_map (λ k. blocks_of (later.servers k)) (range_with_len 0 setting.servers) n block
+      (into_range 0 setting.servers n (omega arith) (omega arith)) there))
 
   -- what a list of takes is
   pub record OneTaker (block : ℕ) (bytes : List ℕ) : Type 0 where
@@ -64,14 +69,16 @@ module _ (setting : Setting) (w later : World) where
     pub told : takes setting w later ≡ Some (first ∷ more)
     pub all : AllTakes write (first ∷ more)
 
-  each_taken : (f : ℕ → Option Event) (write : Write) (block : ℕ) → f block ≡ Some (Take write) → (xs : List ℕ) → ((x : ℕ) → In x xs → x ≡ block) → (es : List Event) × (all_there (map f xs) ≡ Some es) × AllTakes write es
+  each_taken : (f : ℕ → Option Event) (write : Write) (block : ℕ) → f block ≡ Some (Take write) → (xs : List ℕ) → ((x : ℕ) → In x xs → x ≡ block)
+      → (es : List Event) × (all_there (map f xs) ≡ Some es) × AllTakes write es
   unfolding In
   each_taken f write block e [] h = ([], refl, tt)
   each_taken f write block e (x ∷ xs) h =
       let rest = each_taken f write block e xs (λ y i. h y (inr i)) in
       (Take write ∷ rest.0, (λ i. with_first ((ap f (h x (inl refl)) ∙ e) i) (rest.1 i)), (refl, rest.2))
 
-  some_taken : (f : ℕ → Option Event) (write : Write) (block : ℕ) → f block ≡ Some (Take write) → (xs : List ℕ) → ((x : ℕ) → In x xs → x ≡ block) → In block xs → (e : Event) × (es : List Event) × (all_there (map f xs) ≡ Some (e ∷ es)) × AllTakes write (e ∷ es)
+  some_taken : (f : ℕ → Option Event) (write : Write) (block : ℕ) → f block ≡ Some (Take write) → (xs : List ℕ) → ((x : ℕ) → In x xs → x ≡ block)
+      → In block xs → (e : Event) × (es : List Event) × (all_there (map f xs) ≡ Some (e ∷ es)) × AllTakes write (e ∷ es)
   unfolding In
   some_taken f write block e [] h there = absurd there
   some_taken f write block e (x ∷ xs) h there =
@@ -79,22 +86,28 @@ module _ (setting : Setting) (w later : World) where
       (Take write, rest.0, (λ i. with_first ((ap f (h x (inl refl)) ∙ e) i) (rest.1 i)), (refl, rest.2))
 
   -- one block's content changes, and a write under way gives it
-  pub one_take : (block : ℕ) (bytes : List ℕ) (c : ℕ) (write : Write) → c < 9 → open_write w c ≡ Some write → write.disk ≡ disk_name setting → write.block ≡ block → write.bytes ≡ bytes
-      → ((b : ℕ) → b ≢ block → content_at setting w 0 b ≡ content_at setting later 0 b) → content_at setting later 0 block ≡ bytes → same_bytes (content_at setting w 0 block) bytes ≡ false → In block (blocks_in setting later)
+  pub one_take : (block : ℕ) (bytes : List ℕ) (c : ℕ) (write : Write) → c < 9 → open_write w c ≡ Some write → write.disk ≡ disk_name setting
+      → write.block ≡ block → write.bytes ≡ bytes
+      → ((b : ℕ) → b ≢ block → content_at setting w 0 b ≡ content_at setting later 0 b) → content_at setting later 0 block ≡ bytes
+      → same_bytes (content_at setting w 0 block) bytes ≡ false → In block (blocks_in setting later)
       → OneTaker block bytes
   one_take block bytes c write lt is disk at_block has others now new there =
       let name = disk_name setting in
       let test = writes_so name block bytes in
-      let fits : test write ≡ true = (λ i. same_bytes (disk i) name && (at_block i == block) && same_bytes (has i) bytes) ∙ (λ i. nat_list_eq_equiv.refl name i && number_itself block i && nat_list_eq_equiv.refl bytes i) in
-      let found = found_one test (filter_map (open_write w) (range_with_len 0 9)) write (into_filter_map (open_write w) (range_with_len 0 9) c write (into_range 0 9 c (omega arith) (omega arith)) is) fits in
+      let fits : test write ≡ true = (λ i. same_bytes (disk i) name && (at_block i == block) && same_bytes (has i) bytes)
+      ∙ (λ i. nat_list_eq_equiv.refl name i && number_itself block i && nat_list_eq_equiv.refl bytes i) in
+      let found = found_one test (filter_map (open_write w) (range_with_len 0 9)) write
+      (into_filter_map (open_write w) (range_with_len 0 9) c write (into_range 0 9 c (omega arith) (omega arith)) is) fits in
       let from = of_filter_map (open_write w) (range_with_len 0 9) found.0 found.2 in
       let outer = both_true (same_bytes found.0.disk name && (found.0.block == block)) (same_bytes found.0.bytes bytes) found.3 in
       let inner = both_true (same_bytes found.0.disk name) (found.0.block == block) outer.0 in
-      let takes_it : taken (taker setting w block (content_at setting later 0 block)) ≡ Some (Take found.0) = ap (λ x. taken (taker setting w block x)) now ∙ ap taken found.1 in
+      let takes_it : taken (taker setting w block (content_at setting later 0 block)) ≡ Some (Take found.0) =
+      ap (λ x. taken (taker setting w block x)) now ∙ ap taken found.1 in
       let changes = λ (b : ℕ). not (same_bytes (content_at setting w 0 b) (content_at setting later 0 b)) in
       let changed : changes block ≡ true = ap (λ x. not (same_bytes (content_at setting w 0 block) x)) now ∙ ap not new in
       let list = some_taken (λ b. taken (taker setting w b (content_at setting later 0 b))) found.0 block takes_it (changed_blocks setting w later)
-      (λ x i. only_it x (of_filter changes (blocks_in setting later) x i).1 (same_or_apart x block)) (into_filter changes (blocks_in setting later) block there changed) in
+      (λ x i. only_it x (of_filter changes (blocks_in setting later) x i).1 (same_or_apart x block))
+      (into_filter changes (blocks_in setting later) block there changed) in
       record {
         write = found.0;
         under_way = ap (open_write w) (open_own w from.0 found.0 from.1) ∙ from.1;

@@ -52,6 +52,9 @@ pub record Follow (state : State) (name : List ℕ) (w : World) (m : Plain) : Ty
   pub now : (block : ℕ) → content blocks block ≡ content_by w (cell_of_block block) 0 (second state (cell_of_block block))
   pub mindful : IsMindful m
   pub seats : (c : ℕ) → Seat (open_write w c) (open_of m.opened c)
-  pub letters : (letter : Letter) (c seq : ℕ) → In letter w.sent → letter.to ≡ actor.Client c → letter.body ≡ body.Written seq → IsOpen (w.clients c) seq → is_held m c ≡ true
-  pub pending : (cell : Cell) (p q : ℕ) (op : Pending) → IsPair state cell p q → at cell_cmp (owns_of w p).pairs.pending cell ≡ Some op → op.op + op.op + 1 ≤ progress (at cell_cmp (owns_of w q).pairs.last cell) → is_held m op.client ≡ true
-  pub finished : (n c : ℕ) (last : Finished) → at nat_cmp (owns_of w n).pairs.finished c ≡ Some last → last.ending ≡ ending.Written → IsOpen (w.clients c) last.seq → is_held m c ≡ true
+  pub letters : (letter : Letter) (c seq : ℕ) → In letter w.sent → letter.to ≡ actor.Client c → letter.body ≡ body.Written seq
+      → IsOpen (w.clients c) seq → is_held m c ≡ true
+  pub pending : (cell : Cell) (p q : ℕ) (op : Pending) → IsPair state cell p q → at cell_cmp (owns_of w p).pairs.pending cell ≡ Some op
+      → op.op + op.op + 1 ≤ progress (at cell_cmp (owns_of w q).pairs.last cell) → is_held m op.client ≡ true
+  pub finished : (n c : ℕ) (last : Finished) → at nat_cmp (owns_of w n).pairs.finished c ≡ Some last → last.ending ≡ ending.Written
+      → IsOpen (w.clients c) last.seq → is_held m c ≡ true

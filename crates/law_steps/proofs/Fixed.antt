@@ -21,7 +21,7 @@ use Rattle.petal_state.specs.CellState.{live, live_under, leaving, cell_link, ro
 use Rattle.petal_state.specs.declared.answer.DiskView.{DiskView}
 use Rattle.petal_rules.specs.Lists.{In}
 use Rattle.petal_rules.specs.State as rules
-use Rattle.petal_rules.specs.State.{State, fixed, lead, first, second, authority, leads_link, is_lead, readable, held, row_in_both, row_authority, is_the}
+use Rattle.petal_rules.specs.State.{State, fixed, lead, first, second, authority, readable, row_in_both, row_authority, is_the}
 use Rattle.law_steps.specs.Steady.{IsSteady, HasSecond, IsNewDisk}
 use Rattle.petal_rules.proofs.Tests.{by_bool, by_test, both_true, none_some, same_some, same_or_apart, same_numbers, not_true, true_false, nat_lists_same}
 
@@ -94,13 +94,16 @@ record IsLinked (row : LinkRow) : Type 0 where
   in_both : row.state ≡ Both
   apart : row.primary ≢ row.secondary
 
-row_linked : (servers : ℕ) (tuple : List ℕ) (i : ℕ) → is_tuple servers tuple ≡ true → i < length tuple → IsLinked (new_row 0 tuple (map is_in (replicate servers (member.In 1))) i)
+row_linked : (servers : ℕ) (tuple : List ℕ) (i : ℕ) → is_tuple servers tuple ≡ true → i < length tuple
+    → IsLinked (new_row 0 tuple (map is_in (replicate servers (member.In 1))) i)
 row_linked servers tuple i h lt =
     let one = both_true (nat_le 2 (length tuple) && nat_le (length tuple) 8 && list_all (λ n. nat_lt n servers && nat_lt n 8) tuple) (distinct tuple) h in
     let two = both_true (nat_le 2 (length tuple) && nat_le (length tuple) 8) (list_all (λ n. nat_lt n servers && nat_lt n 8) tuple) one.0 in
     let three = both_true (nat_le 2 (length tuple)) (nat_le (length tuple) 8) two.0 in
     let ups : List Bool = map is_in (replicate servers (member.In 1)) in
-    let low = λ (j : ℕ) (l : j < length tuple). below servers (slice_index tuple j) (both_true (nat_lt (slice_index tuple j) servers) (nat_lt (slice_index tuple j) 8) (index_all (λ n. nat_lt n servers && nat_lt n 8) tuple j two.1 l)).0 in
+    let low = λ (j : ℕ) (l : j < length tuple). below servers (slice_index tuple j)
+    (both_true (nat_lt (slice_index tuple j) servers) (nat_lt (slice_index tuple j) 8)
+    (index_all (λ n. nat_lt n servers && nat_lt n 8) tuple j two.1 l)).0 in
     let p = slice_index tuple i in
     let s = slice_index tuple ((i + 1) % length tuple) in
     record {
@@ -115,7 +118,8 @@ row_linked servers tuple i h lt =
     at_least n e = grind (arith, nat_tests)
 
 -- a link of a new map over a proper tuple, or over none
-link_linked : (servers : ℕ) (tuple : List ℕ) (link : ℕ) (row : LinkRow) → (tuple ≡ []) ⊎ (is_tuple servers tuple ≡ true) → link_at (new_rows 0 tuple (map is_in (replicate servers (member.In 1)))) 0 link ≡ Some row → IsLinked row
+link_linked : (servers : ℕ) (tuple : List ℕ) (link : ℕ) (row : LinkRow) → (tuple ≡ []) ⊎ (is_tuple servers tuple ≡ true)
+    → link_at (new_rows 0 tuple (map is_in (replicate servers (member.In 1)))) 0 link ≡ Some row → IsLinked row
 unfolding In
 link_linked servers tuple link row proper e =
     let ups : List Bool = map is_in (replicate servers (member.In 1)) in
@@ -176,11 +180,15 @@ shape_readers state cell (Bare lives stays link) =
       counts = (λ i. authority_by (lives i) (link i)) ∙ sym no_second;
       pairs = λ n e. none_some no_first e;
       followed = λ m e. none_some no_second e;
-      readers = λ n e. let no : option_map_or (λ row. serves n row row.state) (cell_link state cell) false ≡ false = ap (λ o. option_map_or (λ row. serves n row row.state) o false) link in true_false (both_true (live state cell && Rattle.petal_state.specs.State.is_up state n) _ e).1 no;
+      readers = λ n e. let no : option_map_or (λ row. serves n row row.state) (cell_link state cell) false ≡ false =
+          ap (λ o. option_map_or (λ row. serves n row row.state) o false) link in true_false
+          (both_true (live state cell && Rattle.petal_state.specs.State.is_up state n) _ e).1 no;
     }
 shape_readers state cell (Linked row lives stays link is) =
-    let the_first : first state cell ≡ Some row.primary = (λ i. option_map (λ row. row.primary) (both_by (lives i) (link i))) ∙ ap (λ s. option_map (λ row. row.primary) (row_in_both row s)) is.in_both in
-    let the_second : second state cell ≡ Some row.secondary = (λ i. option_map (λ row. row.secondary) (both_by (lives i) (link i))) ∙ ap (λ s. option_map (λ row. row.secondary) (row_in_both row s)) is.in_both in
+    let the_first : first state cell ≡ Some row.primary = (λ i. option_map (λ row. row.primary) (both_by (lives i) (link i)))
+    ∙ ap (λ s. option_map (λ row. row.primary) (row_in_both row s)) is.in_both in
+    let the_second : second state cell ≡ Some row.secondary = (λ i. option_map (λ row. row.secondary) (both_by (lives i) (link i)))
+    ∙ ap (λ s. option_map (λ row. row.secondary) (row_in_both row s)) is.in_both in
     let the_lead : lead state cell ≡ Some row.primary = (λ i. lead_by state (lives i) (stays i) (link i)) ∙ ap (state_lead state row.primary) is.in_both in
     record {
       leads = the_lead ∙ sym the_first;
@@ -189,7 +197,9 @@ shape_readers state cell (Linked row lives stays link is) =
       pairs = λ n e. record { other = row.secondary; is = the_second; apart = subst (λ i. i ≢ row.secondary) (same_some (sym the_first ∙ e)) is.apart };
       followed = λ m e. (row.primary, the_first);
       readers = λ n e.
-          let served : has_server n row ≡ true = sym ((λ i. option_map_or (λ row. serves n row row.state) (link i) false) ∙ ap (serves n row) is.in_both) ∙ (both_true (live state cell && Rattle.petal_state.specs.State.is_up state n) _ e).1 in
+          let served : has_server n row ≡ true =
+          sym ((λ i. option_map_or (λ row. serves n row row.state) (link i) false) ∙ ap (serves n row) is.in_both)
+          ∙ (both_true (live state cell && Rattle.petal_state.specs.State.is_up state n) _ e).1 in
           by_bool (row.primary == n) (λ t. inl (the_first ∙ ap Some (same_numbers row.primary n t)))
           (λ t. inr (the_second ∙ ap Some (same_numbers row.secondary n (sym (ap (λ b. b || row.secondary == n) t) ∙ served))));
     }
@@ -209,13 +219,16 @@ module _ (servers : ℕ) (name tuple : List ℕ) (proper : (tuple ≡ []) ⊎ (i
 
       by : (o : Option LinkRow) → link_at (new_rows 0 tuple (map is_in (replicate servers (member.In 1)))) 0 (cell.block % length tuple) ≡ o → Shape s cell
       by None is = subst (Shape s) (λ i. record { map = sym e i; block = cell.block }) (Bare refl refl is)
-      by (Some row) is = subst (Shape s) (λ i. record { map = sym e i; block = cell.block }) (Linked row refl refl is (link_linked servers tuple _ row proper is))
+      by (Some row) is =
+          subst (Shape s) (λ i. record { map = sym e i; block = cell.block }) (Linked row refl refl is (link_linked servers tuple _ row proper is))
 
   no_map : (m : ℕ) → m ≢ 0 → (0 == m) ≡ false
   no_map m ne = by_bool (0 == m) (λ t. absurd (ne (sym (same_numbers 0 m t)))) (λ f. f)
 
   off_map : (cell : Cell) → cell.map ≢ 0 → Shape s cell
-  off_map cell ne = Dead (ap (λ b. option_map_or (live_under cell.map (region_of cell.block)) (if b || false then Some the_row else None) false) (no_map cell.map ne)) (by cell.map ne)
+  off_map cell ne =
+      Dead (ap (λ b. option_map_or (live_under cell.map (region_of cell.block)) (if b || false then Some the_row else None) false)
+      (no_map cell.map ne)) (by cell.map ne)
     where
       by : (m : ℕ) → m ≢ 0 → option_and_then (λ tuple. link_at s.links m (link_of (length tuple) cell.block)) (tuple_of s.maps m) ≡ None
       by zero ne = absurd (ne refl)
@@ -228,8 +241,10 @@ module _ (servers : ℕ) (name tuple : List ℕ) (proper : (tuple ≡ []) ⊎ (i
   the_disk = record { disk = 0; map = 0; epoch = 0; old_map = None }
 
   disks : (other : List ℕ) (disk : DiskView) → rules.find s other ≡ Some disk → IsNewDisk s other disk
-  disks other disk e = by_test (λ o. option_map Rattle.petal_state.specs.CellState.view_of o ≡ Some disk → IsNewDisk s other disk) (same_name name other) (Some the_row) None
-      (λ t f. subst (IsNewDisk s other) (same_some {x = the_disk} f) (record { named = nat_lists_same name other t; under = refl; newest = refl })) (λ t f. none_some refl f) e
+  disks other disk e =
+      by_test (λ o. option_map Rattle.petal_state.specs.CellState.view_of o ≡ Some disk → IsNewDisk s other disk) (same_name name other) (Some the_row) None
+      (λ t f. subst (IsNewDisk s other) (same_some {x = the_disk} f) (record { named = nat_lists_same name other t; under = refl; newest = refl }))
+      (λ t f. none_some refl f) e
 
   pub fixed_steady : IsSteady s
   fixed_steady = record {
@@ -241,5 +256,7 @@ module _ (servers : ℕ) (name tuple : List ℕ) (proper : (tuple ≡ []) ⊎ (i
     free = λ cell. refl;
     readers = λ n cell. (shape_readers s cell (shape cell)).readers n;
     disks = disks;
-    no_snapshots = λ disk snap. by_test (λ o. option_and_then (λ row. option_map (λ snap. snap.epoch) (snapshot_named row.snaps snap)) o ≡ None) (0 == disk) (Some the_row) None (λ t. refl) (λ t. refl);
+    no_snapshots =
+        λ disk snap. by_test (λ o. option_and_then (λ row. option_map (λ snap. snap.epoch) (snapshot_named row.snaps snap)) o ≡ None) (0 == disk)
+        (Some the_row) None (λ t. refl) (λ t. refl);
   }

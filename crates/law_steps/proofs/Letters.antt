@@ -16,7 +16,8 @@ pub record Said (who : Sender) (stamp : ℕ) (posts : List Post) (letter : Lette
   pub from : letter.from ≡ who.from
   pub at : letter.stamp ≡ stamp
 
-pub said : (who : Sender) (stamp nth : ℕ) (posts : List Post) (letter : Letter) → In letter (stamped stamp (letters_of who nth posts)) → Said who stamp posts letter
+pub said : (who : Sender) (stamp nth : ℕ) (posts : List Post) (letter : Letter) → In letter (stamped stamp (letters_of who nth posts))
+    → Said who stamp posts letter
 unfolding In
 said who stamp nth [] letter h = absurd h
 said who stamp nth (post ∷ posts) letter (inl e) = record {

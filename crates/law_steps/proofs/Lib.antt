@@ -1,4 +1,8 @@
 pub mod Tables
+pub mod Busy
+pub mod InvertRead
+pub mod InvertLead
+pub mod InvertSecond
 pub mod Inversion
 pub mod Letters
 pub mod Subjects

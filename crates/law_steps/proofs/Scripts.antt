@@ -17,7 +17,9 @@ use Rattle.law_steps.specs.Ready.{Ready}
 use Rattle.law_steps.proofs.Fixed.{fixed_steady}
 use Rattle.petal_rules.proofs.Tests.{none_some}
 
-state_steady : (servers : ℕ) (lines : List Line) → ((line : Line) (name tuple : List ℕ) → In line lines → line.request ≡ request.Disk name tuple → is_tuple servers tuple ≡ true) → IsSteady (state_of servers lines)
+state_steady : (servers : ℕ) (lines : List Line)
+    → ((line : Line) (name tuple : List ℕ) → In line lines → line.request ≡ request.Disk name tuple → is_tuple servers tuple ≡ true)
+    → IsSteady (state_of servers lines)
 unfolding In
 state_steady servers [] spread = fixed_steady servers [] [] (inl refl)
 state_steady servers (line ∷ lines) spread = by line.request refl (state_steady servers lines (λ other name tuple h. spread other name tuple (inr h)))

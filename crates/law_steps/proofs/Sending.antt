@@ -1,5 +1,5 @@
 -- What clients send are reads and writes.
-use Rattle.std.proofs.Common.{◌≡◌, ◌+◌, ℕ, List, Bool, true, false, Option, Some, None, refl, ap, ◌∙◌, inl, inr}
+use Rattle.std.proofs.Common.{◌≡◌, ◌+◌, ℕ, List, Bool, true, Option, Some, None, refl, ap, ◌∙◌, inl, inr}
 use Rattle.petal_msg.specs.Kinds.{is_asked, subject_of}
 use Rattle.petal_msg.specs.declared.body.Body.{Body}
 use Rattle.petal_msg.specs.declared.body.Body.TheVariants as body
@@ -23,12 +23,15 @@ in_post None said post h e = absurd h
 in_post (Some to) said post (inl same) e = ap (λ (p : Post). is_ask p.body) same ∙ e
 in_post (Some to) said post (inr h) e = absurd h
 
-write_asks : (state : State) (c seq : ℕ) (o : Option DiskView) (block : ℕ) (bytes : List ℕ) (post : Post) → In post (write_posts state o c seq block bytes) → is_ask post.body ≡ true
+write_asks : (state : State) (c seq : ℕ) (o : Option DiskView) (block : ℕ) (bytes : List ℕ) (post : Post)
+    → In post (write_posts state o c seq block bytes) → is_ask post.body ≡ true
 unfolding In
 write_asks state c seq None block bytes post h = absurd h
-write_asks state c seq (Some disk) block bytes post h = in_post (lead state (cell_on disk block)) (body.Write c seq (cell_on disk block) disk.epoch bytes) post h refl
+write_asks state c seq (Some disk) block bytes post h =
+    in_post (lead state (cell_on disk block)) (body.Write c seq (cell_on disk block) disk.epoch bytes) post h refl
 
-read_asks : (state : State) (c seq turn : ℕ) (o : Option DiskView) (snap : Option (List ℕ)) (block : ℕ) (post : Post) → In post (read_posts state o snap c seq (block, turn)) → is_ask post.body ≡ true
+read_asks : (state : State) (c seq turn : ℕ) (o : Option DiskView) (snap : Option (List ℕ)) (block : ℕ) (post : Post)
+    → In post (read_posts state o snap c seq (block, turn)) → is_ask post.body ≡ true
 unfolding In
 read_asks state c seq turn None snap block post h = absurd h
 read_asks state c seq turn (Some disk) snap block post h = at_epoch (epoch_for state disk snap) h
@@ -43,7 +46,8 @@ asks_only state c seq turn (request.Write name block pattern) post h = write_ask
 asks_only state c seq turn (request.Read name snap block) post h = read_asks state c seq turn _ snap block post h
 asks_only state c seq turn _ post h = absurd h
 
-pub turned_asks : (heard : Body → Type 0) (state : State) (lines : List Line) (c : ℕ) (client : Client) (in_call : Bool) (reacted : Reaction) → Turned heard state lines c client in_call reacted → (post : Post) → In post reacted.posts → is_ask post.body ≡ true
+pub turned_asks : (heard : Body → Type 0) (state : State) (lines : List Line) (c : ℕ) (client : Client) (in_call : Bool) (reacted : Reaction)
+    → Turned heard state lines c client in_call reacted → (post : Post) → In post reacted.posts → is_ask post.body ≡ true
 unfolding In
 turned_asks heard state lines c client _ _ Rests post h = absurd h
 turned_asks heard state lines c client _ _ (Sends_anew asked is) post h = asks_only state c asked.seq asked.turn asked.request post h

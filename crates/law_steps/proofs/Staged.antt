@@ -1,26 +1,18 @@
 -- Each job keeps the pending operations in one of their two stages.
-use Rattle.std.proofs.Common.{◌≡◌, ◌≢◌, ℕ, ◌+◌, List, [], true, Some, refl, sym, ap, ◌∙◌, subst, ◌⊎◌, inl, inr}
+use Rattle.std.proofs.Common.{◌≡◌, ◌≢◌, ℕ, ◌+◌, true, Some, refl, sym, ap, ◌∙◌, subst, ◌⊎◌, inl, inr}
 use Rattle.petal_base.specs.declared.cell.Cell.{Cell}
 use Rattle.petal_base.specs.Cells.{cell_of}
 use Rattle.petal_table.specs.Table.{Table, at, put, without}
 use Rattle.petal_msg.specs.declared.body.Body.{Body}
-use Rattle.petal_msg.specs.declared.letter.Letter.{Letter}
-use Rattle.petal_msg.specs.declared.operation.Far.{Far}
-use Rattle.petal_msg.specs.declared.operation.Far.TheVariants as far
 use Rattle.petal_msg.specs.declared.operation.Pending.{Pending}
 use Rattle.petal_msg.specs.declared.operation.Stage.{Stage}
-use Rattle.petal_rules.specs.Lists.{In}
 use Rattle.petal_rules.specs.State.{State}
 use Rattle.petal_rules.specs.Store.{cell_cmp, chain_in, version_of}
 use Rattle.petal_rules.specs.Server.{Own, Here, Done}
-use Rattle.petal_rules.specs.Writes.{operation, with_reserved, with_paired, tells}
-use Rattle.petal_rules.specs.declared.job.Job.{Job}
-use Rattle.petal_rules.specs.declared.job.Job.TheVariants as job
+use Rattle.petal_rules.specs.Writes.{operation, with_reserved, with_paired}
 use Rattle.petal_rules.proofs.CellTables.{cell_cmp_total, cell_same, cell_apart, cell_gone, cell_gone_apart}
 use Rattle.law_steps.specs.Operations.{IsStaged, waiting, copying}
-use Rattle.law_steps.specs.DidRead.{DidRead, Shows}
 use Rattle.law_steps.specs.DidLead.{DidLead, Asks_for, Repeats, Is_full, Opens, Puts, Gives_up, Closes}
-use Rattle.law_steps.specs.DidSecond.{DidSecond, Sets_apart, Promises, Declines, Follows}
 use Rattle.law_steps.specs.Did.{Did, Ignores, Refuses, By_read, By_lead, By_second}
 use Rattle.law_steps.specs.Ready.{IsReady, IsRising}
 use Rattle.petal_rules.proofs.Tests.{same_or_apart, same_some, none_some}
@@ -29,12 +21,18 @@ use Rattle.law_steps.proofs.Tables.{put_rises, without_rises}
 
 pub same_cell_or_apart : (a b : Cell) → (a ≡ b) ⊎ (a ≢ b)
 same_cell_or_apart a b = elim (same_or_apart a.map b.map) [
-  | inl e ↦ elim (same_or_apart a.block b.block) [ inl f ↦ inl (λ i. record { map = e i; block = f i }) | inr ne ↦ inr (λ is. ne (ap (λ (c : Cell). c.block) is)) ]
+  | inl e ↦ elim (same_or_apart a.block b.block) [
+    | inl f ↦ inl (λ i. record { map = e i; block = f i })
+    | inr ne ↦ inr
+        (λ is. ne (ap (λ (c : Cell). c.block) is))
+  ]
   | inr ne ↦ inr (λ is. ne (ap (λ (c : Cell). c.map) is))
 ]
 
 -- what stands at one cell is another
-pub changed_ready : (state : State) (me : ℕ) (t u : Table Cell Pending) (cell : Cell) → IsReady state me t → IsRising cell_cmp u → ((q : Cell) → q ≢ cell → at cell_cmp u q ≡ at cell_cmp t q) → ((o : Pending) → at cell_cmp u cell ≡ Some o → IsStaged state me cell o) → IsReady state me u
+pub changed_ready : (state : State) (me : ℕ) (t u : Table Cell Pending) (cell : Cell) → IsReady state me t → IsRising cell_cmp u
+    → ((q : Cell) → q ≢ cell → at cell_cmp u q ≡ at cell_cmp t q) → ((o : Pending) → at cell_cmp u cell ≡ Some o → IsStaged state me cell o)
+    → IsReady state me u
 changed_ready state me t u cell ready rises others here = record {
   staged = λ c o is. elim (same_cell_or_apart c cell) [
     | inl e ↦ subst (λ (q : Cell). IsStaged state me q o) (sym e) (here o (subst (λ (q : Cell). at cell_cmp u q ≡ Some o) e is))
@@ -43,14 +41,17 @@ changed_ready state me t u cell ready rises others here = record {
   rising = rises;
 }
 
-put_put : (t : Table Cell Pending) (cell : Cell) (one two : Pending) (q : Cell) → q ≢ cell → at cell_cmp (put cell_cmp (put cell_cmp t cell one) cell two) q ≡ at cell_cmp t q
+put_put : (t : Table Cell Pending) (cell : Cell) (one two : Pending) (q : Cell) → q ≢ cell
+    → at cell_cmp (put cell_cmp (put cell_cmp t cell one) cell two) q ≡ at cell_cmp t q
 put_put t cell one two q ne = cell_apart (put cell_cmp t cell one) cell two q ne ∙ cell_apart t cell one q ne
 
-put_gone : (t : Table Cell Pending) (cell : Cell) (one : Pending) (q : Cell) → q ≢ cell → at cell_cmp (without cell_cmp (put cell_cmp t cell one) cell) q ≡ at cell_cmp t q
+put_gone : (t : Table Cell Pending) (cell : Cell) (one : Pending) (q : Cell) → q ≢ cell
+    → at cell_cmp (without cell_cmp (put cell_cmp t cell one) cell) q ≡ at cell_cmp t q
 put_gone t cell one q ne = cell_gone_apart (put cell_cmp t cell one) cell q ne ∙ cell_apart t cell one q ne
 
 module _ (heard : Body → Type 0) (here : Here) (own : Own) (ready : IsReady here.state here.me own.pairs.pending) where
-  restaged : (op new : Pending) → at cell_cmp own.pairs.pending op.cell ≡ Some op → new.cell ≡ op.cell → new.key ≡ op.key → (new.stage ≡ waiting) ⊎ (new.stage ≡ copying) → IsStaged here.state here.me op.cell new
+  restaged : (op new : Pending) → at cell_cmp own.pairs.pending op.cell ≡ Some op → new.cell ≡ op.cell → new.key ≡ op.key
+      → (new.stage ≡ waiting) ⊎ (new.stage ≡ copying) → IsStaged here.state here.me op.cell new
   restaged op new is cell key stage =
       let s = ready.staged op.cell op is in
       record { own = cell; keyed = ap cell_of key ∙ s.keyed; lead = s.lead; stage = stage }
@@ -62,19 +63,23 @@ module _ (heard : Body → Type 0) (here : Here) (own : Own) (ready : IsReady he
   lead_ready _ (Opens want h lead new none) =
       let t = own.pairs.pending in
       let op = operation here own.pairs.next want in
-      changed_ready here.state here.me t (put cell_cmp t want.cell op) want.cell ready (put_rises cell_cmp_total t want.cell op ready.rising) (λ q ne. cell_apart t want.cell op q ne)
-      (λ o is. subst (IsStaged here.state here.me want.cell) (same_some (sym (cell_same t want.cell op) ∙ is)) (record { own = refl; keyed = refl; lead = lead; stage = inl refl }))
+      changed_ready here.state here.me t (put cell_cmp t want.cell op) want.cell ready (put_rises cell_cmp_total t want.cell op ready.rising)
+      (λ q ne. cell_apart t want.cell op q ne)
+      (λ o is. subst (IsStaged here.state here.me want.cell) (same_some (sym (cell_same t want.cell op) ∙ is))
+      (record { own = refl; keyed = refl; lead = lead; stage = inl refl }))
   lead_ready _ (Puts op h is stage) =
       let t = own.pairs.pending in
       let one = with_reserved op in
       let two : Pending = record one { version = version_of (chain_in own.store.chains op.cell) + 1; stage = record one.stage { put = true } } in
       changed_ready here.state here.me t (put cell_cmp (put cell_cmp t op.cell one) op.cell two) op.cell ready
-      (put_rises cell_cmp_total (put cell_cmp t op.cell one) op.cell two (put_rises cell_cmp_total t op.cell one ready.rising)) (λ q ne. put_put t op.cell one two q ne)
+      (put_rises cell_cmp_total (put cell_cmp t op.cell one) op.cell two (put_rises cell_cmp_total t op.cell one ready.rising))
+      (λ q ne. put_put t op.cell one two q ne)
       (λ o there. subst (IsStaged here.state here.me op.cell) (same_some (sym (cell_same (put cell_cmp t op.cell one) op.cell two) ∙ there))
       (restaged op two is refl refl (inr (ap (λ (x : Stage). (record x { reserved = true; put = true })) stage))))
   lead_ready _ (Gives_up op h is stage) =
       let t = own.pairs.pending in
-      changed_ready here.state here.me t (without cell_cmp t op.cell) op.cell ready (without_rises cell_cmp t op.cell ready.rising) (λ q ne. cell_gone_apart t op.cell q ne) (λ o there. none_some (cell_gone t op.cell) there)
+      changed_ready here.state here.me t (without cell_cmp t op.cell) op.cell ready (without_rises cell_cmp t op.cell ready.rising)
+      (λ q ne. cell_gone_apart t op.cell q ne) (λ o there. none_some (cell_gone t op.cell) there)
   lead_ready _ (Closes op h is stage) =
       let t = own.pairs.pending in
       let one = with_paired op in

@@ -3,7 +3,6 @@ use Rattle.std.proofs.Common.{◌≡◌, ◌<◌, ◌≤◌, ◌+◌, ◌==◌, 
 use Rattle.std.specs.Prelude.{is_some, max}
 use Rattle.std.specs.List.{flat_map}
 use Rattle.petal_base.specs.declared.cell.Cell.{Cell}
-use Rattle.petal_table.specs.Table.{at}
 use Rattle.petal_msg.specs.declared.body.Body.{Body}
 use Rattle.petal_msg.specs.declared.body.Body.TheVariants as body
 use Rattle.petal_msg.specs.declared.letter.Actor.{Actor}
@@ -38,7 +37,8 @@ use Rattle.law_steps.specs.Happens.{IsIdle, Handled, Heard, AreQueued, Serving, 
 use Rattle.law_steps.specs.Ready.{IsReady, Ready}
 use Rattle.petal_rules.proofs.Tests.{by_test, both_true, same_numbers, all_put}
 use Rattle.law_steps.proofs.Tables.{at_row}
-use Rattle.law_steps.proofs.Inversion.{did, asks_slot, asks_copy, action_is}
+use Rattle.law_steps.proofs.Inversion.{did}
+use Rattle.law_steps.proofs.InvertLead.{asks_slot, asks_copy, action_is}
 use Rattle.law_steps.proofs.Staged.{did_ready}
 use Rattle.law_steps.proofs.Subjects.{no_letters}
 
@@ -73,7 +73,8 @@ module _ (state : State) (lines : List Line) (w : World) (c : ℕ) where
   abbrev T : Reaction → Type 0
   T reacted = Turned (Heard w (actor.Client c)) state lines c client false reacted
 
-  called_turns : (line : Line) → next_line lines c client ≡ Some line → client.asked ≡ None → (asked : Request) → line.request ≡ asked → Calls (called state c client line.number asked)
+  called_turns : (line : Line) → next_line lines c client ≡ Some line → client.asked ≡ None → (asked : Request) → line.request ≡ asked
+      → Calls (called state c client line.number asked)
   called_turns line is free (request.Disk name tuple) e = Makes line name tuple is free e
   called_turns line is free _ e = subst (λ r. Calls (opens state c client line.number r)) e (Begins line is free)
 
@@ -106,7 +107,8 @@ module _ (state : State) (lines : List Line) (w : World) (c : ℕ) where
   anew_turns None e = Rests
   anew_turns (Some asked) e = Sends_anew asked e
 
-  pub client_turns : (servers slots : ℕ) (what : Step) → MayClient what (fixed_setting servers slots lines state) w c → Turned (Heard w (actor.Client c)) state lines c client (is_call what) (client_step what state c client (next_line lines c client))
+  pub client_turns : (servers slots : ℕ) (what : Step) → MayClient what (fixed_setting servers slots lines state) w c
+      → Turned (Heard w (actor.Client c)) state lines c client (is_call what) (client_step what state c client (next_line lines c client))
   unfolding heard ticked
   client_turns servers slots (Call number) may = call_turns may.line may.next may.free
   client_turns servers slots (Deliver letter) may = heard_turns letter client.asked refl may.sent may.own
@@ -132,8 +134,10 @@ module _ (state : State) (steady : IsSteady state) (lines : List Line) (w : Worl
   asked_anew op is post h =
       let s = staged op.cell op is in
       elim s.stage [
-        | inl stage ↦ asks_slot hears_server here own steady staged op is stage post (subst (λ a. In post (awaited here own op a)) (action_is hears_server here own steady staged op waiting s.lead stage) h)
-        | inr stage ↦ asks_copy hears_server here own steady staged op is stage post (subst (λ a. In post (awaited here own op a)) (action_is hears_server here own steady staged op copying s.lead stage) h)
+        | inl stage ↦ asks_slot hears_server here own steady staged op is stage post
+            (subst (λ a. In post (awaited here own op a)) (action_is hears_server here own steady staged op waiting s.lead stage) h)
+        | inr stage ↦ asks_copy hears_server here own steady staged op is stage post
+            (subst (λ a. In post (awaited here own op a)) (action_is hears_server here own steady staged op copying s.lead stage) h)
       ]
 
   tick_asks : (post : Post) → In post (tick_posts here (w.servers n)) → Asks here own post
@@ -153,14 +157,16 @@ module _ (state : State) (steady : IsSteady state) (lines : List Line) (w : Worl
       same_letter : {one two : Letter} → job.Letter one ≡ job.Letter two → one ≡ two
       same_letter e = cc
 
-  heard_job : (what : Job) (rest : List Job) → (w.servers n).queue ≡ what ∷ rest → (what' : Job) → what' ≡ what → Rattle.law_steps.proofs.Inversion.IsHeard hears_server here own steady staged what'
+  heard_job : (what : Job) (rest : List Job) → (w.servers n).queue ≡ what ∷ rest → (what' : Job) → what' ≡ what
+      → Rattle.law_steps.proofs.Inversion.IsHeard hears_server here own steady staged what'
   unfolding In
   heard_job what rest e (job.Letter letter) is =
       let known = ready.queues n letter (subst (λ (q : List Job). In (job.Letter letter) q) (sym e) (inl is)) in
       record { letter = letter; rest = rest; next = e ∙ ap (λ (j : Job). j ∷ rest) (sym is); sent = known.0; own = known.1; is = refl }
   heard_job what rest e (job.Stage cell) is = tt
 
-  queue_left : (what : Job) (rest : List Job) (done : Done) → (w.servers n).queue ≡ what ∷ rest → Did hears_server here own done → AreQueued w n (rest ++ done.jobs)
+  queue_left : (what : Job) (rest : List Job) (done : Done) → (w.servers n).queue ≡ what ∷ rest → Did hears_server here own done
+      → AreQueued w n (rest ++ done.jobs)
   unfolding In
   queue_left what rest done e d letter i = elim (in-append (job.Letter letter) rest done.jobs i) [
     | inl old ↦ ready.queues n letter (subst (λ (q : List Job). In (job.Letter letter) q) (sym e) (inr old))
@@ -179,18 +185,41 @@ module _ (state : State) (steady : IsSteady state) (lines : List Line) (w : Worl
   works_serve [] e = record { done = silent own; queue = (w.servers n).queue; did = Ignores; queued = ready.queues n; works = inl refl; is = refl }
   works_serve (what ∷ rest) e =
       let d = did hears_server here own steady staged what (heard_job what rest e what refl) in
-      record { done = does here own what; queue = rest ++ (does here own what).jobs; did = d; queued = queue_left what rest (does here own what) e d; works = inl refl; is = refl }
+      record {
+        done = does here own what;
+        queue = rest ++ (does here own what).jobs;
+        did = d;
+        queued = queue_left what rest (does here own what) e d;
+        works = inl refl;
+        is = refl;
+      }
 
   pub server_serves : (what : Step) → MayServer what w n → S what (server_step what state n (w.servers n))
   server_serves (Call line) may = absurd may
   server_serves (Deliver letter) may =
       by_test (λ server. S (Deliver letter) (record { server = server; letters = [] })) (w.servers n).life.running _ _
-      (λ runs. record { done = silent own; queue = (w.servers n).queue ++ job.Letter letter ∷ []; did = Ignores; queued = queue_delivered letter may.sent may.own; works = inr rests_idle; is = refl })
+      (λ runs. record {
+        done = silent own;
+        queue = (w.servers n).queue ++ job.Letter letter ∷ [];
+        did = Ignores;
+        queued = queue_delivered letter may.sent may.own;
+        works = inr rests_idle;
+        is = refl;
+      })
       (λ stopped. record { done = silent own; queue = (w.servers n).queue; did = Ignores; queued = ready.queues n; works = inr rests_idle; is = refl })
-  server_serves Tick may = record { done = record { own = own; posts = tick_posts here (w.servers n); jobs = [] }; queue = (w.servers n).queue; did = By_lead _ (Asks_for _ tick_asks); queued = ready.queues n; works = inr (record { same = refl; asks = tick_asks }); is = refl }
+  server_serves Tick may =
+      record {
+        done = record { own = own; posts = tick_posts here (w.servers n); jobs = [] };
+        queue = (w.servers n).queue;
+        did = By_lead _ (Asks_for _ tick_asks);
+        queued = ready.queues n;
+        works = inr (record { same = refl; asks = tick_asks });
+        is = refl;
+      }
   server_serves (Work work_end.Done) may = works_serve (w.servers n).queue refl
 
-  server_happens : (stamp : ℕ) (what : Step) → w.server_clocks n < stamp → MayServer what w n → Happens state lines w (acts w n stamp (server_step what state n (w.servers n))).world
+  server_happens : (stamp : ℕ) (what : Step) → w.server_clocks n < stamp → MayServer what w n
+      → Happens state lines w (acts w n stamp (server_step what state n (w.servers n))).world
   server_happens stamp what lt may =
       let s = server_serves what may in
       subst (λ acted. Happens state lines w (acts w n stamp acted).world) (sym s.is) (Serves n stamp s.done s.queue lt s.did s.queued)
@@ -201,16 +230,21 @@ module _ (servers slots : ℕ) (lines : List Line) (state : State) (steady : IsS
   abbrev setting : Setting
   setting = fixed_setting servers slots lines state
 
-  happens_by : (who : Actor) (what : Step) (w : World) (stamp : ℕ) → Ready state w → MayActor who what setting w → clock_of w who < stamp → Happens state lines w (step who what setting w stamp).world
+  happens_by : (who : Actor) (what : Step) (w : World) (stamp : ℕ) → Ready state w → MayActor who what setting w → clock_of w who < stamp
+      → Happens state lines w (step who what setting w stamp).world
   unfolding step
   happens_by (actor.Server n) what w stamp ready may lt = server_happens state steady lines w ready n stamp what lt may.1
-  happens_by (actor.Client c) what w stamp ready may lt = Turns c stamp (is_call what) (client_step what state c (w.clients c) (next_line lines c (w.clients c))) lt may.0 (client_turns state lines w c servers slots what may.1)
+  happens_by (actor.Client c) what w stamp ready may lt =
+      Turns c stamp (is_call what) (client_step what state c (w.clients c) (next_line lines c (w.clients c))) lt may.0
+      (client_turns state lines w c servers slots what may.1)
 
   -- a record of a legal history tells of a step of one of these kinds
   pub happens : (w : World) (own : Record) → Ready state w → Follows setting w own → Happens state lines w (stepped setting w own).world
-  happens w own ready follows = happens_by own.actor own.step w own.stamp ready follows.may.may (past_max (clock_of w own.actor) (received own.step) own.stamp follows.stamp)
+  happens w own ready follows =
+      happens_by own.actor own.step w own.stamp ready follows.may.may (past_max (clock_of w own.actor) (received own.step) own.stamp follows.stamp)
 
-  queues_later : (w v : World) → ((letter : Letter) → In letter w.sent → In letter v.sent) → (m : ℕ) (queue : List Job) → AreQueued w m queue → AreQueued v m queue
+  queues_later : (w v : World) → ((letter : Letter) → In letter w.sent → In letter v.sent) → (m : ℕ) (queue : List Job) → AreQueued w m queue
+      → AreQueued v m queue
   queues_later w v later m queue h letter i = let known = h letter i in (later letter known.0, known.1)
 
   -- the ground is kept
@@ -219,7 +253,8 @@ module _ (servers slots : ℕ) (lines : List Line) (state : State) (steady : IsS
       let v = server_moves state w n stamp done queue in
       record {
         queues = all_put w.servers n (served (w.servers n) done queue) (λ m server. AreQueued v m server.queue)
-            (λ m. queues_later w v (λ letter. in_later letter _ w.sent) m (w.servers m).queue (ready.queues m)) (queues_later w v (λ letter. in_later letter _ w.sent) n queue queued);
+            (λ m. queues_later w v (λ letter. in_later letter _ w.sent) m (w.servers m).queue (ready.queues m))
+            (queues_later w v (λ letter. in_later letter _ w.sent) n queue queued);
         pending = all_put w.servers n (served (w.servers n) done queue) (λ m server. IsReady state m server.own.pairs.pending) ready.pending
             (did_ready (Handled w n) (here_of state n (w.servers n)) (w.servers n).own (ready.pending n) done d);
       }
@@ -229,7 +264,8 @@ module _ (servers slots : ℕ) (lines : List Line) (state : State) (steady : IsS
   }
 
   -- what each kind of step keeps holds after every legal history
-  pub kept_after : (P : World → Type 0) → ((w v : World) → Ready state w → P w → Happens state lines w v → P v) → (w : World) (records : List Record) → Ready state w → P w → IsLegalFrom setting w records → P (world_after setting w records)
+  pub kept_after : (P : World → Type 0) → ((w v : World) → Ready state w → P w → Happens state lines w v → P v) → (w : World) (records : List Record)
+      → Ready state w → P w → IsLegalFrom setting w records → P (world_after setting w records)
   kept_after P keeps w [] ready p legal = p
   kept_after P keeps w (own ∷ later) ready p legal =
       let h = happens w own ready legal.0 in

@@ -67,7 +67,8 @@ module _ (heard : Body → Type 0) (here : Here) (own : Own) where
   of_lead _ (Closes op h is stage) = record { last = refl; no_letters = λ letter i. i }
 
   -- what a second server tells the lead
-  told : (new : Own) (cell : Cell) (number : ℕ) (how : Far) → new.pairs.pending ≡ own.pairs.pending → new.pairs.next ≡ own.pairs.next → new.pairs.finished ≡ own.pairs.finished
+  told : (new : Own) (cell : Cell) (number : ℕ) (how : Far) → new.pairs.pending ≡ own.pairs.pending → new.pairs.next ≡ own.pairs.next
+      → new.pairs.finished ≡ own.pairs.finished
       → SecondFrame own (tells here new cell number how)
   told new cell number far.Reserved pending next finished =
       record { pending = pending; next = next; finished = finished; no_jobs = refl; says = λ post i. ap subject_of (posted _ _ post i) }

@@ -31,7 +31,8 @@ unfolding In
 keys_put R [] k x row (inl e) = inl (ap (λ r. r.0) e)
 keys_put R [] k x row (inr h) = absurd h
 keys_put {K} {X} R (e ∷ es) k x row h =
-    elim (R k e.0) as (λ o. In row (match_ordering o ((k, x) ∷ e ∷ es) ((e.0, x) ∷ es) (e ∷ insert_entry R es k x)) → (In row (insert_entry R es k x) → (row.0 ≡ k) ⊎ HasKey es row.0) → (row.0 ≡ k) ⊎ HasKey (e ∷ es) row.0) [
+    elim (R k e.0) as (λ o. In row (match_ordering o ((k, x) ∷ e ∷ es) ((e.0, x) ∷ es) (e ∷ insert_entry R es k x))
+    → (In row (insert_entry R es k x) → (row.0 ≡ k) ⊎ HasKey es row.0) → (row.0 ≡ k) ⊎ HasKey (e ∷ es) row.0) [
       | Less ↦ λ i ih. less i
       | Equal ↦ λ i ih. equal i
       | Greater ↦ λ i ih. greater i ih
@@ -102,6 +103,7 @@ pub at_row : {K X : Type 0} {R : K → K → Ordering} → IsTotalOrder R → (t
 unfolding In at
 at_row o [] row h i = absurd i
 at_row {K} {X} {R} o (e ∷ es) row h (inl f) =
-    subst (λ (r : K × X). lookup (is_at (R r.0)) (e ∷ es) ≡ Some r.1) (sym f) (ap (λ r. cond (is_eq r) (Some e.1) (lookup (is_at (R e.0)) es)) (tied_itself o e.0))
+    subst (λ (r : K × X). lookup (is_at (R r.0)) (e ∷ es) ≡ Some r.1) (sym f)
+    (ap (λ r. cond (is_eq r) (Some e.1) (lookup (is_at (R e.0)) es)) (tied_itself o e.0))
 at_row {R = R} o (e ∷ es) row h (inr i) =
     ap (λ r. cond (is_eq r) (Some e.1) (lookup (is_at (R row.0)) es)) (less_greater o e.0 row.0 (h.0 row i)) ∙ at_row o es row h.1 i

@@ -27,7 +27,8 @@ pub data IsBusy (heard : Body → Type 0) (here : Here) (own : Own) (seq : ℕ) 
 -- what a server may have done that handled only such letters as `heard` knows: nothing, a refusal, what its subject's rules say
 pub data Did (heard : Body → Type 0) (here : Here) (own : Own) : Done → Type 0 where
   Ignores : Did heard here own (silent own)
-  Refuses : (to : Actor) (said : Body) → IsRefusal said → ((seq : ℕ) → said ≡ body.BlockBusy seq → IsBusy heard here own seq) → Did heard here own (says own to said)
+  Refuses : (to : Actor) (said : Body) → IsRefusal said → ((seq : ℕ) → said ≡ body.BlockBusy seq → IsBusy heard here own seq)
+      → Did heard here own (says own to said)
   By_read : (done : Done) → DidRead heard here own done → Did heard here own done
   By_lead : (done : Done) → DidLead heard here own done → Did heard here own done
   By_second : (done : Done) → DidSecond heard here own done → Did heard here own done

@@ -24,7 +24,8 @@ pub data Asks (here : Here) (own : Own) : Post → Type 0 where
 
 -- what the lead may have done that handled only such letters as `heard` knows
 pub data DidLead (heard : Body → Type 0) (here : Here) (own : Own) : Done → Type 0 where
-  Asks_for : (posts : List Post) → ((post : Post) → In post posts → Asks here own post) → DidLead heard here own (record { own = own; posts = posts; jobs = [] })
+  Asks_for : (posts : List Post) → ((post : Post) → In post posts → Asks here own post)
+      → DidLead heard here own (record { own = own; posts = posts; jobs = [] })
   Repeats : (want : Wanted) (last : Finished) → heard (body.Write want.client want.seq want.cell want.epoch want.bytes)
       → is_lead here.state here.me want.cell ≡ true → at nat_cmp own.pairs.finished want.client ≡ Some last → want.seq ≡ last.seq
       → DidLead heard here own (says own (actor.Client want.client) (ended want.seq last.ending))

@@ -86,17 +86,22 @@ answer_of ending.Full = answer.NoSpace
 pub data Turned (heard : Body → Type 0) (state : State) (lines : List Line) (c : ℕ) (client : Client) : (in_call : Bool) → Reaction → Type 0 where
   Rests : Turned heard state lines c client false (rests client)
   Sends_anew : (asked : Asked) → client.asked ≡ Some asked → Turned heard state lines c client false (sends state c client asked)
-  Begins : (line : Line) → next_line lines c client ≡ Some line → client.asked ≡ None → Turned heard state lines c client true (opens state c client line.number line.request)
+  Begins : (line : Line) → next_line lines c client ≡ Some line → client.asked ≡ None
+      → Turned heard state lines c client true (opens state c client line.number line.request)
   Makes : (line : Line) (name tuple : List ℕ) → next_line lines c client ≡ Some line → client.asked ≡ None → line.request ≡ request.Disk name tuple
       → Turned heard state lines c client true (record { client = record client { seq = client.seq + 1 }; posts = []; answer = Some (line.number, answer.Ok) })
-  Reads : (asked : Asked) (bytes : List ℕ) → heard (body.Data asked.seq bytes) → client.asked ≡ Some asked → is_read asked.request ≡ true → Turned heard state lines c client false (answers client asked (answer.Data bytes))
-  Ends : (asked : Asked) (how : Ending) → heard (ended asked.seq how) → client.asked ≡ Some asked → is_write asked.request ≡ true → Turned heard state lines c client false (answers client asked (answer_of how))
+  Reads : (asked : Asked) (bytes : List ℕ) → heard (body.Data asked.seq bytes) → client.asked ≡ Some asked → is_read asked.request ≡ true
+      → Turned heard state lines c client false (answers client asked (answer.Data bytes))
+  Ends : (asked : Asked) (how : Ending) → heard (ended asked.seq how) → client.asked ≡ Some asked → is_write asked.request ≡ true
+      → Turned heard state lines c client false (answers client asked (answer_of how))
 
 -- ### Steps
 
 -- the world after a step that is allowed
 pub data Happens (state : State) (lines : List Line) (w : World) : World → Type 0 where
-  Serves : (n stamp : ℕ) (done : Done) (queue : List Job) → w.server_clocks n < stamp → Did (Handled w n) (here_of state n (w.servers n)) (w.servers n).own done → AreQueued w n queue
+  Serves : (n stamp : ℕ) (done : Done) (queue : List Job) → w.server_clocks n < stamp
+      → Did (Handled w n) (here_of state n (w.servers n)) (w.servers n).own done → AreQueued w n queue
       → Happens state lines w (server_moves state w n stamp done queue)
-  Turns : (c stamp : ℕ) (in_call : Bool) (reacted : Reaction) → w.client_clocks c < stamp → c < 9 → Turned (Heard w (actor.Client c)) state lines c (w.clients c) in_call reacted
+  Turns : (c stamp : ℕ) (in_call : Bool) (reacted : Reaction) → w.client_clocks c < stamp → c < 9
+      → Turned (Heard w (actor.Client c)) state lines c (w.clients c) in_call reacted
       → Happens state lines w (reacts state w c stamp reacted).world

@@ -57,8 +57,10 @@ IsLateAt state w letter client seq cell n =
 
 -- a request that its client has answered is pending at no running server, and its Write letters come too late everywhere
 pub record Requests (state : State) (w : World) : Type 0 where
-  pub pending : (n : ℕ) (cell : Cell) (op : Pending) → (w.servers n).life.running ≡ true → at cell_cmp (w.servers n).own.pairs.pending cell ≡ Some op → IsOver w op.client op.seq → ⊥
-  pub late : (letter : Letter) (client seq epoch : ℕ) (cell : Cell) (bytes : List ℕ) → In letter w.sent → letter.body ≡ body.Write client seq cell epoch bytes → IsOver w client seq
+  pub pending : (n : ℕ) (cell : Cell) (op : Pending) → (w.servers n).life.running ≡ true → at cell_cmp (w.servers n).own.pairs.pending cell ≡ Some op
+      → IsOver w op.client op.seq → ⊥
+  pub late : (letter : Letter) (client seq epoch : ℕ) (cell : Cell) (bytes : List ℕ) → In letter w.sent
+      → letter.body ≡ body.Write client seq cell epoch bytes → IsOver w client seq
       → (n : ℕ) → IsLateAt state w letter client seq cell n
 
 -- the machine after the events, where there are events
@@ -78,7 +80,8 @@ pub record Keeps (script : Script) (records : List Record) : Type 0 where
   pub copies : (cell : Cell) → TwoCopies (chosen_state (setting_of script)) (world_after (setting_of script) (start (setting_of script)) records) cell
   pub requests : Requests (chosen_state (setting_of script)) (world_after (setting_of script) (start (setting_of script)) records)
   pub run : IsRunOf (events_of script records)
-  pub holds : Holds (machine_after (events_of script records)).disks (disk_name (setting_of script)) (content_at (setting_of script) (world_after (setting_of script) (start (setting_of script)) records) 0)
+  pub holds : Holds (machine_after (events_of script records)).disks (disk_name (setting_of script))
+      (content_at (setting_of script) (world_after (setting_of script) (start (setting_of script)) records) 0)
 
 -- the whole law, of each sound script
 abbrev pub Law : Type 0

@@ -44,7 +44,8 @@ no_pairs = record { pending = []; next = 1; finished = []; last = [] }
 
 -- a server of a run that begins
 abbrev pub first_server : (running : Bool) → ℕ → Server
-first_server running slots = record { life = record { running = running; inc = 1; rev = 1 }; own = record { pairs = no_pairs; store = empty_store slots }; queue = [] }
+first_server running slots =
+    record { life = record { running = running; inc = 1; rev = 1 }; own = record { pairs = no_pairs; store = empty_store slots }; queue = [] }
 
 -- where a job is done: the state at the server's revision, the server and its incarnation
 pub record Here : Type 0 where

@@ -248,7 +248,8 @@ has_slot far.Replicated = false
 -- an operation that is new here gets the slot that is set apart for the cell, or a free one
 abbrev pub reserves : Here → Own → Cell → ℕ → (has room : Bool) → Done
 reserves here own cell number true room = tells here (with_last own cell number far.Reserved) cell number far.Reserved
-reserves here own cell number false true = tells here (with_last (record own { store = with_ticket own.store }) cell number far.Reserved) cell number far.Reserved
+reserves here own cell number false true =
+    tells here (with_last (record own { store = with_ticket own.store }) cell number far.Reserved) cell number far.Reserved
 reserves here own cell number false false = says_to own (first here.state cell) (body.PairFull number cell)
 
 -- an older number is dropped, an equal one is answered again
@@ -280,4 +281,5 @@ hears_replicate here own number key bytes None = silent own
 hears_replicate here own number key bytes (Some last) = if number == last.op then follows_once here own number key bytes last.far else silent own
 
 unfoldable pub on_replicate : Here → Own → ℕ → Key → List ℕ → Done
-on_replicate here own number key bytes = if is_second here.state here.me (cell_of key) then hears_replicate here own number key bytes (last_on own (cell_of key)) else silent own
+on_replicate here own number key bytes =
+    if is_second here.state here.me (cell_of key) then hears_replicate here own number key bytes (last_on own (cell_of key)) else silent own

@@ -6,4 +6,5 @@ use Rattle.law_steps.proofs.Stepping.{happens}
 use Rattle.law_steps.proofs.each_step_is_of_a_kind.Goals as goal
 
 pub returns : goal.returns
-returns c script w own sound ready follows = happens script.servers script.slots script.lines (chosen_state (setting_of script)) (script_steady script sound) w own ready follows
+returns c script w own sound ready follows =
+    happens script.servers script.slots script.lines (chosen_state (setting_of script)) (script_steady script sound) w own ready follows

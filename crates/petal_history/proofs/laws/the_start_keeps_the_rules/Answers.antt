@@ -48,6 +48,7 @@ returns c script = record {
   holds = record {
     disk = new_disk (disk_name (setting_of script));
     is = named (disk_name (setting_of script));
-    same = λ block. blank_block (disk_name (setting_of script)) block ∙ sym (zero (start (setting_of script)) (λ n. refl) (authority (chosen_state (setting_of script)) (cell_of_block block)) block);
+    same = λ block. blank_block (disk_name (setting_of script)) block
+        ∙ sym (zero (start (setting_of script)) (λ n. refl) (authority (chosen_state (setting_of script)) (cell_of_block block)) block);
   };
 }

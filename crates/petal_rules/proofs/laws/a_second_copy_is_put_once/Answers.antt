@@ -35,7 +35,10 @@ module _ (here : Here) (own : Own) (number : ℕ) (key : Key) (bytes : List ℕ)
 pub returns : goal.returns
 unfolding on_replicate
 returns c = record {
-  again = λ here own number key bytes is. ap (λ o. (by_last here own number key bytes o).own) is ∙ kept here own number key bytes (is_second here.state here.me (cell_of key)) (number == number);
-  other = λ here own number key bytes last is ne. ap (by_last here own number key bytes) is ∙ dropped here own number key bytes (is_second here.state here.me (cell_of key)) (number == last.op) _ (apart number last.op ne);
-  unknown = λ here own number key bytes is. ap (by_last here own number key bytes) is ∙ silent_so here own number key bytes (is_second here.state here.me (cell_of key));
+  again = λ here own number key bytes is. ap (λ o. (by_last here own number key bytes o).own) is
+      ∙ kept here own number key bytes (is_second here.state here.me (cell_of key)) (number == number);
+  other = λ here own number key bytes last is ne. ap (by_last here own number key bytes) is
+      ∙ dropped here own number key bytes (is_second here.state here.me (cell_of key)) (number == last.op) _ (apart number last.op ne);
+  unknown = λ here own number key bytes is. ap (by_last here own number key bytes) is
+      ∙ silent_so here own number key bytes (is_second here.state here.me (cell_of key));
 }

@@ -1,0 +1,169 @@
+-- What a client's step has to show so that servers and clients stay tied to the plain machine.
+use Rattle.std.proofs.Common.{◌≡◌, ◌≢◌, ◌≤◌, ◌<◌, ◌+◌, ℕ, List, [], Bool, true, false, Some, refl, sym, ap, ◌∙◌, subst, ◌⊎◌, inl, inr, arith}
+use Rattle.std.specs.Ordering.{nat_cmp}
+use Rattle.petal_base.specs.declared.cell.Cell.{Cell}
+use Rattle.petal_table.specs.Table.{at}
+use Rattle.petal_machine.specs.Machine.{Plain, open_of}
+use Rattle.petal_machine.specs.Run.{after}
+use Rattle.petal_msg.specs.declared.body.Body.{Body}
+use Rattle.petal_msg.specs.declared.body.Body.TheVariants as body
+use Rattle.petal_msg.specs.declared.letter.Actor.{Actor}
+use Rattle.petal_msg.specs.declared.letter.Actor.TheVariants as actor
+use Rattle.petal_msg.specs.declared.letter.Letter.{Letter}
+use Rattle.petal_msg.specs.declared.operation.Ending.TheVariants as ending
+use Rattle.petal_msg.specs.declared.operation.Finished.{Finished}
+use Rattle.petal_msg.specs.declared.operation.Pending.{Pending}
+use Rattle.script_lines.specs.declared.request.Line.{Line}
+use Rattle.petal_rules.specs.Lists.{In, put_at}
+use Rattle.petal_rules.specs.State.{State}
+use Rattle.petal_rules.specs.Store.{cell_cmp}
+use Rattle.petal_rules.specs.Server.{Post, letters_of}
+use Rattle.petal_rules.specs.Clients.{Client, Reaction, client_sender}
+use Rattle.petal_rules.specs.World.{Setting, World, reacts, stamped}
+use Rattle.petal_rules.proofs.ListLemmas.{put_same, in-append}
+use Rattle.petal_history.specs.Contents.{disk_name}
+use Rattle.petal_history.specs.Events.{open_write, write_asked, takes, looks, look_of}
+use Rattle.petal_history.specs.declared.record.Record.{Record}
+use Rattle.law_steps.specs.Steady.{IsSteady}
+use Rattle.law_steps.specs.Operations.{progress, done_to}
+use Rattle.law_steps.specs.Happens.{Heard, Turned}
+use Rattle.law_steps.proofs.Letters.{said}
+use Rattle.law_steps.proofs.Sending.{is_ask, turned_asks}
+use Rattle.law_steps.proofs.Stepping.{fixed_setting}
+use Rattle.petal_rules.proofs.Tests.{same_or_apart, true_false, all_put_apart}
+use Rattle.law_copies.specs.Pair.{IsPair, owns_of}
+use Rattle.law_requests.specs.Asked.{IsOpen}
+use Rattle.law_requests.specs.Known.{Known, seen, Asking}
+use Rattle.law_run.specs.Onward.{IsMindful, held_in, is_held, Seat}
+use Rattle.law_run.specs.Follow.{Ground, Follow}
+use Rattle.law_run.proofs.Looks.{is_data, no_look}
+use Rattle.law_run.proofs.Members.{all_empty}
+use Rattle.law_run.proofs.Takes.{no_takes}
+
+-- ### What clients send has no data
+
+ask_data : (said : Body) → is_ask said ≡ true → is_data said ≡ false
+ask_data (body.Data seq bytes) e = let f : false ≡ true = e in absurd cc
+ask_data _ e = refl
+
+-- ### What a client's step has to show
+
+-- the client goes on with another request or with none, and the machine with it
+pub record TurnFollow (w : World) (m k : Plain) (c : ℕ) (client : Client) : Type 0 where
+  pub disks : k.disks ≡ m.disks
+  pub mindful : IsMindful k
+  pub others : (j : ℕ) → j ≢ c → open_of k.opened j ≡ open_of m.opened j
+  pub seat : Seat (write_asked c client.asked) (open_of k.opened c)
+  pub helds : (seq : ℕ) → IsOpen client seq → (IsOpen (w.clients c) seq × (is_held m c ≡ true → is_held k c ≡ true)) ⊎ ((w.clients c).seq < seq)
+
+-- a client's step in a run over one state: the world and the machine before it, and the records after it
+pub record ClientStep : Type 0 where
+  pub servers : ℕ
+  pub slots : ℕ
+  pub lines : List Line
+  pub state : State
+  pub steady : IsSteady state
+  pub w : World
+  pub m : Plain
+  pub ground : Ground state lines w
+  pub follow : Follow state (disk_name (fixed_setting servers slots lines state)) w m
+  pub c : ℕ
+  pub stamp : ℕ
+  pub later : List Record
+
+module _ (this : ClientStep) where
+  abbrev setting : Setting
+  setting = fixed_setting this.servers this.slots this.lines this.state
+
+  abbrev name : List ℕ
+  name = disk_name setting
+
+  abbrev client : Client
+  client = this.w.clients this.c
+
+  abbrev pub after_turn : Reaction → World
+  after_turn reacted = (reacts this.state this.w this.c this.stamp reacted).world
+
+  pub no_looks : (in_call : Bool) (reacted : Reaction)
+      → Turned (Heard this.w (actor.Client this.c)) this.state this.lines this.c client in_call reacted
+      → looks this.lines this.later (reacts this.state this.w this.c this.stamp reacted).letters ≡ []
+  no_looks in_call reacted turned =
+      all_empty (λ letter. look_of this.lines this.later letter letter.body) (stamped this.stamp (letters_of (client_sender this.state this.c) 0 reacted.posts))
+      (λ letter h. let s = said (client_sender this.state this.c) this.stamp 0 reacted.posts letter h in
+      no_look this.lines this.later letter letter.body
+      (ap is_data s.body ∙ ask_data s.post.body (turned_asks _ this.state this.lines this.c client in_call reacted turned s.post s.there)))
+
+  pub unwritten : (in_call : Bool) (reacted : Reaction)
+      → Turned (Heard this.w (actor.Client this.c)) this.state this.lines this.c client in_call reacted → (post : Post) → In post reacted.posts
+      → (seq : ℕ) → post.body ≢ body.Written seq
+  unwritten in_call reacted turned post h seq e = true_false (turned_asks _ this.state this.lines this.c client in_call reacted turned post h) (ap is_ask e)
+
+  pub nothing_taken : (reacted : Reaction) → takes setting this.w (after_turn reacted) ≡ Some []
+  nothing_taken reacted = no_takes setting this.w (after_turn reacted) (λ b. refl)
+
+  -- ### The frame
+
+  seq_open : (seq : ℕ) → IsOpen client seq → seq ≤ client.seq
+  seq_open seq h = let a = this.ground.asking.asked this.c h.asked h.is in let last = a.last in let same = h.same in omega arith
+
+  -- a reply was to a request of a number that the client had reached
+  written_old : (letter : Letter) (seq : ℕ) → In letter this.w.sent → letter.to ≡ actor.Client this.c → letter.body ≡ body.Written seq → seq ≤ client.seq
+  written_old letter seq h to says = (subst (λ (b : Body). Known this.state this.lines (seen this.w) (actor.Client this.c) b) says
+      (subst (λ (a : Actor). Known this.state this.lines (seen this.w) a letter.body) to (this.ground.asking.letters letter h))).old
+
+  finished_old : (n : ℕ) (last : Finished) → at nat_cmp (owns_of this.w n).pairs.finished this.c ≡ Some last → last.seq ≤ client.seq
+  finished_old n last is =
+      let bound = this.ground.asking.finished n this.c in
+      let top : done_to (at nat_cmp (owns_of this.w n).pairs.finished this.c) ≡ last.seq + 1 = ap done_to is in
+      omega arith
+
+  module _ (k : Plain) (reacted : Reaction) (turn : TurnFollow this.w this.m k this.c reacted.client) where
+    -- what was held is held, for the request that is still open
+    held_still : (seq : ℕ) → seq ≤ client.seq → IsOpen reacted.client seq → (IsOpen client seq → is_held this.m this.c ≡ true) → is_held k this.c ≡ true
+    held_still seq le still held = elim (turn.helds seq still) [ inl same ↦ same.1 (held same.0) | inr new ↦ absurd (omega arith) ]
+
+    letters : (letter : Letter) (j seq : ℕ) → In letter this.w.sent → letter.to ≡ actor.Client j → letter.body ≡ body.Written seq
+        → IsOpen ((after_turn reacted).clients j) seq → is_held k j ≡ true
+    letters letter j seq h to says = all_put_apart this.w.clients this.c reacted.client (λ i x. letter.to ≡ actor.Client i → IsOpen x seq → is_held k i ≡ true)
+        (λ i ne to still. ap held_in (turn.others i ne) ∙ this.follow.letters letter i seq h to says still)
+        (λ to still. held_still seq (written_old letter seq h to says) still (this.follow.letters letter this.c seq h to says)) j to
+
+    finished : (n j : ℕ) (last : Finished) → at nat_cmp (owns_of this.w n).pairs.finished j ≡ Some last → last.ending ≡ ending.Written
+        → IsOpen ((after_turn reacted).clients j) last.seq → is_held k j ≡ true
+    finished n j last is how =
+        all_put_apart this.w.clients this.c reacted.client
+        (λ i x. at nat_cmp (owns_of this.w n).pairs.finished i ≡ Some last → IsOpen x last.seq → is_held k i ≡ true)
+        (λ i ne is still. ap held_in (turn.others i ne) ∙ this.follow.finished n i last is how still)
+        (λ is still. held_still last.seq (finished_old n last is) still (this.follow.finished n this.c last is how)) j is
+
+    pending : Asking this.state this.lines (after_turn reacted) → (cell : Cell) (p q : ℕ) (op : Pending) → IsPair this.state cell p q
+        → at cell_cmp (owns_of this.w p).pairs.pending cell ≡ Some op → op.op + op.op + 1 ≤ progress (at cell_cmp (owns_of this.w q).pairs.last cell)
+        → is_held k op.client ≡ true
+    pending next cell p q op pair is past = elim (same_or_apart op.client this.c) [
+      | inr ne ↦ ap held_in (turn.others op.client ne) ∙ this.follow.pending cell p q op pair is past
+      | inl e ↦
+          let before : IsOpen client op.seq = subst (λ i. IsOpen (this.w.clients i) op.seq) e (this.ground.asking.pending p cell op is).still in
+          let now : IsOpen reacted.client op.seq =
+          subst (λ (x : Client). IsOpen x op.seq) (ap (put_at this.w.clients this.c reacted.client) e
+          ∙ put_same this.w.clients this.c reacted.client) (next.pending p cell op is).still in
+          let was : is_held this.m this.c ≡ true = subst (λ i. is_held this.m i ≡ true) e (this.follow.pending cell p q op pair is past) in
+          subst (λ i. is_held k i ≡ true) (sym e) (held_still op.seq (seq_open op.seq before) now (λ o. was))
+    ]
+
+    pub turn_follow : Asking this.state this.lines (after_turn reacted)
+        → ((post : Post) → In post reacted.posts → (seq : ℕ) → post.body ≢ body.Written seq) → Follow this.state name (after_turn reacted) k
+    turn_follow next unwritten = record {
+      blocks = this.follow.blocks;
+      only = turn.disks ∙ this.follow.only;
+      now = this.follow.now;
+      mindful = turn.mindful;
+      seats = all_put_apart this.w.clients this.c reacted.client (λ j x. Seat (write_asked j x.asked) (open_of k.opened j))
+          (λ j ne. subst (Seat (open_write this.w j)) (sym (turn.others j ne)) (this.follow.seats j)) turn.seat;
+      letters = λ letter j seq h to says still. elim (in-append letter _ this.w.sent h) [
+        | inl new ↦ let s =
+            said (client_sender this.state this.c) this.stamp 0 reacted.posts letter new in absurd (unwritten s.post s.there seq (sym s.body ∙ says))
+        | inr old ↦ letters letter j seq old to says still
+      ];
+      pending = pending next;
+      finished = finished;
+    }

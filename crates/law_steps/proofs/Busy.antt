@@ -1,0 +1,16 @@
+-- Letters that tell of a busy block.
+use Rattle.std.proofs.Common.{◌≡◌, ℕ, Bool, true, false, ap}
+use Rattle.petal_msg.specs.declared.body.Body.{Body}
+use Rattle.petal_msg.specs.declared.body.Body.TheVariants as body
+use Rattle.petal_rules.specs.Reads.{said}
+use Rattle.petal_rules.proofs.Tests.{true_false}
+
+abbrev pub is_busy : Body → Bool
+is_busy (body.BlockBusy seq) = true
+is_busy _ = false
+
+pub not_busy : {B : Type 0} (said : Body) (seq : ℕ) → said ≡ body.BlockBusy seq → is_busy said ≡ false → B
+not_busy said seq e f = true_false {b = is_busy said} (ap is_busy e) f
+
+pub busy_seq : {seq other : ℕ} → body.BlockBusy seq ≡ body.BlockBusy other → seq ≡ other
+busy_seq e = cc

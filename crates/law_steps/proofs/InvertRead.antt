@@ -1,0 +1,44 @@
+-- What a server does with a read is one of the kinds that the relation names.
+use Rattle.std.proofs.Common.{◌≡◌, ℕ, ◌&&◌, Bool, true, false, Option, Some, None, refl, subst}
+use Rattle.std.specs.Prelude.{if◌then◌else◌, is_some}
+use Rattle.petal_base.specs.declared.cell.Cell.{Cell}
+use Rattle.petal_msg.specs.declared.body.Body.{Body}
+use Rattle.petal_msg.specs.declared.body.Body.TheVariants as body
+use Rattle.petal_msg.specs.declared.letter.Actor.TheVariants as actor
+use Rattle.petal_msg.specs.declared.operation.Pending.{Pending}
+use Rattle.petal_msg.specs.declared.operation.Reply.TheVariants as reply
+use Rattle.petal_rules.specs.State.{is_lead, readable}
+use Rattle.petal_rules.specs.Store.{chain_in, entry_at, bytes_of}
+use Rattle.petal_rules.specs.Server.{Own, Here, Done, says}
+use Rattle.petal_rules.specs.Writes.{pending_on}
+use Rattle.petal_rules.specs.Reads.{on_read, said}
+use Rattle.law_steps.specs.DidRead.{Shows}
+use Rattle.law_steps.specs.Did.{Did, Ignores, Refuses, For_a_read, By_read}
+use Rattle.petal_rules.proofs.Tests.{by_test, true_false}
+use Rattle.law_steps.proofs.Busy.{not_busy, busy_seq}
+
+is_there : {A : Type 0} (o : Option A) → is_some o ≡ true → (x : A) × (o ≡ Some x)
+is_there None e = let f : false ≡ true = e in absurd cc
+is_there (Some x) e = (x, refl)
+
+module _ (heard : Body → Type 0) (here : Here) (own : Own) where
+  abbrev D : Done → Type 0
+  D done = Did heard here own done
+
+  shown : (client seq : ℕ) (cell : Cell) (epoch : ℕ) → heard (body.Read client seq cell epoch) → readable here.state here.me cell ≡ true
+      → (all lead some : Bool) → is_lead here.state here.me cell ≡ lead → is_some (pending_on own cell) ≡ some
+      → D (says own (actor.Client client) (said seq
+      (if all then reply.Held else if lead && some then reply.BlockBusy else reply.Data (bytes_of (entry_at (chain_in own.store.chains cell) epoch)))))
+  shown client seq cell epoch h r true lead some e f = Refuses (actor.Client client) (body.Held seq) refl (λ k g. not_busy (body.Held seq) k g refl)
+  shown client seq cell epoch h r false true true e f = let there = is_there (pending_on own cell) f in Refuses (actor.Client client) (body.BlockBusy seq) refl
+      (λ k g. For_a_read client cell epoch there.0 (subst (λ i. heard (body.Read client i cell epoch)) (busy_seq g) h) e there.1)
+  shown client seq cell epoch h r false true false e f = By_read _ (Shows client seq cell epoch h r (λ t. is_none _ f))
+    where
+      is_none : (o : Option Pending) → is_some o ≡ false → o ≡ None
+      is_none None e = refl
+      is_none (Some op) e = let g : true ≡ false = e in absurd cc
+  shown client seq cell epoch h r false false some e f = By_read _ (Shows client seq cell epoch h r (λ t. true_false t e))
+
+  pub did_read : (client seq : ℕ) (cell : Cell) (epoch : ℕ) → heard (body.Read client seq cell epoch) → D (on_read here own client seq cell epoch)
+  unfolding on_read
+  did_read client seq cell epoch h = by_test D (readable here.state here.me cell) _ _ (λ r. shown client seq cell epoch h r _ _ _ refl refl) (λ t. Ignores)

@@ -1,0 +1,90 @@
+-- What a second server does for a write is one of the kinds that the relation names.
+use Rattle.std.proofs.Common.{◌≡◌, ◌≤◌, ◌<◌, ℕ, ◌+◌, ◌==◌, not, List, Bool, true, false, Option, Some, None, refl, ap, sym, ◌∙◌, subst, arith}
+use Rattle.std.specs.Prelude.{nat_lt}
+use Rattle.std.proofs.lemmas.Bool.Decides.{nat_tests}
+use Rattle.petal_base.specs.declared.cell.Cell.{Cell}
+use Rattle.petal_base.specs.declared.cell.Key.{Key}
+use Rattle.petal_base.specs.Cells.{cell_of}
+use Rattle.petal_msg.specs.declared.body.Body.{Body}
+use Rattle.petal_msg.specs.declared.body.Body.TheVariants as body
+use Rattle.petal_msg.specs.declared.operation.Far.{Far}
+use Rattle.petal_msg.specs.declared.operation.Far.TheVariants as far
+use Rattle.petal_msg.specs.declared.operation.LastOp.{LastOp}
+use Rattle.petal_rules.specs.State.{is_second}
+use Rattle.petal_rules.specs.Store.{free_of, with_ticket}
+use Rattle.petal_rules.specs.Server.{Own, Here, Done}
+use Rattle.petal_rules.specs.Writes.{operation, hears_reserve, hears_replicate, reserves, follows_once, has_slot, last_on}
+use Rattle.law_steps.specs.Operations.{progress}
+use Rattle.law_steps.specs.DidSecond.{Sets_apart, Promises, Declines, Follows}
+use Rattle.law_steps.specs.Did.{Did, Ignores, By_second}
+use Rattle.petal_rules.proofs.Tests.{by_test, true_false, same_numbers, same_some, none_some}
+use Rattle.law_steps.proofs.InvertLead.{no_free}
+
+newer_op : (last : LastOp) (number : ℕ) → nat_lt number last.op ≡ false → (number == last.op) ≡ false → last.op < number
+newer_op last number e f = grind (arith, nat_tests)
+
+used_up : (how : Far) → has_slot how ≡ false → how ≡ far.Replicated
+used_up far.Reserved e = true_false refl e
+used_up far.Replicated e = refl
+
+later_op : (last : LastOp) (number : ℕ) → nat_lt number last.op ≡ false → (number == last.op) ≡ false → progress (Some last) ≤ number + number
+later_op last number e f = by last.far (grind (arith, nat_tests))
+  where
+    by : (how : Far) → last.op < number → progress (Some (record last { far = how })) ≤ number + number
+    by far.Reserved lt = omega arith
+    by far.Replicated lt = omega arith
+
+-- the operation before this one on the cell is older, and its slot is left over or not
+record IsPast (own : Own) (cell : Cell) (number : ℕ) (has : Bool) : Type 0 where
+  newer : (last : LastOp) → last_on own cell ≡ Some last → last.op < number
+  slot : (last : LastOp) → last_on own cell ≡ Some last → has_slot last.far ≡ has
+
+module _ (heard : Body → Type 0) (here : Here) (own : Own) where
+  abbrev D : Done → Type 0
+  D done = Did heard here own done
+
+  no_past : (cell : Cell) (number : ℕ) → last_on own cell ≡ None → IsPast own cell number false
+  no_past cell number e = record { newer = λ last is. none_some e is; slot = λ last is. none_some e is }
+
+  past_is : (cell : Cell) (number : ℕ) (last : LastOp) → last_on own cell ≡ Some last → last.op < number → IsPast own cell number (has_slot last.far)
+  past_is cell number last e lt = record {
+    newer = λ other is. subst (λ (o : LastOp). o.op < number) (same_some (sym e ∙ is)) lt;
+    slot = λ other is. ap (λ (o : LastOp). has_slot o.far) (same_some (sym is ∙ e));
+  }
+
+  did_reserves : (number : ℕ) (cell : Cell) (has room : Bool) → heard (body.Reserve number cell) → is_second here.state here.me cell ≡ true
+      → IsPast own cell number has → progress (last_on own cell) ≤ number + number → nat_lt 0 (free_of own.store) ≡ room
+      → D (reserves here own cell number has room)
+  did_reserves number cell true room h s past le e = By_second _ (Sets_apart number cell own.store h s refl le)
+  did_reserves number cell false true h s past le e = By_second _ (Sets_apart number cell (with_ticket own.store) h s refl le)
+  did_reserves number cell false false h s past le e =
+      By_second _ (Declines number cell h s (record {
+        none_free = no_free (free_of own.store) e;
+        newer = past.newer;
+        none_left = λ last is. used_up last.far (past.slot last is);
+      }))
+
+  pub did_reserve : (number : ℕ) (cell : Cell) (o : Option LastOp) → heard (body.Reserve number cell) → is_second here.state here.me cell ≡ true
+      → last_on own cell ≡ o → D (hears_reserve here own cell number o)
+  did_reserve number cell None h s e =
+      did_reserves number cell false (nat_lt 0 (free_of own.store)) h s (no_past cell number e)
+      (subst (λ o. progress o ≤ number + number) (sym e) (omega arith)) refl
+  did_reserve number cell (Some last) h s e = by_test D (nat_lt number last.op) _ _ (λ t. Ignores)
+      (λ older. by_test D (number == last.op) _ _
+      (λ same. By_second _ (Promises number cell last.far s (e ∙ λ i. Some (record { op = sym (same_numbers number last.op same) i; far = last.far }))))
+      (λ apart. did_reserves number cell (has_slot last.far) (nat_lt 0 (free_of own.store)) h s
+      (past_is cell number last e (newer_op last number older apart))
+      (subst (λ o. progress o ≤ number + number) (sym e) (later_op last number older apart)) refl))
+
+  did_once : (number : ℕ) (key : Key) (version : ℕ) (bytes : List ℕ) (how : Far) → heard (body.Replicate number key version bytes)
+      → is_second here.state here.me (cell_of key) ≡ true → last_on own (cell_of key) ≡ Some (record { op = number; far = how })
+      → D (follows_once here own number key bytes how)
+  did_once number key version bytes far.Reserved h s e = By_second _ (Follows number key version bytes h s e)
+  did_once number key version bytes far.Replicated h s e = By_second _ (Promises number (cell_of key) far.Replicated s e)
+
+  pub did_replicate : (number : ℕ) (key : Key) (version : ℕ) (bytes : List ℕ) (o : Option LastOp) → heard (body.Replicate number key version bytes)
+      → is_second here.state here.me (cell_of key) ≡ true → last_on own (cell_of key) ≡ o → D (hears_replicate here own number key bytes o)
+  did_replicate number key version bytes None h s e = Ignores
+  did_replicate number key version bytes (Some last) h s e = by_test D (number == last.op) _ _
+      (λ same. did_once number key version bytes last.far h s (e ∙ λ i. Some (record { op = sym (same_numbers number last.op same) i; far = last.far })))
+      (λ t. Ignores)
