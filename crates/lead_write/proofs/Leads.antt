@@ -28,7 +28,8 @@ reserving op number same waits = grind (arith, nat_tests, same, waits)
 pub replicating : (op : Pending) (number : ℕ) → op.op ≡ number → op.stage.put ≡ true → op.stage.paired ≡ false → is_replicating op number ≡ true
 replicating op number same put waits = grind (arith, nat_tests, same, put, waits)
 
-pub reserved_is : (here : Here) (own : Own) (number : ℕ) (cell : Cell) (op : Pending) → at cell_cmp own.pairs.pending cell ≡ Some op → is_reserving op number ≡ true
+pub reserved_is : (here : Here) (own : Own) (number : ℕ) (cell : Cell) (op : Pending) → at cell_cmp own.pairs.pending cell ≡ Some op
+    → is_reserving op number ≡ true
     → acts here (with_pending own (with_reserved op)) (with_reserved op) (next_stage here.state here.me (with_reserved op)) ≡ on_reserved here own number cell
 unfolding on_reserved goes_on
 reserved_is here own number cell op is waits =
@@ -36,7 +37,8 @@ reserved_is here own number cell op is waits =
     ∙ ap (λ (b : Bool). if b then goes_on here (with_pending own (with_reserved op)) op.cell else silent own) waits
     ∙ ap (goes_on_with here (with_pending own (with_reserved op))) (cell_same own.pairs.pending op.cell (with_reserved op)))
 
-pub replicated_is : (here : Here) (own : Own) (number : ℕ) (cell : Cell) (op : Pending) → at cell_cmp own.pairs.pending cell ≡ Some op → is_replicating op number ≡ true
+pub replicated_is : (here : Here) (own : Own) (number : ℕ) (cell : Cell) (op : Pending) → at cell_cmp own.pairs.pending cell ≡ Some op
+    → is_replicating op number ≡ true
     → acts here (with_pending own (with_paired op)) (with_paired op) (next_stage here.state here.me (with_paired op)) ≡ on_replicated here own number cell
 unfolding on_replicated goes_on
 replicated_is here own number cell op is waits =

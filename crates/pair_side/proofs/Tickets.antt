@@ -36,7 +36,8 @@ times_append : (n slot : ℕ) (ts : List ℕ) → times n (ts ++ slot ∷ []) �
 times_append n slot [] = omega arith
 times_append n slot (t ∷ ts) = let rest = times_append n slot ts in omega (arith, rest)
 
-times_put : (n slot : ℕ) (cell : Cell) (t : Table Cell ℕ) → lookup (is_at (cell_cmp cell)) t ≡ None → times n (values_of (insert_entry cell_cmp t cell slot)) ≡ times n (values_of t) + one_at n slot
+times_put : (n slot : ℕ) (cell : Cell) (t : Table Cell ℕ) → lookup (is_at (cell_cmp cell)) t ≡ None
+    → times n (values_of (insert_entry cell_cmp t cell slot)) ≡ times n (values_of t) + one_at n slot
 times_put n slot cell [] none = omega arith
 times_put n slot cell (r ∷ rs) none =
     let rest = times_put n slot cell rs in
@@ -46,7 +47,8 @@ times_put n slot cell (r ∷ rs) none =
       | Greater ↦ λ e. let more = rest e in omega (arith, more)
     ] none
 
-times_removed : (n slot : ℕ) (test : Cell → Bool) (t : Table Cell ℕ) → lookup test t ≡ Some slot → times n (values_of (remove_entry test t)) + one_at n slot ≡ times n (values_of t)
+times_removed : (n slot : ℕ) (test : Cell → Bool) (t : Table Cell ℕ) → lookup test t ≡ Some slot
+    → times n (values_of (remove_entry test t)) + one_at n slot ≡ times n (values_of t)
 times_removed n slot test [] is = absurd (cc)
 times_removed n slot test (r ∷ rs) is =
     let rest = times_removed n slot test rs in
@@ -55,12 +57,14 @@ times_removed n slot test (r ∷ rs) is =
       | false ↦ λ e. let more = rest e in omega (arith, more)
     ] is
 
-times_without : (n slot : ℕ) (cell : Cell) (t : Table Cell ℕ) → IsStrictlySortedBy cell_cmp (keys_of t) → at cell_cmp t cell ≡ Some slot → times n (values_of (without cell_cmp t cell)) + one_at n slot ≡ times n (values_of t)
+times_without : (n slot : ℕ) (cell : Cell) (t : Table Cell ℕ) → IsStrictlySortedBy cell_cmp (keys_of t) → at cell_cmp t cell ≡ Some slot
+    → times n (values_of (without cell_cmp t cell)) + one_at n slot ≡ times n (values_of t)
 unfolding at
 times_without n slot cell t sorted is =
     subst (λ (u : Table Cell ℕ). times n (values_of u) + one_at n slot ≡ times n (values_of t)) (remove_is_without cell_cmp_total t cell sorted) (times_removed n slot (is_at (cell_cmp cell)) t is)
 
-times_new : (n slot : ℕ) (cell : Cell) (t : Table Cell ℕ) → at cell_cmp t cell ≡ None → times n (values_of (put cell_cmp t cell slot)) ≡ times n (values_of t) + one_at n slot
+times_new : (n slot : ℕ) (cell : Cell) (t : Table Cell ℕ) → at cell_cmp t cell ≡ None
+    → times n (values_of (put cell_cmp t cell slot)) ≡ times n (values_of t) + one_at n slot
 unfolding at put
 times_new n slot cell t none = times_put n slot cell t none
 
@@ -310,7 +314,8 @@ module _ (pending : Table Cell Pending) (last : Table Cell LastOp) (own apart : 
   }
 
 -- a ticket that was taken and given back
-pub undone : {D : Type 0} (old new : Holdings D) (slot back : ℕ) → new ≡ record old { tickets = old.tickets ++ slot ∷ [] } → back ≡ slot → ¬ Contains old.tickets slot → record new { tickets = store.without new.tickets back } ≡ old
+pub undone : {D : Type 0} (old new : Holdings D) (slot back : ℕ) → new ≡ record old { tickets = old.tickets ++ slot ∷ [] } → back ≡ slot
+    → ¬ Contains old.tickets slot → record new { tickets = store.without new.tickets back } ≡ old
 undone old new slot back is same other = rw (is, same) (ap (λ (ts : List ℕ). record old { tickets = ts }) (without_last slot old.tickets other))
 
 pub contained : (slot : ℕ) (ts : List ℕ) → Contains ts slot → 1 ≤ times slot ts
@@ -340,12 +345,14 @@ abbrev with_tickets : {D : Type 0} → Holdings D → ℕ → rules.Store
 with_tickets old tickets = record (store_of old) { tickets = tickets }
 
 -- a slot that is free again, as the rules see the store
-pub given_is : {D : Type 0} (old new : Holdings D) (slot : ℕ) → Contains old.tickets slot → new ≡ record old { tickets = store.without old.tickets slot } → store_of new ≡ without_ticket (store_of old)
+pub given_is : {D : Type 0} (old new : Holdings D) (slot : ℕ) → Contains old.tickets slot
+    → new ≡ record old { tickets = store.without old.tickets slot } → store_of new ≡ without_ticket (store_of old)
 given_is {D = D} old new slot has is =
     let gone = length_less slot old.tickets (contained slot old.tickets has) in
     let fewer : length (store.without old.tickets slot) ≡ length old.tickets - 1 = omega (arith, gone) in
     ap (λ (s : Holdings D). store_of s) is ∙ ap (with_tickets old) fewer
 
 -- a slot that is set apart, as the rules see the store
-pub kept_is : {D : Type 0} (old new : Holdings D) (slot : ℕ) → new ≡ record old { tickets = old.tickets ++ slot ∷ [] } → store_of new ≡ with_ticket (store_of old)
+pub kept_is : {D : Type 0} (old new : Holdings D) (slot : ℕ) → new ≡ record old { tickets = old.tickets ++ slot ∷ [] }
+    → store_of new ≡ with_ticket (store_of old)
 kept_is {D = D} old new slot is = ap (λ (s : Holdings D). store_of s) is ∙ ap (with_tickets old) (length-append old.tickets (slot ∷ []))

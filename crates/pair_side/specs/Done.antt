@@ -5,7 +5,7 @@ use Rattle.petal_disk.specs.declared.disk.Disk.{Ghosts}
 use Rattle.petal_msg.specs.declared.letter.Letter.{Letter}
 use Rattle.physical_map.specs.Entries.{top_of}
 use Rattle.petal_rules.specs.Server.{Own, Here, sender, letters_of}
-use Rattle.petal_rules.specs.Server as rules
+use Rattle.petal_rules.specs.Server.{Done as Rule}
 use Rattle.petal_rules.specs.declared.job.Job.{Job}
 use Rattle.petal_rules.specs.declared.job.Job.TheVariants as job
 use Rattle.server_store.specs.Holdings.{Holdings, listed}
@@ -24,7 +24,7 @@ follow_up None = []
 follow_up (Some cell) = job.Stage cell ∷ []
 
 -- what a job left of the server's own part, its letters and the jobs that follow it up are what the rule says
-pub record IsBy (here : Here) (left : Own) (done : Done) (rule : rules.Done) : Type 0 where
+pub record IsBy (here : Here) (left : Own) (done : Done) (rule : Rule) : Type 0 where
   pub own : left ≡ rule.own
   pub letters : done.letters ≡ letters_of (sender here) 0 rule.posts
   pub jobs : follow_up done.follow ≡ rule.jobs
@@ -42,24 +42,25 @@ pub record HasFault {T : Type 0} (before now : ℕ) (result : Result T WorkError
 abbrev pub HoldsAt : {D : Type 0} → Ghosts D → Holdings D → Type 0
 HoldsAt device store = Holds store (device.seen store.disk) (device.may_leave store.disk)
 
--- a job without a call of the device is the rule's, and the tickets still stand where they are needed; one that was refused,
--- for memory alone, left all as it was
-pub record IsSaid {D : Type 0} (here : Here) (old new : Side) (old_store new_store : Holdings D) (result : Result Done WorkError) (rule : rules.Done) : Type 0 where
-  pub done : IfOk result (λ done. IsBy here (own_of new new_store) done rule)
-  pub keeps : OnOk result (HasTicketsAt new new_store)
-  pub err : IfErr result (λ e. (e ≡ NoMemory) × (new ≡ old) × (new_store ≡ old_store))
-  pub store : new_store ≡ record old_store { tickets = new_store.tickets }
+module _ {D : Type 0} where
+  -- a job without a call of the device is the rule's, and the tickets still stand where they are needed; one that was refused,
+  -- for memory alone, left all as it was
+  pub record IsSaid (here : Here) (old new : Side) (before after : Holdings D) (result : Result Done WorkError) (rule : Rule) : Type 0 where
+    pub done : IfOk result (λ done. IsBy here (own_of new after) done rule)
+    pub keeps : OnOk result (HasTicketsAt new after)
+    pub err : IfErr result (λ e. (e ≡ NoMemory) × (new ≡ old) × (after ≡ before))
+    pub store : after ≡ record before { tickets = after.tickets }
 
--- a job is the rule's where the device tells its bytes, and the tickets still stand where they are needed; a device that showed
--- the store shows it after the job too, and after one that was refused for memory, which left all but the device's state as it
--- was. Any other refusal left the entries. `JournalFull` comes only where the store's journal had all its records
-pub record IsDone {D : Type 0} (device : Ghosts D) (here : Here) (old new : Side) (old_store new_store : Holdings D) (result : Result Done WorkError) (rule : rules.Done) : Type 0 where
-  pub done : IfOk result (λ done. device.told → IsBy here (own_of new new_store) done rule)
-  pub keeps : OnOk result (HasTicketsAt new new_store)
-  pub holds : device.told → HoldsAt device old_store → OnOk result (HoldsAt device new_store)
-  pub still : result ≡ Err NoMemory → device.told → HoldsAt device old_store → HoldsAt device new_store
-  pub same : result ≡ Err NoMemory → (new ≡ old) × (new_store ≡ record old_store { disk = new_store.disk })
-  pub kept : OnErr result (device.told → new_store.entries ≡ old_store.entries)
-  pub full : result ≡ Err JournalFull → old_store.log.region.count ≡ 65536
-  pub cause : HasFault (device.faults old_store.disk) (device.faults new_store.disk) result
-  pub run : device.came_to old_store.disk new_store.disk
+  -- a job is the rule's where the device tells its bytes, and the tickets still stand where they are needed; a device that showed
+  -- the store shows it after the job too, and after one that was refused for memory, which left all but the device's state as it
+  -- was. Any other refusal left the entries. `JournalFull` comes only where the store's journal had all its records
+  pub record IsDone (device : Ghosts D) (here : Here) (old new : Side) (before after : Holdings D) (result : Result Done WorkError) (rule : Rule) : Type 0 where
+    pub done : IfOk result (λ done. device.told → IsBy here (own_of new after) done rule)
+    pub keeps : OnOk result (HasTicketsAt new after)
+    pub holds : device.told → HoldsAt device before → OnOk result (HoldsAt device after)
+    pub still : result ≡ Err NoMemory → device.told → HoldsAt device before → HoldsAt device after
+    pub same : result ≡ Err NoMemory → (new ≡ old) × (after ≡ record before { disk = after.disk })
+    pub kept : OnErr result (device.told → after.entries ≡ before.entries)
+    pub full : result ≡ Err JournalFull → before.log.region.count ≡ 65536
+    pub cause : HasFault (device.faults before.disk) (device.faults after.disk) result
+    pub run : device.came_to before.disk after.disk

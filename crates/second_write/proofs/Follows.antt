@@ -39,7 +39,8 @@ follows_in here own number key bytes cell =
     (first here.state cell) (body.Replicated number cell)
 
 module _ {D : Type 0} (here : Here) (side : Side) (store : Holdings D) (cell : Cell) (number : ℕ) (h : HasTicketsAt side store) where
-  pub again_is : (last : Table Cell LastOp) (done : Left) → needs_apart (at cell_cmp side.last cell) ≡ true → last ≡ put cell_cmp side.last cell (reserved number)
+  pub again_is : (last : Table Cell LastOp) (done : Left) → needs_apart (at cell_cmp side.last cell) ≡ true
+      → last ≡ put cell_cmp side.last cell (reserved number)
       → IsSaid here side side store store (Ok done) (tells here (own_of side store) cell number far.Reserved)
       → IsSaid here side (record side { last = last }) store store (Ok done) (tells here (with_last (own_of side store) cell number far.Reserved) cell number far.Reserved)
   again_is last done has table said =
