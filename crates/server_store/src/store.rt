@@ -23,8 +23,8 @@ ghost use Rattle.slot_ledger.specs.Tickets.{without};
 ghost use Rattle.store_record.specs.declared.record.StoreRecord.{StoreRecord};
 ghost use Rattle.store_record.specs.declared.record.StoreRecord.TheVariants as records;
 
-use crate::commit::{commit, commit_put};
 use crate::Opened;
+use crate::commit::{commit, commit_put};
 use busy_marks::{MarkKind, Marks};
 use data_device::{Header, RecordLog, StoreError, read_device, write_format};
 use petal_base::{Block, BlockNo, Cell, Epoch, Key, MapId, NoMemory, Sequence, Version};
