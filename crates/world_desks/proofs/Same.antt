@@ -12,21 +12,10 @@ use Rattle.petal_msg.specs.contracts.letter.ActorPartialEq.TheImpl as actors
 use Rattle.petal_msg.specs.contracts.letter.LetterPartialEq.TheImpl as letters
 
 same_body : (a b : Body) → bodies.ghosts.eq a b ≡ true → a ≡ b
-same_body (body.Read client seq cell epoch) (body.Read client' seq' cell' epoch') h = grind (arith, nat_tests)
 same_body (body.Write client seq cell epoch bytes) (body.Write client' seq' cell' epoch' bytes') h = let same = bytes_decides bytes bytes' in grind (arith, nat_tests, same.0)
 same_body (body.Data seq bytes) (body.Data seq' bytes') h = let same = bytes_decides bytes bytes' in grind (arith, nat_tests, same.0)
-same_body (body.NotHere seq) (body.NotHere seq') h = grind (arith, nat_tests)
-same_body (body.BlockBusy seq) (body.BlockBusy seq') h = grind (arith, nat_tests)
-same_body (body.Held seq) (body.Held seq') h = grind (arith, nat_tests)
-same_body (body.WrongRev seq) (body.WrongRev seq') h = grind (arith, nat_tests)
-same_body (body.Written seq) (body.Written seq') h = grind (arith, nat_tests)
-same_body (body.Full seq) (body.Full seq') h = grind (arith, nat_tests)
-same_body (body.Reserve op cell) (body.Reserve op' cell') h = grind (arith, nat_tests)
-same_body (body.Reserved op cell) (body.Reserved op' cell') h = grind (arith, nat_tests)
-same_body (body.PairFull op cell) (body.PairFull op' cell') h = grind (arith, nat_tests)
 same_body (body.Replicate op key version bytes) (body.Replicate op' key' version' bytes') h = let same = bytes_decides bytes bytes' in grind (arith, nat_tests, same.0)
-same_body (body.Replicated op cell) (body.Replicated op' cell') h = grind (arith, nat_tests)
-same_body _ _ h = cc
+same_body _ _ h = grind (arith, nat_tests)
 
 same_actor : (a b : Actor) → actors.ghosts.eq a b ≡ true → a ≡ b
 same_actor (actor.Server n) (actor.Server m) h = grind (arith, nat_tests)

@@ -1,7 +1,8 @@
 //! The servers of a world.
 
 ghost use Rattle.std.specs.Prelude.{◌≡◌, ◌<◌, Some, length, map, slice_get, slice_set, option_copied, IfOk, OnOk};
-ghost use Rattle.world_desks.specs.Desks.{Desk, acted_at, first_desk, site_after};
+ghost use Rattle.world_desks.specs.Desks.{acted_at, first_desk, site_after};
+ghost use Rattle.world_desks.specs.Desks as view;
 
 use crate::Host;
 use petal_base::{NoMemory, Sequence, ServerId, Stamp};
@@ -85,7 +86,7 @@ impl<H: Host> Desks<H> {
         stamp: Stamp,
     ) -> Result<Sequence<Letter>, NoMemory>
         requires { server < length self.old }
-        ensures { IfOk result (λ letters. (desk : Desk) → slice_get self.old server ≡ Some desk
+        ensures { IfOk result (λ letters. (desk : view.Desk) → slice_get self.old server ≡ Some desk
             → (letters ≡ (acted_at desk.site step.now).letters)
             × (self.new ≡ slice_set self.old server (record { site = site_after desk.site step.now; clock = stamp }))) }
     {

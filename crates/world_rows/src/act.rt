@@ -121,6 +121,7 @@ pub fn act_of<'a>(words: &'a [&'a str]) -> Result<Act<'a>, usize> {
         [who, "works"] => Ok(Act::Work(server(who, 1)?)),
         [who, "works", "off"] => Ok(Act::WorkOff(server(who, 1)?)),
         [who, "ticks"] => Ok(Act::Tick(actor(who, 1)?)),
+        [who, ..] if actor(who, 1).is_ok() => Err(2),
         [kind, way] => Ok(Act::Hand(mail_of(kind, way, 1)?)),
         _ => longer(words),
     }

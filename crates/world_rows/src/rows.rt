@@ -109,7 +109,7 @@ fn calls_and_letters(rt: HostRuntime) -> Result<(), Fail> {
 #[test]
 fn bad_words_are_found(rt: HostRuntime) -> Result<(), Fail> {
     let rows: [(&[&str], usize); 9] = [
-        (&["1", "sleeps"], 1),
+        (&["1", "sleeps"], 2),
         (&["a", "works"], 1),
         (&["1", "calls", "2"], 1),
         (&["a", "calls", "two"], 3),
