@@ -26,7 +26,9 @@ record EndsBare (lines : List TextLine) (start : Option Script) (r : Refusal) : 
   line : r.line ≡ 1
   cause : r.cause ≡ NoServersLine
 
-taken_by : (line : TextLine) (lines : List TextLine) (start : Option Script) (s : Script) → ((next : Option Script) → script_from lines next ≡ Ok s → Taken lines next (Some s)) → (v : Result (Option Script) Cause) → line_verdict start line ≡ v → goes_on (script_from lines) line.number v ≡ Ok s → Taken (line ∷ lines) start (Some s)
+taken_by : (line : TextLine) (lines : List TextLine) (start : Option Script) (s : Script)
+    → ((next : Option Script) → script_from lines next ≡ Ok s → Taken lines next (Some s)) → (v : Result (Option Script) Cause)
+    → line_verdict start line ≡ v → goes_on (script_from lines) line.number v ≡ Ok s → Taken (line ∷ lines) start (Some s)
 taken_by line lines start s again (Ok next) verdict is = (next, verdict, again next is)
 taken_by line lines start s again (Err cause) verdict is = absurd (cc)
 
@@ -41,7 +43,10 @@ unfolding script_from
 taken_script [] start s taken = ap ended taken
 taken_script (line ∷ lines) start s taken = ap (goes_on (script_from lines) line.number) taken.1 ∙ taken_script lines taken.0 s taken.2
 
-refused_by : (line : TextLine) (lines : List TextLine) (start : Option Script) (r : Refusal) → ((next : Option Script) → script_from lines next ≡ Err r → RefusedFrom lines next r ⊎ EndsBare lines next r) → (v : Result (Option Script) Cause) → line_verdict start line ≡ v → goes_on (script_from lines) line.number v ≡ Err r → RefusedFrom (line ∷ lines) start r ⊎ EndsBare (line ∷ lines) start r
+refused_by : (line : TextLine) (lines : List TextLine) (start : Option Script) (r : Refusal)
+    → ((next : Option Script) → script_from lines next ≡ Err r → RefusedFrom lines next r ⊎ EndsBare lines next r)
+    → (v : Result (Option Script) Cause) → line_verdict start line ≡ v → goes_on (script_from lines) line.number v ≡ Err r
+    → RefusedFrom (line ∷ lines) start r ⊎ EndsBare (line ∷ lines) start r
 refused_by line lines start r again (Ok next) verdict is = elim (again next is) [
   | inl h ↦ inl (record { front = line ∷ h.front; line = h.line; behind = h.behind; before = h.before; lies = ap (λ ls. line ∷ ls) h.lies; taken = (next, verdict, h.taken); wrong = h.wrong; number = h.number })
   | inr h ↦ inr (record { taken = (next, verdict, h.taken); line = h.line; cause = h.cause })
@@ -50,7 +55,8 @@ refused_by line lines start r again (Err cause) verdict is =
     let e : r ≡ record { line = line.number; cause = cause } = cc in
     inl (record { front = []; line = line; behind = lines; before = start; lies = refl; taken = refl; wrong = verdict ∙ ap (λ x. Err x.cause) (sym e); number = ap (λ x. x.line) e })
 
-script_refused : (lines : List TextLine) (start : Option Script) (r : Refusal) → script_from lines start ≡ Err r → RefusedFrom lines start r ⊎ EndsBare lines start r
+script_refused : (lines : List TextLine) (start : Option Script) (r : Refusal) → script_from lines start ≡ Err r
+    → RefusedFrom lines start r ⊎ EndsBare lines start r
 unfolding script_from
 script_refused [] None r is =
     let e : r ≡ record { line = 1; cause = NoServersLine } = cc in
@@ -61,7 +67,8 @@ script_refused (line ∷ lines) start r is = refused_by line lines start r (λ n
 shown : (r : Refusal) (n : ℕ) (cause : Cause) → r.line ≡ n → r.cause ≡ cause → record { line = n; cause = cause } ≡ r
 shown r n cause line is = ap (λ m. record { line = m; cause = cause }) (sym line) ∙ ap (λ d. record { line = r.line; cause = d }) (sym is)
 
-refused_script : (front : List TextLine) (line : TextLine) (behind : List TextLine) (start before : Option Script) (r : Refusal) → Taken front start before → line_verdict before line ≡ Err r.cause → r.line ≡ line.number → script_from (front ++ line ∷ behind) start ≡ Err r
+refused_script : (front : List TextLine) (line : TextLine) (behind : List TextLine) (start before : Option Script) (r : Refusal)
+    → Taken front start before → line_verdict before line ≡ Err r.cause → r.line ≡ line.number → script_from (front ++ line ∷ behind) start ≡ Err r
 unfolding script_from
 refused_script [] line behind start before r taken wrong number =
     ap (λ b. goes_on (script_from behind) line.number (line_verdict b line)) taken
@@ -70,7 +77,8 @@ refused_script [] line behind start before r taken wrong number =
 refused_script (first ∷ front) line behind start before r taken wrong number =
     ap (goes_on (script_from (front ++ line ∷ behind)) first.number) taken.1 ∙ refused_script front line behind taken.0 before r taken.2 wrong number
 
-bare_script : (lines : List TextLine) (start : Option Script) (r : Refusal) → Taken lines start None → r.line ≡ 1 → r.cause ≡ NoServersLine → script_from lines start ≡ Err r
+bare_script : (lines : List TextLine) (start : Option Script) (r : Refusal) → Taken lines start None → r.line ≡ 1 → r.cause ≡ NoServersLine
+    → script_from lines start ≡ Err r
 unfolding script_from
 bare_script [] start r taken line cause = ap ended taken ∙ ap Err (shown r 1 NoServersLine line cause)
 bare_script (first ∷ lines) start r taken line cause = ap (goes_on (script_from lines) first.number) taken.1 ∙ bare_script lines taken.0 r taken.2 line cause

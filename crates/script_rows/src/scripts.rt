@@ -155,15 +155,26 @@ op blank 1/op stop 2 | accepted";
 const BEFORE: &str =
     "servers 3 slots 4/net lose 2/net twice 3/a disk v on 0 1 2/op stop 1 at 1/wait/";
 
-fn spelled(alloc: Global, before: &str, text: &str) -> Result<Vec<u8>, Fail> {
-    let mut bytes = Vec::new(alloc);
-    for b in before.as_bytes().iter().chain(text.as_bytes().iter()) {
-        bytes.push(match *b {
-            b'/' => b'\n',
-            b'~' => b'\r',
-            other => other,
-        })?;
+/// The byte for which a row's byte stands.
+fn byte_of(byte: u8) -> u8 {
+    match byte {
+        b'/' => b'\n',
+        b'~' => b'\r',
+        other => other,
     }
+}
+
+fn spell(bytes: &mut Vec<u8>, text: &str) -> Result<(), AllocError> {
+    for byte in text.as_bytes() {
+        bytes.push(byte_of(*byte))?;
+    }
+    Ok(())
+}
+
+fn spelled(alloc: Global, before: &str, text: &str) -> Result<Vec<u8>, AllocError> {
+    let mut bytes = Vec::new(alloc);
+    spell(&mut bytes, before)?;
+    spell(&mut bytes, text)?;
     Ok(bytes)
 }
 
@@ -321,10 +332,14 @@ fn what_is_read(rt: HostRuntime) -> Result<(), Fail> {
     Ok(())
 }
 
+fn print(alloc: Global, out: &mut Vec<u8>, answer: Answer) -> Result<(), NoMemory> {
+    write_answer(alloc, out, 4, &answer)
+}
+
 /// Prints the answer of a read that found such a block.
 fn print_block(alloc: Global, out: &mut Vec<u8>, pattern: Pattern) -> Result<(), NoMemory> {
     let block = SharedBlock::new(alloc, pattern.block(alloc)?)?;
-    write_answer(alloc, out, 4, &Answer::Data(block))
+    print(alloc, out, Answer::Data(block))
 }
 
 /// The digest is that of the 65,536 bytes 7, 8, .., 255, 0, .., as another program computes it.
@@ -343,14 +358,14 @@ fn contents_are_printed(rt: HostRuntime) -> Result<(), Fail> {
 }
 
 fn print_words(alloc: Global, out: &mut Vec<u8>) -> Result<(), NoMemory> {
-    write_answer(alloc, out, 4, &Answer::Ok)?;
-    write_answer(alloc, out, 4, &Answer::NoSpace)?;
-    write_answer(alloc, out, 4, &Answer::Unavailable)?;
-    write_answer(alloc, out, 4, &Answer::NoDisk)?;
-    write_answer(alloc, out, 4, &Answer::NoSnap)?;
-    write_answer(alloc, out, 4, &Answer::Exists)?;
-    write_answer(alloc, out, 4, &Answer::Moving)?;
-    write_answer(alloc, out, 4, &Answer::Failed)?;
+    print(alloc, out, Answer::Ok)?;
+    print(alloc, out, Answer::NoSpace)?;
+    print(alloc, out, Answer::Unavailable)?;
+    print(alloc, out, Answer::NoDisk)?;
+    print(alloc, out, Answer::NoSnap)?;
+    print(alloc, out, Answer::Exists)?;
+    print(alloc, out, Answer::Moving)?;
+    print(alloc, out, Answer::Failed)?;
     write_refusal(alloc, out, 20, Cause::NoMajority.text())
 }
 
