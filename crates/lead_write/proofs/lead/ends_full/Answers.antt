@@ -17,9 +17,11 @@ give_back-requires-clause-out g c = λ _ _ slot is.
 pub returns : goal.returns
 returns g c =
     let op = c.args.op.now in
+    let after : Side = record { next = c.side.inside.next; pending = c.side.inside.locks; finished = c.side.inside.finished; last = c.side.inside.last;
+        own = c.side.inside.own; apart = c.side.inside.apart } in
     let said = rw (← c.side.view_is) at c.in_ok-done.ensures in
-    let same = finished_pending c.args.here.now c.args.side.now _ c.args.store.now op c.in_ok-done.done said in
+    let same = finished_pending c.args.here.now c.args.side.now after c.args.store.now op c.in_ok-done.done said in
     let there = ap (λ (t : Table Cell Pending). at cell_cmp t op.cell) same ∙ c.requires.there in
-    let slot = full_slot _ c.args.store.now op said.keeps there c.requires.waits in
-    full_is c.args.here.now c.args.side.now _ c.args.store.now op c.in_ok-done.done c.close.new.self c.give_back.new.table c.give_back.new.store slot.0
+    let slot = full_slot after c.args.store.now op said.keeps there c.requires.waits in
+    full_is c.args.here.now c.args.side.now after c.args.store.now op c.in_ok-done.done c.close.new.self c.give_back.new.table c.give_back.new.store slot.0
     c.close.ensures.table c.give_back.ensures.sorted slot.1 c.give_back.ensures.table (c.give_back.ensures.store slot.0 slot.1) said

@@ -22,9 +22,11 @@ returns-then-op g c =
 pub returns : goal.returns
 returns g c =
     rw (← c.side.view_is)
-    (let h = rw (← c.side.view_is) at c.requires.tickets in
+    (let before : Side = record { next = c.side.inside.next; pending = c.side.inside.locks; finished = c.side.inside.finished; last = c.side.inside.last;
+        own = c.side.inside.own; apart = c.side.inside.apart } in
+    let h = rw (← c.side.view_is) at c.requires.tickets in
     let m = rw (← c.side.view_is) at c.requires.moved in
-    let slot = own_slot c.args.here.now _ c.args.store.now c.args.op.now h m c.if-op.false in
-    ends_unused c.args.here.now _ c.args.store.now c.args.op.now h m c.close.new.self c.give_back.new.table slot.0 c.give_back.new.store c.only-2.result
+    let slot = own_slot c.args.here.now before c.args.store.now c.args.op.now h m c.if-op.false in
+    ends_unused c.args.here.now before c.args.store.now c.args.op.now h m c.close.new.self c.give_back.new.table slot.0 c.give_back.new.store c.only-2.result
     c.if-op.false c.close.ensures.table c.give_back.ensures.sorted slot.1 c.give_back.ensures.table (c.give_back.ensures.store slot.0 slot.1)
     (c.only-2.ensures ∙ ap only c.new-2.ensures))

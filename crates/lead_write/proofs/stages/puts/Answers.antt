@@ -16,17 +16,19 @@ spend-requires-clause-out g c = λ _ _ slot is.
 pub returns-clause-job : goal.returns-clause-job
 returns-clause-job g c =
     rw (← c.side.view_is)
-    (let h = rw (← c.side.view_is) at c.requires.tickets in
+    (let before : Side = record { next = c.side.inside.next; pending = c.side.inside.locks; finished = c.side.inside.finished; last = c.side.inside.last;
+        own = c.side.inside.own; apart = c.side.inside.apart } in
+    let h = rw (← c.side.view_is) at c.requires.tickets in
     let m = rw (← c.side.view_is) at c.requires.moved in
-    let slot = own_slot c.args.here.now _ c.args.store.now c.args.op.now h m c.requires.put in
+    let slot = own_slot c.args.here.now before c.args.store.now c.args.op.now h m c.requires.put in
     let table = rw c.put_stage.ensures at c.set_put.ensures.table in
     record {
       done = λ told.
-          puts_done c.args.here.now _ c.args.store.now c.args.op.now h m c.set_put.new.self c.spend.new.table c.spend.new.store c.next_version-version.result _
+          puts_done c.args.here.now before c.args.store.now c.args.op.now h m c.set_put.new.self c.spend.new.table c.spend.new.store c.next_version-version.result _
           table c.next_version-version.ensures (c.in_ok-spend.ensures.ok told)
           (ap (λ (letters : List Letter). record { letters = letters; follow = Some c.args.op.now.cell }) c.new.ensures);
       keeps =
-          puts_keeps c.args.here.now _ c.args.store.now c.args.op.now h m c.set_put.new.self c.spend.new.table slot.0 c.next_version-version.result c.spend.new.store.tickets
+          puts_keeps c.args.here.now before c.args.store.now c.args.op.now h m c.set_put.new.self c.spend.new.table slot.0 c.next_version-version.result c.spend.new.store.tickets
           table c.in_ok-spend.ensures.sorted slot.1 c.in_ok-spend.ensures.table (c.in_ok-spend.ensures.tickets slot.0 slot.1) c.requires.reserved;
       holds = c.in_ok-spend.ensures.holds;
       still = λ no. absurd (cc);
