@@ -7,7 +7,7 @@ ghost use Rattle.plain_schedule.specs.Places.{GoesOn};
 ghost use Rattle.plain_schedule.specs.Whole.{begins_with_disk};
 
 use crate::caller::{Caller, callers_of};
-use crate::cast::first_state;
+use crate::cast::fixed_state;
 use crate::patience::Patience;
 use crate::post::{Handing, Post};
 use memory_server::{MemServer, members};
@@ -53,7 +53,7 @@ fn world_of(alloc: Global, script: Script) -> Result<World<MemServer>, NoMemory>
     ensures script { IfOk result (λ world. world.script ≡ script) }
     ensures records { IfOk result (λ world. world.records ≡ []) }
 {
-    let state = first_state(alloc, &script)?;
+    let state = fixed_state(alloc, &script)?;
     let members = members(alloc, &script, &state)?;
     World::start(alloc, script, &state, members)
 }

@@ -3,54 +3,85 @@
 use link_table::{LinkState, Links};
 use petal_base::{MapId, NoMemory, ServerId, Tuple};
 use std::alloc::Global;
-use std::process::Abort;
 use std::test::Fail;
 
-fn state(links: &Links, map: MapId, link: u8) -> Option<LinkState> {
-    links.get(map, link).map(|row| row.state)
+fn is_both(links: &Links, map: MapId, link: u8) -> bool {
+    match links.get(map, link) {
+        Some(row) => match row.state {
+            LinkState::Both => true,
+            _ => false,
+        },
+        None => false,
+    }
 }
 
-fn only(holder: ServerId, whole: bool) -> Option<LinkState> {
-    Some(LinkState::Only { holder, whole })
+fn is_lost(links: &Links, map: MapId, link: u8) -> bool {
+    match links.get(map, link) {
+        Some(row) => match row.state {
+            LinkState::Lost => true,
+            _ => false,
+        },
+        None => false,
+    }
 }
 
-fn add_two_maps(
-    rt: &impl Abort,
-    alloc: Global,
-    links: &mut Links,
-    tuple: &Tuple,
-) -> Result<(), NoMemory> {
+/// Whether the server has the link alone, and has to give all of it (`wants_whole`) or what is marked.
+fn is_only(links: &Links, map: MapId, link: u8, server: ServerId, wants_whole: bool) -> bool {
+    match links.get(map, link) {
+        Some(row) => match row.state {
+            LinkState::Only { holder, whole } => holder == server && whole == wants_whole,
+            _ => false,
+        },
+        None => false,
+    }
+}
+
+/// The map 0 while all servers are up, and the map 1 while only the middle one is.
+fn two_maps(alloc: Global, links: &mut Links, tuple: &Tuple) -> Result<(), NoMemory> {
     links.add_map(alloc, 0, tuple, &[true, true, true])?;
-    links.add_map(alloc, 1, tuple, &[false, true])?;
-    assert_eq!(rt; links.rows().len(), 6);
-    assert_eq!(rt; state(links, 0, 2), Some(LinkState::Both));
-    assert_eq!(rt; state(links, 1, 0), only(1, false));
-    assert_eq!(rt; state(links, 1, 1), only(1, false));
-    assert_eq!(rt; state(links, 1, 2), only(2, false));
-    Ok(())
+    links.add_map(alloc, 1, tuple, &[false, true])
 }
 
-fn leave_and_come_back(rt: &impl Abort, alloc: Global, links: &mut Links) -> Result<(), NoMemory> {
+fn are_as_made(links: &Links) -> bool {
+    links.rows().len() == 6
+        && is_both(links, 0, 2)
+        && is_only(links, 1, 0, 1, false)
+        && is_only(links, 1, 1, 1, false)
+        && is_only(links, 1, 2, 2, false)
+}
+
+fn are_left(links: &Links) -> bool {
+    is_only(links, 0, 0, 0, false) && is_only(links, 0, 1, 2, false)
+}
+
+fn are_joined(links: &Links) -> bool {
+    is_only(links, 0, 0, 0, true) && is_lost(links, 1, 0)
+}
+
+/// Server 1 leaves and comes back blank, and is given the blocks of one link.
+fn leave_and_come_back(alloc: Global, links: &mut Links) -> Result<bool, NoMemory> {
     links.leave(alloc, 1)?;
-    assert_eq!(rt; state(links, 0, 0), only(0, false));
-    assert_eq!(rt; state(links, 0, 1), only(2, false));
+    let left = are_left(links);
     links.join(alloc, 1, true)?;
-    assert_eq!(rt; state(links, 0, 0), only(0, true));
-    assert_eq!(rt; state(links, 1, 0), Some(LinkState::Lost));
+    let joined = are_joined(links);
     links.caught(alloc, 0, 1)?;
-    assert_eq!(rt; state(links, 0, 1), Some(LinkState::Both));
-    Ok(())
+    Ok(left && joined && is_both(links, 0, 1))
+}
+
+/// The map 1 goes; the other stays, in a copy too.
+fn drop_one(alloc: Global, links: &mut Links) -> Result<bool, NoMemory> {
+    links.drop_map(alloc, 1)?;
+    let same = links.copy()?;
+    Ok(same.rows().len() == 3 && same.get(1, 0).is_none())
 }
 
 #[test]
 fn links(rt: HostRuntime) -> Result<(), Fail> {
     let tuple = Tuple::new(&[0, 1, 2], 5).ok_or("a tuple")?;
     let mut links = Links::new(rt.alloc());
-    add_two_maps(&rt, rt.alloc(), &mut links, &tuple)?;
-    leave_and_come_back(&rt, rt.alloc(), &mut links)?;
-    links.drop_map(rt.alloc(), 1)?;
-    let same = links.copy()?;
-    assert_eq!(rt; same.rows().len(), 3);
-    assert_eq!(rt; state(&same, 1, 0), None);
+    two_maps(rt.alloc(), &mut links, &tuple)?;
+    assert!(rt; are_as_made(&links));
+    assert!(rt; leave_and_come_back(rt.alloc(), &mut links)?);
+    assert!(rt; drop_one(rt.alloc(), &mut links)?);
     Ok(())
 }

@@ -1,5 +1,5 @@
 use Rattle.std.proofs.Common.{rules}
-use Rattle.plain_schedule.proofs.First.{has_disk}
+use Rattle.plain_schedule.proofs.First.{in_first}
 use Rattle.plain_schedule.proofs.cast.fixed_state.Goals as goal
 
 pub fixed-requires : goal.fixed-requires
