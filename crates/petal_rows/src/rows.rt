@@ -44,8 +44,8 @@ const NO_FORM: Row = Row {
 };
 
 #[test]
-fn scripts(rt: HostRuntime) -> Result<(), Fail> {
-    let rows: [Row; 8] = [
+fn whole_sessions(rt: HostRuntime) -> Result<(), Fail> {
+    let rows: [Row; 2] = [
         RUN,
         Row {
             shows: "two writes fill two slots, the third is refused and the first stays",
@@ -54,6 +54,16 @@ fn scripts(rt: HostRuntime) -> Result<(), Fail> {
             written: &["2: ok\n3: ok\n4: ok\n5: nospace\n6: data 65536x1\n"],
             ..RUN
         },
+    ];
+    for row in &rows {
+        assert!(rt; is_so(&rt, rt.alloc(), row)?, "{}", row.shows);
+    }
+    Ok(())
+}
+
+#[test]
+fn lines_that_are_refused(rt: HostRuntime) -> Result<(), Fail> {
+    let rows: [Row; 3] = [
         Row {
             shows: "a word that is no command",
             lines: "wirte vol 1\n",
@@ -72,6 +82,16 @@ fn scripts(rt: HostRuntime) -> Result<(), Fail> {
             written: &["refused line 2: no majority\n"],
             ..REFUSED
         },
+    ];
+    for row in &rows {
+        assert!(rt; is_so(&rt, rt.alloc(), row)?, "{}", row.shows);
+    }
+    Ok(())
+}
+
+#[test]
+fn lines_that_are_not_built_yet(rt: HostRuntime) -> Result<(), Fail> {
+    let rows: [Row; 3] = [
         Row {
             shows: "a stop of one of three servers is not built yet",
             start: "servers 3 slots 4\na disk vol on 0 1\n",
@@ -99,8 +119,8 @@ fn scripts(rt: HostRuntime) -> Result<(), Fail> {
 }
 
 #[test]
-fn scripts_of_one_disk(rt: HostRuntime) -> Result<(), Fail> {
-    let rows: [Row; 9] = [
+fn blocks_of_one_byte(rt: HostRuntime) -> Result<(), Fail> {
+    let rows: [Row; 3] = [
         Row {
             shows: "a block that was never written is zeros",
             lines: "a read vol 5",
@@ -119,6 +139,16 @@ fn scripts_of_one_disk(rt: HostRuntime) -> Result<(), Fail> {
             written: &["2: ok\n4: ok\n5: data 65536x9\n"],
             ..ON_DISK
         },
+    ];
+    for row in &rows {
+        assert!(rt; is_so(&rt, rt.alloc(), row)?, "{}", row.shows);
+    }
+    Ok(())
+}
+
+#[test]
+fn the_greatest_block_and_long_answers(rt: HostRuntime) -> Result<(), Fail> {
+    let rows: [Row; 2] = [
         Row {
             shows: "one block number more",
             lines: "a read vol 281474976710656",
@@ -134,6 +164,16 @@ fn scripts_of_one_disk(rt: HostRuntime) -> Result<(), Fail> {
             ],
             ..ON_DISK
         },
+    ];
+    for row in &rows {
+        assert!(rt; is_so(&rt, rt.alloc(), row)?, "{}", row.shows);
+    }
+    Ok(())
+}
+
+#[test]
+fn two_clients_write_one_block(rt: HostRuntime) -> Result<(), Fail> {
+    let rows: [Row; 2] = [
         Row {
             shows: "two clients write one block of three servers",
             start: "servers 3 slots 4\na disk vol on 0 1 2\n",
@@ -148,6 +188,16 @@ fn scripts_of_one_disk(rt: HostRuntime) -> Result<(), Fail> {
             written: RACED,
             ..RUN
         },
+    ];
+    for row in &rows {
+        assert!(rt; is_so(&rt, rt.alloc(), row)?, "{}", row.shows);
+    }
+    Ok(())
+}
+
+#[test]
+fn letters_that_are_lost_and_doubled(rt: HostRuntime) -> Result<(), Fail> {
+    let rows: [Row; 2] = [
         Row {
             shows: "each letter is handed over once",
             start: "servers 3 slots 4\n",

@@ -1,10 +1,9 @@
 //! Runs of the log, worked by hand from the rules.
 
 use global_state::{GlobalState, LinkState, Verdict};
-use petal_base::{Cell, Inc, Name, NoMemory, Rev, Seq, Tuple};
+use petal_base::{BlockNo, Cell, Inc, MapId, Name, NoMemory, Rev, Seq, ServerId, Tuple};
 use petal_command::{ClientNumber, Command, LinkNumber, RegionNumber, ServerNumber};
 use std::alloc::Global;
-use std::process::Abort;
 use std::test::Fail;
 
 fn server(n: u8) -> ServerNumber {
@@ -85,20 +84,53 @@ fn all_drained(
     Ok(())
 }
 
-fn states(state: &GlobalState) -> [Option<LinkState>; 3] {
-    [
-        link_state(state, 0),
-        link_state(state, 1),
-        link_state(state, 2),
-    ]
+fn is_both(state: &GlobalState, link: u8) -> bool {
+    match state.link(0, link) {
+        Some(link) => match link.state {
+            LinkState::Both => true,
+            _ => false,
+        },
+        None => false,
+    }
 }
 
-fn link_state(state: &GlobalState, link: u8) -> Option<LinkState> {
-    state.link(0, link).map(|link| link.state)
+fn is_lost(state: &GlobalState, link: u8) -> bool {
+    match state.link(0, link) {
+        Some(link) => match link.state {
+            LinkState::Lost => true,
+            _ => false,
+        },
+        None => false,
+    }
 }
 
-fn only(holder: u8, whole: bool) -> Option<LinkState> {
-    Some(LinkState::Only { holder, whole })
+/// Whether the server has the link alone, and has to give all of it (`wants_whole`) or what is marked.
+fn is_only(state: &GlobalState, link: u8, server: ServerId, wants_whole: bool) -> bool {
+    match state.link(0, link) {
+        Some(link) => match link.state {
+            LinkState::Only { holder, whole } => holder == server && whole == wants_whole,
+            _ => false,
+        },
+        None => false,
+    }
+}
+
+/// Whether the server takes writes of the cell.
+fn leads(state: &GlobalState, server: ServerId, map: MapId, block: BlockNo) -> bool {
+    state.is_lead(server, Cell { map, block })
+}
+
+/// Whether nobody takes writes of the cell.
+fn has_no_lead(state: &GlobalState, map: MapId, block: BlockNo) -> bool {
+    state.lead(Cell { map, block }).is_none()
+}
+
+/// Whether this became of the client's command of this number, its last one.
+fn is_told(state: &GlobalState, seq: Seq, want: Verdict) -> bool {
+    match state.verdict(0) {
+        Some((number, verdict)) => number == seq && verdict == want,
+        None => false,
+    }
 }
 
 fn vol() -> Result<Name, Fail> {
@@ -125,55 +157,65 @@ fn blank_and_back(alloc: Global, state: &mut GlobalState) -> Result<(), NoMemory
     run(alloc, state, &log)
 }
 
-fn leave_and_join(rt: &impl Abort, alloc: Global, state: &mut GlobalState) -> Result<(), NoMemory> {
+fn are_left(state: &GlobalState) -> bool {
+    is_only(state, 0, 0, false)
+        && is_only(state, 1, 2, false)
+        && is_only(state, 2, 3, false)
+        && has_no_lead(state, 0, 1)
+}
+
+fn are_blank(state: &GlobalState) -> bool {
+    is_only(state, 0, 0, false) && is_lost(state, 1) && is_only(state, 2, 3, true)
+}
+
+/// Whether servers 2 and 3 both keep the cell's copies, and server 2 puts first.
+fn are_a_pair(state: &GlobalState, cell: Cell) -> bool {
+    state.first(cell) == Some(2)
+        && state.second(cell) == Some(3)
+        && state.is_second(3, cell)
+        && state.leads_link(2, cell)
+}
+
+fn leave_and_join(alloc: Global, state: &mut GlobalState) -> Result<bool, NoMemory> {
     run(alloc, state, &[leave(1, 1), leave(2, 1)])?;
-    assert_eq!(rt;
-        states(state),
-        [only(0, false), only(2, false), only(3, false)]
-    );
-    assert_eq!(rt; state.lead(Cell { map: 0, block: 1 }), None);
+    let left = are_left(state);
     blank_and_back(alloc, state)?;
-    assert_eq!(rt;
-        states(state),
-        [only(0, false), Some(LinkState::Lost), only(3, true)]
-    );
+    let blank = are_blank(state);
     run(alloc, state, &[caught(2, 3, 2, 2)])?;
-    assert!(rt; state.readable(2, Cell { map: 0, block: 2 }));
-    Ok(())
+    let cell = Cell { map: 0, block: 2 };
+    Ok(left && blank && is_both(state, 2) && are_a_pair(state, cell) && state.readable(2, cell))
 }
 
 #[test]
 fn servers_leave_and_join(rt: HostRuntime) -> Result<(), Fail> {
     let mut state = disk_over_five(rt.alloc())?;
-    leave_and_join(&rt, rt.alloc(), &mut state)?;
+    assert!(rt; leave_and_join(rt.alloc(), &mut state)?);
     Ok(())
 }
 
-fn report_one_by_one(
-    rt: &impl Abort,
-    alloc: Global,
-    state: &mut GlobalState,
-    s1: &Name,
-) -> Result<(), Fail> {
+/// The snapshot is asked for, server 0 reports, and server 4 leaves, so that server 0 has to report again.
+fn ask_for_a_snapshot(alloc: Global, state: &mut GlobalState, s1: &Name) -> Result<(), Fail> {
     let vol = vol()?;
-    run(
-        alloc,
-        state,
-        &[snap(2, &vol, s1), drained(0, 1), leave(4, 1)],
-    )?;
-    all_drained(alloc, state, 1, 4, 1)?;
-    assert_eq!(rt; state.verdict(0), Some((2, Verdict::Waiting)));
-    all_drained(alloc, state, 0, 1, 1)?;
-    assert_eq!(rt; state.verdict(0), Some((2, Verdict::Ok)));
-    assert_eq!(rt; state.snapshot(0, s1), Some(0));
+    let log = [snap(2, &vol, s1), drained(0, 1), leave(4, 1)];
+    run(alloc, state, &log)?;
     Ok(())
+}
+
+fn report_one_by_one(alloc: Global, state: &mut GlobalState) -> Result<bool, NoMemory> {
+    all_drained(alloc, state, 1, 4, 1)?;
+    let waits = is_told(state, 2, Verdict::Waiting);
+    all_drained(alloc, state, 0, 1, 1)?;
+    Ok(waits && is_told(state, 2, Verdict::Ok))
 }
 
 #[test]
 fn a_snapshot_waits_for_reports(rt: HostRuntime) -> Result<(), Fail> {
     let s1 = Name::read(b"s1").ok_or("a name")?;
     let mut state = disk_over_five(rt.alloc())?;
-    report_one_by_one(&rt, rt.alloc(), &mut state, &s1)
+    ask_for_a_snapshot(rt.alloc(), &mut state, &s1)?;
+    assert!(rt; report_one_by_one(rt.alloc(), &mut state)?);
+    assert!(rt; state.snapshot(0, &s1) == Some(0));
+    Ok(())
 }
 
 fn start_move(seq: Seq, disk: &Name, tuple: &Tuple) -> Command {
@@ -213,37 +255,39 @@ fn disk_on_the_move(alloc: Global) -> Result<GlobalState, Fail> {
     Ok(state)
 }
 
-fn refuse_a_move(rt: &impl Abort, alloc: Global, state: &mut GlobalState) -> Result<(), NoMemory> {
-    assert_eq!(rt; state.verdict(0), Some((3, Verdict::Moving)));
-    assert_eq!(rt; state.lead(Cell { map: 0, block: 8 }), Some(0));
+fn passes_its_first_region(alloc: Global, state: &mut GlobalState) -> Result<bool, NoMemory> {
+    let before = leads(state, 0, 0, 8);
     pass_region(alloc, state, 0)?;
-    assert_eq!(rt; state.lead(Cell { map: 0, block: 0 }), None);
-    assert_eq!(rt; state.lead(Cell { map: 1, block: 0 }), Some(1));
-    assert_eq!(rt; state.lead(Cell { map: 0, block: 8 }), Some(0));
-    Ok(())
+    let passed = has_no_lead(state, 0, 0) && leads(state, 1, 1, 0);
+    Ok(before && passed && leads(state, 0, 0, 8))
 }
 
 #[test]
 fn a_second_move_is_refused(rt: HostRuntime) -> Result<(), Fail> {
     let mut state = disk_on_the_move(rt.alloc())?;
-    refuse_a_move(&rt, rt.alloc(), &mut state)?;
+    assert!(rt; is_told(&state, 3, Verdict::Moving));
+    assert!(rt; passes_its_first_region(rt.alloc(), &mut state)?);
     Ok(())
 }
 
-fn end_a_move(rt: &impl Abort, alloc: Global, state: &mut GlobalState) -> Result<(), NoMemory> {
+fn end_a_move(alloc: Global, state: &mut GlobalState) -> Result<(), NoMemory> {
     for region in 0..16 {
         pass_region(alloc, state, region)?;
     }
-    assert_eq!(rt; link_state(state, 0), None);
-    assert!(rt; !state.live(Cell { map: 0, block: 8 }));
-    assert_eq!(rt; state.lead(Cell { map: 1, block: 8 }), Some(1));
-    assert!(rt; state.fence().is_none());
     Ok(())
+}
+
+fn has_ended(state: &GlobalState) -> bool {
+    state.link(0, 0).is_none()
+        && !state.live(Cell { map: 0, block: 8 })
+        && leads(state, 1, 1, 8)
+        && state.fence().is_none()
 }
 
 #[test]
 fn a_move_ends_with_its_last_region(rt: HostRuntime) -> Result<(), Fail> {
     let mut state = disk_on_the_move(rt.alloc())?;
-    end_a_move(&rt, rt.alloc(), &mut state)?;
+    end_a_move(rt.alloc(), &mut state)?;
+    assert!(rt; has_ended(&state));
     Ok(())
 }

@@ -64,12 +64,16 @@ fn word_of(told: &Told) -> &'static str {
 
 /// Whether these words are those of what is told, after the disk.
 pub fn tells(told: &[Told], words: &[&str]) -> bool {
-    told.len() == words.len() + 1
-        && told
-            .iter()
-            .skip(1)
-            .zip(words)
-            .all(|(told, word)| word_of(told) == *word)
+    match told.split_first() {
+        None => false,
+        Some((_disk, told)) => {
+            told.len() == words.len()
+                && told
+                    .iter()
+                    .zip(words.iter())
+                    .all(|(told, word)| word_of(told) == *word)
+        }
+    }
 }
 
 /// The name of the disk that the line makes.

@@ -71,7 +71,7 @@ impl Player {
 
     // The letter is gone from now on.
     fn remove(&mut self, at: usize) -> Result<(), NoMemory> {
-        while self.gone.len() <= at {
+        for _ in self.gone.len()..at.saturating_add(1) {
             self.gone.push(false)?;
         }
         if let Some(gone) = self.gone.get_mut(at) {

@@ -110,10 +110,12 @@ fn fail(row: &Row, at: usize, words: &[&str], fault: Fault) -> Fail {
 }
 
 fn walk(alloc: Global, row: &Row, player: &mut Player) -> Result<(), Fail> {
-    for (at, step) in row.steps.split(';').enumerate() {
+    let mut at = 0usize;
+    for step in row.steps.split(';') {
+        at = at.saturating_add(1);
         let words: Vec<&str> = step.split_whitespace().collect(alloc)?;
         if let Some(fault) = fault_of(alloc, player, &words)? {
-            return Err(fail(row, at.saturating_add(1), &words, fault));
+            return Err(fail(row, at, &words, fault));
         }
     }
     match player.first_refused(alloc)? {

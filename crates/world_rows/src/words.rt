@@ -111,12 +111,13 @@ pub fn mail_of<'a>(kind: &'a str, way: &str, place: usize) -> Result<Mail<'a>, u
     if !is_kind(kind) {
         return Err(place);
     }
+    let place = place.saturating_add(1);
     let Some((from, to)) = way.split_once('>') else {
-        return Err(place + 1);
+        return Err(place);
     };
     Ok(Mail {
         kind,
-        from: actor(from, place + 1)?,
-        to: actor(to, place + 1)?,
+        from: actor(from, place)?,
+        to: actor(to, place)?,
     })
 }
