@@ -158,28 +158,10 @@ fn two_ballots<D: Disk>(
     Ok(())
 }
 
-// Each store is made by a function of its own, whose exits give up that store alone.
-fn with_a_third(
-    rt: &impl Abort,
-    alloc: Global,
-    zero: &mut StateStore<MemDisk>,
-    one: &mut StateStore<MemDisk>,
-) -> Result<(), Fail> {
-    let mut two = store(alloc)?;
-    two_ballots(rt, zero, one, &mut two)
-}
-
-fn with_a_second(
-    rt: &impl Abort,
-    alloc: Global,
-    zero: &mut StateStore<MemDisk>,
-) -> Result<(), Fail> {
-    let mut one = store(alloc)?;
-    with_a_third(rt, alloc, zero, &mut one)
-}
-
 #[test]
 fn late_ballot_is_refused(rt: HostRuntime) -> Result<(), Fail> {
     let mut zero = store(rt.alloc())?;
-    with_a_second(&rt, rt.alloc(), &mut zero)
+    let mut one = store(rt.alloc())?;
+    let mut two = store(rt.alloc())?;
+    two_ballots(&rt, &mut zero, &mut one, &mut two)
 }

@@ -6,22 +6,22 @@
 #![tactic(auto)]
 
 mod block;
+mod cell;
 mod memory;
 mod name;
 mod number;
-mod cell;
 mod sequence;
 mod shared;
 mod tuple;
 
 pub use block::{BLOCK_BYTES, Block};
+pub use cell::{Cell, Key};
 pub use memory::NoMemory;
 pub use name::{NAME_BYTES, Name};
 pub use number::{
     BLOCKS, BlockNo, CLIENTS, ClientId, DiskId, Epoch, Inc, MAX_SERVERS, MapId, OPERATOR, Op,
     REGIONS, Rev, Seq, ServerId, Stamp, Version,
 };
-pub use cell::{Cell, Key};
 pub use sequence::Sequence;
 pub use shared::SharedBlock;
 pub use tuple::Tuple;

@@ -11,7 +11,7 @@ ghost use Rattle.petal_world.specs.declared.seat.Seat.{Seat};
 use crate::seat::Seat;
 use client_core::{ClientCore, Reaction};
 use global_state::GlobalState;
-use petal_base::{ClientId, NoMemory, Sequence, Stamp};
+use petal_base::{CLIENTS, ClientId, NoMemory, Sequence, Stamp};
 use petal_rules::Step;
 use script_lines::{Line, Script};
 use std::alloc::Global;
@@ -63,9 +63,6 @@ fn first_seat(
         lines: lines_of(alloc, script.lines.as_slice(), client)?,
     })
 }
-
-/// How many clients there are, the operator counted.
-const CLIENTS: u8 = 9;
 
 impl Seats {
     /// The clients of a run that begins.

@@ -11,16 +11,13 @@ use crate::cast::fixed_state;
 use crate::patience::Patience;
 use crate::post::{Handing, Post};
 use memory_server::{MemServer, members};
-use petal_base::{ClientId, NoMemory, ServerId};
+use petal_base::{CLIENTS, ClientId, NoMemory, ServerId};
 use petal_msg::{Actor, Body, Letter, SharedLetter};
 use petal_rules::{Step, WorkEnd};
 use petal_world::{Stepped, World, WorldError};
 use script_lines::Script;
 use std::alloc::Global;
 use std::sync::Wait;
-
-/// The clients `a` to `h` and the operator.
-const CLIENTS: u8 = 9;
 
 /// A world in the middle of a run: the letters that are on their way, what each client has still to call, how long each server
 /// waits to be ticked, the phase, and how many of its lines have no answer yet.

@@ -17,8 +17,14 @@ give_back-requires-clause-out g c = λ _ _ slot is.
 pub returns : goal.returns
 returns g c =
     let op = c.args.op.now in
-    let after : Side = record { next = c.side.inside.next; pending = c.side.inside.locks; finished = c.side.inside.finished; last = c.side.inside.last;
-        own = c.side.inside.own; apart = c.side.inside.apart } in
+    let after : Side = record {
+      next = c.side.inside.next;
+      pending = c.side.inside.locks;
+      finished = c.side.inside.finished;
+      last = c.side.inside.last;
+      own = c.side.inside.own;
+      apart = c.side.inside.apart;
+    } in
     let said = rw (← c.side.view_is) at c.in_ok-done.ensures in
     let same = finished_pending c.args.here.now c.args.side.now after c.args.store.now op c.in_ok-done.done said in
     let there = ap (λ (t : Table Cell Pending). at cell_cmp t op.cell) same ∙ c.requires.there in

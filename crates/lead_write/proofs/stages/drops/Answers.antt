@@ -22,8 +22,14 @@ returns-then-op g c =
 pub returns : goal.returns
 returns g c =
     rw (← c.side.view_is)
-    (let before : Side = record { next = c.side.inside.next; pending = c.side.inside.locks; finished = c.side.inside.finished; last = c.side.inside.last;
-        own = c.side.inside.own; apart = c.side.inside.apart } in
+    (let before : Side = record {
+      next = c.side.inside.next;
+      pending = c.side.inside.locks;
+      finished = c.side.inside.finished;
+      last = c.side.inside.last;
+      own = c.side.inside.own;
+      apart = c.side.inside.apart;
+    } in
     let h = rw (← c.side.view_is) at c.requires.tickets in
     let m = rw (← c.side.view_is) at c.requires.moved in
     let slot = own_slot c.args.here.now before c.args.store.now c.args.op.now h m c.if-op.false in

@@ -16,8 +16,14 @@ spend-requires-clause-out g c = λ _ _ slot is.
 pub returns-clause-job : goal.returns-clause-job
 returns-clause-job g c =
     rw (← c.side.view_is)
-    (let before : Side = record { next = c.side.inside.next; pending = c.side.inside.locks; finished = c.side.inside.finished; last = c.side.inside.last;
-        own = c.side.inside.own; apart = c.side.inside.apart } in
+    (let before : Side = record {
+      next = c.side.inside.next;
+      pending = c.side.inside.locks;
+      finished = c.side.inside.finished;
+      last = c.side.inside.last;
+      own = c.side.inside.own;
+      apart = c.side.inside.apart;
+    } in
     let h = rw (← c.side.view_is) at c.requires.tickets in
     let m = rw (← c.side.view_is) at c.requires.moved in
     let slot = own_slot c.args.here.now before c.args.store.now c.args.op.now h m c.requires.put in
