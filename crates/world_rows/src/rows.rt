@@ -113,7 +113,7 @@ fn is_bad_at(words: &[&str], place: usize) -> bool {
 
 #[test]
 fn bad_words_are_found(rt: HostRuntime) -> Result<(), Fail> {
-    assert!(rt; is_bad_at(&["1", "sleeps"], 1));
+    assert!(rt; is_bad_at(&["1", "sleeps"], 2));
     assert!(rt; is_bad_at(&["a", "works"], 1));
     assert!(rt; is_bad_at(&["1", "calls", "2"], 1));
     assert!(rt; is_bad_at(&["a", "calls", "two"], 3));
