@@ -1,4 +1,4 @@
-//! What stands on a data device: a header, the records that were committed since it was formatted, and behind them the slots.
+//! What stands on a data device: a header, the records that were committed since it was formatted, and after them the slots.
 //!
 //! To the layer above it promises that a record is committed whole or not at all at any crash, and that what is opened is what
 //! the records give. It knows nothing of what the slots hold.

@@ -39,7 +39,7 @@ impl Seat {
     {
         let (number, request) = match self.next_line() {
             None => return Ok(nothing(alloc)),
-            Some(line) => (line.number, request_again(&line.request)?),
+            Some(line) => (line.number, request_again(&line.request)),
         };
         self.core.call(alloc, number, request)
     }

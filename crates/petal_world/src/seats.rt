@@ -40,7 +40,7 @@ fn lines_of(alloc: Global, lines: &[Line], client: ClientId) -> Result<Sequence<
     let mut own = Sequence::new(alloc);
     for line in lines {
         if line.client == client {
-            own.push(line_again(line)?)?;
+            own.push(line_again(line))?;
         }
     }
     Ok(own)

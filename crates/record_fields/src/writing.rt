@@ -1,4 +1,4 @@
-//! Writing fields, each behind what is written already.
+//! Writing fields, each after what is written already.
 
 ghost use Rattle.std.specs.Prelude.{◌≡◌, ◌+◌, ◌-◌, ◌≤◌, ◌<◌, ◌++◌, length, take, replicate};
 ghost use Rattle.record_fields.specs.Fields.{byte, word, long, flag, padded};

@@ -12,7 +12,7 @@ use petal_base::Inc;
 use petal_command::{Ballot, COMMAND_BYTES, Command, decode, encode};
 use record_fields::{put, put_byte, put_word, put_zeros, word_at};
 
-/// A record has so many bytes behind its gate.
+/// A record has so many bytes after its gate.
 pub const BODY_BYTES: usize = 127;
 
 /// The first byte of a command in a record's body.

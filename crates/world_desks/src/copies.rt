@@ -1,4 +1,4 @@
-//! Lines, answers and steps once more, with their blocks and letters shared.
+//! Requests, lines, answers and steps once more, with their blocks and letters shared.
 
 ghost use Rattle.std.specs.Prelude.{◌≡◌, IfOk};
 
@@ -6,18 +6,69 @@ use petal_base::NoMemory;
 use petal_rules::Step;
 use script_lines::{Answer, Line, Request};
 
-/// The same request again.
-pub fn request_again(request: &Request) -> Result<Request, NoMemory>
-    ensures { IfOk result (λ again. again ≡ request.now) }
+/// The same request again. It takes no memory.
+pub fn request_again(request: &Request) -> Request
+    ensures { result ≡ request.now }
 {
-    Ok(request.clone()?)
+    match request {
+        Request::Disk { name, tuple } => Request::Disk {
+            name: name.again(),
+            tuple: tuple.again(),
+        },
+        Request::Write {
+            name,
+            block,
+            pattern,
+        } => Request::Write {
+            name: name.again(),
+            block: *block,
+            pattern: *pattern,
+        },
+        Request::Read { name, snap, block } => Request::Read {
+            name: name.again(),
+            snap: snap.as_ref().map(|snap| snap.again()),
+            block: *block,
+        },
+        Request::Snap { name, snap } => Request::Snap {
+            name: name.again(),
+            snap: snap.again(),
+        },
+        Request::Move { name, tuple } => Request::Move {
+            name: name.again(),
+            tuple: tuple.again(),
+        },
+        Request::Stop { server } => Request::Stop { server: *server },
+        Request::StopAt { server, at } => Request::StopAt {
+            server: *server,
+            at: *at,
+        },
+        Request::Fault {
+            server,
+            which,
+            kind,
+            at,
+        } => Request::Fault {
+            server: *server,
+            which: *which,
+            kind: *kind,
+            at: *at,
+        },
+        Request::Start { server } => Request::Start { server: *server },
+        Request::Blank { server } => Request::Blank { server: *server },
+        Request::Settle => Request::Settle,
+    }
 }
 
-/// The same line again.
-pub fn line_again(line: &Line) -> Result<Line, NoMemory>
-    ensures { IfOk result (λ again. again ≡ line.now) }
+/// The same line again. It takes no memory.
+pub fn line_again(line: &Line) -> Line
+    ensures { result ≡ line.now }
 {
-    Ok(line.clone()?)
+    Line {
+        number: line.number,
+        phase: line.phase,
+        client: line.client,
+        request: request_again(&line.request),
+    }
 }
 
 /// The same answer again.
