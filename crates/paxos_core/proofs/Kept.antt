@@ -6,10 +6,10 @@ use Rattle.petal_command.specs.declared.command.Command.{Command}
 use Rattle.petal_paxos.specs.Member.{put}
 use Rattle.petal_paxos.specs.Acceptor.{Acceptor, rank, is_open, promise, accept}
 use Rattle.law_agreement.proofs.Members.{put_cases}
-use Rattle.state_record.specs.declared.record.StateRecord.{StateRecord}
-use Rattle.state_record.specs.declared.record.StateRecord.TheVariants.{Promise, Accepted}
-use Rattle.state_record.specs.declared.row.Row.{Row}
-use Rattle.state_record.specs.Kept.{row_after, row_of, acceptor_of, empty_row, promise_row, accept_row, Commits}
+use Rattle.petal_paxos.specs.declared.record.StateRecord.{StateRecord}
+use Rattle.petal_paxos.specs.declared.record.StateRecord.TheVariants.{Promise, Accepted}
+use Rattle.petal_paxos.specs.declared.record.Row.{Row}
+use Rattle.petal_paxos.specs.Kept.{row_after, row_of, acceptor_of, empty_row, promise_row, accept_row, Commits}
 use Rattle.state_store.proofs.Records.{fold_more}
 
 -- what an acceptor keeps is a part of the row
@@ -75,3 +75,12 @@ opened a b e = by (is_open a b) refl e
     by : (o : Bool) → is_open a b ≡ o → (if o then None else a.promised) ≡ None → is_open a b ≡ true
     by true p q = p
     by false p q = let none : rank a.promised ≡ 0 = ap rank q in absurd (grind (arith, nat_tests))
+
+-- the records after a promise or an acceptance, by the test that chose it
+pub when_open : (o : Bool) (x a b : List StateRecord) → o ≡ true → x ≡ a → x ≡ (if o then a else b)
+when_open true x a b o e = e
+when_open false x a b o e = absurd (cc)
+
+pub when_shut : (o : Bool) (x a b : List StateRecord) → o ≡ false → x ≡ b → x ≡ (if o then a else b)
+when_shut true x a b o e = absurd (cc)
+when_shut false x a b o e = e

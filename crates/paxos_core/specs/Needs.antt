@@ -2,8 +2,8 @@
 use Rattle.std.specs.Prelude.{ℕ, ◌≡◌, List, true}
 use Rattle.petal_command.specs.declared.ballot.Ballot.{Ballot}
 use Rattle.petal_paxos.specs.Acceptor.{is_open}
-use Rattle.state_record.specs.declared.record.StateRecord.{StateRecord}
-use Rattle.state_record.specs.Kept.{acceptor_of, AddsNothing}
+use Rattle.petal_paxos.specs.declared.record.StateRecord.{StateRecord}
+use Rattle.petal_paxos.specs.Kept.{acceptor_of, AddsNothing}
 
 -- no higher ballot is promised at the place, and the record would change what is kept
 pub record Needs (records : List StateRecord) (place : ℕ) (ballot : Ballot) (entry : StateRecord) : Type 0 where

@@ -7,8 +7,8 @@ ghost use Rattle.petal_paxos.specs.Member.{put};
 ghost use Rattle.petal_paxos.specs.Acceptor.{is_open, on_prepare, prepare_reply, on_accept, accept_reply};
 ghost use Rattle.state_store.specs.Device.{Holds, WithOrWithout};
 ghost use Rattle.state_store.specs.Errors.{IsCommitError};
-ghost use Rattle.state_record.specs.Kept.{acceptor_of};
-ghost use Rattle.state_record.specs.declared.record.StateRecord.TheVariants as kind;
+ghost use Rattle.petal_paxos.specs.Kept.{acceptor_of, committed};
+ghost use Rattle.petal_paxos.specs.declared.record.StateRecord.TheVariants as kind;
 ghost use Rattle.state_store.specs.declared.error.StateError.TheVariants as error;
 
 use petal_command::{Ballot, Command, Pax};
@@ -28,6 +28,7 @@ pub fn on_prepare<D: Disk>(
 ) -> Result<Pax, StateError>
     ensures reply { IfOk result (λ letter. letter ≡ prepare_reply place (acceptor_of store.old.records place) ballot) }
     ensures kept { OnOk result ((p : ℕ) → acceptor_of store.new.records p ≡ put (acceptor_of store.old.records) place (on_prepare (acceptor_of store.old.records place) ballot) p) }
+    ensures records { OnOk result (store.new.records ≡ (if is_open (acceptor_of store.old.records place) ballot then committed store.old.records (kind.Promise place ballot) else store.old.records)) }
     ensures err { OnErr result (store.new.records ≡ store.old.records) }
     ensures holds { D.told → Holds store.old.region (D.seen store.old.disk) (D.may_leave store.old.disk) store.old.records
         → OnOk result (Holds store.new.region (D.seen store.new.disk) (D.may_leave store.new.disk) store.new.records) }
@@ -73,6 +74,7 @@ pub fn on_accept<D: Disk>(
 ) -> Result<Pax, StateError>
     ensures reply { IfOk result (λ letter. letter ≡ accept_reply place (acceptor_of store.old.records place) ballot) }
     ensures kept { OnOk result ((p : ℕ) → acceptor_of store.new.records p ≡ put (acceptor_of store.old.records) place (on_accept (acceptor_of store.old.records place) ballot command.now) p) }
+    ensures records { OnOk result (store.new.records ≡ (if is_open (acceptor_of store.old.records place) ballot then committed store.old.records (kind.Accepted place ballot command.now) else store.old.records)) }
     ensures err { OnErr result (store.new.records ≡ store.old.records) }
     ensures holds { D.told → Holds store.old.region (D.seen store.old.disk) (D.may_leave store.old.disk) store.old.records
         → OnOk result (Holds store.new.region (D.seen store.new.disk) (D.may_leave store.new.disk) store.new.records) }

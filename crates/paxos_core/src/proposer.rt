@@ -246,7 +246,7 @@ fn joined(mut heard: [bool; 256], from: ServerId) -> [bool; 256]
 }
 
 /// Whether a majority of the servers was heard.
-fn has_majority(servers: u8, heard: &[bool; 256]) -> bool
+pub fn has_majority(servers: u8, heard: &[bool; 256]) -> bool
     ensures { result ≡ has_majority servers heard.now }
 {
     let mut count: u8 = 0;

@@ -1,2 +1,3 @@
 pub mod Ballot
+pub mod Same
 pub mod Spelling

@@ -10,6 +10,7 @@ mod command;
 mod number;
 mod pax;
 mod reading;
+mod same;
 mod writing;
 
 pub use ballot::Ballot;
@@ -17,4 +18,5 @@ pub use command::{COMMAND_BYTES, Command};
 pub use number::{Below, ClientNumber, LinkNumber, RegionNumber, ServerNumber};
 pub use pax::Pax;
 pub use reading::decode;
+pub use same::tests_tell_equality;
 pub use writing::encode;

@@ -5,8 +5,8 @@ use Rattle.petal_command.specs.Spelling.{spelling}
 use Rattle.petal_command.proofs.Spelled.{length-spelling}
 use Rattle.petal_command.specs.declared.ballot.Ballot.{Ballot}
 use Rattle.petal_command.specs.declared.command.Command.{Command}
-use Rattle.state_record.specs.declared.record.StateRecord.{StateRecord}
-use Rattle.state_record.specs.declared.record.StateRecord.TheVariants.{Inc, Promise, Accepted, Chosen}
+use Rattle.petal_paxos.specs.declared.record.StateRecord.{StateRecord}
+use Rattle.petal_paxos.specs.declared.record.StateRecord.TheVariants.{Inc, Promise, Accepted, Chosen}
 use Rattle.state_record.specs.Body.{body_of, HasBody}
 
 pub some_accepted : (p q r s : ℕ) (b : Ballot) (c d : Command) → p ≡ q → r ≡ b.round → s ≡ b.server → Some c ≡ Some d → Some (Accepted p (record { round = r; server = s }) c) ≡ Some (Accepted q b d)

@@ -3,8 +3,8 @@ use Rattle.std.specs.Prelude.{ℕ, ◌<◌, ◌^◌, List, ◌++◌, replicate}
 use Rattle.petal_command.specs.declared.ballot.Ballot.{Ballot}
 use Rattle.petal_command.specs.Spelling.{spelling, HasSpelling}
 use Rattle.record_fields.specs.Fields.{byte, word, IsWord}
-use Rattle.state_record.specs.declared.record.StateRecord.{StateRecord}
-use Rattle.state_record.specs.declared.record.StateRecord.TheVariants.{Inc, Promise, Accepted, Chosen}
+use Rattle.petal_paxos.specs.declared.record.StateRecord.{StateRecord}
+use Rattle.petal_paxos.specs.declared.record.StateRecord.TheVariants.{Inc, Promise, Accepted, Chosen}
 
 -- kind, place, round, server, command, incarnation, each at its own offset, and zeros
 abbrev pub body_of : StateRecord → List ℕ

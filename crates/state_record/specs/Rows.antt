@@ -3,8 +3,8 @@ use Rattle.std.specs.Prelude.{ℕ, List, Option, unwrap_or}
 use Rattle.std.specs.Ordering.{nat_cmp}
 use Rattle.std.specs.BTreeMap.{is_at}
 use Rattle.std.specs.Map.{lookup}
-use Rattle.state_record.specs.declared.row.Row.{Row}
-use Rattle.state_record.specs.Kept.{empty_row}
+use Rattle.petal_paxos.specs.declared.record.Row.{Row}
+use Rattle.petal_paxos.specs.Kept.{empty_row}
 
 abbrev pub found_row : List (ℕ × Row) → ℕ → Option Row
 found_row rows place = lookup (is_at (nat_cmp place)) rows

@@ -10,5 +10,5 @@ mod row;
 mod same;
 
 pub use places::Places;
-pub use record::{StateRecord, body_of, record_of};
-pub use row::Row;
+pub use petal_paxos::{Row, StateRecord};
+pub use record::{body_of, record_of};

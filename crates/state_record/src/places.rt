@@ -2,13 +2,13 @@
 
 ghost use Rattle.std.specs.Prelude.{◌≡◌, ℕ, [], ◌==◌, if◌then◌else◌, ◌≢◌, true, false, IsSome, OnOk};
 ghost use Rattle.std.specs.Option.{option_copied};
-ghost use Rattle.state_record.specs.Kept.{row_after, empty_row};
+ghost use Rattle.petal_paxos.specs.Kept.{row_after, empty_row};
 ghost use Rattle.state_record.specs.Rows.{found_row, row_at};
 
-use crate::record::StateRecord;
-use crate::row::{Row, accept_row, choose_row, empty_row, promise_row, row_again};
+use crate::row::{accept_row, choose_row, empty_row, promise_row, row_again};
 use crate::same::is_same_row;
 use petal_base::NoMemory;
+use petal_paxos::{Row, StateRecord};
 use std::alloc::Global;
 use std::collections::BTreeMap;
 use std::marker::Model;
@@ -21,7 +21,7 @@ pub struct Places {
 
 impl Model for Places {
     ghost use Rattle.std.specs.Prelude.{List, ℕ};
-    ghost use Rattle.state_record.specs.declared.row.Row.{Row};
+    ghost use Rattle.petal_paxos.specs.declared.record.Row.{Row};
 
     ghost Value = { List (ℕ × Row) };
 

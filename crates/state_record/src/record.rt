@@ -5,11 +5,12 @@ ghost use Rattle.petal_command.specs.Spelling.{spelling, HasSpelling};
 ghost use Rattle.petal_command.specs.declared.ballot.Ballot.{Ballot};
 ghost use Rattle.petal_command.specs.declared.command.Command.{Command};
 ghost use Rattle.state_record.specs.Body.{body_of, HasBody};
-ghost use Rattle.state_record.specs.declared.record.StateRecord.{StateRecord};
-ghost use Rattle.state_record.specs.declared.record.StateRecord.TheVariants.{Inc, Promise, Accepted, Chosen};
+ghost use Rattle.petal_paxos.specs.declared.record.StateRecord.{StateRecord};
+ghost use Rattle.petal_paxos.specs.declared.record.StateRecord.TheVariants.{Inc, Promise, Accepted, Chosen};
 
 use petal_base::Inc;
 use petal_command::{Ballot, COMMAND_BYTES, Command, decode, encode};
+use petal_paxos::StateRecord;
 use record_fields::{put, put_byte, put_word, put_zeros, word_at};
 
 /// A record has so many bytes after its gate.
@@ -17,31 +18,6 @@ pub const BODY_BYTES: usize = 127;
 
 /// The first byte of a command in a record's body.
 const COMMAND_AT: usize = 10;
-
-/// What one commit adds.
-#[derive(Drop, PartialEq, Eq)]
-pub enum StateRecord {
-    /// The server's incarnation.
-    Inc {
-        inc: Inc,
-    },
-    /// At the place the ballot was promised.
-    Promise {
-        place: u32,
-        ballot: Ballot,
-    },
-    /// At the place the command was accepted in the ballot.
-    Accepted {
-        place: u32,
-        ballot: Ballot,
-        command: Command,
-    },
-    /// At the place the command is chosen.
-    Chosen {
-        place: u32,
-        command: Command,
-    },
-}
 
 /// The body that spells the record.
 pub fn body_of(entry: &StateRecord) -> [u8; BODY_BYTES]

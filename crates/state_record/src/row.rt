@@ -1,18 +1,10 @@
 //! What is kept for one place.
 
 ghost use Rattle.std.specs.Prelude.{◌≡◌};
-ghost use Rattle.state_record.specs.Kept.{empty_row, greater, promise_row, accept_row, choose_row};
+ghost use Rattle.petal_paxos.specs.Kept.{empty_row, greater, promise_row, accept_row, choose_row};
 
 use petal_command::{Ballot, Command};
-
-/// What is kept for one place: the highest ballot promised or accepted in, what was accepted last, and what is known to be
-/// chosen.
-#[derive(Drop)]
-pub struct Row {
-    pub promised: Option<Ballot>,
-    pub accepted: Option<(Ballot, Command)>,
-    pub chosen: Option<Command>,
-}
+use petal_paxos::Row;
 
 /// Nothing is kept.
 pub fn empty_row() -> Row

@@ -3,9 +3,9 @@
 ghost use Rattle.std.specs.Prelude.{◌≡◌, ◌≢◌, true, false};
 ghost use Rattle.petal_command.specs.declared.command.Command.{Command};
 
-use crate::row::Row;
 use petal_base::{Name, Tuple};
 use petal_command::{Ballot, Command};
+use petal_paxos::Row;
 
 /// Whether two rows keep the same.
 pub fn is_same_row(a: &Row, b: &Row) -> bool

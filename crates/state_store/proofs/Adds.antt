@@ -3,13 +3,13 @@ use Rattle.std.proofs.Common.{◌≡◌, ◌⊎◌, inl, ℕ, Bool, true, false,
 use Rattle.std.proofs.lemmas.Bool.Decides.{nat_tests}
 use Rattle.petal_command.specs.declared.ballot.Ballot.{Ballot}
 use Rattle.petal_command.specs.declared.command.Command.{Command}
-use Rattle.state_record.specs.declared.record.StateRecord.{StateRecord}
-use Rattle.state_record.specs.declared.record.StateRecord.TheVariants.{Promise, Accepted, Chosen}
-use Rattle.state_record.specs.declared.row.Row.{Row}
+use Rattle.petal_paxos.specs.declared.record.StateRecord.{StateRecord}
+use Rattle.petal_paxos.specs.declared.record.StateRecord.TheVariants.{Promise, Accepted, Chosen}
+use Rattle.petal_paxos.specs.declared.record.Row.{Row}
 use Rattle.state_store.specs.declared.error.StateError.{StateError}
 use Rattle.state_store.specs.declared.error.StateError.TheVariants as error
 use Rattle.state_store.specs.Errors.{IsAppendError}
-use Rattle.state_record.specs.Kept.{row_after, inc_after, row_of, inc_of, promise_row, accept_row, choose_row, AddsNothing}
+use Rattle.petal_paxos.specs.Kept.{row_after, inc_after, row_of, inc_of, promise_row, accept_row, choose_row, AddsNothing}
 
 tested : (f : Row → Row) (place p : ℕ) (row : ℕ → Row) → (if place == p then f (row p) else row p) ≡ (if p == place then (if place == place then f (row place) else row place) else row p)
 tested f place p row = by (place == p) (p == place) (place == place) refl refl refl

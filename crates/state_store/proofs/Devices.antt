@@ -11,8 +11,8 @@ use Rattle.block_journal.specs.Records as journal
 use Rattle.block_journal.specs.Region.{Region}
 use Rattle.block_journal.proofs.Frame.{stands_outside}
 use Rattle.block_journal.proofs.Gates.{shut_still}
-use Rattle.state_record.specs.declared.record.StateRecord.{StateRecord}
-use Rattle.state_record.specs.declared.record.StateRecord.TheVariants.{Inc}
+use Rattle.petal_paxos.specs.declared.record.StateRecord.{StateRecord}
+use Rattle.petal_paxos.specs.declared.record.StateRecord.TheVariants.{Inc}
 use Rattle.state_record.specs.Body.{body_of, HasBody}
 use Rattle.state_store.specs.Device.{header, bodies_of, AreSpelled, StandsFor, WithOrWithout, Holds, IsBlank, LeftByFormat}
 

@@ -1,7 +1,7 @@
 -- Records from what was read of their bodies.
 use Rattle.std.proofs.Common.{◌≡◌, ℕ, zero, suc, ◌+◌, ◌<◌, List, [], ◌∷◌, ◌++◌, length, take, get_or, map, fold, Option, Some, None, refl, sym, ap, subst, ◌∙◌, arith}
 use Rattle.state_store.specs.Device.{bodies_of, AreSpelled}
-use Rattle.state_record.specs.declared.record.StateRecord.{StateRecord}
+use Rattle.petal_paxos.specs.declared.record.StateRecord.{StateRecord}
 use Rattle.state_record.specs.Body.{body_of, HasBody}
 
 -- the record of a body among those of a list

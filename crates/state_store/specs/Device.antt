@@ -2,8 +2,8 @@
 use Rattle.std.specs.Prelude.{ℕ, ◌≡◌, ◌≢◌, ◌⊎◌, ◌≤◌, ◌<◌, List, [], ◌∷◌, ◌++◌, map, length, take, replicate, ⊤}
 use Rattle.block_journal.specs.Records.{Stands, IsOpen, body_at}
 use Rattle.block_journal.specs.Region.{Region}
-use Rattle.state_record.specs.declared.record.StateRecord.{StateRecord}
-use Rattle.state_record.specs.declared.record.StateRecord.TheVariants.{Inc}
+use Rattle.petal_paxos.specs.declared.record.StateRecord.{StateRecord}
+use Rattle.petal_paxos.specs.declared.record.StateRecord.TheVariants.{Inc}
 use Rattle.state_record.specs.Body.{body_of, HasBody}
 
 -- the gate, PETALSTA, version 1, zeros

@@ -8,10 +8,10 @@ ghost use Rattle.block_journal.specs.Gate.{IsShut};
 ghost use Rattle.block_journal.specs.Records.{Counts, Stands};
 ghost use Rattle.state_store.specs.Device.{header, bodies_of, AreSpelled, Holds, WithOrWithout, StandsFor, LeftByFormat, IsBadOn};
 ghost use Rattle.state_store.specs.Errors.{IsAppendError};
-ghost use Rattle.state_record.specs.Kept.{row_of, inc_of};
+ghost use Rattle.petal_paxos.specs.Kept.{row_of, inc_of};
 ghost use Rattle.state_record.specs.Rows.{row_at};
-ghost use Rattle.state_record.specs.declared.record.StateRecord.{StateRecord};
-ghost use Rattle.state_record.specs.declared.record.StateRecord.TheVariants as kind;
+ghost use Rattle.petal_paxos.specs.declared.record.StateRecord.{StateRecord};
+ghost use Rattle.petal_paxos.specs.declared.record.StateRecord.TheVariants as kind;
 ghost use Rattle.state_store.specs.declared.error.StateError.TheVariants as error;
 
 use crate::error::StateError;

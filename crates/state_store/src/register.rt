@@ -4,10 +4,10 @@ ghost use Rattle.std.specs.Prelude.{◌≡◌, ◌<◌, ◌^◌, ◌==◌, ℕ, 
 ghost use Rattle.block_journal.specs.Records.{contents};
 ghost use Rattle.state_record.specs.Body.{body_of, HasBody};
 ghost use Rattle.state_store.specs.Device.{bodies_of, AreSpelled};
-ghost use Rattle.state_record.specs.Kept.{row_of, inc_of, row_after, inc_after};
+ghost use Rattle.petal_paxos.specs.Kept.{row_of, inc_of, row_after, inc_after};
 ghost use Rattle.state_record.specs.Rows.{row_at};
-ghost use Rattle.state_record.specs.declared.record.StateRecord.{StateRecord};
-ghost use Rattle.state_record.specs.declared.row.Row.{Row};
+ghost use Rattle.petal_paxos.specs.declared.record.StateRecord.{StateRecord};
+ghost use Rattle.petal_paxos.specs.declared.record.Row.{Row};
 ghost use Rattle.state_store.specs.declared.error.StateError.TheVariants as error;
 ghost use Rattle.state_store.specs.Errors.{IsReadError};
 

@@ -7,10 +7,10 @@ ghost use Rattle.petal_disk.specs.Keeping.{KeepsDevice};
 ghost use Rattle.block_journal.specs.Records.{Counts};
 ghost use Rattle.state_store.specs.Device.{header, bodies_of, AreSpelled, StandsFor, Holds, WithOrWithout, LeftByFormat, IsBadOn};
 ghost use Rattle.state_store.specs.Errors.{IsAppendError, IsCommitError};
-ghost use Rattle.state_record.specs.declared.record.StateRecord.{StateRecord};
-ghost use Rattle.state_record.specs.Kept.{row_of, row_after, inc_of, inc_after, AddsNothing, Commits};
-ghost use Rattle.state_record.specs.declared.row.Row.{Row};
-ghost use Rattle.state_record.specs.declared.record.StateRecord.TheVariants as kind;
+ghost use Rattle.petal_paxos.specs.declared.record.StateRecord.{StateRecord};
+ghost use Rattle.petal_paxos.specs.Kept.{row_of, row_after, inc_of, inc_after, AddsNothing, Commits};
+ghost use Rattle.petal_paxos.specs.declared.record.Row.{Row};
+ghost use Rattle.petal_paxos.specs.declared.record.StateRecord.TheVariants as kind;
 ghost use Rattle.state_store.specs.declared.error.StateError.TheVariants as error;
 
 use crate::device::Device;
@@ -34,7 +34,7 @@ pub struct StateStore<D: Disk> {
 impl<D: Disk> Model for StateStore<D> {
     ghost use Rattle.std.specs.Prelude.{◌≡◌, ℕ};
     ghost use Rattle.state_store.specs.Device.{Keeping};
-    ghost use Rattle.state_record.specs.Kept.{row_of, inc_of};
+    ghost use Rattle.petal_paxos.specs.Kept.{row_of, inc_of};
     ghost use Rattle.state_record.specs.Rows.{row_at};
 
     ghost Value = { Keeping D };

@@ -1,6 +1,6 @@
 use Rattle.std.proofs.Common.{◌≡◌, inl, inr, ap, refl, ◌∙◌}
 use Rattle.state_store.specs.Device.{Keeping}
-use Rattle.state_record.specs.Kept.{row_of}
+use Rattle.petal_paxos.specs.Kept.{row_of}
 use Rattle.state_record.specs.Rows.{row_at}
 use Rattle.state_store.proofs.Adds.{still_nothing, adds_something, on_ok}
 use Rattle.state_store.proofs.store.StateStore.commit.Goals as goal
