@@ -9,6 +9,6 @@ mod record;
 mod row;
 mod same;
 
-pub use places::Places;
 pub use petal_paxos::{Row, StateRecord};
+pub use places::Places;
 pub use record::{body_of, record_of};
