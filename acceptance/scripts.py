@@ -100,7 +100,52 @@ def large():
     """Eight servers with all the slots that there may be."""
     return joined(head(8, 1024))
 
-MAKERS = {"text": text, "bytes": bytes_of, "nothing": nothing, "work": work, "busy": busy, "all_servers": all_servers, "patterns": patterns,
+def many_disks(count, *nets):
+    """So many disks over all tuples of neighbours among eight servers, made by all clients, then written and read by others."""
+    lines, count = ["servers 8 slots 64", *(net.replace("_", " ") for net in nets)], int(count)
+    for disk in range(count):
+        first, second = disk % 8, (disk + 1 + disk // 8) % 8
+        lines.append(f"{CLIENTS[disk % 8]} disk d{disk} on {first} {second}")
+    lines.append("wait")
+    lines += [f"{CLIENTS[(disk + 1) % 8]} write d{disk} {block} fill {disk + 16 * block}" for disk in range(count) for block in (0, 1)]
+    lines.append("wait")
+    lines += [f"{CLIENTS[(disk + 2) % 8]} read d{disk} {block}" for disk in range(count) for block in (0, 1, 2)]
+    return joined(lines)
+
+def mixed_line(draw, clients, names, makes):
+    """A request of one of the clients, about one of the disks or a name that none has."""
+    client, name = draw.choice(clients), draw.choice(names)
+    if makes and draw.randrange(6) == 0:
+        return f"{client} disk {name} on {{tuple}}"
+    block = draw.choice((0, 1, 2, 3, draw.randrange(2**48), 2**48 - 1))
+    if draw.randrange(5) < 2:
+        return f"{client} read {name} {block}"
+    byte, other = draw.randrange(256), draw.randrange(256)
+    return f"{client} write {name} {block} " + draw.choice((f"fill {byte}", f"halves {byte} {other}", f"ramp {byte}"))
+
+def mixed(seed, *nets):
+    """Up to 16 disks, made at any time by any client, some under a name that is taken, with writes and reads of disks that are
+    there and of some that are not. Either slots are plenty, or one client works at a time. At the end each block is read that a
+    line wrote."""
+    draw = random.Random(int(seed))
+    servers, alone = draw.randint(2, 8), draw.randrange(4) == 0
+    names = [f"d{number}" for number in range(draw.randint(1, 18))]
+    lines = [f"servers {servers} slots {draw.randint(1, 6) if alone else 1024}", *(net.replace("_", " ") for net in nets)]
+    makes, clients = 16, list(CLIENTS[: draw.randint(1, 8)])
+    for _ in range(draw.randint(1, 7)):
+        here = [draw.choice(clients)] if alone else clients
+        for _ in range(draw.randint(1, 20)):
+            line = mixed_line(draw, here, names, makes)
+            if "{tuple}" in line:
+                makes -= 1
+                line = line.replace("{tuple}", " ".join(map(str, draw.sample(range(servers), draw.randint(2, servers)))))
+            lines.append(line)
+        lines.append("wait")
+    spots = sorted({tuple(line.split()[2:4]) for line in lines if line.split()[1:2] == ["write"]})
+    lines += [f"{draw.choice(CLIENTS)} read {name} {block}" for name, block in spots]
+    return joined(lines)
+
+MAKERS = {"many_disks": many_disks, "mixed": mixed, "text": text, "bytes": bytes_of, "nothing": nothing, "work": work, "busy": busy, "all_servers": all_servers, "patterns": patterns,
           "sized": sized, "requests": requests, "phases": phases, "large": large}
 
 def made(words):

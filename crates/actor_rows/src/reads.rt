@@ -3,6 +3,7 @@
 use global_state::GlobalState;
 use pair_side::{Here, Side};
 use petal_base::{Block, Cell, Key, Name, Tuple};
+use petal_command::{ClientNumber, Command};
 use petal_disk::{Disk, MemDisk};
 use petal_msg::Body;
 use read_either::{answer_read, said};
@@ -14,7 +15,17 @@ use std::test::Fail;
 fn state(alloc: Global) -> Result<GlobalState, Fail> {
     let name = Name::read(b"vol").ok_or("a name")?;
     let tuple = Tuple::new(&[0, 1], 2).ok_or("a tuple")?;
-    Ok(GlobalState::fixed(alloc, 2, &name, tuple.ids())?)
+    let mut state = GlobalState::new(alloc, 2)?;
+    state.apply(
+        alloc,
+        &Command::MakeDisk {
+            client: ClientNumber::checked(0).ok_or("a client")?,
+            seq: 1,
+            name,
+            tuple,
+        },
+    )?;
+    Ok(state)
 }
 
 fn put<D: Disk>(store: &mut Store<D>, block: &Block) -> Result<(), StoreError> {

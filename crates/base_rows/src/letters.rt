@@ -1,7 +1,10 @@
 //! Letters are shared, and compared by what is in them.
 
-use petal_base::{Block, SharedBlock};
+use petal_base::{Block, Sequence, SharedBlock};
+use petal_command::{Ballot, ClientNumber, Command, Pax};
 use petal_msg::{Actor, Body, Letter, SharedLetter};
+use std::alloc::Global;
+use std::process::Abort;
 use std::test::Fail;
 
 #[test]
@@ -28,4 +31,44 @@ fn letters_are_shared_and_compared(rt: HostRuntime) -> Result<(), Fail> {
     let third = shared.clone()?;
     assert!(rt; third == other);
     Ok(())
+}
+
+/// The first Witness of client 0.
+fn witness() -> Result<Command, Fail> {
+    Ok(Command::Witness {
+        client: ClientNumber::checked(0).ok_or("a client")?,
+        seq: 1,
+        turn: 0,
+    })
+}
+
+fn news(alloc: Global) -> Result<Body, Fail> {
+    let commands = Sequence::one(alloc, witness()?)?;
+    Ok(Body::News { after: 4, commands })
+}
+
+fn compared(rt: &impl Abort, body: &Body, other: &Body) -> Result<(), Fail> {
+    let again = body.clone()?;
+    assert!(rt; again == *body);
+    assert!(rt; again != *other);
+    Ok(())
+}
+
+#[test]
+fn letters_of_the_log_are_compared(rt: HostRuntime) -> Result<(), Fail> {
+    let ask = Body::Ask { rev: 4 };
+    let ballot = Ballot {
+        round: 1,
+        server: 2,
+    };
+    compared(&rt, &ask, &Body::Ask { rev: 5 })?;
+    compared(&rt, &news(rt.alloc())?, &ask)?;
+    compared(
+        &rt,
+        &Body::Propose {
+            command: witness()?,
+        },
+        &ask,
+    )?;
+    compared(&rt, &Body::Pax(Pax::Prepare { place: 1, ballot }), &ask)
 }

@@ -1,5 +1,6 @@
 -- A client's core, and what a step of it leaves, sends and answers.
 use Rattle.std.specs.Prelude.{ℕ, ◌==◌, ◌||◌, Bool}
+use Rattle.petal_state.specs.Command.{state_after}
 use Rattle.petal_rules.specs.State.{State}
 use Rattle.petal_rules.specs.Server.{letters_of}
 use Rattle.petal_rules.specs.Clients.{Client, client_sender}
@@ -7,17 +8,21 @@ use Rattle.petal_rules.specs.Clients as rules
 use Rattle.petal_rules.specs.World.{greatest_u32, turn_of}
 use Rattle.client_core.specs.declared.reaction.Reaction.{Reaction}
 
--- a client's number, the global state at its revision, and what the rules know of it
+-- a client's number, how many servers there are, and what the rules know of it
 pub record Core : Type 0 where
   pub me : ℕ
-  pub state : State
+  pub servers : ℕ
   pub client : Client
+
+-- its global state: what the entries make that it has applied
+abbrev pub state_of : Core → State
+state_of core = state_after core.servers core.client.applied
 
 -- a rule's outcome, at this core: the core after it, and the letters and the answer that it gives
 abbrev pub at_core : Core → rules.Reaction → Core × Reaction
 at_core core reacted = (
   record core { client = reacted.client },
-  record { letters = letters_of (client_sender core.state core.me) 0 reacted.posts; answer = reacted.answer },
+  record { letters = letters_of (client_sender core.me reacted.client) 0 reacted.posts; answer = reacted.answer },
 )
 
 -- a number of the client is the greatest of its type

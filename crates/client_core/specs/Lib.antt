@@ -1,2 +1,4 @@
 pub mod Core
 pub mod Open
+pub mod Sending
+pub mod Learning

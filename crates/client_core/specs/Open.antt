@@ -1,10 +1,11 @@
 -- The open request in code: the block that a write sends is made once.
-use Rattle.std.specs.Prelude.{ℕ, List, Option, Some, None}
+use Rattle.std.specs.Prelude.{ℕ, List, Option, Some, None, option_map}
 use Rattle.script_lines.specs.Pattern.{pattern_block}
+use Rattle.script_lines.specs.declared.answer.Answer.{Answer}
 use Rattle.script_lines.specs.declared.request.Request.{Request}
 use Rattle.script_lines.specs.declared.request.Request.TheVariants as request
 use Rattle.petal_rules.specs.State.{State}
-use Rattle.petal_rules.specs.Clients.{Client, Asked, Reaction, rests, answers, sends}
+use Rattle.petal_rules.specs.Clients.{Client, Asked, Reaction, rests, answers, asking, goes_out_where}
 use Rattle.client_core.specs.declared.hearing.Heard.{Heard}
 use Rattle.client_core.specs.declared.hearing.Heard.TheVariants.{Nothing, Answered, Again}
 
@@ -13,12 +14,20 @@ abbrev pub bytes_sent : Request → Option (List ℕ)
 bytes_sent (request.Write name block pattern) = Some (pattern_block pattern)
 bytes_sent _ = None
 
--- what comes of a letter
-abbrev pub heard_by : State → ℕ → Client → Asked → Heard → Reaction
-heard_by state me client asked Nothing = rests client
-heard_by state me client asked (Answered answer) = answers client asked answer
-heard_by state me client asked Again = sends state me client asked
+abbrev pub answers_where : Client → Option Asked → Answer → Reaction
+answers_where client None given = rests client
+answers_where client (Some asked) given = answers client asked given
 
-abbrev pub outcome : State → ℕ → Client → Option Asked → Heard → Reaction
-outcome state me client None heard = rests client
-outcome state me client (Some asked) heard = heard_by state me client asked heard
+-- what comes of a reply
+abbrev pub outcome : Heard → State → ℕ → Client → Option Asked → Reaction
+outcome Nothing state me client asked = rests client
+outcome (Answered given) state me client asked = answers_where client asked given
+outcome Again state me client asked = asking state client (goes_out_where state me client asked)
+
+-- the request, where so many of its Witnesses were applied
+abbrev pub with_witnesses : ℕ → Option Asked → Option Asked
+with_witnesses witnesses asked = option_map (λ (was : Asked). record was { witnesses = witnesses }) asked
+
+-- the request, where it was sent so often, and last at this revision
+abbrev pub with_send : (turn rev : ℕ) → Option Asked → Option Asked
+with_send turn rev asked = option_map (λ (was : Asked). record was { turn = turn; rev = rev }) asked

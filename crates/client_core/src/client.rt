@@ -1,112 +1,95 @@
 //! A client.
 
-ghost use Rattle.std.specs.Prelude.{◌≡◌, ◌↔◌, false, None, [], IfOk, OnErr, IsTrue};
+ghost use Rattle.std.specs.Prelude.{◌≡◌, ◌↔◌, ◌+◌, ◌<◌, length, None, Some, [], IfOk, OnErr, IsTrue};
+ghost use Rattle.std.specs.Option.{option_map_or};
+ghost use Rattle.petal_state.specs.Command.{state_after};
 ghost use Rattle.petal_rules.specs.State.{servers_of};
-ghost use Rattle.petal_rules.specs.Clients.{first_client, called, heard, hears_of, ticked, opens, asks_anew};
+ghost use Rattle.petal_rules.specs.Clients.{Client, first_client, called, heard, hears_of, next_entries, takes_entries, then_goes_out, ticked, asking, goes_out_where};
 ghost use Rattle.petal_rules.specs.World.{turn_of};
-ghost use Rattle.client_core.specs.Core.{at_core, is_spent};
-ghost use Rattle.client_core.specs.Open.{outcome};
+ghost use Rattle.client_core.specs.Core.{at_core, is_spent, state_of};
+ghost use Rattle.client_core.specs.Open.{answers_where, outcome, with_send, with_witnesses};
+ghost use Rattle.client_core.specs.Learning.{learnt};
 
 use crate::hearing::Heard;
-use crate::open::{Open, bytes_sent};
+use crate::judging::Fate;
+use crate::learning::Learning;
+use crate::open::{Open, was_sent, was_witnessed};
+use crate::posting::{one_letter, two_letters};
 use crate::reaction::Reaction;
+use crate::sending::Sent;
+use ghost_list::GhostList;
 use global_state::GlobalState;
-use petal_base::{ClientId, NoMemory, Rev, Seq, Sequence};
-use petal_msg::Letter;
+use petal_base::{CLIENTS, ClientId, NoMemory, Rev, Seq, Sequence, ServerId};
+use petal_command::{ClientNumber, Command};
+use petal_msg::{Body, Letter};
 use script_lines::{Answer, Request};
 use std::alloc::Global;
 use std::marker::Model;
 
-/// A client, with the global state at its revision. Contracts see its number, that state, and what the rules know of it.
+/// A client, with the global state that the entries make which it has applied. Contracts see its number, how many servers
+/// there are, and what the rules know of it, these entries among it.
 #[derive(Drop)]
 pub struct ClientCore {
-    pub(crate) id: ClientId,
+    pub(crate) id: ClientNumber,
     pub(crate) servers: u8,
     pub(crate) state: GlobalState,
-    rev: Rev,
+    pub(crate) applied: GhostList<Command>,
     seq: Seq,
-    asked: Option<Open>,
+    pub(crate) asks: ServerId,
+    pub(crate) asked: Option<Open>,
 }
 
 impl Model for ClientCore {
     ghost use Rattle.std.specs.Prelude.{◌≡◌};
-    ghost use Rattle.petal_rules.specs.State.{servers_of};
+    ghost use Rattle.petal_state.specs.Command.{state_after};
     ghost use Rattle.client_core.specs.Core.{Core};
 
     ghost Value = { Core };
 
-    ghost view = { λ c. record { me = c.id; state = c.state; client = record { rev = c.rev; seq = c.seq; asked = c.asked } } };
+    ghost view = { λ c. record {
+      me = c.id;
+      servers = c.servers;
+      client = record { applied = c.applied.items; seq = c.seq; asks = c.asks; asked = c.asked };
+    } };
 
-    ghost invariant = { λ c. c.servers ≡ servers_of c.state };
+    ghost invariant = { λ c. c.state ≡ state_after c.servers c.applied.items };
 }
 
 impl ClientCore {
-    /// A client of a run that begins, with nothing called. `servers` is the number of the state's servers.
-    pub fn new(id: ClientId, servers: u8, state: GlobalState) -> ClientCore
-        requires { servers ≡ servers_of state }
-        ensures { result ≡ record { me = id; state = state; client = first_client } }
+    /// A client of a run that begins, with nothing called and no entry applied, among so many servers.
+    pub fn new(alloc: Global, id: ClientId, servers: u8) -> Result<ClientCore, NoMemory>
+        requires { id < CLIENTS }
+        ensures { IfOk result (λ core. core ≡ record { me = id; servers = servers; client = first_client }) }
     {
-        ClientCore {
-            id,
+        let state = GlobalState::new(alloc, servers)?;
+        Ok(ClientCore {
+            id: ClientNumber::new(id),
             servers,
             state,
-            rev: 1,
+            applied: GhostList::new(),
             seq: 0,
+            asks: 0,
             asked: None,
-        }
+        })
     }
 
     /// Calls a request as the client's next: its number is one higher than that of the last. None is open.
     pub fn call(&mut self, alloc: Global, line: u32, request: Request) -> Result<Reaction, NoMemory>
-        requires free { self.old.client.asked ≡ None }
-        requires goes_on { is_spent self.old.client ≡ false }
+        requires { self.old.client.asked ≡ None }
         ensures ok { IfOk result (λ reaction. (self.new, reaction)
-            ≡ at_core self.old (called self.old.state self.old.me self.old.client line request)) }
+            ≡ at_core self.old (called (state_of self.old) self.old.me self.old.client line request)) }
         ensures err { OnErr result (self.new ≡ self.old) }
     {
-        match request {
-            Request::Disk { .. } => {
-                self.seq += 1;
-                Ok(Reaction {
-                    letters: Sequence::new(alloc),
-                    answer: Some((line, Answer::Ok)),
-                })
-            }
-            Request::Write { .. }
-            | Request::Read { .. }
-            | Request::Snap { .. }
-            | Request::Move { .. }
-            | Request::Stop { .. }
-            | Request::StopAt { .. }
-            | Request::Fault { .. }
-            | Request::Start { .. }
-            | Request::Blank { .. }
-            | Request::Settle => self.open(alloc, line, request),
-        }
-    }
-
-    /// The request is the open one, and goes out.
-    fn open(&mut self, alloc: Global, line: u32, request: Request) -> Result<Reaction, NoMemory>
-        requires { is_spent self.old.client ≡ false }
-        ensures ok { IfOk result (λ reaction. (self.new, reaction)
-            ≡ at_core self.old (opens self.old.state self.old.me self.old.client line request)) }
-        ensures err { OnErr result (self.new ≡ self.old) }
-    {
-        let seq = self.seq + 1;
-        let bytes = bytes_sent(alloc, &request)?;
-        let rev = self.state.rev();
-        let mut open = Open {
-            line,
-            seq,
-            request,
-            turn: 0,
+        let mut asked = self.opened(alloc, line, request)?;
+        let Sent {
+            post,
+            asks,
+            turn,
             rev,
-            bytes,
-        };
-        let letters = self.letters_for(alloc, &open)?;
-        open.sent(1, rev);
-        self.seq = seq;
-        self.asked = Some(open);
+        } = self.sends_first(alloc, &asked)?;
+        let letters = one_letter(alloc, self.me(), self.rev(), post)?;
+        asked.was_sent(turn, rev);
+        self.has_open(asked, asks);
         Ok(Reaction {
             letters,
             answer: None,
@@ -116,74 +99,24 @@ impl ClientCore {
     /// Handles a letter.
     #[tactic(auto, unfolding(petal_rules::specs::Clients::heard))]
     pub fn deliver(&mut self, alloc: Global, letter: &Letter) -> Result<Reaction, NoMemory>
-        requires { is_spent self.old.client ≡ false }
         ensures ok { IfOk result (λ reaction. (self.new, reaction)
-            ≡ at_core self.old (heard self.old.state self.old.me self.old.client letter.now)) }
+            ≡ at_core self.old (heard (state_of self.old) self.old.me self.old.client letter.now)) }
         ensures err { OnErr result (self.new ≡ self.old) }
     {
-        match self.hear(letter)? {
-            Heard::Nothing => Ok(nothing(alloc)),
-            Heard::Answered(answer) => Ok(self.answer(alloc, answer)),
-            Heard::Again => self.send_again(alloc),
+        match &letter.body {
+            Body::News { after, commands } => self.learn(alloc, *after, commands.as_slice()),
+            _ => self.hear(alloc, letter),
         }
     }
 
-    /// What a letter means for the open request.
-    fn hear(&self, letter: &Letter) -> Result<Heard, NoMemory>
-        ensures { IfOk result (λ heard. hears_of self.now.state self.now.me self.now.client self.now.client.asked letter.now
-            ≡ outcome self.now.state self.now.me self.now.client self.now.client.asked heard) }
-    {
-        match &self.asked {
-            None => Ok(Heard::Nothing),
-            Some(open) => open.hear(letter.rev, &letter.body),
-        }
-    }
-
-    /// The open request is answered.
-    fn answer(&mut self, alloc: Global, answer: Answer) -> Reaction
-        ensures { (self.new, result)
-            ≡ at_core self.old (outcome self.old.state self.old.me self.old.client self.old.client.asked (Heard.Answered answer)) }
-    {
-        match self.asked.take() {
-            None => nothing(alloc),
-            Some(open) => Reaction {
-                letters: Sequence::new(alloc),
-                answer: Some((open.line, answer)),
-            },
-        }
-    }
-
-    /// The open request goes out again.
-    fn send_again(&mut self, alloc: Global) -> Result<Reaction, NoMemory>
-        requires { is_spent self.old.client ≡ false }
-        ensures ok { IfOk result (λ reaction. (self.new, reaction)
-            ≡ at_core self.old (asks_anew self.old.state self.old.me self.old.client self.old.client.asked)) }
-        ensures err { OnErr result (self.new ≡ self.old) }
-    {
-        let turn = self.turn() + 1;
-        let letters = match &self.asked {
-            None => return Ok(nothing(alloc)),
-            Some(open) => self.letters_for(alloc, open)?,
-        };
-        let rev = self.state.rev();
-        if let Some(open) = &mut self.asked {
-            open.sent(turn, rev);
-        }
-        Ok(Reaction {
-            letters,
-            answer: None,
-        })
-    }
-
-    /// Sends the letter of the open request again.
+    /// Asks what follows, and sends the open request again.
     #[tactic(auto, unfolding(petal_rules::specs::Clients::ticked))]
     pub fn tick(&mut self, alloc: Global) -> Result<Reaction, NoMemory>
-        requires { is_spent self.old.client ≡ false }
         ensures ok { IfOk result (λ reaction. (self.new, reaction)
-            ≡ at_core self.old (ticked self.old.state self.old.me self.old.client)) }
+            ≡ at_core self.old (ticked (state_of self.old) self.old.me self.old.client)) }
         ensures err { OnErr result (self.new ≡ self.old) }
     {
-        self.send_again(alloc)
+        self.ask_and_send(alloc)
     }
 
     /// Whether no request is open, so that the next one can be called.
@@ -200,11 +133,12 @@ impl ClientCore {
         self.seq
     }
 
-    /// Its revision of the global state.
+    /// Its revision: how many entries it has applied.
+    #[tactic(auto, using(petal_rules::proofs::Applied::rev_after))]
     pub fn rev(&self) -> Rev
-        ensures { result ≡ self.now.client.rev }
+        ensures { result ≡ length self.now.client.applied }
     {
-        self.rev
+        self.state.rev()
     }
 
     /// Whether a number of the client is the greatest of its type, so that it can take no more steps.
@@ -222,6 +156,191 @@ impl ClientCore {
             None => 0,
             Some(open) => open.turn,
         }
+    }
+
+    /// How many Witnesses of the open request were applied.
+    pub(crate) fn witnesses(&self) -> u32
+        ensures { result ≡ option_map_or (λ asked. asked.witnesses) self.now.client.asked 0 }
+    {
+        match &self.asked {
+            None => 0,
+            Some(open) => open.witnesses,
+        }
+    }
+
+    /// One of the servers, in turn, is asked what follows, and the open request goes out again.
+    fn ask_and_send(&mut self, alloc: Global) -> Result<Reaction, NoMemory>
+        ensures ok { IfOk result (λ reaction. (self.new, reaction)
+            ≡ at_core self.old (asking (state_of self.old) self.old.client
+            (goes_out_where (state_of self.old) self.old.me self.old.client self.old.client.asked))) }
+        ensures err { OnErr result (self.new ≡ self.old) }
+    {
+        let next = self.after_next()?;
+        let Sent {
+            post,
+            asks: _,
+            turn,
+            rev,
+        } = self.sends(alloc)?;
+        let letters = two_letters(alloc, self.me(), self.rev(), self.ask(), post)?;
+        self.has_sent(next, turn, rev);
+        Ok(Reaction {
+            letters,
+            answer: None,
+        })
+    }
+
+    /// Handles a letter that is no News.
+    fn hear(&mut self, alloc: Global, letter: &Letter) -> Result<Reaction, NoMemory>
+        ensures ok { IfOk result (λ reaction. (self.new, reaction)
+            ≡ at_core self.old (hears_of (state_of self.old) self.old.me self.old.client self.old.client.asked letter.now)) }
+        ensures err { OnErr result (self.new ≡ self.old) }
+    {
+        match self.heard(letter)? {
+            Heard::Nothing => Ok(nothing(alloc)),
+            Heard::Answered(answer) => Ok(self.answer(alloc, answer)),
+            Heard::Again => self.ask_and_send(alloc),
+        }
+    }
+
+    /// What a letter means for the open request.
+    fn heard(&self, letter: &Letter) -> Result<Heard, NoMemory>
+        ensures { IfOk result (λ heard. (client : Client)
+            → hears_of (state_of self.now) self.now.me client self.now.client.asked letter.now
+            ≡ outcome heard (state_of self.now) self.now.me client self.now.client.asked) }
+    {
+        match &self.asked {
+            None => Ok(Heard::Nothing),
+            Some(open) => open.hear(letter.rev, &letter.body),
+        }
+    }
+
+    /// The open request is answered.
+    fn answer(&mut self, alloc: Global, answer: Answer) -> Reaction
+        ensures { (self.new, result) ≡ at_core self.old (answers_where self.old.client self.old.client.asked answer) }
+    {
+        match self.asked.take() {
+            None => nothing(alloc),
+            Some(open) => Reaction {
+                letters: Sequence::new(alloc),
+                answer: Some((open.line, answer)),
+            },
+        }
+    }
+
+    /// Applies the entries of a letter that come next, and then the request, if it is still open, goes out.
+    fn learn(
+        &mut self,
+        alloc: Global,
+        after: Rev,
+        commands: &[Command],
+    ) -> Result<Reaction, NoMemory>
+        ensures ok { IfOk result (λ reaction. (self.new, reaction)
+            ≡ at_core self.old (takes_entries (state_of self.old) self.old.me self.old.client
+            (next_entries self.old.client after commands.now))) }
+        ensures err { OnErr result (self.new ≡ self.old) }
+    {
+        let entries = self.next_entries(after, commands);
+        let Some((first, _)) = entries.split_first() else {
+            return Ok(nothing(alloc));
+        };
+        let mut learning = self.begin(first)?;
+        self.take_all(alloc, &mut learning, entries)?;
+        self.come_out(alloc, learning)
+    }
+
+    /// The entries have been applied; the request, if it is still open, goes out.
+    fn come_out(&mut self, alloc: Global, learning: Learning) -> Result<Reaction, NoMemory>
+        requires servers { self.old.servers ≡ servers_of learning.state }
+        requires state { learning.state ≡ state_after self.old.servers learning.applied.items }
+        ensures ok { IfOk result (λ reaction. (self.new, reaction)
+            ≡ at_core self.old (then_goes_out self.old.me (learnt self.old.client self.old.client.asked learning))) }
+        ensures err { OnErr result (self.new ≡ self.old) }
+    {
+        let Learning {
+            state,
+            applied,
+            fate,
+        } = learning;
+        match fate {
+            Fate::Answered(answer) => {
+                self.has_applied(state, applied);
+                Ok(self.answer(alloc, answer))
+            }
+            Fate::Waits(witnesses) => {
+                let Sent {
+                    post,
+                    asks,
+                    turn,
+                    rev,
+                } = self.sends_in(alloc, &state, witnesses)?;
+                let letters = one_letter(alloc, self.me(), state.rev(), post)?;
+                self.has_applied(state, applied);
+                self.has_witnesses(witnesses);
+                self.has_sent(asks, turn, rev);
+                Ok(Reaction {
+                    letters,
+                    answer: None,
+                })
+            }
+        }
+    }
+
+    /// The client's number.
+    fn me(&self) -> ClientId
+        ensures { result ≡ self.now.me }
+    {
+        self.id.get()
+    }
+
+    /// The request under the client's next number, before it is sent.
+    fn opened(&self, alloc: Global, line: u32, request: Request) -> Result<Open, NoMemory>
+        ensures { IfOk result (λ asked. asked ≡ record {
+          line = line;
+          seq = self.now.client.seq + 1;
+          request = request;
+          turn = 0;
+          rev = (state_of self.now).rev;
+          witnesses = 0;
+        }) }
+    {
+        let seq = self.seq.checked_add(1).ok_or(NoMemory)?;
+        Open::new(alloc, line, seq, request, self.state.rev())
+    }
+
+    /// This is the open request, and this the server that is asked next.
+    fn has_open(&mut self, asked: Open, asks: ServerId)
+        ensures { self.new ≡ record self.old { client = record self.old.client { seq = asked.seq; asks = asks; asked = Some asked } } }
+    {
+        self.seq = asked.seq;
+        self.asks = asks;
+        self.asked = Some(asked);
+    }
+
+    /// This is the server that is asked next, and the open request was sent so often, the last time at a revision.
+    fn has_sent(&mut self, asks: ServerId, turn: u32, rev: Rev)
+        ensures { self.new
+            ≡ record self.old { client = record self.old.client { asks = asks; asked = with_send turn rev self.old.client.asked } } }
+    {
+        self.asks = asks;
+        was_sent(&mut self.asked, turn, rev);
+    }
+
+    /// Of the open request so many Witnesses were applied.
+    fn has_witnesses(&mut self, witnesses: u32)
+        ensures { self.new
+            ≡ record self.old { client = record self.old.client { asked = with_witnesses witnesses self.old.client.asked } } }
+    {
+        was_witnessed(&mut self.asked, witnesses);
+    }
+
+    /// These are the entries that are applied, and this is what they made.
+    fn has_applied(&mut self, state: GlobalState, applied: GhostList<Command>)
+        requires { state ≡ state_after self.old.servers applied.items }
+        ensures { self.new ≡ record self.old { client = record self.old.client { applied = applied.items } } }
+    {
+        self.state = state;
+        self.applied = applied;
     }
 }
 

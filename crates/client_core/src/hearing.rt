@@ -1,23 +1,23 @@
-//! What a letter means for the open request.
+//! What a reply means for the open request.
 
-ghost use Rattle.std.specs.Prelude.{◌≡◌, ℕ, IfOk, if◌then◌else◌};
+ghost use Rattle.std.specs.Prelude.{◌≡◌, ℕ, Some, IfOk, if◌then◌else◌};
 ghost use Rattle.petal_rules.specs.State.{State};
 ghost use Rattle.petal_rules.specs.Clients.{Client, hears};
-ghost use Rattle.client_core.specs.Open.{heard_by};
+ghost use Rattle.client_core.specs.Open.{outcome};
 
-use crate::open::{Open, is_read, is_write};
+use crate::open::Open;
 use petal_base::{NoMemory, Rev, Seq};
 use petal_msg::Body;
 use script_lines::Answer;
 
-/// What comes of a letter.
+/// What comes of a reply.
 #[derive(Drop)]
 pub enum Heard {
     /// It does not count.
     Nothing,
     /// It ends the request.
     Answered(Answer),
-    /// The request is sent again.
+    /// It asks what follows, and the request is sent again.
     Again,
 }
 
@@ -40,25 +40,30 @@ fn again_if(counts: bool) -> Heard
 impl Open {
     /// What a letter that comes at a revision means for this request.
     pub fn hear(&self, rev: Rev, body: &Body) -> Result<Heard, NoMemory>
-        ensures { IfOk result (λ heard. (state : State) (me : ℕ) (client : Client) → hears state me client self.now rev body.now ≡ heard_by state me client self.now heard) }
+        ensures { IfOk result (λ heard. (state : State) (me : ℕ) (client : Client)
+            → hears state me client self.now rev body.now ≡ outcome heard state me client (Some self.now)) }
     {
         match body {
-            Body::Data { seq, bytes } => Ok(if self.counts(rev, *seq) && is_read(&self.request) {
+            Body::Data { seq, bytes } => Ok(if self.counts(rev, *seq) && self.request.is_read() {
                 Heard::Answered(Answer::Data(bytes.share()?))
             } else {
                 Heard::Nothing
             }),
             Body::Written { seq } => Ok(answered_if(
-                self.counts(rev, *seq) && is_write(&self.request),
+                self.counts(rev, *seq) && self.request.is_write(),
                 Answer::Ok,
             )),
             Body::Full { seq } => Ok(answered_if(
-                self.counts(rev, *seq) && is_write(&self.request),
+                self.counts(rev, *seq) && self.request.is_write(),
                 Answer::NoSpace,
             )),
             Body::BlockBusy { seq } | Body::Held { seq } => Ok(again_if(self.counts(rev, *seq))),
             Body::WrongRev { seq } => Ok(again_if(*seq == self.seq)),
-            Body::NotHere { .. }
+            Body::Propose { .. }
+            | Body::Pax(_)
+            | Body::Ask { .. }
+            | Body::News { .. }
+            | Body::NotHere { .. }
             | Body::Read { .. }
             | Body::Write { .. }
             | Body::Reserve { .. }

@@ -2,8 +2,7 @@
 
 ghost use Rattle.std.specs.Prelude.{◌≡◌, IfOk};
 ghost use Rattle.petal_rules.specs.Clients.{counts};
-ghost use Rattle.script_lines.specs.Requests.{is_read, is_write};
-ghost use Rattle.client_core.specs.Open.{bytes_sent};
+ghost use Rattle.client_core.specs.Open.{bytes_sent, with_send, with_witnesses};
 
 use petal_base::{NoMemory, Rev, Seq, SharedBlock};
 use script_lines::Request;
@@ -18,6 +17,8 @@ pub struct Open {
     pub request: Request,
     pub turn: u32,
     pub rev: Rev,
+    /// How many of its Witnesses were applied.
+    pub witnesses: u32,
     pub bytes: Option<SharedBlock>,
 }
 
@@ -28,13 +29,13 @@ impl Model for Open {
 
     ghost Value = { Asked };
 
-    ghost view = { λ o. record { line = o.line; seq = o.seq; request = o.request; turn = o.turn; rev = o.rev } };
+    ghost view = { λ o. record { line = o.line; seq = o.seq; request = o.request; turn = o.turn; rev = o.rev; witnesses = o.witnesses } };
 
     ghost invariant = { λ o. o.bytes ≡ bytes_sent o.request };
 }
 
 /// The block that a request sends.
-pub fn bytes_sent(alloc: Global, request: &Request) -> Result<Option<SharedBlock>, NoMemory>
+fn bytes_sent(alloc: Global, request: &Request) -> Result<Option<SharedBlock>, NoMemory>
     ensures { IfOk result (λ bytes. bytes ≡ bytes_sent request.now) }
 {
     match request {
@@ -47,38 +48,59 @@ pub fn bytes_sent(alloc: Global, request: &Request) -> Result<Option<SharedBlock
     }
 }
 
-/// Whether a write is asked.
-pub fn is_write(request: &Request) -> bool
-    ensures { result ≡ is_write request.now }
-{
-    match request {
-        Request::Write { .. } => true,
-        _ => false,
-    }
-}
-
-/// Whether a read is asked.
-pub fn is_read(request: &Request) -> bool
-    ensures { result ≡ is_read request.now }
-{
-    match request {
-        Request::Read { .. } => true,
-        _ => false,
-    }
-}
-
 impl Open {
+    /// A request that was never sent, called at a revision.
+    pub fn new(
+        alloc: Global,
+        line: u32,
+        seq: Seq,
+        request: Request,
+        rev: Rev,
+    ) -> Result<Open, NoMemory>
+        ensures { IfOk result (λ asked. asked ≡ record { line = line; seq = seq; request = request; turn = 0; rev = rev; witnesses = 0 }) }
+    {
+        let bytes = bytes_sent(alloc, &request)?;
+        Ok(Open {
+            line,
+            seq,
+            request,
+            turn: 0,
+            rev,
+            witnesses: 0,
+            bytes,
+        })
+    }
+
     /// Whether a reply counts: its number is the request's, and its revision that of the latest send.
     pub fn counts(&self, rev: Rev, seq: Seq) -> bool
         ensures { result ≡ counts self.now rev seq }
     {
         seq == self.seq && rev == self.rev
     }
-    /// It was sent for the `turn`-th time, at a revision.
-    pub fn sent(&mut self, turn: u32, rev: Rev)
+
+    /// It was sent `turn` times, the last time at a revision.
+    pub fn was_sent(&mut self, turn: u32, rev: Rev)
         ensures { self.new ≡ record self.old { turn = turn; rev = rev } }
     {
         self.turn = turn;
         self.rev = rev;
+    }
+}
+
+/// The request, where there is one, was sent `turn` times, the last time at a revision.
+pub fn was_sent(asked: &mut Option<Open>, turn: u32, rev: Rev)
+    ensures { asked.new ≡ with_send turn rev asked.old }
+{
+    if let Some(asked) = asked {
+        asked.was_sent(turn, rev);
+    }
+}
+
+/// Of the request, where there is one, so many Witnesses were applied.
+pub fn was_witnessed(asked: &mut Option<Open>, witnesses: u32)
+    ensures { asked.new ≡ with_witnesses witnesses asked.old }
+{
+    if let Some(asked) = asked {
+        asked.witnesses = witnesses;
     }
 }

@@ -1,14 +1,13 @@
 //! The state as the layers above see it.
 
-ghost use Rattle.std.specs.Prelude.{◌≡◌, ◌<◌, ◌-◌, ◌^◌, IfOk, OnOk, OnErr, IsTrue, option_copied};
-ghost use Rattle.petal_base.specs.Tuple.{is_tuple};
+ghost use Rattle.std.specs.Prelude.{◌≡◌, ◌<◌, ◌-◌, ◌^◌, IfOk, OnOk, OnErr, option_copied};
 ghost use Rattle.global_tables.specs.View.{head};
 ghost use Rattle.petal_state.specs.State.{start, inc_of};
-ghost use Rattle.petal_state.specs.Command.{after, fixed};
+ghost use Rattle.petal_state.specs.Command.{after};
 ghost use Rattle.petal_state.specs.Bound.{IsWithin};
 
 use global_tables::Fence;
-use petal_base::{Inc, Name, NoMemory, Rev, ServerId};
+use petal_base::{Inc, NoMemory, Rev, ServerId};
 use petal_command::Command;
 use state_fold::Tables;
 use std::alloc::Global;
@@ -38,21 +37,6 @@ impl GlobalState {
     {
         Ok(GlobalState {
             tables: Tables::start(alloc, servers)?,
-        })
-    }
-
-    /// A state that never changes: one disk of map 0 over these servers, epoch 0, revision 1, and every server In.
-    pub fn fixed(
-        alloc: Global,
-        servers: u8,
-        name: &Name,
-        tuple: &[ServerId],
-    ) -> Result<GlobalState, NoMemory>
-        requires { IsTrue (is_tuple servers tuple.now) }
-        ensures { IfOk result (λ state. state ≡ fixed servers name.now tuple.now) }
-    {
-        Ok(GlobalState {
-            tables: Tables::fixed(alloc, servers, name, tuple)?,
         })
     }
 

@@ -12,17 +12,17 @@ use Rattle.script_lines.specs.declared.answer.Answer.{Answer}
 use Rattle.script_lines.specs.declared.request.Line.{Line}
 use Rattle.script_lines.specs.declared.script.Script.{Script}
 use Rattle.petal_rules.specs.Lists.{In}
-use Rattle.petal_rules.specs.State.{State}
 use Rattle.petal_rules.specs.Clients.{Client, Asked, Reaction}
-use Rattle.petal_rules.specs.World.{Setting, World, Stepped, IsAnswered, MayActor, lines_of, next_line, client_step, step, start, setting_of, with_answer}
+use Rattle.petal_rules.specs.World.{Setting, World, Stepped, IsAnswered, MayActor, lines_of, next_line, client_step, client_state, step, start, setting_of, with_answer}
 use Rattle.petal_rules.specs.declared.step.Step.{Step}
-use Rattle.petal_history.specs.Contents.{chosen_state}
 use Rattle.petal_history.specs.Legal.{Follows, IsLegal, IsLegalFrom, stepped, world_after}
 use Rattle.petal_history.specs.Text.{with_given}
 use Rattle.petal_history.specs.declared.record.Record.{Record}
-use Rattle.law_steps.specs.Happens.{Heard, Turned, Rests, Sends_anew, Begins, Makes, Reads}
-use Rattle.law_steps.specs.Happens as happens
-use Rattle.law_steps.proofs.Stepping.{fixed_setting, client_turns, is_call}
+use Rattle.law_steps.specs.Happens.{Heard}
+use Rattle.law_steps.specs.Turned.{Turned, StaysOpen, Goes_on, Begins, Reads, Judges}
+use Rattle.law_steps.specs.Turned as happens
+use Rattle.law_steps.proofs.Turning.{client_turns, is_call}
+use Rattle.law_steps.proofs.Histories.{front_legal}
 use Rattle.petal_rules.proofs.Tests.{same_some, none_some, by_bool, same_or_apart, true_false, all_put_apart}
 use Rattle.petal_history.specs.Order.{AreRising, is_answered, IsOpenLine}
 use Rattle.law_answers.proofs.Places.{line_at, one_client, one_place}
@@ -112,7 +112,7 @@ module _ (lines : List Line) (rise : AreRising lines) (given : List (ℕ × Answ
     own : OwnAnswer c reacted.client.seq reacted.answer
     ahead : IsAhead lines (with_answer reacted.answer given) c reacted.client
 
-  module _ (heard : Body → Type 0) (state : State) (c : ℕ) (client : Client) (a : IsAhead lines given c client) where
+  module _ (heard : Body → Type 0) (servers c : ℕ) (client : Client) (a : IsAhead lines given c client) where
     next_open : (line : Line) → next_line lines c client ≡ Some line → IsOpenAt lines given c (client.seq + 1) line.number
     next_open line is =
         record { place = client.seq; line = line; is = is; before = omega arith; number_is = refl; new = a.due client.seq line is (omega arith) }
@@ -127,23 +127,39 @@ module _ (lines : List Line) (rise : AreRising lines) (given : List (ℕ × Answ
     the_row : {row other : ℕ × Answer} (called : ℕ) → Some row ≡ Some other → IsOpenAt lines given c called row.0 → IsOpenAt lines given c called other.0
     the_row called e o = subst (λ (r : ℕ × Answer). IsOpenAt lines given c called r.0) (same_some e) o
 
-    turned : (in_call : Bool) (reacted : Reaction) → Turned heard state lines c client in_call reacted → IsTurned c reacted
-    turned _ _ Rests = record { own = λ row e. none_some refl e; ahead = a }
-    turned _ _ (Sends_anew asked is) = record {
-      own = λ row e. none_some refl e;
-      ahead = record { due = a.due; asked = λ other e. subst (λ (x : Asked). IsOpenAt lines given c client.seq x.line) (same_some e) (a.asked asked is) };
+    -- what stays open is at the line that it was
+    stays_at : (o : Option Asked) → client.asked ≡ o → (now : Asked) → StaysOpen o (Some now) → IsOpenAt lines given c client.seq now.line
+    stays_at None is now stays = absurd stays
+    stays_at (Some old) is now stays = subst (IsOpenAt lines given c client.seq) (sym stays.line) (a.asked old is)
+
+    goes_ahead : (to : Client) → to.seq ≡ client.seq → StaysOpen client.asked to.asked → IsAhead lines given c to
+    goes_ahead to seq stays = record {
+      due = λ i line is le. a.due i line is (omega arith);
+      asked = λ now e. subst (λ k. IsOpenAt lines given c k now.line) (sym seq) (stays_at client.asked refl now (subst (StaysOpen client.asked) e stays));
     }
-    turned _ _ (Begins line is free) = record {
-      own = λ row e. none_some refl e;
-      ahead = record {
-        due = λ i other there le. a.due i other there (omega arith);
-        asked = λ other e. subst (λ (x : Asked). IsOpenAt lines given c (client.seq + 1) x.line) (same_some e) (next_open line is);
-      };
+
+    begins_ahead : (line : Line) → next_line lines c client ≡ Some line → (to : Client) (asked : Asked) → to.seq ≡ client.seq + 1
+        → to.asked ≡ Some asked → asked.line ≡ line.number → IsAhead lines given c to
+    begins_ahead line is to asked seq there number = record {
+      due = λ i other at le. a.due i other at (omega arith);
+      asked = λ other e. subst (λ k. IsOpenAt lines given c k other.line) (sym seq) (subst (IsOpenAt lines given c (client.seq + 1))
+          (sym number ∙ ap (λ (x : Asked). x.line) (same_some (sym there ∙ e))) (next_open line is));
     }
-    turned _ _ (Makes line name tuple is free asks) = record {
-      own = λ row e. the_row (client.seq + 1) e (next_open line is);
-      ahead = none_ahead _ _ (omega arith) free (next_open line is);
+
+    -- nothing is answered
+    silent : (reacted : Reaction) → reacted.answer ≡ None → IsAhead lines given c reacted.client → IsTurned c reacted
+    silent reacted none ahead = record {
+      own = λ row e. none_some none e;
+      ahead = subst (λ o. IsAhead lines (with_answer o given) c reacted.client) (sym none) ahead;
     }
+
+    judged : (to : Client) (asked : Asked) → to.seq ≡ client.seq → client.asked ≡ Some asked → IsOpenAt lines given c to.seq asked.line
+    judged to asked seq is = subst (λ k. IsOpenAt lines given c k asked.line) (sym seq) (a.asked asked is)
+
+    turned : (in_call : Bool) (reacted : Reaction) → Turned heard servers lines c client in_call reacted → IsTurned c reacted
+    turned _ _ (Goes_on reacted seq stays only) = silent reacted only.unanswered (goes_ahead reacted.client seq stays)
+    turned _ _ (Begins reacted line asked is free seq there called only) =
+        silent reacted only.unanswered (begins_ahead line is reacted.client asked seq there called.line_is)
     turned _ _ (Reads asked bytes h is reads) = record {
       own = λ row e. the_row client.seq e (a.asked asked is);
       ahead = none_ahead _ _ (omega arith) refl (a.asked asked is);
@@ -151,6 +167,10 @@ module _ (lines : List Line) (rise : AreRising lines) (given : List (ℕ × Answ
     turned _ _ (happens.Ends asked how h is writes) = record {
       own = λ row e. the_row client.seq e (a.asked asked is);
       ahead = none_ahead _ _ (omega arith) refl (a.asked asked is);
+    }
+    turned _ _ (Judges after asked answer is gone seq why) = record {
+      own = λ row e. the_row after.seq e (judged after asked seq is);
+      ahead = none_ahead _ after (omega arith) gone (judged after asked seq is);
     }
 
 -- ### Worlds
@@ -174,17 +194,17 @@ pub record IsStepped (lines : List Line) (w : World) (s : Stepped) : Type 0 wher
   pub answers : s.world.answers ≡ with_answer s.answer w.answers
   pub new : (row : ℕ × Answer) → s.answer ≡ Some row → IsNew lines w row.0
 
-module _ (servers slots : ℕ) (lines : List Line) (state : State) (rise : AreRising lines) where
-  abbrev setting : Setting
-  setting = fixed_setting servers slots lines state
+module _ (setting : Setting) (rise : AreRising setting.lines) where
+  abbrev lines : List Line
+  lines = setting.lines
 
   steps : (who : Actor) (what : Step) (w : World) (stamp : ℕ) → Ahead lines w → MayActor who what setting w → IsStepped lines w (step who what setting w stamp)
   unfolding step
   steps (actor.Server n) what w stamp ahead may = record { ahead = ahead; answers = refl; new = λ row e. none_some refl e }
   steps (actor.Client c) what w stamp ahead may =
-      let reacted = client_step what state c (w.clients c) (next_line lines c (w.clients c)) in
-      let t = turned lines rise w.answers (Heard w (actor.Client c)) state c (w.clients c) (ahead c) (is_call what) reacted
-      (client_turns state lines w c servers slots what may.1) in
+      let reacted = client_step what (client_state setting w c) c (w.clients c) (next_line lines c (w.clients c)) in
+      let t = turned lines rise w.answers (Heard w (actor.Client c)) setting.servers c (w.clients c) (ahead c) (is_call what) reacted
+      (client_turns setting w c what may.1).turned in
       record {
         ahead = all_put_apart w.clients c reacted.client (λ d client. IsAhead lines (with_answer reacted.answer w.answers) d client)
             (λ d ne. others_after lines rise w.answers reacted.answer d c reacted.client.seq (w.clients d) ne t.own (ahead d)) t.ahead;
@@ -237,11 +257,6 @@ module _ (servers slots : ℕ) (lines : List Line) (state : State) (rise : AreRi
       let more = told_more w v table own.answer (s.answers ∙ ap (λ o. with_answer o w.answers) (sym same)) (λ row e. s.new row (sym same ∙ e)) t in
       told_after v (with_given table own.answer) later s.ahead more legal.1
 
-  pub front_legal : (w : World) (front behind : List Record) → IsLegalFrom setting w (front ++ behind)
-      → IsLegalFrom setting w front × IsLegalFrom setting (world_after setting w front) behind
-  front_legal w [] behind legal = (tt, legal)
-  front_legal w (own ∷ front) behind legal = let rest = front_legal (stepped setting w own).world front behind legal.1 in ((legal.0, rest.0), rest.1)
-
   pub ahead_start : Ahead lines (start setting)
   unfolding In
   ahead_start c = record { due = λ i line is le h. h.is; asked = λ asked e. none_some refl e }
@@ -255,7 +270,7 @@ module _ (servers slots : ℕ) (lines : List Line) (state : State) (rise : AreRi
   pub open_line : (front : List Record) (own : Record) → IsLegalFrom setting (start setting) (front ++ own ∷ []) → (number : ℕ) (given : Answer)
       → own.answer ≡ Some (number, given) → IsOpenLine lines front number
   open_line front own legal number given e =
-      let parts = front_legal (start setting) front (own ∷ []) legal in
+      let parts = front_legal setting (start setting) front (own ∷ []) legal in
       let w = world_after setting (start setting) front in
       let ahead = ahead_after (start setting) front ahead_start parts.0 in
       let told = told_after (start setting) [] front ahead_start told_start parts.0 in
@@ -269,4 +284,4 @@ module _ (servers slots : ℕ) (lines : List Line) (state : State) (rise : AreRi
 
 pub once : (script : Script) (front : List Record) (own : Record) → AreRising script.lines → IsLegal script (front ++ own ∷ [])
     → (number : ℕ) (given : Answer) → own.answer ≡ Some (number, given) → IsOpenLine script.lines front number
-once script front own rise legal = open_line script.servers script.slots script.lines (chosen_state (setting_of script)) rise front own legal
+once script front own rise legal = open_line (setting_of script) rise front own legal

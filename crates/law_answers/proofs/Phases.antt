@@ -14,16 +14,14 @@ use Rattle.script_lines.specs.declared.answer.Answer.{Answer}
 use Rattle.script_lines.specs.declared.request.Line.{Line}
 use Rattle.script_lines.specs.declared.script.Script.{Script}
 use Rattle.petal_rules.specs.Lists.{In}
-use Rattle.petal_rules.specs.State.{State}
 use Rattle.petal_rules.specs.World.{Setting, World, IsAnswered, start, setting_of}
-use Rattle.petal_history.specs.Contents.{chosen_state}
 use Rattle.petal_history.specs.Legal.{IsLegal, IsLegalFrom, stepped, world_after}
 use Rattle.petal_history.specs.Text.{answers_of, text_of, with_given}
 use Rattle.petal_history.specs.declared.record.Record.{Record}
-use Rattle.law_steps.proofs.Stepping.{fixed_setting}
+use Rattle.law_steps.proofs.Histories.{front_legal}
 use Rattle.petal_rules.proofs.Tests.{by_bool}
 use Rattle.petal_history.specs.Order.{AreRising, AnsweredComeFirst, is_answered}
-use Rattle.law_answers.proofs.Once.{Ahead, answered_more, stepped_is, ahead_after, told_after, front_legal, ahead_start, told_start}
+use Rattle.law_answers.proofs.Once.{Ahead, answered_more, stepped_is, ahead_after, told_after, ahead_start, told_start}
 
 -- ### Tables
 
@@ -69,9 +67,9 @@ row_found (first ∷ rows) row (inr i) =
 
 -- ### Histories
 
-module _ (servers slots : ℕ) (lines : List Line) (state : State) (rise : AreRising lines) where
-  abbrev setting : Setting
-  setting = fixed_setting servers slots lines state
+module _ (setting : Setting) (rise : AreRising setting.lines) where
+  abbrev lines : List Line
+  lines = setting.lines
 
   -- the table is below every line without an answer
   abbrev IsBefore : Table ℕ Answer → World → Type 0
@@ -81,7 +79,7 @@ module _ (servers slots : ℕ) (lines : List Line) (state : State) (rise : AreRi
       → fold (λ rows own. with_given rows own.answer) (a ++ b) records ≡ a ++ fold (λ rows own. with_given rows own.answer) b records
   behind a b w [] ahead before legal = refl
   behind a b w (own ∷ later) ahead before legal =
-      let s = stepped_is servers slots lines state rise w own ahead legal.0 in
+      let s = stepped_is setting rise w own ahead legal.0 in
       let v = (stepped setting w own).world in
       let below : (row : ℕ × Answer) → own.answer ≡ Some row → AreBelow a row.0 = λ row e.
       let fresh = s.new row (sym legal.0.answer ∙ e) in
@@ -97,8 +95,8 @@ module _ (servers slots : ℕ) (lines : List Line) (state : State) (rise : AreRi
   comes_before : (front : List Record) → IsLegalFrom setting (start setting) front → AnsweredComeFirst lines front
       → IsBefore (answers_of front) (world_after setting (start setting) front)
   comes_before front legal first line there none row i =
-      let told = told_after servers slots lines state rise (start setting) [] front (ahead_start servers slots lines state rise)
-      (told_start servers slots lines state rise) legal in
+      let told = told_after setting rise (start setting) [] front (ahead_start setting rise)
+      (told_start setting rise) legal in
       let found = row_found (answers_of front) row i in
       let one = told.lines_too row.0 found in
       let no : is_answered front line.number ≡ false = by_bool (is_answered front line.number) (λ yes. absurd (none (told.given line.number yes))) (λ no. no) in
@@ -113,15 +111,15 @@ module _ (servers slots : ℕ) (lines : List Line) (state : State) (rise : AreRi
   joins : (front back : List Record) → IsLegalFrom setting (start setting) (front ++ back) → AnsweredComeFirst lines front
       → answers_of (front ++ back) ≡ answers_of front ++ answers_of back
   joins front back legal first =
-      let parts = front_legal servers slots lines state rise (start setting) front back legal in
-      let ahead = ahead_after servers slots lines state rise (start setting) front (ahead_start servers slots lines state rise) parts.0 in
+      let parts = front_legal setting (start setting) front back legal in
+      let ahead = ahead_after setting rise (start setting) front (ahead_start setting rise) parts.0 in
       fold-append (λ rows own. with_given rows own.answer) [] front back
       ∙ ap (λ rows. fold (λ rows own. with_given rows own.answer) rows back) (sym (append_nil (answers_of front)))
       ∙ behind (answers_of front) [] (world_after setting (start setting) front) back ahead (comes_before front parts.0 first) parts.1
 
 pub answers_join : (script : Script) (front back : List Record) → AreRising script.lines → IsLegal script (front ++ back)
     → AnsweredComeFirst script.lines front → answers_of (front ++ back) ≡ answers_of front ++ answers_of back
-answers_join script front back rise legal first = joins script.servers script.slots script.lines (chosen_state (setting_of script)) rise front back legal first
+answers_join script front back rise legal first = joins (setting_of script) rise front back legal first
 
 pub text_joins : (script : Script) (front back : List Record) → AreRising script.lines → IsLegal script (front ++ back)
     → AnsweredComeFirst script.lines front → text_of (front ++ back) ≡ text_of front ++ text_of back

@@ -1,80 +1,78 @@
 -- Every step keeps the pairs, and so does every legal history.
-use Rattle.std.proofs.Common.{◌≡◌, ℕ, true, false, List, [], refl, ap, sym, subst, inl, inr, arith}
+use Rattle.std.proofs.Common.{◌≡◌, ◌||◌, ℕ, true, false, List, [], refl, ap, sym, subst, inl, inr, arith}
 use Rattle.petal_base.specs.declared.cell.Cell.{Cell}
 use Rattle.petal_table.specs.Table.{at}
 use Rattle.petal_table.proofs.Rows.{at-empty}
-use Rattle.petal_msg.specs.Kinds.{Subject, Paired, is_asked, is_paired, subject_of}
-use Rattle.script_lines.specs.declared.request.Line.{Line}
+use Rattle.petal_msg.specs.Kinds.{Subject, Paired, is_asked, is_logged, is_paired, subject_of}
 use Rattle.script_lines.specs.declared.script.Script.{Script}
 use Rattle.petal_rules.specs.Lists.{In}
 use Rattle.petal_rules.specs.State.{State}
 use Rattle.petal_rules.specs.Store.{cell_cmp, chain_in}
 use Rattle.petal_rules.specs.Server.{Own, Server, sender}
-use Rattle.petal_rules.specs.Jobs.{here_of}
 use Rattle.petal_rules.specs.Clients.{client_sender}
-use Rattle.petal_rules.specs.World.{World, start, setting_of}
+use Rattle.petal_rules.specs.World.{Setting, World, start, setting_of, chosen_state}
 use Rattle.petal_rules.proofs.ListLemmas.{put_same, put_apart, in-append}
 use Rattle.petal_history.specs.Claims.{Copies, TwoCopies}
-use Rattle.petal_history.specs.Contents.{chosen_state}
 use Rattle.petal_history.specs.Legal.{IsLegal, world_after}
-use Rattle.petal_history.specs.Sound.{IsSound}
 use Rattle.petal_history.specs.declared.record.Record.{Record}
-use Rattle.law_steps.specs.Steady.{IsSteady}
-use Rattle.law_steps.specs.Happens.{Happens, Serves, Turns, server_moves, served}
+use Rattle.law_state.specs.Steady.{IsSteady}
+use Rattle.law_steps.specs.Happens.{Happens, Serves, Turns, server_moves, served, own_place}
 use Rattle.law_steps.specs.Ready.{Ready}
 use Rattle.law_steps.proofs.Letters.{said}
 use Rattle.law_steps.proofs.Sending.{turned_asks}
 use Rattle.petal_rules.proofs.Tests.{true_false}
-use Rattle.law_steps.proofs.Scripts.{script_steady, start_ready}
-use Rattle.law_steps.proofs.Stepping.{kept_after}
+use Rattle.law_state.specs.Below.{IsBelow}
+use Rattle.law_steps.specs.Ready.{AreFirm}
+use Rattle.law_steps.proofs.Fronts.{below_itself}
+use Rattle.law_steps.proofs.Histories.{kept_above, firm_after, chosen_steady, start_rests}
 use Rattle.law_copies.specs.Pair.{Pair, pair_of, IsPair, PairOk, Keeps, SaidOk, owns_of, Good}
 use Rattle.law_copies.proofs.Frames.{Changes, known_later, no_cell, pairs_kept, unpaired}
 use Rattle.law_copies.proofs.Jobs.{job_keeps}
 use Rattle.law_copies.proofs.Moves.{stays}
 
 -- what clients send says nothing of pairs
-asked_unpaired : (subject : Subject) → is_asked subject ≡ true → is_paired subject ≡ false
+asked_unpaired : (subject : Subject) → (is_asked subject || is_logged subject) ≡ true → is_paired subject ≡ false
 asked_unpaired Paired e = true_false e refl
 asked_unpaired _ e = refl
 
 -- ### Steps
 
-module _ (state : State) (steady : IsSteady state) (lines : List Line) where
-  same : (pair : Pair) → PairOk pair → Keeps pair pair
-  same pair ok = stays pair pair.next ok (omega arith)
+same : (pair : Pair) → PairOk pair → Keeps pair pair
+same pair ok = stays pair pair.next ok (omega arith)
 
-  pub happens_good : (w v : World) → Ready state w → Good state w → Happens state lines w v → Good state v
-  happens_good w _ ready good (Serves n stamp done queue lt did queued) =
-      let v = server_moves state w n stamp done queue in
-      let server = served (w.servers n) done queue in
-      let changes : Changes (owns_of w) (owns_of v) n done.own =
-      record {
-        here = ap (λ (s : Server). s.own) (put_same w.servers n server);
-        others = λ m ne. ap (λ (s : Server). s.own) (put_apart w.servers n server m ne);
-      } in
-      let keeps = job_keeps state steady w ready good n done did in
-      let kept = λ (cell : Cell) (i j : ℕ) (pair : IsPair state cell i j). pairs_kept state steady (owns_of w)
-      (owns_of v) n done.own changes done.posts keeps same cell i j pair (good.pairs cell i j pair) in
-      record {
-        pairs = λ cell i j pair. (kept cell i j pair).ok;
-        letters = λ letter h. elim (in-append letter _ w.sent h) [
-          | inl new ↦ let s =
-              said (sender (here_of state n (w.servers n))) stamp 0 done.posts letter new in subst (SaidOk state (owns_of v)) (sym s.body)
-              (keeps.says (owns_of v) changes s.post s.there)
-          | inr old ↦ (λ cell i j is pair. known_later _ _ (kept cell i j pair).grows letter.body (good.letters letter old cell i j is pair))
-        ];
-      }
-  happens_good w _ ready good (Turns c stamp in_call reacted lt c_lt turned) = record {
-    pairs = good.pairs;
-    letters = λ letter h. elim (in-append letter _ w.sent h) [
-      | inl new ↦
-          let s = said (client_sender state c) stamp 0 reacted.posts letter new in
-          let asks = turned_asks _ state lines c (w.clients c) in_call reacted turned s.post s.there in
-          subst (SaidOk state (owns_of w)) (sym s.body)
-          (no_cell state (owns_of w) s.post.body (unpaired s.post.body (asked_unpaired (subject_of s.post.body) asks)))
-      | inr old ↦ good.letters letter old
-    ];
-  }
+pub happens_good : (setting : Setting) (state : State) → IsSteady state → (w v : World) → Ready state w → Good state w
+    → Happens setting state w v → Good state v
+happens_good setting state steady w _ ready good (Serves n stamp log done queue lt did queued) =
+    let v = server_moves setting w n stamp log done queue in
+    let server = served (w.servers n) log done queue in
+    let changes : Changes (owns_of w) (owns_of v) n done.own =
+    record {
+      here = ap (λ (s : Server). s.own) (put_same w.servers n server);
+      others = λ m ne. ap (λ (s : Server). s.own) (put_apart w.servers n server m ne);
+    } in
+    let keeps = job_keeps setting state steady w ready good n done did in
+    let kept = λ (cell : Cell) (i j : ℕ) (pair : IsPair state cell i j). pairs_kept state steady (owns_of w)
+    (owns_of v) n done.own changes done.posts keeps same cell i j pair (good.pairs cell i j pair) in
+    record {
+      pairs = λ cell i j pair. (kept cell i j pair).ok;
+      letters = λ letter h. elim (in-append letter _ w.sent h) [
+        | inl new ↦ let s =
+            said (sender (own_place setting w n)) stamp 0 done.posts letter new in subst (SaidOk state (owns_of v)) (sym s.body)
+            (keeps.says (owns_of v) changes s.post s.there)
+        | inr old ↦ (λ cell i j is pair. known_later _ _ (kept cell i j pair).grows letter.body (good.letters letter old cell i j is pair))
+      ];
+    }
+happens_good setting state steady w _ ready good (Turns c stamp in_call reacted lt c_lt turned onward) = record {
+  pairs = good.pairs;
+  letters = λ letter h. elim (in-append letter _ w.sent h) [
+    | inl new ↦
+        let s = said (client_sender c reacted.client) stamp 0 reacted.posts letter new in
+        let asks = turned_asks _ setting.servers setting.lines c (w.clients c) in_call reacted turned s.post s.there in
+        subst (SaidOk state (owns_of w)) (sym s.body)
+        (no_cell state (owns_of w) s.post.body (unpaired s.post.body (asked_unpaired (subject_of s.post.body) asks)))
+    | inr old ↦ good.letters letter old
+  ];
+}
 
 empty_ok : (one two : Own) (cell : Cell) → one.store.chains ≡ [] → two.store.chains ≡ [] → one.pairs.pending ≡ [] → one.pairs.next ≡ 1
     → two.pairs.last ≡ [] → PairOk (pair_of one two cell)
@@ -107,15 +105,25 @@ start_good state script = record {
 
 -- ### Histories
 
-pub good_after : (script : Script) (records : List Record) → IsSound script → IsLegal script records
-    → Good (chosen_state (setting_of script)) (world_after (setting_of script) (start (setting_of script)) records)
-good_after script records sound legal =
-    let state = chosen_state (setting_of script) in
-    let steady = script_steady script sound in
-    kept_after script.servers script.slots script.lines state steady (Good state) (happens_good state steady script.lines)
-    (start (setting_of script)) records (start_ready state script) (start_good state script) legal
+-- at every steady state from what is chosen on
+pub good_above : (script : Script) (records : List Record) → AreFirm (setting_of script) (start (setting_of script)) records → IsLegal script records
+    → (state : State) → IsSteady state → IsBelow (chosen_state (setting_of script) (world_after (setting_of script) (start (setting_of script)) records)) state
+    → Good state (world_after (setting_of script) (start (setting_of script)) records)
+good_above script records firm legal =
+    kept_above (setting_of script) Good (happens_good (setting_of script)) (start (setting_of script)) records firm (start_rests script)
+    (λ state steady below. start_good state script) legal
 
-pub copies_after : (script : Script) (records : List Record) → IsSound script → IsLegal script records → (cell : Cell)
-    → TwoCopies (chosen_state (setting_of script)) (world_after (setting_of script) (start (setting_of script)) records) cell
-copies_after script records sound legal cell n m leads follows =
-    pair_copies _ ((good_after script records sound legal).pairs cell n m (record { leads = leads; follows = follows }))
+pub good_after : (script : Script) (records : List Record) → AreFirm (setting_of script) (start (setting_of script)) records → IsLegal script records
+    → Good (chosen_state (setting_of script) (world_after (setting_of script) (start (setting_of script)) records))
+    (world_after (setting_of script) (start (setting_of script)) records)
+good_after script records firm legal =
+    let setting = setting_of script in
+    let last = firm_after setting (start setting) records firm in
+    good_above script records firm legal _ (chosen_steady setting _ last) (below_itself _)
+
+pub copies_after : (script : Script) (records : List Record) → AreFirm (setting_of script) (start (setting_of script)) records → IsLegal script records
+    → (cell : Cell)
+    → TwoCopies (chosen_state (setting_of script) (world_after (setting_of script) (start (setting_of script)) records))
+    (world_after (setting_of script) (start (setting_of script)) records) cell
+copies_after script records firm legal cell n m leads follows =
+    pair_copies _ ((good_after script records firm legal).pairs cell n m (record { leads = leads; follows = follows }))

@@ -7,7 +7,7 @@ use Rattle.petal_msg.specs.declared.body.Body.TheVariants as body
 use Rattle.petal_rules.specs.Lists.{In}
 use Rattle.petal_rules.specs.State.{State}
 use Rattle.petal_rules.specs.Server.{Own, Post}
-use Rattle.law_steps.specs.Steady.{IsSteady}
+use Rattle.law_state.specs.Steady.{IsSteady}
 use Rattle.petal_rules.proofs.Tests.{none_some, same_or_apart, same_some}
 use Rattle.law_copies.specs.Pair.{Pair, pair_of, IsPair, PairOk, Grows, Keeps, Known, SaidOk}
 

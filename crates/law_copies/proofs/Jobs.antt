@@ -1,12 +1,12 @@
 -- Each kind of job keeps the pairs of its server.
-use Rattle.std.proofs.Common.{◌≡◌, ◌≢◌, ℕ, ◌+◌, ◌≤◌, List, [], true, Some, None, refl, ap, sym, ◌∙◌, subst, ◌⊎◌, inl, inr, arith}
+use Rattle.std.proofs.Common.{◌≡◌, ◌≢◌, ℕ, ◌+◌, ◌≤◌, List, [], true, false, Some, None, refl, ap, sym, ◌∙◌, subst, ◌⊎◌, inl, inr, arith}
 use Rattle.std.specs.Prelude.{unwrap_or}
 use Rattle.std.specs.Ordering.{nat_cmp}
 use Rattle.petal_base.specs.declared.cell.Cell.{Cell}
 use Rattle.petal_base.specs.declared.cell.Key.{Key}
 use Rattle.petal_base.specs.Cells.{cell_of}
 use Rattle.petal_table.specs.Table.{Table, at, put, without}
-use Rattle.petal_msg.specs.Kinds.{is_paired}
+use Rattle.petal_msg.specs.Kinds.{is_paired, is_logged, subject_of, Subject, Logged}
 use Rattle.petal_msg.specs.declared.body.Body.{Body}
 use Rattle.petal_msg.specs.declared.body.Body.TheVariants as body
 use Rattle.petal_msg.specs.declared.operation.Ending.{Ending}
@@ -21,24 +21,28 @@ use Rattle.petal_rules.specs.State.{State, first, second, is_lead, is_second}
 use Rattle.petal_rules.specs.Store.{Store, Chain, cell_cmp, chain_in, version_of}
 use Rattle.petal_rules.specs.Server.{Own, Here, Post, Done, post_to}
 use Rattle.petal_rules.specs.Writes.{Wanted, operation, opened, with_reserved, with_paired, ended, tells, puts, with_pending, follows}
-use Rattle.petal_rules.specs.Jobs.{here_of}
-use Rattle.petal_rules.specs.World.{World}
+use Rattle.petal_rules.specs.World.{Setting, World}
 use Rattle.petal_rules.proofs.CellTables.{cell_same, cell_apart, cell_gone, cell_gone_apart}
-use Rattle.law_steps.specs.Steady.{IsSteady}
+use Rattle.law_state.specs.Steady.{IsSteady}
 use Rattle.law_steps.specs.Operations.{waiting, copying, progress}
 use Rattle.law_steps.specs.DidRead.{DidRead}
-use Rattle.law_steps.specs.DidLead.{DidLead, Asks_for, Repeats, Is_full, Opens, Puts, Gives_up, Closes, Asks, A_slot, A_copy}
+use Rattle.law_steps.specs.DidLead.{DidLead, Asks_for, Repeats, Is_full, Opens, Puts, Gives_up, Closes, Asks, A_slot, A_copy, Of_the_log}
 use Rattle.law_steps.specs.DidSecond.{DidSecond, Sets_apart, Promises, Declines, Follows}
 use Rattle.law_steps.specs.Did.{Did, Ignores, Refuses, By_read, By_lead, By_second}
-use Rattle.law_steps.specs.Happens.{Handled}
+use Rattle.law_steps.specs.Happens.{Handled, own_place}
 use Rattle.law_steps.specs.Ready.{Ready}
-use Rattle.petal_rules.proofs.Tests.{same_some, is_the_one}
+use Rattle.petal_rules.proofs.Tests.{same_some, is_the_one, true_false}
 use Rattle.law_steps.proofs.Letters.{one_post, posted}
 use Rattle.law_steps.proofs.Staged.{same_cell_or_apart}
 use Rattle.law_steps.proofs.Subjects.{of_read, told_own}
 use Rattle.law_copies.specs.Pair.{Pair, pair_of, IsPair, far, ceiling_of, PairOk, IsPutting, Keeps, Known, SaidOk, owns_of, Good}
 use Rattle.law_copies.proofs.Frames.{Changes, JobKeeps, apart, known_first, known_second, unpaired, no_cell}
 use Rattle.law_copies.proofs.Moves as moves
+
+-- what speaks of the agreed log says nothing of pairs
+logged_unpaired : (subject : Subject) → is_logged subject ≡ true → is_paired subject ≡ false
+logged_unpaired Logged e = refl
+logged_unpaired _ e = true_false e refl
 
 ended_known : (pair : Pair) (seq : ℕ) (how : Ending) → Known pair (ended seq how)
 ended_known pair seq ending.Written = tt
@@ -51,9 +55,9 @@ pub chain_apart : (chains : Table Cell Chain) (cell : Cell) (chain : Chain) (q :
     → chain_in (put cell_cmp chains cell chain) q ≡ chain_in chains q
 chain_apart chains cell chain q ne = ap (λ o. unwrap_or {T = Chain} o []) (cell_apart chains cell chain q ne)
 
-module _ (state : State) (steady : IsSteady state) (w : World) (ready : Ready state w) (good : Good state w) (k : ℕ) where
+module _ (setting : Setting) (state : State) (steady : IsSteady state) (w : World) (ready : Ready state w) (good : Good state w) (k : ℕ) where
   abbrev here : Here
-  here = here_of state k (w.servers k)
+  here = own_place setting w k
 
   abbrev own : Own
   own = owns_of w k
@@ -189,7 +193,7 @@ module _ (state : State) (steady : IsSteady state) (w : World) (ready : Ready st
   staged_pair : (op : Pending) → at cell_cmp own.pairs.pending op.cell ≡ Some op → (m : ℕ) × IsPair state op.cell k m
   staged_pair op is = lead_pair op.cell ((ready.pending k).staged op.cell op is).lead
 
-  asks_known : (later : ℕ → Own) → Changes halves later k own → (post : Post) → Asks here own post → SaidOk state later post.body
+  asks_known : (later : ℕ → Own) → Changes halves later k own → (post : Post) → Asks here state own post → SaidOk state later post.body
   asks_known later changes _ (A_slot op to is stage e) =
       let pair = staged_pair op is in
       let above : ceiling_of (at cell_cmp own.pairs.pending op.cell) own.pairs.next ≡ op.op + 1 = ap (λ o. ceiling_of o own.pairs.next) is in
@@ -199,6 +203,7 @@ module _ (state : State) (steady : IsSteady state) (w : World) (ready : Ready st
       let keyed = ((ready.pending k).staged op.cell op is).keyed in
       known_first state steady halves later k own changes (body.Replicate op.op op.key op.version op.bytes) op.cell pair.0 pair.1 (ap Some keyed)
       (inl (record { op = op; is = is; number_is = refl; put = ap (λ (s : Stage). s.put) stage; key_is = refl; bytes_is = refl }))
+  asks_known later changes _ (Of_the_log post e) = no_cell state later post.body (unpaired post.body (logged_unpaired (subject_of post.body) e))
 
   tells_known : (later : ℕ → Own) (new : Own) → Changes halves later k new → (cell : Cell) (number : ℕ) (how : Far) (n : ℕ) → IsPair state cell n k
       → at cell_cmp new.pairs.last cell ≡ Some (record { op = number; far = how }) → (post : Post) → In post (tells here new cell number how).posts
@@ -217,7 +222,7 @@ module _ (state : State) (steady : IsSteady state) (w : World) (ready : Ready st
   hears = Handled w k
 
   opens_keeps : (want : Wanted) → is_lead state k want.cell ≡ true → at cell_cmp own.pairs.pending want.cell ≡ None
-      → J (opened here own want) (post_to (second state want.cell) (body.Reserve own.pairs.next want.cell))
+      → J (opened here own want) (post_to (second here.state want.cell) (body.Reserve own.pairs.next want.cell))
   opens_keeps want lead none =
       let pair = lead_pair want.cell lead in
       let op = operation here own.pairs.next want in
@@ -365,7 +370,7 @@ module _ (state : State) (steady : IsSteady state) (w : World) (ready : Ready st
 
   -- ### Each kind of job
 
-  lead_keeps : (done : Done) → DidLead hears here own done → J done.own done.posts
+  lead_keeps : (done : Done) → DidLead hears here state own done → J done.own done.posts
   unfolding In
   lead_keeps _ (Asks_for posts h) = speaks _ (λ later changes post i. asks_known later changes post (h post i))
   lead_keeps _ (Repeats want last h lead is e) =
@@ -379,18 +384,18 @@ module _ (state : State) (steady : IsSteady state) (w : World) (ready : Ready st
   lead_keeps _ (Closes op h is stage) =
       closes_keeps op _ _ h is stage refl refl refl refl (λ later changes post i. says_any later _ post (one_post _ _ post i).1 (λ pair. tt))
 
-  second_keeps : (done : Done) → DidSecond hears here own done → J done.own done.posts
+  second_keeps : (done : Done) → DidSecond hears here state own done → J done.own done.posts
   second_keeps _ (Sets_apart number cell store h s e le) = reserves_keeps number cell store h s e le _ refl refl refl refl
   second_keeps _ (Promises number cell how s is) = promises_keeps number cell how s is
   second_keeps _ (Declines number cell h s no_room) = speaks _ (λ later changes post i. says_any later _ post (posted _ _ post i) (λ pair. tt))
   second_keeps _ (Follows number key version bytes h s is) = follows_keeps number key version bytes h s is
 
-  read_keeps : (done : Done) → DidRead hears here own done → J done.own done.posts
+  read_keeps : (done : Done) → DidRead hears here state own done → J done.own done.posts
   read_keeps done d =
-      let frame = of_read hears here own done d in
+      let frame = of_read hears here state own done d in
       talked done frame.same (λ later changes post i. says_any later _ post (frame.says post i).is (λ pair. tt))
 
-  pub job_keeps : (done : Done) → Did hears here own done → J done.own done.posts
+  pub job_keeps : (done : Done) → Did hears here state own done → J done.own done.posts
   unfolding In
   job_keeps _ Ignores = speaks _ (λ later changes post i. absurd i)
   job_keeps _ (Refuses to said is why) =

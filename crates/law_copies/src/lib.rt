@@ -8,9 +8,8 @@
 ghost use Rattle.std.specs.Prelude.{List};
 ghost use Rattle.petal_base.specs.declared.cell.Cell.{Cell};
 ghost use Rattle.script_lines.specs.declared.script.Script.{Script};
-ghost use Rattle.petal_rules.specs.World.{setting_of, start};
+ghost use Rattle.petal_rules.specs.World.{chosen_state, setting_of, start};
 ghost use Rattle.petal_history.specs.Claims.{TwoCopies};
-ghost use Rattle.petal_history.specs.Contents.{chosen_state};
 ghost use Rattle.petal_history.specs.Legal.{IsLegal, world_after};
 ghost use Rattle.petal_history.specs.Sound.{IsSound};
 ghost use Rattle.petal_history.specs.declared.record.Record.{Record};
@@ -18,11 +17,11 @@ ghost use Rattle.law_copies.specs.Pair.{Good};
 
 /// After every legal history of a sound script, the two copies of each cell keep the rule.
 pub fn two_copies()
-    ensures { (script : Script) (records : List Record) → IsSound script → IsLegal script records → (cell : Cell) → TwoCopies (chosen_state (setting_of script)) (world_after (setting_of script) (start (setting_of script)) records) cell }
+    ensures { (script : Script) (records : List Record) → IsSound script → IsLegal script records → (cell : Cell) → TwoCopies (chosen_state (setting_of script) (world_after (setting_of script) (start (setting_of script)) records)) (world_after (setting_of script) (start (setting_of script)) records) cell }
 {}
 
 /// And what goes with it: the second server is no further than the lead has given numbers out, and each letter that was ever
 /// sent between the two tells what is so, or what is past.
 pub fn letters_between_two_servers()
-    ensures { (script : Script) (records : List Record) → IsSound script → IsLegal script records → Good (chosen_state (setting_of script)) (world_after (setting_of script) (start (setting_of script)) records) }
+    ensures { (script : Script) (records : List Record) → IsSound script → IsLegal script records → Good (chosen_state (setting_of script) (world_after (setting_of script) (start (setting_of script)) records)) (world_after (setting_of script) (start (setting_of script)) records) }
 {}

@@ -13,13 +13,13 @@ use Rattle.petal_rules.specs.Lists.{In}
 use Rattle.petal_rules.specs.State.{State, first}
 use Rattle.petal_rules.specs.Store.{cell_cmp}
 use Rattle.petal_rules.specs.Server.{Own, Post, Done, sender}
-use Rattle.petal_rules.specs.Writes.{operation}
-use Rattle.petal_rules.specs.Jobs.{here_of}
-use Rattle.petal_rules.specs.World.{World}
+use Rattle.petal_rules.specs.Log.{Log}
+use Rattle.petal_rules.specs.World.{Setting, World}
 use Rattle.petal_rules.specs.declared.job.Job.{Job}
 use Rattle.petal_rules.proofs.ListLemmas.{put_same, put_apart, in-append}
-use Rattle.law_steps.specs.Steady.{IsSteady}
-use Rattle.law_steps.specs.Happens.{server_moves, served}
+use Rattle.law_state.specs.Below.{IsBelow}
+use Rattle.law_state.specs.Steady.{IsSteady}
+use Rattle.law_steps.specs.Happens.{server_moves, served, own_place}
 use Rattle.law_steps.specs.Ready.{Ready}
 use Rattle.law_steps.proofs.Letters.{said}
 use Rattle.petal_rules.proofs.Tests.{same_or_apart}
@@ -46,10 +46,15 @@ pub record JobRefuses (R : ℕ → ℕ → Type 0) (state : State) (w : World) (
   pub declined : (post : Post) (number p : ℕ) (cell : Cell) (op : Pending) → In post posts → post.body ≡ body.PairFull number cell
       → first state cell ≡ Some p → at cell_cmp (owns_of w p).pairs.pending cell ≡ Some op → op.op ≡ number → R op.client op.seq
 
--- a server in a world where R holds of each request that was refused so far, which implies what is to hold after its step
+-- a server in a world where R holds of each request that was refused so far, which implies what is to hold after its step.
+-- Reasons are told of a state at or below this one
 pub record Scene (R S : ℕ → ℕ → Type 0) : Type 0 where
+  pub setting : Setting
   pub state : State
   pub steady : IsSteady state
+  pub told : State
+  pub told_steady : IsSteady told
+  pub below : IsBelow told state
   pub w : World
   pub ready : Ready state w
   pub good : Good state w
@@ -57,7 +62,7 @@ pub record Scene (R S : ℕ → ℕ → Type 0) : Type 0 where
   pub more : (c seq : ℕ) → R c seq → S c seq
   pub refusals : Refusals R state w
 
-module _ (R S : ℕ → ℕ → Type 0) (scene : Scene R S) (stamp : ℕ) (done : Done) (queue : List Job)
+module _ (R S : ℕ → ℕ → Type 0) (scene : Scene R S) (stamp : ℕ) (log : Log) (done : Done) (queue : List Job)
     (job : JobRefuses S scene.state scene.w scene.n done.own done.posts) where
   abbrev state : State
   state = scene.state
@@ -75,13 +80,13 @@ module _ (R S : ℕ → ℕ → Type 0) (scene : Scene R S) (stamp : ℕ) (done 
   refusals = scene.refusals
 
   abbrev later : World
-  later = server_moves state w n stamp done queue
+  later = server_moves scene.setting w n stamp log done queue
 
   own_now : owns_of later n ≡ done.own
-  own_now = ap (λ s. s.own) (put_same w.servers n (served (w.servers n) done queue))
+  own_now = ap (λ s. s.own) (put_same w.servers n (served (w.servers n) log done queue))
 
   own_other : (i : ℕ) → i ≢ n → owns_of later i ≡ owns_of w i
-  own_other i ne = ap (λ s. s.own) (put_apart w.servers n (served (w.servers n) done queue) i ne)
+  own_other i ne = ap (λ s. s.own) (put_apart w.servers n (served (w.servers n) log done queue) i ne)
 
   finished : (i c : ℕ) (last : Finished) → at nat_cmp (owns_of later i).pairs.finished c ≡ Some last → last.ending ≡ ending.Full → S c last.seq
   finished i c last is how = elim (same_or_apart i n) [
@@ -119,19 +124,19 @@ module _ (R S : ℕ → ℕ → Type 0) (scene : Scene R S) (stamp : ℕ) (done 
   job_refusals = record {
     letters = λ letter c seq h to says. elim (in-append letter _ w.sent h) [
       | inl new ↦ let s =
-          said (sender (here_of state n (w.servers n))) stamp 0 done.posts letter new in job.letters s.post c seq s.there (sym s.to ∙ to) (sym s.body ∙ says)
+          said (sender (own_place scene.setting w n)) stamp 0 done.posts letter new in job.letters s.post c seq s.there (sym s.to ∙ to) (sym s.body ∙ says)
       | inr old ↦ more c seq (refusals.letters letter c seq old to says)
     ];
     finished = finished;
     numbers = λ letter number p cell h says leads. elim (in-append letter _ w.sent h) [
       | inl new ↦
-          let s = said (sender (here_of state n (w.servers n))) stamp 0 done.posts letter new in
+          let s = said (sender (own_place scene.setting w n)) stamp 0 done.posts letter new in
           next_later p number (job.numbers s.post number p cell s.there (sym s.body ∙ says) leads).1
       | inr old ↦ next_later p number (refusals.numbers letter number p cell old says leads)
     ];
     declined = λ letter number p cell op h says leads is same. elim (in-append letter _ w.sent h) [
       | inl new ↦
-          let s = said (sender (here_of state n (w.servers n))) stamp 0 done.posts letter new in
+          let s = said (sender (own_place scene.setting w n)) stamp 0 done.posts letter new in
           let ne = (job.numbers s.post number p cell s.there (sym s.body ∙ says) leads).0 in
           job.declined s.post number p cell op s.there (sym s.body ∙ says) leads (sym (ap (λ h. at cell_cmp h.pairs.pending cell) (own_other p ne)) ∙ is) same
       | inr old ↦ old_declined letter number p cell op old says leads is same

@@ -5,7 +5,7 @@ use Rattle.petal_base.specs.declared.cell.Cell.{Cell}
 use Rattle.petal_base.specs.Cells.{cell_of}
 use Rattle.petal_table.specs.Table.{Table, at, put, without}
 use Rattle.petal_table.proofs.Rows.{at_same, at_apart}
-use Rattle.petal_msg.specs.Kinds.{Answered, Paired, Refused}
+use Rattle.petal_msg.specs.Kinds.{Answered, Paired, Refused, is_logged, subject_of}
 use Rattle.petal_msg.specs.declared.body.Body.{Body}
 use Rattle.petal_msg.specs.declared.body.Body.TheVariants as body
 use Rattle.petal_msg.specs.declared.letter.Actor.TheVariants as actor
@@ -20,20 +20,20 @@ use Rattle.petal_rules.specs.State.{State, first, second, is_second}
 use Rattle.petal_rules.specs.Store.{cell_cmp, chain_in, version_of}
 use Rattle.petal_rules.specs.Server.{Own, Here, Post, Done, post_to}
 use Rattle.petal_rules.specs.Writes.{operation, opened, with_reserved, with_paired, ended, tells}
-use Rattle.petal_rules.specs.Jobs.{here_of}
-use Rattle.petal_rules.specs.World.{World}
+use Rattle.petal_rules.specs.World.{Setting, World}
 use Rattle.petal_rules.specs.declared.step.Step.TheVariants.{Work}
 use Rattle.petal_rules.specs.declared.step.WorkEnd.TheVariants as work_end
 use Rattle.petal_rules.proofs.CellTables.{cell_same, cell_apart, cell_gone, cell_gone_apart}
-use Rattle.law_steps.specs.Steady.{IsSteady}
+use Rattle.law_state.specs.Steady.{IsSteady}
 use Rattle.law_steps.specs.DidRead.{DidRead}
-use Rattle.law_steps.specs.DidLead.{DidLead, Asks_for, Repeats, Is_full, Opens, Puts, Gives_up, Closes, Asks, A_slot, A_copy}
+use Rattle.law_steps.specs.DidLead.{DidLead, Asks_for, Repeats, Is_full, Opens, Puts, Gives_up, Closes, Asks, A_slot, A_copy, Of_the_log}
 use Rattle.law_steps.specs.DidSecond.{DidSecond, Sets_apart, Promises, Declines, Follows, FoundNoSlot}
 use Rattle.law_steps.specs.Did.{Did, Ignores, Refuses, IsRefusal, By_read, By_lead, By_second}
-use Rattle.law_steps.specs.Happens.{IsIdle, Handled}
+use Rattle.law_steps.specs.Happens.{IsIdle, Handled, own_place}
 use Rattle.law_steps.specs.Ready.{Ready}
-use Rattle.law_steps.proofs.Letters.{said, one_post, posted}
-use Rattle.petal_rules.proofs.Tests.{same_or_apart, same_some, none_some, true_false}
+use Rattle.law_steps.proofs.Letters.{one_post, posted}
+use Rattle.petal_rules.proofs.Tests.{same_or_apart, same_some, none_some, true_false, is_the_one}
+use Rattle.law_steps.proofs.Lifting.{second_up}
 use Rattle.law_steps.proofs.Staged.{same_cell_or_apart}
 use Rattle.law_copies.specs.Pair.{IsPair, ceiling_of, owns_of, Good}
 use Rattle.law_copies.proofs.Frames.{apart}
@@ -52,9 +52,15 @@ refusal_not_full (body.Full seq) h = let f : Answered ≡ Refused = h in absurd 
 refusal_not_full (body.PairFull number cell) h = let f : Paired ≡ Refused = h in absurd cc
 refusal_not_full _ h = refl
 
-asks_not_full : (here : Here) (own : Own) (post : Post) → Asks here own post → is_full post.body ≡ false
-asks_not_full here own _ (A_slot op to is stage e) = refl
-asks_not_full here own _ (A_copy op to is stage e) = refl
+logged_not_full : (said : Body) → is_logged (subject_of said) ≡ true → is_full said ≡ false
+logged_not_full (body.Full seq) e = true_false e refl
+logged_not_full (body.PairFull number cell) e = true_false e refl
+logged_not_full _ e = refl
+
+asks_not_full : (here : Here) (state : State) (own : Own) (post : Post) → Asks here state own post → is_full post.body ≡ false
+asks_not_full here state own _ (A_slot op to is stage e) = refl
+asks_not_full here state own _ (A_copy op to is stage e) = refl
+asks_not_full here state own _ (Of_the_log post e) = logged_not_full post.body e
 
 tells_not_full : (here : Here) (new : Own) (cell : Cell) (number : ℕ) (how : Far) (post : Post) → In post (tells here new cell number how).posts
     → is_full post.body ≡ false
@@ -70,12 +76,15 @@ full_seq e = cc
 -- ### Each kind of job
 
 module _ (R S : ℕ → ℕ → Type 0) (scene : Scene R S)
-    (now : (c seq : ℕ) → HadNoSlot scene.state scene.w (actor.Server scene.n) (Work work_end.Done) c seq → S c seq) where
+    (now : (c seq : ℕ) → HadNoSlot scene.told scene.w (actor.Server scene.n) (Work work_end.Done) c seq → S c seq) where
   abbrev state : State
   state = scene.state
 
   abbrev steady : IsSteady state
   steady = scene.steady
+
+  abbrev told : State
+  told = scene.told
 
   abbrev w : World
   w = scene.w
@@ -96,7 +105,7 @@ module _ (R S : ℕ → ℕ → Type 0) (scene : Scene R S)
   refusals = scene.refusals
 
   abbrev here : Here
-  here = here_of state n (w.servers n)
+  here = own_place scene.setting w n
 
   abbrev own : Own
   own = owns_of w n
@@ -182,13 +191,15 @@ module _ (R S : ℕ → ℕ → Type 0) (scene : Scene R S)
   -- an operation that the second server has no slot for
   declined_op : (op : Pending) → hears (body.PairFull op.op op.cell) → at cell_cmp own.pairs.pending op.cell ≡ Some op → S op.client op.seq
   declined_op op h is =
-      let pair = lead_pair state steady w ready good n op.cell ((ready.pending n).staged op.cell op is).lead in
+      let pair = lead_pair scene.setting state steady w ready good n op.cell ((ready.pending n).staged op.cell op is).lead in
       more op.client op.seq (refusals.declined h.letter op.op n op.cell op h.sent h.is pair.1.leads is refl)
 
-  declines : (number : ℕ) (cell : Cell) → hears (body.Reserve number cell) → is_second state n cell ≡ true → FoundNoSlot own cell number
-      → J own (post_to (first state cell) (body.PairFull number cell))
+  declines : (number : ℕ) (cell : Cell) → hears (body.Reserve number cell) → is_second told n cell ≡ true → FoundNoSlot own cell number
+      → J own (post_to (first here.state cell) (body.PairFull number cell))
   declines number cell h s no_room =
-      let pair = second_pair state steady w ready good n cell s in
+      let pair = second_pair scene.setting state steady w ready good n cell (second_up told state scene.told_steady steady scene.below n cell s) in
+      let follows : second told cell ≡ Some n = is_the_one _ n s in
+      let one_told = scene.told_steady.followed cell n follows in
       record {
         finished = λ c last is how. inl is;
         pending = λ q op is. inl (was_same q op is);
@@ -202,13 +213,14 @@ module _ (R S : ℕ → ℕ → Type 0) (scene : Scene R S)
             let ok = good.pairs cell p n mine in
             let fresh = ok.fresh in
             let known : number < ceiling_of (at cell_cmp (owns_of w p).pairs.pending cell) (owns_of w p).pairs.next =
-            heard_known state steady w ready good n _ h cell p n refl mine in
+            heard_known scene.setting state steady w ready good n _ h cell p n refl mine in
             let number_is = same.0 in
             (apart state steady cell p n mine, omega arith);
         declined = λ post k p q op i says leads is numbered.
             let same = full_cell (sym (posted _ _ post i) ∙ says) in
             let there : at cell_cmp (owns_of w p).pairs.pending cell ≡ Some op = ap (at cell_cmp (owns_of w p).pairs.pending) same.1 ∙ is in
-            now op.client op.seq (At_the_second p n cell op refl refl (ap (first state) same.1 ∙ leads) pair.1.follows there refl refl
+            let lead_is : one_told.0 ≡ p = same_some (sym (scene.below.firsts cell one_told.0 one_told.1) ∙ ap (first state) same.1 ∙ leads) in
+            now op.client op.seq (At_the_second p n cell op refl refl (one_told.1 ∙ ap Some lead_is) follows there refl refl
             (subst (λ j. hears (body.Reserve j cell)) (same.0 ∙ sym numbered) h) (subst (FoundNoSlot own cell) (same.0 ∙ sym numbered) no_room));
       }
     where
@@ -223,9 +235,9 @@ module _ (R S : ℕ → ℕ → Type 0) (scene : Scene R S)
   talked done same unsaid =
       still done.posts done.own (ap (λ (o : Own). o.pairs.finished) same) (ap (λ (o : Own). o.pairs.pending) same) (ap (λ (o : Own). o.pairs.next) same) unsaid
 
-  lead_refuses : (done : Done) → DidLead hears here own done → J done.own done.posts
+  lead_refuses : (done : Done) → DidLead hears here told own done → J done.own done.posts
   unfolding In
-  lead_refuses _ (Asks_for posts h) = speaks _ (λ post i. asks_not_full here own post (h post i))
+  lead_refuses _ (Asks_for posts h) = speaks _ (λ post i. asks_not_full here told own post (h post i))
   lead_refuses _ (Repeats want last h lead is e) = repeats last.ending refl
     where
       repeats : (how : Ending) → last.ending ≡ how → J own (record { to = actor.Client want.client; body = ended want.seq how } ∷ [])
@@ -246,13 +258,13 @@ module _ (R S : ℕ → ℕ → Type 0) (scene : Scene R S)
       (omega arith) (λ cell op is. inl (was_same cell op is))
   lead_refuses _ (Opens want h lead new none) =
       let op = operation here own.pairs.next want in
-      quiet (opened here own want) (post_to (second state want.cell) (body.Reserve own.pairs.next want.cell)) (λ c last is how. inl is)
+      quiet (opened here own want) (post_to (second here.state want.cell) (body.Reserve own.pairs.next want.cell)) (λ c last is how. inl is)
       (λ cell o is. elim (same_cell_or_apart cell want.cell) [
         | inl e ↦ inr (ap (λ (x : Pending). x.op)
             (sym (same_some {x = op} (sym (cell_same own.pairs.pending want.cell op)
             ∙ subst (λ (q : Cell). at cell_cmp (put cell_cmp own.pairs.pending want.cell op) q ≡ Some o) e is))))
         | inr ne ↦ inl (was_same cell o (sym (cell_apart own.pairs.pending want.cell op cell ne) ∙ is))
-      ]) (omega arith) (λ post i. ap is_full (posted (second state want.cell) (body.Reserve own.pairs.next want.cell) post i))
+      ]) (omega arith) (λ post i. ap is_full (posted (second here.state want.cell) (body.Reserve own.pairs.next want.cell) post i))
   lead_refuses _ (Puts op h is stage) =
       let t = own.pairs.pending in
       let one = with_reserved op in
@@ -291,7 +303,7 @@ module _ (R S : ℕ → ℕ → Type 0) (scene : Scene R S)
       (λ q ne. cell_gone_apart u op.cell q ne ∙ cell_apart own.pairs.pending op.cell (with_paired op) q ne)) (omega arith)
       (λ post i. ap is_full (one_post (actor.Client op.client) (body.Written op.seq) post i).1)
 
-  second_refuses : (done : Done) → DidSecond hears here own done → J done.own done.posts
+  second_refuses : (done : Done) → DidSecond hears here told own done → J done.own done.posts
   second_refuses _ (Sets_apart number cell store h s e le) = still _ _ refl refl refl (λ post i. tells_not_full here own cell number far.Reserved post i)
   second_refuses _ (Promises number cell how s is) =
       talked (tells here own cell number how) (told_own here own cell number how) (λ post i. tells_not_full here own cell number how post i)
@@ -299,10 +311,10 @@ module _ (R S : ℕ → ℕ → Type 0) (scene : Scene R S)
   second_refuses _ (Follows number key version bytes h s is) =
       still _ _ refl refl refl (λ post i. tells_not_full here own (cell_of key) number far.Replicated post i)
 
-  read_refuses : (done : Done) → DidRead hears here own done → J done.own done.posts
-  read_refuses done d = let frame = of_read hears here own done d in talked done frame.same (λ post i. ap is_full (frame.says post i).is)
+  read_refuses : (done : Done) → DidRead hears here told own done → J done.own done.posts
+  read_refuses done d = let frame = of_read hears here told own done d in talked done frame.same (λ post i. ap is_full (frame.says post i).is)
 
-  pub job_refuses : (done : Done) → Did hears here own done → J done.own done.posts
+  pub job_refuses : (done : Done) → Did hears here told own done → J done.own done.posts
   unfolding In
   job_refuses _ Ignores = speaks _ (λ post i. absurd i)
   job_refuses _ (Refuses to what is why) = speaks _ (λ post i. ap is_full (one_post to what post i).1 ∙ refusal_not_full what is)
@@ -311,15 +323,16 @@ module _ (R S : ℕ → ℕ → Type 0) (scene : Scene R S)
   job_refuses _ (By_second done d) = second_refuses done d
 
 -- a step that does nothing but ask once more
-pub idle_refuses : (S : ℕ → ℕ → Type 0) (state : State) (w : World) (n : ℕ) (done : Done) → IsIdle (here_of state n (w.servers n)) (owns_of w n) done
+pub idle_refuses : (S : ℕ → ℕ → Type 0) (setting : Setting) (told state : State) (w : World) (n : ℕ) (done : Done)
+    → IsIdle (own_place setting w n) told (owns_of w n) done
     → JobRefuses S state w n done.own done.posts
-idle_refuses S state w n done idle = subst (λ (h : Own). JobRefuses S state w n h done.posts) (sym idle.same) (record {
+idle_refuses S setting told state w n done idle = subst (λ (h : Own). JobRefuses S state w n h done.posts) (sym idle.same) (record {
   finished = λ c last is how. inl is;
   pending = λ cell op is. inl (record { was = op; is = is; number = refl; client = refl; seq = refl });
   next = omega arith;
-  letters = λ post c seq i to says. true_false (ap is_full says) (asks_not_full (here_of state n (w.servers n)) (owns_of w n) post (idle.asks post i));
+  letters = λ post c seq i to says. true_false (ap is_full says) (asks_not_full (own_place setting w n) told (owns_of w n) post (idle.asks post i));
   numbers = λ post number p cell i says leads. true_false (ap is_full says)
-      (asks_not_full (here_of state n (w.servers n)) (owns_of w n) post (idle.asks post i));
+      (asks_not_full (own_place setting w n) told (owns_of w n) post (idle.asks post i));
   declined = λ post number p cell op i says leads is same. true_false (ap is_full says)
-      (asks_not_full (here_of state n (w.servers n)) (owns_of w n) post (idle.asks post i));
+      (asks_not_full (own_place setting w n) told (owns_of w n) post (idle.asks post i));
 })

@@ -15,18 +15,16 @@ use Rattle.petal_rules.specs.State.{State, first, second, is_lead}
 use Rattle.petal_rules.specs.Store.{cell_cmp, free_of}
 use Rattle.petal_rules.specs.Writes.{pending_on}
 use Rattle.petal_rules.specs.Clients.{Asked}
-use Rattle.petal_rules.specs.Jobs.{here_of}
-use Rattle.petal_rules.specs.World.{Setting, World, start}
+use Rattle.petal_rules.specs.World.{Setting, World, chosen_state, start}
 use Rattle.petal_rules.specs.declared.step.Step.{Step}
 use Rattle.petal_rules.specs.declared.step.Step.TheVariants.{Work}
 use Rattle.petal_rules.specs.declared.step.WorkEnd.TheVariants as work_end
-use Rattle.petal_history.specs.Contents.{chosen_state}
 use Rattle.petal_history.specs.Legal.{world_after}
 use Rattle.petal_history.specs.declared.record.Record.{Record}
 use Rattle.law_steps.specs.Operations.{done_to}
 use Rattle.law_steps.specs.DidSecond.{FoundNoSlot}
 use Rattle.law_steps.specs.Did.{IsBusy}
-use Rattle.law_steps.specs.Happens.{Handled}
+use Rattle.law_steps.specs.Happens.{Handled, own_place}
 
 -- ### No slot
 
@@ -48,7 +46,8 @@ pub record WasRefused (setting : Setting) (records : List Record) (client seq : 
   pub own : Record
   pub behind : List Record
   pub lies : records ≡ front ++ own ∷ behind
-  pub reason : HadNoSlot (chosen_state setting) (world_after setting (start setting) front) own.actor own.step client seq
+  pub reason :
+      HadNoSlot (chosen_state setting (world_after setting (start setting) front)) (world_after setting (start setting) front) own.actor own.step client seq
 
 -- the request that the client has open, which this line's answer ends
 pub record IsOpenFor (w : World) (client line : ℕ) : Type 0 where
@@ -64,10 +63,10 @@ pub record HasReason (setting : Setting) (records : List Record) (client line : 
 -- ### A busy block
 
 -- a server's step found another operation pending on the block that it leads
-pub record FoundBusy (state : State) (w : World) (who : Actor) (seq : ℕ) : Type 0 where
+pub record FoundBusy (setting : Setting) (w : World) (who : Actor) (seq : ℕ) : Type 0 where
   pub server : ℕ
   pub is : who ≡ actor.Server server
-  pub busy : IsBusy (Handled w server) (here_of state server (w.servers server)) (w.servers server).own seq
+  pub busy : IsBusy (Handled w server) (own_place setting w server) (chosen_state setting w) (w.servers server).own seq
 
 -- ### What is kept
 

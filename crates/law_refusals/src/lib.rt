@@ -12,7 +12,6 @@ ghost use Rattle.script_lines.specs.declared.answer.Answer.TheVariants.{NoSpace}
 ghost use Rattle.script_lines.specs.declared.script.Script.{Script};
 ghost use Rattle.petal_rules.specs.Lists.{In};
 ghost use Rattle.petal_rules.specs.World.{setting_of, start};
-ghost use Rattle.petal_history.specs.Contents.{chosen_state};
 ghost use Rattle.petal_history.specs.Legal.{IsLegal, world_after};
 ghost use Rattle.petal_history.specs.Sound.{IsSound};
 ghost use Rattle.petal_history.specs.declared.record.Record.{Record};
@@ -28,5 +27,5 @@ pub fn nospace_has_a_reason()
 /// A letter that says that a block is busy is sent by the block's lead, in the step that found another operation pending on
 /// it.
 pub fn a_busy_block_has_another_operation()
-    ensures { (script : Script) (front : List Record) (own : Record) → IsSound script → IsLegal script (front ++ own ∷ []) → (letter : Letter) (seq : ℕ) → In letter own.sent → letter.body ≡ BlockBusy seq → FoundBusy (chosen_state (setting_of script)) (world_after (setting_of script) (start (setting_of script)) front) own.actor seq }
+    ensures { (script : Script) (front : List Record) (own : Record) → IsSound script → IsLegal script (front ++ own ∷ []) → (letter : Letter) (seq : ℕ) → In letter own.sent → letter.body ≡ BlockBusy seq → FoundBusy (setting_of script) (world_after (setting_of script) (start (setting_of script)) front) own.actor seq }
 {}

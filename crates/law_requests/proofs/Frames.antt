@@ -12,19 +12,23 @@ use Rattle.petal_rules.specs.Lists.{In}
 use Rattle.petal_rules.specs.State.{State, first}
 use Rattle.petal_rules.specs.Store.{cell_cmp}
 use Rattle.petal_rules.specs.Server.{Own, Post, Done, sender}
-use Rattle.petal_rules.specs.Jobs.{here_of}
+use Rattle.petal_rules.specs.Log.{Log}
 use Rattle.petal_rules.specs.Clients.{Client, Asked, Reaction, client_sender}
-use Rattle.petal_rules.specs.World.{World, reacts}
+use Rattle.petal_rules.specs.World.{Setting, World, reacts, client_state}
 use Rattle.petal_rules.specs.declared.job.Job.{Job}
 use Rattle.petal_rules.proofs.ListLemmas.{put_same, put_apart, in-append}
-use Rattle.law_steps.specs.Steady.{IsSteady}
-use Rattle.law_steps.specs.Happens.{server_moves, served}
+use Rattle.law_state.specs.Steady.{IsSteady}
+use Rattle.law_state.specs.Below.{IsBelow}
+use Rattle.law_state.proofs.Steady.{log_below}
+use Rattle.law_steps.specs.Happens.{server_moves, served, own_place, IsOnward}
+use Rattle.law_steps.proofs.Fronts.{below_itself}
+use Rattle.petal_state.specs.Command.{state_after}
 use Rattle.law_steps.specs.Ready.{Ready}
 use Rattle.law_steps.proofs.Letters.{said}
 use Rattle.petal_rules.proofs.Tests.{same_or_apart, all_put, is_the_one, none_some, same_some}
 use Rattle.law_requests.specs.Asked.{IsWrite, IsAsked, IsOpen}
 use Rattle.law_requests.specs.Known.{Seen, seen, done_by, IsPast, EndKnownAt, Known, PendingFor, Asking}
-use Rattle.law_requests.proofs.Later.{Later, known_later, one_cell, one_open}
+use Rattle.law_requests.proofs.Later.{Later, known_later, one_cell, one_open, write_up}
 
 -- ### What a job shows
 
@@ -70,25 +74,29 @@ SaysOk state lines w n new to (body.Write client seq cell epoch bytes) = ⊥
 SaysOk state lines w n new to (body.Read client seq cell epoch) = ⊥
 SaysOk state lines w n new to _ = Unit {0}
 
-pub record JobTells (state : State) (lines : List Line) (w : World) (n : ℕ) (new : Own) (posts : List Post) : Type 0 where
-  pub finished : (c : ℕ) → (done_by new c ≡ done_by (w.servers n).own c) ⊎ Ends state lines w n new c
+pub record JobTells (setting : Setting) (state : State) (w : World) (n : ℕ) (new : Own) (posts : List Post) : Type 0 where
+  pub finished : (c : ℕ) → (done_by new c ≡ done_by (w.servers n).own c) ⊎ Ends state setting.lines w n new c
   pub pending : (cell : Cell) (op : Pending) → at cell_cmp new.pairs.pending cell ≡ Some op
-      → Stays state w n cell op ⊎ PendingFor state lines (w.clients op.client) (done_by (w.servers n).own op.client) cell op
-  pub says : (post : Post) → In post posts → SaysOk state lines w n new post.to post.body
+      → Stays state w n cell op
+      ⊎ PendingFor state (client_state setting w op.client) setting.lines (w.clients op.client) (done_by (w.servers n).own op.client) cell op
+  pub says : (post : Post) → In post posts → SaysOk state setting.lines w n new post.to post.body
 
-module _ (state : State) (lines : List Line) (w : World) (asking : Asking state lines w) (n stamp : ℕ) (done : Done) (queue : List Job)
-    (tells : JobTells state lines w n done.own done.posts) where
+module _ (setting : Setting) (state : State) (w : World) (asking : Asking setting state w) (n stamp : ℕ) (log : Log) (done : Done) (queue : List Job)
+    (tells : JobTells setting state w n done.own done.posts) where
   abbrev later : World
-  later = server_moves state w n stamp done queue
+  later = server_moves setting w n stamp log done queue
+
+  abbrev P : (client : ℕ) → (done : ℕ) → Cell → Pending → Type 0
+  P client done cell op = PendingFor state (client_state setting w client) setting.lines (w.clients client) done cell op
 
   abbrev old : Own
   old = (w.servers n).own
 
   own_now : (later.servers n).own ≡ done.own
-  own_now = ap (λ s. s.own) (put_same w.servers n (served (w.servers n) done queue))
+  own_now = ap (λ s. s.own) (put_same w.servers n (served (w.servers n) log done queue))
 
   own_other : (m : ℕ) → m ≢ n → (later.servers m).own ≡ (w.servers m).own
-  own_other m ne = ap (λ s. s.own) (put_apart w.servers n (served (w.servers n) done queue) m ne)
+  own_other m ne = ap (λ s. s.own) (put_apart w.servers n (served (w.servers n) log done queue) m ne)
 
   -- numbers rise, and stay below the client's next
   rises : (c : ℕ) → done_by old c ≤ done_by done.own c
@@ -101,8 +109,8 @@ module _ (state : State) (lines : List Line) (w : World) (asking : Asking state 
     | inr ne ↦ let same : done_by (later.servers m).own c ≡ done_by (w.servers m).own c = ap (λ h. done_by h c) (own_other m ne) in omega arith
   ]
 
-  goes_on : Later state lines (seen w) (seen later)
-  goes_on = record { seqs = λ c. omega arith; dones = dones; closes = λ c seq is. inl is }
+  goes_on : Later state setting.lines (seen setting w) (seen setting later)
+  goes_on = record { seqs = λ c. omega arith; states = λ c. below_itself (client_state setting w c); dones = dones; closes = λ c seq is. inl is }
 
   open_below : (c seq : ℕ) → IsOpen (w.clients c) seq → seq ≤ (w.clients c).seq
   open_below c seq h = let a = asking.asked c h.asked h.is in let last = a.last in let same = h.same in omega arith
@@ -119,50 +127,51 @@ module _ (state : State) (lines : List Line) (w : World) (asking : Asking state 
   ]
 
   -- the operation was pending, or is its client's open write
-  was_pending : (cell : Cell) (op : Pending) → Stays state w n cell op ⊎ PendingFor state lines (w.clients op.client) (done_by old op.client) cell op
-      → PendingFor state lines (w.clients op.client) (done_by old op.client) cell op
+  was_pending : (cell : Cell) (op : Pending) → Stays state w n cell op ⊎ P op.client (done_by old op.client) cell op
+      → P op.client (done_by old op.client) cell op
   was_pending cell op (inr p) = p
   was_pending cell op (inl s) =
       let p = asking.pending n cell s.was s.is in
       record {
         write = rw (← s.client, ← s.seq, ← s.key, ← s.bytes) p.write;
+        served = rw (← s.client, ← s.seq, ← s.key, ← s.bytes) p.served;
         still = rw (← s.client, ← s.seq) p.still;
         unfinished = rw (← s.client, ← s.seq) p.unfinished;
       }
 
   -- and no other that was just finished
   not_past : (cell : Cell) (op : Pending) → at cell_cmp done.own.pairs.pending cell ≡ Some op
-      → PendingFor state lines (w.clients op.client) (done_by old op.client) cell op → done_by done.own op.client ≤ op.seq
+      → P op.client (done_by old op.client) cell op → done_by done.own op.client ≤ op.seq
   not_past cell op is p = elim (tells.finished op.client) [
     | inl same ↦ let u = p.unfinished in omega arith
     | inr ends ↦
         let seq : op.seq ≡ ends.seq = one_open (w.clients op.client) op.seq ends.seq p.still ends.still in
-        let write : IsWrite state lines op.client op.seq ends.cell ends.epoch ends.bytes =
-        subst (λ i. IsWrite state lines op.client i ends.cell ends.epoch ends.bytes) (sym seq) ends.write in
-        let same : cell ≡ ends.cell = one_cell state lines op.client op.seq cell ends.cell op.key.epoch ends.epoch op.bytes ends.bytes p.write write in
+        let write : IsWrite state setting.lines op.client op.seq ends.cell ends.epoch ends.bytes =
+        subst (λ i. IsWrite state setting.lines op.client i ends.cell ends.epoch ends.bytes) (sym seq) ends.write in
+        let same : cell ≡ ends.cell = one_cell state setting.lines op.client op.seq cell ends.cell op.key.epoch ends.epoch op.bytes ends.bytes p.write write in
         none_some ends.gone (subst (λ (q : Cell). at cell_cmp done.own.pairs.pending q ≡ Some op) same is)
   ]
 
   pending_now : (cell : Cell) (op : Pending) → at cell_cmp done.own.pairs.pending cell ≡ Some op
-      → PendingFor state lines (w.clients op.client) (done_by done.own op.client) cell op
+      → P op.client (done_by done.own op.client) cell op
   pending_now cell op is =
       let p = was_pending cell op (tells.pending cell op is) in
-      record { write = p.write; still = p.still; unfinished = not_past cell op is p }
+      record { write = p.write; served = p.served; still = p.still; unfinished = not_past cell op is p }
 
   pending : (m : ℕ) (cell : Cell) (op : Pending) → at cell_cmp (later.servers m).own.pairs.pending cell ≡ Some op
-      → PendingFor state lines (w.clients op.client) (done_by (later.servers m).own op.client) cell op
+      → P op.client (done_by (later.servers m).own op.client) cell op
   pending m cell op is = elim (same_or_apart m n) [
     | inl e ↦
         let there : at cell_cmp done.own.pairs.pending cell ≡ Some op =
         sym (ap (λ h. at cell_cmp h.pairs.pending cell) (ap (λ i. (later.servers i).own) e ∙ own_now)) ∙ is in
-        subst (λ h. PendingFor state lines (w.clients op.client) (done_by h op.client) cell op) (sym (ap (λ i. (later.servers i).own) e ∙ own_now))
+        subst (λ h. P op.client (done_by h op.client) cell op) (sym (ap (λ i. (later.servers i).own) e ∙ own_now))
         (pending_now cell op there)
     | inr ne ↦
         let there : at cell_cmp (w.servers m).own.pairs.pending cell ≡ Some op = sym (ap (λ h. at cell_cmp h.pairs.pending cell) (own_other m ne)) ∙ is in
-        subst (λ h. PendingFor state lines (w.clients op.client) (done_by h op.client) cell op) (sym (own_other m ne)) (asking.pending m cell op there)
+        subst (λ h. P op.client (done_by h op.client) cell op) (sym (own_other m ne)) (asking.pending m cell op there)
   ]
 
-  told : (seq : ℕ) (to : Actor) → TellsAt state lines w n done.own seq to → EndKnownAt state lines (seen later) seq to
+  told : (seq : ℕ) (to : Actor) → TellsAt state setting.lines w n done.own seq to → EndKnownAt state setting.lines (seen setting later) seq to
   told seq (actor.Server m) t = t
   told seq (actor.Client c) t = record {
     cell = t.cell;
@@ -175,7 +184,7 @@ module _ (state : State) (lines : List Line) (w : World) (asking : Asking state 
         subst (λ i. seq < done_by (later.servers i).own c) same (subst (λ h. seq < done_by h c) (sym own_now) t.past);
   }
 
-  says : (to : Actor) (what : Body) → SaysOk state lines w n done.own to what → Known state lines (seen later) to what
+  says : (to : Actor) (what : Body) → SaysOk state setting.lines w n done.own to what → Known state setting.lines (seen setting later) to what
   says to (body.Written seq) h = told seq to h
   says to (body.Full seq) h = told seq to h
   says to (body.Write client seq cell epoch bytes) h = absurd h
@@ -183,15 +192,16 @@ module _ (state : State) (lines : List Line) (w : World) (asking : Asking state 
   says to _ h = tt
 
   -- what a job shows keeps what is known of requests
-  pub job_asking : Asking state lines later
+  pub job_asking : Asking setting state later
   job_asking = record {
     asked = asking.asked;
     letters = λ letter h. elim (in-append letter _ w.sent h) [
       | inl new ↦
-          let s = said (sender (here_of state n (w.servers n))) stamp 0 done.posts letter new in
-          subst (λ (b : Body). Known state lines (seen later) letter.to b) (sym s.body)
-          (subst (λ (a : Actor). Known state lines (seen later) a s.post.body) (sym s.to) (says s.post.to s.post.body (tells.says s.post s.there)))
-      | inr sent ↦ known_later state lines (seen w) (seen later) goes_on letter.to letter.body (asking.letters letter sent)
+          let s = said (sender (own_place setting w n)) stamp 0 done.posts letter new in
+          subst (λ (b : Body). Known state setting.lines (seen setting later) letter.to b) (sym s.body)
+          (subst (λ (a : Actor). Known state setting.lines (seen setting later) a s.post.body) (sym s.to)
+          (says s.post.to s.post.body (tells.says s.post s.there)))
+      | inr sent ↦ known_later state setting.lines (seen setting w) (seen setting later) goes_on letter.to letter.body (asking.letters letter sent)
     ];
     pending = pending;
     finished = bound;
@@ -199,23 +209,34 @@ module _ (state : State) (lines : List Line) (w : World) (asking : Asking state 
 
 -- ### What a client's step shows
 
-pub record TurnOk (state : State) (lines : List Line) (w : World) (c : ℕ) (client : Client) (posts : List Post) : Type 0 where
+-- where the request is a write, by the client's own state too, its lead is past it
+abbrev pub Closed : Setting → State → World → (c seq : ℕ) → Type 0
+Closed setting state w c seq =
+    (cell : Cell) (epoch : ℕ) (bytes : List ℕ) → IsWrite state setting.lines c seq cell epoch bytes
+    → IsWrite (client_state setting w c) setting.lines c seq cell epoch bytes → IsPast state (seen setting w) cell c seq
+
+pub record TurnOk (setting : Setting) (state : State) (w : World) (c : ℕ) (client : Client) (posts : List Post) : Type 0 where
   pub seqs : (w.clients c).seq ≤ client.seq
-  pub asked : (asked : Asked) → client.asked ≡ Some asked → IsAsked lines c client asked
+  pub asked : (asked : Asked) → client.asked ≡ Some asked → IsAsked setting.lines c client asked
   pub closes : (seq : ℕ) → IsOpen (w.clients c) seq
-      → IsOpen client seq ⊎ ((cell : Cell) (epoch : ℕ) (bytes : List ℕ) → IsWrite state lines c seq cell epoch bytes → IsPast state (seen w) cell c seq)
-  pub says : (v : Seen) → v.clients c ≡ client → (post : Post) → In post posts → Known state lines v post.to post.body
+      → IsOpen client seq ⊎ Closed setting state w c seq
+  pub says : (v : Seen) → v.clients c ≡ client → v.states c ≡ state_after setting.servers client.applied → (post : Post) → In post posts
+      → Known state setting.lines v post.to post.body
 
 -- a world in which requests are as they should be
 pub record Scene : Type 0 where
+  pub setting : Setting
   pub state : State
   pub steady : IsSteady state
-  pub lines : List Line
   pub w : World
   pub ready : Ready state w
-  pub asking : Asking state lines w
+  pub asking : Asking setting state w
 
-module _ (scene : Scene) (c stamp : ℕ) (reacted : Reaction) (turn : TurnOk scene.state scene.lines scene.w c reacted.client reacted.posts) where
+module _ (scene : Scene) (c stamp : ℕ) (reacted : Reaction) (turn : TurnOk scene.setting scene.state scene.w c reacted.client reacted.posts)
+    (onward : IsOnward scene.setting.servers scene.state (scene.w.clients c).applied reacted.client.applied) where
+  abbrev setting : Setting
+  setting = scene.setting
+
   abbrev state : State
   state = scene.state
 
@@ -223,7 +244,7 @@ module _ (scene : Scene) (c stamp : ℕ) (reacted : Reaction) (turn : TurnOk sce
   steady = scene.steady
 
   abbrev lines : List Line
-  lines = scene.lines
+  lines = setting.lines
 
   abbrev w : World
   w = scene.w
@@ -231,20 +252,24 @@ module _ (scene : Scene) (c stamp : ℕ) (reacted : Reaction) (turn : TurnOk sce
   abbrev ready : Ready state w
   ready = scene.ready
 
-  abbrev asking : Asking state lines w
+  abbrev asking : Asking setting state w
   asking = scene.asking
 
   abbrev after : World
-  after = (reacts state w c stamp reacted).world
+  after = (reacts w c stamp reacted).world
 
-  turn_later : Later state lines (seen w) (seen after)
+  states_up : (j : ℕ) → IsBelow (client_state setting w j) (client_state setting after j)
+  states_up = all_put w.clients c reacted.client
+      (λ j client. IsBelow (client_state setting w j) (state_after setting.servers client.applied)) (λ j. below_itself (client_state setting w j))
+      (log_below setting.servers _ _ onward.plain onward.grows)
+
+  turn_later : Later state lines (seen setting w) (seen setting after)
   turn_later = record {
     seqs = all_put w.clients c reacted.client (λ j client. (w.clients j).seq ≤ client.seq) (λ j. omega arith) turn.seqs;
+    states = states_up;
     dones = λ n j. omega arith;
     closes = all_put w.clients c reacted.client
-        (λ j client. (seq : ℕ) → IsOpen (w.clients j) seq
-        → IsOpen client seq ⊎ ((cell : Cell) (epoch : ℕ) (bytes : List ℕ) → IsWrite state lines j seq cell epoch bytes
-        → IsPast state (seen w) cell j seq)) (λ j seq h. inl h) turn.closes;
+        (λ j client. (seq : ℕ) → IsOpen (w.clients j) seq → IsOpen client seq ⊎ Closed setting state w j seq) (λ j seq h. inl h) turn.closes;
   }
 
   -- a pending write is open still, since its lead is not past it
@@ -255,20 +280,27 @@ module _ (scene : Scene) (c stamp : ℕ) (reacted : Reaction) (turn : TurnOk sce
       let leads : first state cell ≡ Some n = sym (steady.leads cell) ∙ is_the_one _ n s.lead in
       elim (turn_later.closes op.client op.seq p.still) [
         | inl still ↦ still
-        | inr past ↦ let lt = past cell op.key.epoch op.bytes p.write n leads in let u = p.unfinished in absurd (omega arith)
+        | inr past ↦ let lt = past cell op.key.epoch op.bytes p.write p.served n leads in let u = p.unfinished in absurd (omega arith)
       ]
 
-  pub turn_asking : Asking state lines after
+  pub turn_asking : Asking setting state after
   turn_asking = record {
     asked = all_put w.clients c reacted.client (λ j client. (asked : Asked) → client.asked ≡ Some asked → IsAsked lines j client asked) asking.asked turn.asked;
     letters = λ letter h. elim (in-append letter _ w.sent h) [
       | inl new ↦
-          let s = said (client_sender state c) stamp 0 reacted.posts letter new in
-          subst (λ (b : Body). Known state lines (seen after) letter.to b) (sym s.body)
-          (subst (λ (a : Actor). Known state lines (seen after) a s.post.body) (sym s.to)
-          (turn.says (seen after) (put_same w.clients c reacted.client) s.post s.there))
-      | inr sent ↦ known_later state lines (seen w) (seen after) turn_later letter.to letter.body (asking.letters letter sent)
+          let s = said (client_sender c reacted.client) stamp 0 reacted.posts letter new in
+          subst (λ (b : Body). Known state lines (seen setting after) letter.to b) (sym s.body)
+          (subst (λ (a : Actor). Known state lines (seen setting after) a s.post.body) (sym s.to)
+          (turn.says (seen setting after) (put_same w.clients c reacted.client)
+          (ap (λ (x : Client). state_after setting.servers x.applied) (put_same w.clients c reacted.client)) s.post s.there))
+      | inr sent ↦ known_later state lines (seen setting w) (seen setting after) turn_later letter.to letter.body (asking.letters letter sent)
     ];
-    pending = λ n cell op is. let p = asking.pending n cell op is in record { write = p.write; still = pending_open n cell op is; unfinished = p.unfinished };
+    pending = λ n cell op is. let p = asking.pending n cell op is in record {
+      write = p.write;
+      served = write_up (client_state setting w op.client) (client_state setting after op.client) (states_up op.client) lines op.client op.seq cell
+          op.key.epoch op.bytes p.served;
+      still = pending_open n cell op is;
+      unfinished = p.unfinished;
+    };
     finished = λ n j. let b = asking.finished n j in let up = turn_later.seqs j in omega arith;
   }

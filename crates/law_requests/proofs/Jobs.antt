@@ -4,7 +4,7 @@ use Rattle.std.specs.Ordering.{nat_cmp}
 use Rattle.petal_base.specs.declared.cell.Cell.{Cell}
 use Rattle.petal_table.specs.Table.{at, put}
 use Rattle.petal_table.proofs.Rows.{at_same, at_apart}
-use Rattle.petal_msg.specs.Kinds.{Subject, Answered, Read_asked, Write_asked, subject_of}
+use Rattle.petal_msg.specs.Kinds.{Subject, Answered, Logged, Read_asked, Write_asked, is_logged, subject_of}
 use Rattle.petal_msg.specs.declared.body.Body.{Body}
 use Rattle.petal_msg.specs.declared.body.Body.TheVariants as body
 use Rattle.petal_msg.specs.declared.letter.Actor.{Actor}
@@ -18,17 +18,16 @@ use Rattle.petal_rules.specs.Lists.{In}
 use Rattle.petal_rules.specs.State.{State, first, second, is_lead}
 use Rattle.petal_rules.specs.Store.{cell_cmp, chain_in, version_of}
 use Rattle.petal_rules.specs.Server.{Own, Here, Post, Done, post_to}
-use Rattle.petal_rules.specs.Writes.{Wanted, operation, opened, puts, with_pending, with_reserved, with_paired, ended, tells}
-use Rattle.petal_rules.specs.Jobs.{here_of}
-use Rattle.petal_rules.specs.World.{World}
+use Rattle.petal_rules.specs.Writes.{Wanted, operation, opened, puts, with_pending, with_reserved, with_paired, ended}
+use Rattle.petal_rules.specs.World.{Setting, World, client_state}
 use Rattle.petal_rules.proofs.CellTables.{cell_same, cell_apart, cell_gone, cell_gone_apart}
-use Rattle.law_steps.specs.Steady.{IsSteady}
+use Rattle.law_state.specs.Steady.{IsSteady}
 use Rattle.law_steps.specs.Operations.{done_to}
 use Rattle.law_steps.specs.DidRead.{DidRead}
-use Rattle.law_steps.specs.DidLead.{DidLead, Asks_for, Repeats, Is_full, Opens, Puts, Gives_up, Closes, Asks, A_slot, A_copy}
+use Rattle.law_steps.specs.DidLead.{DidLead, Asks_for, Repeats, Is_full, Opens, Puts, Gives_up, Closes, Asks, A_slot, A_copy, Of_the_log}
 use Rattle.law_steps.specs.DidSecond.{DidSecond}
 use Rattle.law_steps.specs.Did.{Did, Ignores, Refuses, By_read, By_lead, By_second}
-use Rattle.law_steps.specs.Happens.{Handled}
+use Rattle.law_steps.specs.Happens.{Handled, own_place}
 use Rattle.law_steps.specs.Ready.{Ready}
 use Rattle.petal_rules.proofs.Tests.{same_or_apart, same_some, none_some, is_the_one, true_false}
 use Rattle.law_steps.proofs.Staged.{same_cell_or_apart}
@@ -49,15 +48,22 @@ tells_request Write_asked = true
 tells_request Answered = true
 tells_request _ = false
 
-module _ (state : State) (steady : IsSteady state) (lines : List Line) (w : World) (ready : Ready state w) (asking : Asking state lines w) (n : ℕ) where
+logged_untold : (subject : Subject) → is_logged subject ≡ true → tells_request subject ≡ false
+logged_untold Logged e = refl
+logged_untold _ e = true_false e refl
+
+module _ (setting : Setting) (state : State) (steady : IsSteady state) (w : World) (ready : Ready state w) (asking : Asking setting state w) (n : ℕ) where
+  abbrev lines : List Line
+  lines = setting.lines
+
   abbrev here : Here
-  here = here_of state n (w.servers n)
+  here = own_place setting w n
 
   abbrev own : Own
   own = (w.servers n).own
 
   abbrev J : Own → List Post → Type 0
-  J new posts = JobTells state lines w n new posts
+  J new posts = JobTells setting state w n new posts
 
   abbrev hears : Body → Type 0
   hears = Handled w n
@@ -65,10 +71,10 @@ module _ (state : State) (steady : IsSteady state) (lines : List Line) (w : Worl
   first_of : (cell : Cell) → is_lead state n cell ≡ true → first state cell ≡ Some n
   first_of cell e = sym (steady.leads cell) ∙ is_the_one _ n e
 
-  pub known_of : (said : Body) → hears said → Known state lines (seen w) (actor.Server n) said
+  pub known_of : (said : Body) → hears said → Known state lines (seen setting w) (actor.Server n) said
   known_of said h =
-      subst (λ (b : Body). Known state lines (seen w) (actor.Server n) b) h.is
-      (subst (λ (a : Actor). Known state lines (seen w) a h.letter.body) h.own (asking.letters h.letter h.sent))
+      subst (λ (b : Body). Known state lines (seen setting w) (actor.Server n) b) h.is
+      (subst (λ (a : Actor). Known state lines (seen setting w) a h.letter.body) h.own (asking.letters h.letter h.sent))
 
   stays : (cell : Cell) (op : Pending) → at cell_cmp own.pairs.pending cell ≡ Some op → Stays state w n cell op
   stays cell op is = record { was = op; is = is; client = refl; seq = refl; key = refl; bytes = refl }
@@ -104,9 +110,10 @@ module _ (state : State) (steady : IsSteady state) (lines : List Line) (w : Worl
   talked done same says = calm done.own done.posts (λ c. ap (λ (o : Own). done_by o c) same)
       (λ cell op is. stays cell op (ap (λ (o : Own). at cell_cmp o.pairs.pending cell) (sym same) ∙ is)) says
 
-  asks_says : (post : Post) → Asks here own post → SaysOk state lines w n own post.to post.body
+  asks_says : (post : Post) → Asks here state own post → SaysOk state lines w n own post.to post.body
   asks_says _ (A_slot op to is stage e) = tt
   asks_says _ (A_copy op to is stage e) = tt
+  asks_says _ (Of_the_log post e) = nothing_said own post.to post.body (logged_untold (subject_of post.body) e)
 
   ended_says : (new : Own) (c seq : ℕ) (how : Ending) → Tells state lines w n new c seq → SaysOk state lines w n new (actor.Client c) (ended seq how)
   ended_says new c seq ending.Written t = t
@@ -150,7 +157,7 @@ module _ (state : State) (steady : IsSteady state) (lines : List Line) (w : Worl
       }
 
   opens_tells : (want : Wanted) → hears (body.Write want.client want.seq want.cell want.epoch want.bytes) → is_lead state n want.cell ≡ true
-      → done_by own want.client ≤ want.seq → J (opened here own want) (post_to (second state want.cell) (body.Reserve own.pairs.next want.cell))
+      → done_by own want.client ≤ want.seq → J (opened here own want) (post_to (second here.state want.cell) (body.Reserve own.pairs.next want.cell))
   opens_tells want h lead new =
       let op = operation here own.pairs.next want in
       let t = own.pairs.pending in
@@ -161,9 +168,9 @@ module _ (state : State) (steady : IsSteady state) (lines : List Line) (w : Worl
           | inl e ↦
               let same : op ≡ o =
               same_some (sym (cell_same t want.cell op) ∙ subst (λ (q : Cell). at cell_cmp (put cell_cmp t want.cell op) q ≡ Some o) e is) in
-              inr (subst (λ (q : Cell). PendingFor state lines (w.clients o.client) (done_by own o.client) q o) (sym e)
-              (subst (λ (x : Pending). PendingFor state lines (w.clients x.client) (done_by own x.client) want.cell x) same
-              (record { write = k.write; still = still_open want h lead new; unfinished = new })))
+              inr (subst (λ (q : Cell). PendingFor state (client_state setting w o.client) lines (w.clients o.client) (done_by own o.client) q o) (sym e)
+              (subst (λ (x : Pending). PendingFor state (client_state setting w x.client) lines (w.clients x.client) (done_by own x.client) want.cell x) same
+              (record { write = k.write; served = k.served; still = still_open want h lead new; unfinished = new })))
           | inr ne ↦ inl (stays cell o (sym (cell_apart t want.cell op cell ne) ∙ is))
         ];
         says = λ post i. says_any _ _ post (posted _ _ post i) (λ to. tt);
@@ -202,7 +209,7 @@ module _ (state : State) (steady : IsSteady state) (lines : List Line) (w : Worl
       ])
 
   -- each kind of job
-  lead_tells : (done : Done) → DidLead hears here own done → J done.own done.posts
+  lead_tells : (done : Done) → DidLead hears here state own done → J done.own done.posts
   lead_tells _ (Asks_for posts h) = speaks _ (λ post i. asks_says post (h post i))
   lead_tells _ (Repeats want last h lead is e) =
       let k = known_of _ h in
@@ -231,19 +238,19 @@ module _ (state : State) (steady : IsSteady state) (lines : List Line) (w : Worl
       done_tells op _ ending.Written is refl (cell_gone u op.cell)
       (λ q ne. cell_gone_apart u op.cell q ne ∙ cell_apart own.pairs.pending op.cell (with_paired op) q ne)
 
-  read_tells : (done : Done) → DidRead hears here own done → J done.own done.posts
+  read_tells : (done : Done) → DidRead hears here state own done → J done.own done.posts
   read_tells done d =
-      let frame = of_read hears here own done d in
+      let frame = of_read hears here state own done d in
       talked done frame.same (λ post i. says_any done.own _ post (frame.says post i).is (λ to. tt))
 
-  second_tells : (done : Done) → DidSecond hears here own done → J done.own done.posts
+  second_tells : (done : Done) → DidSecond hears here state own done → J done.own done.posts
   second_tells done d =
-      let frame = of_second hears here own done d in
+      let frame = of_second hears here state own done d in
       calm done.own done.posts (λ c. ap (λ t. done_to (at nat_cmp t c)) frame.finished)
       (λ cell op is. stays cell op (ap (λ t. at cell_cmp t cell) (sym frame.pending) ∙ is))
       (λ post i. nothing_said done.own post.to post.body (ap tells_request (frame.says post i)))
 
-  pub job_tells : (done : Done) → Did hears here own done → J done.own done.posts
+  pub job_tells : (done : Done) → Did hears here state own done → J done.own done.posts
   unfolding In
   job_tells _ Ignores = speaks _ (λ post i. absurd i)
   job_tells _ (Refuses to said is why) =

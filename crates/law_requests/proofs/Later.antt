@@ -12,6 +12,7 @@ use Rattle.script_lines.specs.declared.request.Request.TheVariants as request
 use Rattle.petal_rules.specs.State.{State, find}
 use Rattle.petal_rules.specs.Clients.{Client, Asked, cell_on}
 use Rattle.petal_rules.proofs.Tests.{same_some}
+use Rattle.law_state.specs.Below.{IsBelow}
 use Rattle.law_requests.specs.Asked.{IsWrite, IsOpen}
 use Rattle.law_requests.specs.Known.{Seen, IsPast, EndKnownAt, Known}
 
@@ -38,12 +39,31 @@ one_cell state lines client seq cell other epoch epoch' bytes bytes' one two =
 pub one_open : (client : Client) (seq seq' : ℕ) → IsOpen client seq → IsOpen client seq' → seq ≡ seq'
 one_open client seq seq' one two = sym one.same ∙ ap (λ (a : Asked). a.seq) (same_some (sym one.is ∙ two.is)) ∙ two.same
 
--- time goes on: numbers rise, and a write that is no longer open is one that its lead is past
+-- a write is so at each later state
+pub write_up : (earlier later : State) → IsBelow earlier later → (lines : List Line) (client seq : ℕ) (cell : Cell) (epoch : ℕ) (bytes : List ℕ)
+    → IsWrite earlier lines client seq cell epoch bytes → IsWrite later lines client seq cell epoch bytes
+write_up earlier later below lines client seq cell epoch bytes one = record {
+  line = one.line;
+  is = one.is;
+  name = one.name;
+  block = one.block;
+  pattern = one.pattern;
+  asks = one.asks;
+  disk = one.disk;
+  found = below.finds one.name one.disk one.found;
+  cell_is = one.cell_is;
+  epoch_is = one.epoch_is;
+  bytes_is = one.bytes_is;
+}
+
+-- time goes on: numbers rise, states say more, and a write that is no longer open is one that its lead is past
 pub record Later (state : State) (lines : List Line) (v u : Seen) : Type 0 where
   pub seqs : (c : ℕ) → (v.clients c).seq ≤ (u.clients c).seq
+  pub states : (c : ℕ) → IsBelow (v.states c) (u.states c)
   pub dones : (n c : ℕ) → v.done n c ≤ u.done n c
   pub closes : (c seq : ℕ) → IsOpen (v.clients c) seq
-      → IsOpen (u.clients c) seq ⊎ ((cell : Cell) (epoch : ℕ) (bytes : List ℕ) → IsWrite state lines c seq cell epoch bytes → IsPast state u cell c seq)
+      → IsOpen (u.clients c) seq ⊎ ((cell : Cell) (epoch : ℕ) (bytes : List ℕ) → IsWrite state lines c seq cell epoch bytes
+      → IsWrite (v.states c) lines c seq cell epoch bytes → IsPast state u cell c seq)
 
 module _ (state : State) (lines : List Line) (v u : Seen) (later : Later state lines v u) where
   past_later : (cell : Cell) (c seq : ℕ) → IsPast state v cell c seq → IsPast state u cell c seq
@@ -62,9 +82,10 @@ module _ (state : State) (lines : List Line) (v u : Seen) (later : Later state l
       let old = h.old in
       record {
         write = h.write;
+        served = write_up (v.states client) (u.states client) (later.states client) lines client seq cell epoch bytes h.served;
         old = omega arith;
         still = elim h.still [
-          | inl open_now ↦ elim (later.closes client seq open_now) [ inl open_then ↦ inl open_then | inr past ↦ inr (past cell epoch bytes h.write) ]
+          | inl open_now ↦ elim (later.closes client seq open_now) [ inl open_then ↦ inl open_then | inr past ↦ inr (past cell epoch bytes h.write h.served) ]
           | inr past ↦ inr (past_later cell client seq past)
         ];
       }

@@ -8,7 +8,7 @@ use Rattle.script_lines.specs.declared.request.Request.TheVariants as request
 use Rattle.petal_state.specs.declared.answer.DiskView.{DiskView}
 use Rattle.petal_rules.specs.State.{State, find}
 use Rattle.petal_rules.specs.Clients.{Client, Asked, cell_on, epoch_for}
-use Rattle.law_steps.specs.Happens.{line_by}
+use Rattle.law_steps.specs.Turned.{line_by}
 
 -- the client's request of this number is a write of this cell, at this epoch and with these bytes
 pub record IsWrite (state : State) (lines : List Line) (client seq : ℕ) (cell : Cell) (epoch : ℕ) (bytes : List ℕ) : Type 0 where

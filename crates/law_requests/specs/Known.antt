@@ -15,29 +15,31 @@ use Rattle.petal_rules.specs.State.{State, first}
 use Rattle.petal_rules.specs.Store.{cell_cmp}
 use Rattle.petal_rules.specs.Server.{Own}
 use Rattle.petal_rules.specs.Clients.{Client, Asked}
-use Rattle.petal_rules.specs.World.{World}
+use Rattle.petal_rules.specs.World.{Setting, World, client_state}
 use Rattle.law_steps.specs.Operations.{done_to}
 use Rattle.law_requests.specs.Asked.{IsWrite, IsRead, IsAsked, IsOpen}
 
--- what is known of clients, and above which number each server has finished each client's requests
+-- what is known of clients, each client's own state, and above which number each server has finished each client's requests
 pub record Seen : Type 0 where
   pub clients : ℕ → Client
+  pub states : ℕ → State
   pub done : (server client : ℕ) → ℕ
 
 -- above the last request that this own has finished for the client
 abbrev pub done_by : Own → ℕ → ℕ
 done_by own c = done_to (at nat_cmp own.pairs.finished c)
 
-abbrev pub seen : World → Seen
-seen w = record { clients = w.clients; done = λ n c. done_by (w.servers n).own c }
+abbrev pub seen : Setting → World → Seen
+seen setting w = record { clients = w.clients; states = client_state setting w; done = λ n c. done_by (w.servers n).own c }
 
 -- the lead of the cell is past this request
 abbrev pub IsPast : State → Seen → Cell → (client seq : ℕ) → Type 0
 IsPast state v cell client seq = (n : ℕ) → first state cell ≡ Some n → seq < v.done n client
 
--- of a Write letter: the request is open, or its lead is past it
+-- of a Write letter: by its client's own state the request is a write of this cell, and it is open, or its lead is past it
 pub record WriteKnown (state : State) (lines : List Line) (v : Seen) (client seq : ℕ) (cell : Cell) (epoch : ℕ) (bytes : List ℕ) : Type 0 where
   pub write : IsWrite state lines client seq cell epoch bytes
+  pub served : IsWrite (v.states client) lines client seq cell epoch bytes
   pub old : seq ≤ (v.clients client).seq
   pub still : IsOpen (v.clients client) seq ⊎ IsPast state v cell client seq
 
@@ -62,15 +64,16 @@ Known state lines v to (body.Written seq) = EndKnownAt state lines v seq to
 Known state lines v to (body.Full seq) = EndKnownAt state lines v seq to
 Known state lines v to _ = Unit {0}
 
--- a pending operation is its client's open write, which this server is not past
-pub record PendingFor (state : State) (lines : List Line) (client : Client) (done : ℕ) (cell : Cell) (op : Pending) : Type 0 where
+-- a pending operation is its client's open write, by the client's own state too, which this server is not past
+pub record PendingFor (state own : State) (lines : List Line) (client : Client) (done : ℕ) (cell : Cell) (op : Pending) : Type 0 where
   pub write : IsWrite state lines op.client op.seq cell op.key.epoch op.bytes
+  pub served : IsWrite own lines op.client op.seq cell op.key.epoch op.bytes
   pub still : IsOpen client op.seq
   pub unfinished : done ≤ op.seq
 
-pub record Asking (state : State) (lines : List Line) (w : World) : Type 0 where
-  pub asked : (c : ℕ) (asked : Asked) → (w.clients c).asked ≡ Some asked → IsAsked lines c (w.clients c) asked
-  pub letters : (letter : Letter) → In letter w.sent → Known state lines (seen w) letter.to letter.body
+pub record Asking (setting : Setting) (state : State) (w : World) : Type 0 where
+  pub asked : (c : ℕ) (asked : Asked) → (w.clients c).asked ≡ Some asked → IsAsked setting.lines c (w.clients c) asked
+  pub letters : (letter : Letter) → In letter w.sent → Known state setting.lines (seen setting w) letter.to letter.body
   pub pending : (n : ℕ) (cell : Cell) (op : Pending) → at cell_cmp (w.servers n).own.pairs.pending cell ≡ Some op
-      → PendingFor state lines (w.clients op.client) (done_by (w.servers n).own op.client) cell op
+      → PendingFor state (client_state setting w op.client) setting.lines (w.clients op.client) (done_by (w.servers n).own op.client) cell op
   pub finished : (n c : ℕ) → done_by (w.servers n).own c ≤ (w.clients c).seq + 1

@@ -8,9 +8,8 @@
 
 ghost use Rattle.std.specs.Prelude.{List};
 ghost use Rattle.script_lines.specs.declared.script.Script.{Script};
-ghost use Rattle.petal_rules.specs.World.{setting_of, start};
+ghost use Rattle.petal_rules.specs.World.{chosen_state, setting_of, start};
 ghost use Rattle.petal_history.specs.Claims.{Requests};
-ghost use Rattle.petal_history.specs.Contents.{chosen_state};
 ghost use Rattle.petal_history.specs.Legal.{IsLegal, world_after};
 ghost use Rattle.petal_history.specs.Sound.{IsSound};
 ghost use Rattle.petal_history.specs.declared.record.Record.{Record};
@@ -18,11 +17,11 @@ ghost use Rattle.law_requests.specs.Known.{Asking};
 
 /// After every legal history of a sound script, an answered request is pending nowhere, and its letters come too late.
 pub fn answered_requests_are_over()
-    ensures { (script : Script) (records : List Record) → IsSound script → IsLegal script records → Requests (chosen_state (setting_of script)) (world_after (setting_of script) (start (setting_of script)) records) }
+    ensures { (script : Script) (records : List Record) → IsSound script → IsLegal script records → Requests (setting_of script) (world_after (setting_of script) (start (setting_of script)) records) }
 {}
 
 /// And what goes with it: open requests are those of their lines, a pending operation is its client's open write that its
 /// server is not past, and each letter that was ever sent tells of a request of its line.
 pub fn letters_of_clients_and_replies()
-    ensures { (script : Script) (records : List Record) → IsSound script → IsLegal script records → Asking (chosen_state (setting_of script)) script.lines (world_after (setting_of script) (start (setting_of script)) records) }
+    ensures { (script : Script) (records : List Record) → IsSound script → IsLegal script records → Asking (setting_of script) (chosen_state (setting_of script) (world_after (setting_of script) (start (setting_of script)) records)) (world_after (setting_of script) (start (setting_of script)) records) }
 {}

@@ -6,13 +6,12 @@ use Rattle.petal_msg.specs.declared.body.Body.{Body}
 use Rattle.petal_rules.specs.State.{State, second}
 use Rattle.petal_rules.specs.Store.{chain_in}
 use Rattle.petal_rules.specs.Server.{Own, Here, Done}
-use Rattle.petal_rules.specs.Jobs.{here_of}
-use Rattle.petal_rules.specs.World.{World}
-use Rattle.law_steps.specs.Steady.{IsSteady}
+use Rattle.petal_rules.specs.World.{Setting, World}
+use Rattle.law_state.specs.Steady.{IsSteady}
 use Rattle.law_steps.specs.DidLead.{DidLead, Asks_for, Repeats, Is_full, Opens, Puts, Gives_up, Closes}
 use Rattle.law_steps.specs.DidSecond.{DidSecond, Sets_apart, Promises, Declines, Follows}
 use Rattle.law_steps.specs.Did.{Did, Ignores, Refuses, By_read, By_lead, By_second}
-use Rattle.law_steps.specs.Happens.{Handled}
+use Rattle.law_steps.specs.Happens.{Handled, own_place}
 use Rattle.law_steps.specs.Ready.{Ready}
 use Rattle.law_copies.specs.Pair.{owns_of, Good}
 use Rattle.law_copies.proofs.Frames.{apart}
@@ -22,6 +21,9 @@ use Rattle.law_steps.proofs.Subjects.{of_read, told_own}
 use Rattle.law_run.proofs.ServerJobs.{IsCalm, IsCalmSecond}
 
 module _ (scene : Scene) where
+  abbrev setting : Setting
+  setting = scene.setting
+
   abbrev state : State
   state = scene.state
 
@@ -41,7 +43,7 @@ module _ (scene : Scene) where
   n = scene.n
 
   abbrev here : Here
-  here = here_of state n (w.servers n)
+  here = own_place setting w n
 
   abbrev own : Own
   own = owns_of w n
@@ -49,11 +51,11 @@ module _ (scene : Scene) where
   abbrev hears : Body → Type 0
   hears = Handled w n
 
-  lead_chains : (done : Done) → DidLead hears here own done → (cell : Cell) → second state cell ≡ Some n
+  lead_chains : (done : Done) → DidLead hears here state own done → (cell : Cell) → second state cell ≡ Some n
       → chain_in done.own.store.chains cell ≡ chain_in own.store.chains cell
   lead_chains _ (Puts op h is stage) cell follows =
       let s = (ready.pending n).staged op.cell op is in
-      let pair = lead_pair state steady w ready good n op.cell s.lead in
+      let pair = lead_pair setting state steady w ready good n op.cell s.lead in
       chain_apart own.store.chains (cell_of op.key) _ cell
       (λ e. apart state steady op.cell n n (record {
         leads = pair.1.leads;
@@ -66,17 +68,17 @@ module _ (scene : Scene) where
   lead_chains _ (Gives_up op h is stage) cell follows = refl
   lead_chains _ (Closes op h is stage) cell follows = refl
 
-  second_chains : (done : Done) (d : DidSecond hears here own done) → IsCalmSecond d → (cell : Cell)
+  second_chains : (done : Done) (d : DidSecond hears here state own done) → IsCalmSecond d → (cell : Cell)
       → chain_in done.own.store.chains cell ≡ chain_in own.store.chains cell
   second_chains _ (Sets_apart number c store h s e le) calm cell = ap (λ t. chain_in t cell) e
   second_chains _ (Promises number c how s is) calm cell = ap (λ (o : Own). chain_in o.store.chains cell) (told_own here own c number how)
   second_chains _ (Declines number c h s no_room) calm cell = refl
   second_chains _ (Follows number key version bytes h s is) calm cell = absurd calm
 
-  pub calm_chains : (done : Done) (d : Did hears here own done) → IsCalm d → (cell : Cell) → second state cell ≡ Some n
+  pub calm_chains : (done : Done) (d : Did hears here state own done) → IsCalm d → (cell : Cell) → second state cell ≡ Some n
       → chain_in done.own.store.chains cell ≡ chain_in own.store.chains cell
   calm_chains _ Ignores calm cell follows = refl
   calm_chains _ (Refuses to said is why) calm cell follows = refl
-  calm_chains _ (By_read done d) calm cell follows = ap (λ (o : Own). chain_in o.store.chains cell) (of_read hears here own done d).same
+  calm_chains _ (By_read done d) calm cell follows = ap (λ (o : Own). chain_in o.store.chains cell) (of_read hears here state own done d).same
   calm_chains _ (By_lead done d) calm cell follows = lead_chains done d cell follows
   calm_chains _ (By_second done d) calm cell follows = second_chains done d calm cell

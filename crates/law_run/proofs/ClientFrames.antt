@@ -1,10 +1,11 @@
 -- What a client's step has to show so that servers and clients stay tied to the plain machine.
-use Rattle.std.proofs.Common.{◌≡◌, ◌≢◌, ◌≤◌, ◌<◌, ◌+◌, ℕ, List, [], Bool, true, false, Some, refl, sym, ap, ◌∙◌, subst, ◌⊎◌, inl, inr, arith}
+use Rattle.std.proofs.Common.{◌≡◌, ◌≢◌, ◌≤◌, ◌<◌, ◌+◌, ℕ, List, [], ◌∷◌, Bool, true, false, Some, refl, sym, ap, ◌∙◌, subst, ◌⊎◌, inl, inr, arith}
 use Rattle.std.specs.Ordering.{nat_cmp}
 use Rattle.petal_base.specs.declared.cell.Cell.{Cell}
+use Rattle.std.specs.Prelude.{drop, length, map}
 use Rattle.petal_table.specs.Table.{at}
-use Rattle.petal_machine.specs.Machine.{Plain, open_of}
-use Rattle.petal_machine.specs.Run.{after}
+use Rattle.global_tables.specs.declared.disk.DiskRow.{DiskRow}
+use Rattle.petal_machine.specs.Machine.{Plain, disk_of, open_of}
 use Rattle.petal_msg.specs.declared.body.Body.{Body}
 use Rattle.petal_msg.specs.declared.body.Body.TheVariants as body
 use Rattle.petal_msg.specs.declared.letter.Actor.{Actor}
@@ -19,23 +20,23 @@ use Rattle.petal_rules.specs.State.{State}
 use Rattle.petal_rules.specs.Store.{cell_cmp}
 use Rattle.petal_rules.specs.Server.{Post, letters_of}
 use Rattle.petal_rules.specs.Clients.{Client, Reaction, client_sender}
-use Rattle.petal_rules.specs.World.{Setting, World, reacts, stamped}
+use Rattle.petal_rules.specs.World.{Setting, World, reacts, stamped, chosen_state}
 use Rattle.petal_rules.proofs.ListLemmas.{put_same, in-append}
-use Rattle.petal_history.specs.Contents.{disk_name}
-use Rattle.petal_history.specs.Events.{open_write, write_asked, takes, looks, look_of}
+use Rattle.petal_history.specs.Contents.{content_where}
+use Rattle.petal_history.specs.Events.{open_write, write_asked, change_by, takes, makes, make_of, looks, look_of}
 use Rattle.petal_history.specs.declared.record.Record.{Record}
-use Rattle.law_steps.specs.Steady.{IsSteady}
 use Rattle.law_steps.specs.Operations.{progress, done_to}
-use Rattle.law_steps.specs.Happens.{Heard, Turned}
+use Rattle.law_steps.specs.Happens.{Heard}
+use Rattle.law_steps.specs.Turned.{Turned}
 use Rattle.law_steps.proofs.Letters.{said}
 use Rattle.law_steps.proofs.Sending.{is_ask, turned_asks}
-use Rattle.law_steps.proofs.Stepping.{fixed_setting}
 use Rattle.petal_rules.proofs.Tests.{same_or_apart, true_false, all_put_apart}
 use Rattle.law_copies.specs.Pair.{IsPair, owns_of}
 use Rattle.law_requests.specs.Asked.{IsOpen}
 use Rattle.law_requests.specs.Known.{Known, seen, Asking}
 use Rattle.law_run.specs.Onward.{IsMindful, held_in, is_held, Seat}
 use Rattle.law_run.specs.Follow.{Ground, Follow}
+use Rattle.law_run.proofs.Along.{Along, rows_in, disks_now}
 use Rattle.law_run.proofs.Looks.{is_data, no_look}
 use Rattle.law_run.proofs.Members.{all_empty}
 use Rattle.law_run.proofs.Takes.{no_takes}
@@ -56,50 +57,63 @@ pub record TurnFollow (w : World) (m k : Plain) (c : ℕ) (client : Client) : Ty
   pub seat : Seat (write_asked c client.asked) (open_of k.opened c)
   pub helds : (seq : ℕ) → IsOpen client seq → (IsOpen (w.clients c) seq × (is_held m c ≡ true → is_held k c ≡ true)) ⊎ ((w.clients c).seq < seq)
 
--- a client's step in a run over one state: the world and the machine before it, and the records after it
+-- a client's step, at a state from what is chosen on: the world and the machine before it, and the records after it
 pub record ClientStep : Type 0 where
-  pub servers : ℕ
-  pub slots : ℕ
-  pub lines : List Line
+  pub setting : Setting
   pub state : State
-  pub steady : IsSteady state
   pub w : World
   pub m : Plain
-  pub ground : Ground state lines w
-  pub follow : Follow state (disk_name (fixed_setting servers slots lines state)) w m
+  pub along : Along setting state w
+  pub ground : Ground setting state w
+  pub follow : Follow state (rows_in setting w) w m
   pub c : ℕ
   pub stamp : ℕ
   pub later : List Record
 
+drop_all : {A : Type 0} (xs : List A) → drop (length xs) xs ≡ []
+drop_all [] = refl
+drop_all (x ∷ xs) = drop_all xs
+
 module _ (this : ClientStep) where
   abbrev setting : Setting
-  setting = fixed_setting this.servers this.slots this.lines this.state
+  setting = this.setting
 
-  abbrev name : List ℕ
-  name = disk_name setting
+  abbrev lines : List Line
+  lines = this.setting.lines
+
+  abbrev rows : List DiskRow
+  rows = rows_in this.setting this.w
 
   abbrev client : Client
   client = this.w.clients this.c
 
+  -- what the client may have done
+  abbrev pub Turn : Bool → Reaction → Type 0
+  Turn in_call reacted = Turned (Heard this.w (actor.Client this.c)) this.setting.servers lines this.c client in_call reacted
+
   abbrev pub after_turn : Reaction → World
-  after_turn reacted = (reacts this.state this.w this.c this.stamp reacted).world
+  after_turn reacted = (reacts this.w this.c this.stamp reacted).world
 
-  pub no_looks : (in_call : Bool) (reacted : Reaction)
-      → Turned (Heard this.w (actor.Client this.c)) this.state this.lines this.c client in_call reacted
-      → looks this.lines this.later (reacts this.state this.w this.c this.stamp reacted).letters ≡ []
+  pub no_looks : (in_call : Bool) (reacted : Reaction) → Turn in_call reacted → looks lines this.later (reacts this.w this.c this.stamp reacted).letters ≡ []
   no_looks in_call reacted turned =
-      all_empty (λ letter. look_of this.lines this.later letter letter.body) (stamped this.stamp (letters_of (client_sender this.state this.c) 0 reacted.posts))
-      (λ letter h. let s = said (client_sender this.state this.c) this.stamp 0 reacted.posts letter h in
-      no_look this.lines this.later letter letter.body
-      (ap is_data s.body ∙ ask_data s.post.body (turned_asks _ this.state this.lines this.c client in_call reacted turned s.post s.there)))
+      all_empty (λ letter. look_of lines this.later letter letter.body) (stamped this.stamp (letters_of (client_sender this.c reacted.client) 0 reacted.posts))
+      (λ letter h. let s = said (client_sender this.c reacted.client) this.stamp 0 reacted.posts letter h in
+      no_look lines this.later letter letter.body
+      (ap is_data s.body ∙ ask_data s.post.body (turned_asks _ this.setting.servers lines this.c client in_call reacted turned s.post s.there)))
 
-  pub unwritten : (in_call : Bool) (reacted : Reaction)
-      → Turned (Heard this.w (actor.Client this.c)) this.state this.lines this.c client in_call reacted → (post : Post) → In post reacted.posts
+  pub unwritten : (in_call : Bool) (reacted : Reaction) → Turn in_call reacted → (post : Post) → In post reacted.posts
       → (seq : ℕ) → post.body ≢ body.Written seq
-  unwritten in_call reacted turned post h seq e = true_false (turned_asks _ this.state this.lines this.c client in_call reacted turned post h) (ap is_ask e)
+  unwritten in_call reacted turned post h seq e =
+      true_false (turned_asks _ this.setting.servers lines this.c client in_call reacted turned post h) (ap is_ask e)
 
-  pub nothing_taken : (reacted : Reaction) → takes setting this.w (after_turn reacted) ≡ Some []
-  nothing_taken reacted = no_takes setting this.w (after_turn reacted) (λ b. refl)
+  -- no content changes, and nothing is chosen
+  pub nothing_taken : (reacted : Reaction) → takes (change_by this.setting this.w (after_turn reacted)) ≡ Some []
+  nothing_taken reacted = no_takes (change_by this.setting this.w (after_turn reacted)) (λ row h b.
+      sym (ap (λ o. content_where (chosen_state this.setting this.w) this.w o row.epoch b)
+      ((disks_now this.setting this.w this.along.firm).at row h)))
+
+  pub nothing_made : (reacted : Reaction) → makes (change_by this.setting this.w (after_turn reacted)) ≡ []
+  nothing_made reacted = ap (map make_of) (drop_all rows)
 
   -- ### The frame
 
@@ -108,8 +122,8 @@ module _ (this : ClientStep) where
 
   -- a reply was to a request of a number that the client had reached
   written_old : (letter : Letter) (seq : ℕ) → In letter this.w.sent → letter.to ≡ actor.Client this.c → letter.body ≡ body.Written seq → seq ≤ client.seq
-  written_old letter seq h to says = (subst (λ (b : Body). Known this.state this.lines (seen this.w) (actor.Client this.c) b) says
-      (subst (λ (a : Actor). Known this.state this.lines (seen this.w) a letter.body) to (this.ground.asking.letters letter h))).old
+  written_old letter seq h to says = (subst (λ (b : Body). Known this.state lines (seen this.setting this.w) (actor.Client this.c) b) says
+      (subst (λ (a : Actor). Known this.state lines (seen this.setting this.w) a letter.body) to (this.ground.asking.letters letter h))).old
 
   finished_old : (n : ℕ) (last : Finished) → at nat_cmp (owns_of this.w n).pairs.finished this.c ≡ Some last → last.seq ≤ client.seq
   finished_old n last is =
@@ -136,7 +150,7 @@ module _ (this : ClientStep) where
         (λ i ne is still. ap held_in (turn.others i ne) ∙ this.follow.finished n i last is how still)
         (λ is still. held_still last.seq (finished_old n last is) still (this.follow.finished n this.c last is how)) j is
 
-    pending : Asking this.state this.lines (after_turn reacted) → (cell : Cell) (p q : ℕ) (op : Pending) → IsPair this.state cell p q
+    pending : Asking this.setting this.state (after_turn reacted) → (cell : Cell) (p q : ℕ) (op : Pending) → IsPair this.state cell p q
         → at cell_cmp (owns_of this.w p).pairs.pending cell ≡ Some op → op.op + op.op + 1 ≤ progress (at cell_cmp (owns_of this.w q).pairs.last cell)
         → is_held k op.client ≡ true
     pending next cell p q op pair is past = elim (same_or_apart op.client this.c) [
@@ -150,18 +164,21 @@ module _ (this : ClientStep) where
           subst (λ i. is_held k i ≡ true) (sym e) (held_still op.seq (seq_open op.seq before) now (λ o. was))
     ]
 
-    pub turn_follow : Asking this.state this.lines (after_turn reacted)
-        → ((post : Post) → In post reacted.posts → (seq : ℕ) → post.body ≢ body.Written seq) → Follow this.state name (after_turn reacted) k
+    pub turn_follow : Asking this.setting this.state (after_turn reacted)
+        → ((post : Post) → In post reacted.posts → (seq : ℕ) → post.body ≢ body.Written seq) → Follow this.state rows (after_turn reacted) k
     turn_follow next unwritten = record {
-      blocks = this.follow.blocks;
-      only = turn.disks ∙ this.follow.only;
-      now = this.follow.now;
-      mindful = turn.mindful;
+      stores = record {
+        known = λ row h.
+            let own = this.follow.stores.known row h in
+            record { disk = own.disk; is = ap (λ ds. disk_of ds row.name) turn.disks ∙ own.is; same = own.same };
+        unknown = λ name none. ap (λ ds. disk_of ds name) turn.disks ∙ this.follow.stores.unknown name none;
+        mindful = turn.mindful;
+      };
       seats = all_put_apart this.w.clients this.c reacted.client (λ j x. Seat (write_asked j x.asked) (open_of k.opened j))
           (λ j ne. subst (Seat (open_write this.w j)) (sym (turn.others j ne)) (this.follow.seats j)) turn.seat;
       letters = λ letter j seq h to says still. elim (in-append letter _ this.w.sent h) [
         | inl new ↦ let s =
-            said (client_sender this.state this.c) this.stamp 0 reacted.posts letter new in absurd (unwritten s.post s.there seq (sym s.body ∙ says))
+            said (client_sender this.c reacted.client) this.stamp 0 reacted.posts letter new in absurd (unwritten s.post s.there seq (sym s.body ∙ says))
         | inr old ↦ letters letter j seq old to says still
       ];
       pending = pending next;

@@ -1,35 +1,41 @@
 -- What the machine is told of a client's step is allowed, and keeps it tied to the world.
-use Rattle.std.proofs.Common.{◌≡◌, ◌<◌, ◌+◌, ℕ, List, [], ◌∷◌, ◌++◌, Bool, true, false, Option, Some, None, refl, sym, ap, ◌∙◌, subst, ◌⊎◌, inl, inr, arith}
+use Rattle.std.proofs.Common.{◌≡◌, ◌<◌, ◌+◌, ℕ, List, [], ◌∷◌, ◌++◌, Bool, true, false, Option, Some, None, refl, sym, ap, ◌∙◌, subst, ◌⊎◌, inl, inr, arith, is_some}
+use Rattle.std.specs.Prelude.{if◌then◌else◌}
 use Rattle.petal_machine.specs.declared.event.Event.{Event}
 use Rattle.petal_machine.specs.declared.event.Event.TheVariants.{Begin, End}
 use Rattle.petal_machine.specs.declared.event.Write.{Write}
+use Rattle.petal_machine.specs.declared.state.Open.{Open}
 use Rattle.petal_machine.specs.Machine.{open_of}
-use Rattle.petal_machine.specs.Run.{Obeys, May, after, replay}
+use Rattle.petal_machine.specs.Run.{Obeys, May, MayEnd, IsOpen as IsUnderWay, after, replay}
 use Rattle.petal_msg.specs.declared.body.Body.TheVariants as body
 use Rattle.petal_msg.specs.declared.letter.Actor.TheVariants as actor
 use Rattle.petal_msg.specs.declared.operation.Ending.{Ending}
 use Rattle.petal_msg.specs.declared.operation.Ending.TheVariants as ending
+use Rattle.petal_command.specs.declared.command.Command.{Command}
+use Rattle.petal_state.specs.declared.answer.DiskView.{DiskView}
+use Rattle.script_lines.specs.declared.answer.Answer.{Answer}
 use Rattle.script_lines.specs.declared.answer.Answer.TheVariants as answer
 use Rattle.script_lines.specs.declared.request.Line.{Line}
 use Rattle.script_lines.specs.declared.request.Request.{Request}
 use Rattle.script_lines.specs.declared.request.Request.TheVariants as request
+use Rattle.petal_rules.specs.State.{State, find, lead}
 use Rattle.petal_rules.specs.Writes.{ended}
-use Rattle.petal_rules.specs.Clients.{Client, Asked, Reaction, rests, sends, opens, answers, is_read, is_write}
-use Rattle.petal_rules.specs.World.{Setting, World, reacts, next_line}
+use Rattle.petal_rules.specs.Clients.{Client, Asked, Reaction, answers, is_read, is_write, cell_on, command_of, refusal, write_refusal}
+use Rattle.petal_rules.specs.World.{World, reacts, next_line}
 use Rattle.petal_rules.proofs.ListLemmas.{put_same}
-use Rattle.petal_history.specs.Contents.{disk_name}
 use Rattle.petal_history.specs.Events as events
-use Rattle.petal_history.specs.Events.{open_write, write_asked, write_by, begun, end_of, takes, looks, told_with}
-use Rattle.law_steps.specs.Happens.{Heard, Turned, Rests, Sends_anew, Begins, Makes, Reads, Ends, answer_of}
-use Rattle.law_steps.proofs.Stepping.{fixed_setting}
-use Rattle.petal_rules.proofs.Tests.{same_some, none_some}
+use Rattle.petal_history.specs.Events.{open_write, write_asked, write_by, begun, end_of, change_by, takes, makes, looks, told_with}
+use Rattle.law_steps.specs.Happens.{Heard}
+use Rattle.law_steps.specs.Turned.{StaysOpen, IsCalled, OnlySays, IsReason, By_verdict, By_witness, IsJudged, Goes_on, Begins, Reads, Ends, Judges, answer_of}
+use Rattle.petal_rules.proofs.Tests.{by_bool, same_some, none_some}
 use Rattle.law_requests.specs.Asked.{IsOpen}
 use Rattle.law_requests.specs.Known.{Asking}
 use Rattle.law_run.specs.Onward.{held_in, is_held, Seat}
 use Rattle.law_run.specs.Follow.{Follow}
+use Rattle.law_run.proofs.Along.{rows_in}
 use Rattle.law_run.proofs.Machine.{disks_after, after_mindful, begin_seat, begin_others, end_seat, end_others}
 use Rattle.law_run.proofs.Takes.{open_own}
-use Rattle.law_run.proofs.ClientFrames.{ClientStep, TurnFollow, after_turn, no_looks, unwritten, nothing_taken, turn_follow}
+use Rattle.law_run.proofs.ClientFrames.{ClientStep, TurnFollow, Turn, after_turn, no_looks, unwritten, nothing_taken, nothing_made, turn_follow}
 
 -- no write of this request
 not_write : (c seq : ℕ) (asked : Request) → is_read asked ≡ true → write_by c seq asked ≡ None
@@ -45,36 +51,70 @@ abbrev pub begins_by : ℕ → Bool → World → List Event
 begins_by c true next = begun (open_write next c)
 begins_by c false next = []
 
+-- a request that stays open is of the same write
+stays_write : (c : ℕ) (old new : Option Asked) → StaysOpen old new → write_asked c new ≡ write_asked c old
+stays_write c None None s = refl
+stays_write c (Some old) (Some new) s = λ i. write_by c (s.seq i) (s.request i)
+stays_write c None (Some new) s = absurd s
+stays_write c (Some old) None s = absurd s
+
+stays_back : (old new : Client) (seq : ℕ) → StaysOpen old.asked new.asked → IsOpen new seq → IsOpen old seq
+stays_back old new seq stays h = by old.asked new.asked refl refl stays
+  where
+    by : (o n : Option Asked) → old.asked ≡ o → new.asked ≡ n → StaysOpen o n → IsOpen old seq
+    by None None e f s = none_some f h.is
+    by (Some one) (Some two) e f s =
+        record { asked = one; is = e; same = sym s.seq ∙ ap (λ (a : Asked). a.seq) (same_some (sym f ∙ h.is)) ∙ h.same }
+    by None (Some two) e f s = absurd s
+    by (Some one) None e f s = absurd s
+
+-- a write that can't be served ends otherwise than as written
+refused_end : (state : State) (o : Option DiskView) (block : ℕ) (given : Answer) (opened : List Open) (write : Write) → write_refusal state o block ≡ Some given
+    → IsUnderWay opened write → MayEnd opened write (end_of given)
+refused_end state None block given opened write e under_way = subst (λ g. MayEnd opened write (end_of g)) (same_some e) under_way
+refused_end state (Some disk) block given opened write e under_way = by_bool (is_some (lead state (cell_on disk block)))
+    (λ t. none_some (ap (λ b. if b then None else Some answer.Unavailable) t) e)
+    (λ f. subst (λ g. MayEnd opened write (end_of g)) (same_some (sym (ap (λ b. if b then None else Some answer.Unavailable) f) ∙ e)) under_way)
+
+judged_end : (c seq : ℕ) (asked : Request) (write : Write) (given : Answer) (state : State) (opened : List Open) → write_by c seq asked ≡ Some write
+    → refusal state asked ≡ Some given → IsUnderWay opened write → MayEnd opened write (end_of given)
+unfolding refusal
+judged_end c seq (request.Write name block pattern) write given state opened is e under_way =
+    refused_end state (find state name) block given opened write e under_way
+judged_end c seq _ write given state opened is e under_way = none_some refl is
+
+-- a write has no command of its own
+no_command : (c seq : ℕ) (asked : Request) (write : Write) → write_by c seq asked ≡ Some write → command_of c seq asked ≡ None
+no_command c seq (request.Write name block pattern) write e = refl
+no_command c seq _ write e = none_some refl e
+
 module _ (this : ClientStep) where
-  abbrev setting : Setting
-  setting = fixed_setting this.servers this.slots this.lines this.state
-
-  abbrev name : List ℕ
-  name = disk_name setting
-
   abbrev client : Client
   client = this.w.clients this.c
+
+  abbrev lines : List Line
+  lines = this.setting.lines
 
   -- what is told of a client's step
   pub record ClientTold (in_call : Bool) (reacted : Reaction) : Type 0 where
     pub es : List Event
-    pub is : told_with (begins_by this.c in_call (after_turn this reacted)) (takes setting this.w (after_turn this reacted))
-        (looks this.lines this.later (reacts this.state this.w this.c this.stamp reacted).letters ++ events.ended
-        (open_write this.w this.c) reacted.answer) ≡ Some es
+    pub is : told_with (begins_by this.c in_call (after_turn this reacted)) (takes (change_by this.setting this.w (after_turn this reacted)))
+        (makes (change_by this.setting this.w (after_turn this reacted)) ++ looks lines this.later (reacts this.w this.c this.stamp reacted).letters
+        ++ events.ended (open_write this.w this.c) reacted.answer) ≡ Some es
     pub may : Obeys this.m es
-    pub follows : Follow this.state name (after_turn this reacted) (replay this.m es)
+    pub follows : Follow this.state (rows_in this.setting this.w) (after_turn this reacted) (replay this.m es)
 
   ended_none : (o : Option Write) → events.ended o None ≡ []
   ended_none None = refl
   ended_none (Some write) = refl
 
   -- nothing is told
-  silent : (in_call : Bool) (reacted : Reaction) → Turned (Heard this.w (actor.Client this.c)) this.state this.lines this.c client in_call reacted
-      → Asking this.state this.lines (after_turn this reacted) → begins_by this.c in_call (after_turn this reacted) ≡ []
+  silent : (in_call : Bool) (reacted : Reaction) → Turn this in_call reacted
+      → Asking this.setting this.state (after_turn this reacted) → begins_by this.c in_call (after_turn this reacted) ≡ []
       → events.ended (open_write this.w this.c) reacted.answer ≡ [] → TurnFollow this.w this.m this.m this.c reacted.client → ClientTold in_call reacted
   silent in_call reacted turned next begins ends turn = record {
     es = [];
-    is = (λ i. told_with (begins i) (nothing_taken this reacted i) (no_looks this in_call reacted turned i ++ ends i));
+    is = (λ i. told_with (begins i) (nothing_taken this reacted i) (nothing_made this reacted i ++ no_looks this in_call reacted turned i ++ ends i));
     may = tt;
     follows = turn_follow this this.m reacted turn next (unwritten this in_call reacted turned);
   }
@@ -82,19 +122,18 @@ module _ (this : ClientStep) where
   quiet_turn : (to : Client) → Seat (write_asked this.c to.asked) (open_of this.m.opened this.c)
       → ((seq : ℕ) → IsOpen to seq → (IsOpen client seq × (is_held this.m this.c ≡ true → is_held this.m this.c ≡ true)) ⊎ (client.seq < seq))
       → TurnFollow this.w this.m this.m this.c to
-  quiet_turn to seat helds = record { disks = refl; mindful = this.follow.mindful; others = λ j ne. refl; seat = seat; helds = helds }
+  quiet_turn to seat helds = record { disks = refl; mindful = this.follow.stores.mindful; others = λ j ne. refl; seat = seat; helds = helds }
 
-  rests_told : Asking this.state this.lines (after_turn this (rests client)) → ClientTold false (rests client)
-  rests_told next =
-      silent false (rests client) Rests next refl (ended_none (open_write this.w this.c))
-      (quiet_turn client (this.follow.seats this.c) (λ seq h. inl (h, λ t. t)))
+  unanswered : (reacted : Reaction) → OnlySays this.setting.servers this.c reacted → events.ended (open_write this.w this.c) reacted.answer ≡ []
+  unanswered reacted only = ap (events.ended (open_write this.w this.c)) only.unanswered ∙ ended_none (open_write this.w this.c)
 
-  anew_told : (asked : Asked) (is : client.asked ≡ Some asked) → Asking this.state this.lines (after_turn this (sends this.state this.c client asked))
-      → ClientTold false (sends this.state this.c client asked)
-  anew_told asked is next = silent false (sends this.state this.c client asked) (Sends_anew asked is) next refl (ended_none (open_write this.w this.c))
-      (quiet_turn (sends this.state this.c client asked).client
-      (subst (λ o. Seat (write_asked this.c o) (open_of this.m.opened this.c)) is (this.follow.seats this.c))
-      (λ seq h. inl (record { asked = asked; is = is; same = ap (λ (a : Asked). a.seq) (same_some h.is) ∙ h.same }, λ t. t)))
+  goes_on_told : (reacted : Reaction) (seq : reacted.client.seq ≡ client.seq) (stays : StaysOpen client.asked reacted.client.asked)
+      (only : OnlySays this.setting.servers this.c reacted) → Asking this.setting this.state (after_turn this reacted) → ClientTold false reacted
+  goes_on_told reacted seq stays only next =
+      silent false reacted (Goes_on reacted seq stays only) next refl (unanswered reacted only)
+      (quiet_turn reacted.client
+      (subst (λ o. Seat o (open_of this.m.opened this.c)) (sym (stays_write this.c client.asked reacted.client.asked stays)) (this.follow.seats this.c))
+      (λ seq h. inl (stays_back client reacted.client seq stays h, λ t. t)))
 
   -- nothing was open
   no_write : client.asked ≡ None → open_write this.w this.c ≡ None
@@ -106,53 +145,47 @@ module _ (this : ClientStep) where
   open_now : (reacted : Reaction) → open_write (after_turn this reacted) this.c ≡ write_asked this.c reacted.client.asked
   open_now reacted = ap (λ (x : Client). write_asked this.c x.asked) (put_same this.w.clients this.c reacted.client)
 
-  begins_told : (line : Line) (is : next_line this.lines this.c client ≡ Some line) (free : client.asked ≡ None)
-      → Asking this.state this.lines (after_turn this (opens this.state this.c client line.number line.request))
-      → ClientTold true (opens this.state this.c client line.number line.request)
-  begins_told line is free next = by (write_by this.c (client.seq + 1) line.request) refl
+  begins_told : (reacted : Reaction) (line : Line) (asked : Asked) (is : next_line lines this.c client ≡ Some line) (free : client.asked ≡ None)
+      (seq : reacted.client.seq ≡ client.seq + 1) (there : reacted.client.asked ≡ Some asked) (called : IsCalled line (client.seq + 1) asked)
+      (only : OnlySays this.setting.servers this.c reacted) → Asking this.setting this.state (after_turn this reacted) → ClientTold true reacted
+  begins_told reacted line asked is free seq there called only next = by (write_by this.c (client.seq + 1) line.request) refl
     where
-      reacted : Reaction
-      reacted = opens this.state this.c client line.number line.request
+      turned : Turn this true reacted
+      turned = Begins reacted line asked is free seq there called only
 
-      by : (o : Option Write) → write_by this.c (client.seq + 1) line.request ≡ o → ClientTold true (opens this.state this.c client line.number line.request)
-      by None e = silent true (opens this.state this.c client line.number line.request) (Begins line is free) next
-          (ap begun (open_now (opens this.state this.c client line.number line.request) ∙ e)) (ended_none (open_write this.w this.c))
-          (quiet_turn (opens this.state this.c client line.number line.request).client
-          (subst (λ o. Seat o (open_of this.m.opened this.c)) (sym e) (empty_seat (no_write free)))
-          (λ seq h. inr (let f : client.seq + 1 ≡ seq = ap (λ (a : Asked). a.seq) (same_some h.is) ∙ h.same in omega arith)))
+      asked_is : write_asked this.c reacted.client.asked ≡ write_by this.c (client.seq + 1) line.request
+      asked_is = ap (write_asked this.c) there ∙ (λ i. write_by this.c (called.seq_is i) (called.request_is i))
+
+      newer : (number : ℕ) → IsOpen reacted.client number → client.seq < number
+      newer number h =
+          let f : client.seq + 1 ≡ number = sym called.seq_is ∙ ap (λ (a : Asked). a.seq) (same_some (sym there ∙ h.is)) ∙ h.same in omega arith
+
+      by : (o : Option Write) → write_by this.c (client.seq + 1) line.request ≡ o → ClientTold true reacted
+      by None e = silent true reacted turned next (ap begun (open_now reacted ∙ asked_is ∙ e)) (unanswered reacted only)
+          (quiet_turn reacted.client
+          (subst (λ o. Seat o (open_of this.m.opened this.c)) (sym (asked_is ∙ e)) (empty_seat (no_write free)))
+          (λ number h. inr (newer number h)))
       by (Some write) e =
-          let reacted = opens this.state this.c client line.number line.request in
-          let own : write.client ≡ this.c = open_own (after_turn this reacted) this.c write (open_now reacted ∙ e) in
+          let own : write.client ≡ this.c = open_own (after_turn this reacted) this.c write (open_now reacted ∙ asked_is ∙ e) in
           let none : open_of this.m.opened write.client ≡ None = ap (open_of this.m.opened) own ∙ empty_seat (no_write free) in
           let k = after this.m (Begin write) in
           record {
             es = Begin write ∷ [];
-            is = (λ i. told_with (begun ((open_now reacted ∙ e) i)) (nothing_taken this reacted i)
-                (no_looks this true reacted (Begins line is free) i ++ ended_none (open_write this.w this.c) i));
+            is = (λ i. told_with (begun ((open_now reacted ∙ asked_is ∙ e) i)) (nothing_taken this reacted i)
+                (nothing_made this reacted i ++ no_looks this true reacted turned i ++ unanswered reacted only i));
             may = (none, tt);
             follows = turn_follow this k reacted (record {
               disks = disks_after this.m (Begin write);
               mindful = after_mindful this.m (Begin write);
-              others = λ j ne. begin_others this.m write j this.follow.mindful (λ f. ne (f ∙ own));
-              seat = subst (λ o. Seat o (open_of k.opened this.c)) (sym e)
+              others = λ j ne. begin_others this.m write j this.follow.stores.mindful (λ f. ne (f ∙ own));
+              seat = subst (λ o. Seat o (open_of k.opened this.c)) (sym (asked_is ∙ e))
                   (subst (λ i. Seat (Some write) (open_of k.opened i)) own (begin_seat this.m write none));
-              helds = λ seq h. inr (let f : client.seq + 1 ≡ seq = ap (λ (a : Asked). a.seq) (same_some h.is) ∙ h.same in omega arith);
-            }) next (unwritten this true reacted (Begins line is free));
+              helds = λ number h. inr (newer number h);
+            }) next (unwritten this true reacted turned);
           }
 
-  makes_told : (line : Line) (of_name tuple : List ℕ) (is : next_line this.lines this.c client ≡ Some line) (free : client.asked ≡ None)
-      (e : line.request ≡ request.Disk of_name tuple) (reacted : Reaction) → reacted
-      ≡ record { client = record client { seq = client.seq + 1 }; posts = []; answer = Some (line.number, answer.Ok) }
-      → Turned (Heard this.w (actor.Client this.c)) this.state this.lines this.c client true reacted → reacted.client.asked ≡ client.asked
-      → Asking this.state this.lines (after_turn this reacted) → ClientTold true reacted
-  makes_told line of_name tuple is free e reacted same turned asked next =
-      silent true reacted turned next (ap begun (open_now reacted ∙ ap (write_asked this.c) (asked ∙ free)))
-      (ap (λ o. events.ended o reacted.answer) (no_write free))
-      (quiet_turn reacted.client (subst (λ o. Seat (write_asked this.c o) (open_of this.m.opened this.c)) (sym (asked ∙ free))
-      (empty_seat (no_write free))) (λ seq h. none_some (asked ∙ free) h.is))
-
   reads_told : (asked : Asked) (bytes : List ℕ) (h : Heard this.w (actor.Client this.c) (body.Data asked.seq bytes)) (is : client.asked ≡ Some asked)
-      (reads : is_read asked.request ≡ true) → Asking this.state this.lines (after_turn this (answers client asked (answer.Data bytes)))
+      (reads : is_read asked.request ≡ true) → Asking this.setting this.state (after_turn this (answers client asked (answer.Data bytes)))
       → ClientTold false (answers client asked (answer.Data bytes))
   reads_told asked bytes h is reads next =
       let none : open_write this.w this.c ≡ None = ap (write_asked this.c) is ∙ not_write this.c asked.seq asked.request reads in
@@ -173,7 +206,7 @@ module _ (this : ClientStep) where
       record { held = seat.0; is = ap (open_of this.m.opened) own ∙ seat.1 }
 
   ends_told : (asked : Asked) (how : Ending) (h : Heard this.w (actor.Client this.c) (ended asked.seq how)) (is : client.asked ≡ Some asked)
-      (writes : is_write asked.request ≡ true) → Asking this.state this.lines (after_turn this (answers client asked (answer_of how)))
+      (writes : is_write asked.request ≡ true) → Asking this.setting this.state (after_turn this (answers client asked (answer_of how)))
       → ClientTold false (answers client asked (answer_of how))
   ends_told asked how h is writes next =
       let reacted = answers client asked (answer_of how) in
@@ -185,23 +218,70 @@ module _ (this : ClientStep) where
       record {
         es = e ∷ [];
         is = (λ i. told_with [] (nothing_taken this reacted i)
-            (no_looks this false reacted (Ends asked how h is writes) i ++ events.ended (there i) (Some (asked.line, answer_of how))));
+            (nothing_made this reacted i ++ no_looks this false reacted (Ends asked how h is writes) i
+            ++ events.ended (there i) (Some (asked.line, answer_of how))));
         may = (may_end wr.0 how asked own there is h, tt);
         follows = turn_follow this k reacted (record {
           disks = disks_after this.m e;
           mindful = after_mindful this.m e;
-          others = λ j ne. end_others this.m wr.0 (end_of (answer_of how)) j this.follow.mindful (λ f. ne (f ∙ own));
+          others = λ j ne. end_others this.m wr.0 (end_of (answer_of how)) j this.follow.stores.mindful (λ f. ne (f ∙ own));
           seat = subst (λ i. open_of k.opened i ≡ None) own (end_seat this.m wr.0 (end_of (answer_of how)));
           helds = λ seq o. none_some refl o.is;
         }) next (unwritten this false reacted (Ends asked how h is writes));
       }
 
-  pub turn_told : (in_call : Bool) (reacted : Reaction)
-      → Turned (Heard this.w (actor.Client this.c)) this.state this.lines this.c client in_call reacted
-      → Asking this.state this.lines (after_turn this reacted) → ClientTold in_call reacted
-  turn_told _ _ Rests next = rests_told next
-  turn_told _ _ (Sends_anew asked is) next = anew_told asked is next
-  turn_told _ _ (Begins line is free) next = begins_told line is free next
-  turn_told _ _ (Makes line of_name tuple is free e) next = makes_told line of_name tuple is free e _ refl (Makes line of_name tuple is free e) refl next
+  -- an entry of the log answers: a write ends as one that could not be served
+  judges_told : (later : Client) (asked : Asked) (given : Answer) (is : client.asked ≡ Some asked) (gone : later.asked ≡ None) (seq : later.seq ≡ client.seq)
+      (judged : IsJudged this.setting.servers this.c client.applied later.applied asked given)
+      → Asking this.setting this.state (after_turn this (record { client = later; posts = []; answer = Some (asked.line, given) }))
+      → ClientTold false (record { client = later; posts = []; answer = Some (asked.line, given) })
+  judges_told later asked given is gone seq judged next = by (write_by this.c asked.seq asked.request) refl
+    where
+      reacted : Reaction
+      reacted = record { client = later; posts = []; answer = Some (asked.line, given) }
+
+      turned : Turn this false reacted
+      turned = Judges later asked given is gone seq judged
+
+      may_so : (write : Write) → write_by this.c asked.seq asked.request ≡ Some write → IsUnderWay this.m.opened write
+          → (state : State) (entry : Command) → IsReason this.c asked given state entry
+          → MayEnd this.m.opened write (end_of given)
+      may_so write e under_way state entry (By_verdict command own verdict) = none_some (no_command this.c asked.seq asked.request write e) own
+      may_so write e under_way state entry (By_witness none own refused) =
+          judged_end this.c asked.seq asked.request write given state this.m.opened e refused under_way
+
+      by : (o : Option Write) → write_by this.c asked.seq asked.request ≡ o → ClientTold false reacted
+      by None e =
+          let none : open_write this.w this.c ≡ None = ap (write_asked this.c) is ∙ e in
+          silent false reacted turned next refl (ap (λ o. events.ended o (Some (asked.line, given))) none)
+          (quiet_turn later (subst (λ o. Seat (write_asked this.c o) (open_of this.m.opened this.c)) (sym gone) (empty_seat none))
+          (λ number o. none_some gone o.is))
+      by (Some write) e =
+          let there : open_write this.w this.c ≡ Some write = ap (write_asked this.c) is ∙ e in
+          let own : write.client ≡ this.c = open_own this.w this.c write there in
+          let seat : Seat (Some write) (open_of this.m.opened this.c) = subst (λ o. Seat o (open_of this.m.opened this.c)) there (this.follow.seats this.c) in
+          let under_way : IsUnderWay this.m.opened write = record { held = seat.0; is = ap (open_of this.m.opened) own ∙ seat.1 } in
+          let event = End write (end_of given) in
+          let k = after this.m event in
+          record {
+            es = event ∷ [];
+            is = (λ i. told_with [] (nothing_taken this reacted i)
+                (nothing_made this reacted i ++ no_looks this false reacted turned i ++ events.ended (there i) (Some (asked.line, given))));
+            may = (may_so write e under_way _ _ judged.reason, tt);
+            follows = turn_follow this k reacted (record {
+              disks = disks_after this.m event;
+              mindful = after_mindful this.m event;
+              others = λ j ne. end_others this.m write (end_of given) j this.follow.stores.mindful (λ f. ne (f ∙ own));
+              seat = subst (λ o. Seat (write_asked this.c o) (open_of k.opened this.c)) (sym gone)
+                  (subst (λ i. open_of k.opened i ≡ None) own (end_seat this.m write (end_of given)));
+              helds = λ number o. none_some gone o.is;
+            }) next (unwritten this false reacted turned);
+          }
+
+  pub turn_told : (in_call : Bool) (reacted : Reaction) → Turn this in_call reacted → Asking this.setting this.state (after_turn this reacted)
+      → ClientTold in_call reacted
+  turn_told _ _ (Goes_on reacted seq stays only) next = goes_on_told reacted seq stays only next
+  turn_told _ _ (Begins reacted line asked is free seq there called only) next = begins_told reacted line asked is free seq there called only next
   turn_told _ _ (Reads asked bytes h is reads) next = reads_told asked bytes h is reads next
   turn_told _ _ (Ends asked how h is writes) next = ends_told asked how h is writes next
+  turn_told _ _ (Judges later asked given is gone seq judged) next = judges_told later asked given is gone seq judged next

@@ -15,26 +15,24 @@ use Rattle.script_lines.specs.declared.script.Script.{Script}
 use Rattle.petal_rules.specs.State.{State, is_second}
 use Rattle.petal_rules.specs.Store.{Chain, Stored, cell_cmp, chain_in}
 use Rattle.petal_rules.specs.Server.{Own, Here, Done}
-use Rattle.petal_rules.specs.Jobs.{here_of}
-use Rattle.petal_rules.specs.World.{World, start, setting_of}
-use Rattle.law_steps.specs.Steady.{IsSteady}
+use Rattle.petal_rules.specs.World.{Setting, World, start, setting_of}
+use Rattle.law_state.specs.Steady.{IsSteady}
 use Rattle.law_steps.specs.DidLead.{DidLead, Asks_for, Repeats, Is_full, Opens, Puts, Gives_up, Closes}
 use Rattle.law_steps.specs.DidSecond.{DidSecond, Sets_apart, Promises, Declines, Follows}
 use Rattle.law_steps.specs.Did.{Did, Ignores, Refuses, By_read, By_lead, By_second}
-use Rattle.law_steps.specs.Happens.{Handled, Happens, Serves, Turns, served}
+use Rattle.law_steps.specs.Happens.{Handled, Happens, Serves, Turns, served, own_place}
 use Rattle.law_steps.specs.Ready.{Ready}
-use Rattle.law_steps.proofs.Scripts.{start_ready}
-use Rattle.law_steps.proofs.Stepping.{happens_ready}
+use Rattle.law_steps.proofs.Histories.{start_rests}
 use Rattle.law_steps.proofs.Staged.{same_cell_or_apart}
 use Rattle.petal_rules.proofs.Tests.{all_put}
 use Rattle.law_copies.specs.Pair.{pair_of, IsPair, IsPutting, owns_of, Good}
 use Rattle.law_copies.proofs.Jobs.{chain_put, chain_apart, asked, heard_known, second_pair}
-use Rattle.law_copies.proofs.Copying.{happens_good, start_good}
+use Rattle.law_copies.proofs.Copying.{start_good}
 use Rattle.law_requests.specs.Asked.{IsWrite}
 use Rattle.law_requests.specs.Known.{Asking}
-use Rattle.law_requests.proofs.Histories.{happens_asking, start_asking}
+use Rattle.law_requests.proofs.Histories.{start_asking}
 use Rattle.law_run.specs.Follow.{IsShort, Ground}
-use Rattle.law_run.proofs.Names.{happens_named, start_named}
+use Rattle.law_run.proofs.Names.{start_named}
 use Rattle.law_steps.proofs.Subjects.{of_read, told_own}
 
 short_put : (chain : Chain) (epoch : ℕ) (entry : Stored) → epoch ≡ 0 → IsShort chain → IsShort (put nat_cmp chain epoch entry)
@@ -44,12 +42,15 @@ short_put chain epoch entry zero (inr h) = inr (entry, λ i. put nat_cmp (h.1 i)
 
 pub write_epoch : (state : State) → IsSteady state → (lines : List Line) (client seq : ℕ) (cell : Cell) (epoch : ℕ) (bytes : List ℕ)
     → IsWrite state lines client seq cell epoch bytes → epoch ≡ 0
-write_epoch state steady lines client seq cell epoch bytes w = w.epoch_is ∙ (steady.disks w.name w.disk w.found).newest
+write_epoch state steady lines client seq cell epoch bytes w = w.epoch_is ∙ steady.newest w.name w.disk w.found
 
-module _ (state : State) (steady : IsSteady state) (lines : List Line) where
-  module _ (w : World) (ready : Ready state w) (good : Good state w) (asking : Asking state lines w) (n : ℕ) where
+module _ (setting : Setting) (state : State) (steady : IsSteady state) where
+  abbrev lines : List Line
+  lines = setting.lines
+
+  module _ (w : World) (ready : Ready state w) (good : Good state w) (asking : Asking setting state w) (n : ℕ) where
     abbrev here : Here
-    here = here_of state n (w.servers n)
+    here = own_place setting w n
 
     abbrev own : Own
     own = owns_of w n
@@ -67,12 +68,12 @@ module _ (state : State) (steady : IsSteady state) (lines : List Line) where
         → is_second state n (cell_of key) ≡ true → at cell_cmp own.pairs.last (cell_of key) ≡ Some (record { op = number; far = far.Reserved })
         → Followed number key bytes
     followed number key version bytes h s is =
-        let pair = second_pair state steady w ready good n (cell_of key) s in
+        let pair = second_pair setting state steady w ready good n (cell_of key) s in
         record {
           p = pair.0;
           pair = pair.1;
-          putting = asked state steady w ready good n number key bytes
-              (pair_of (owns_of w pair.0) own (cell_of key)) is (heard_known state steady w ready good n _ h (cell_of key) pair.0 n refl pair.1);
+          putting = asked setting state steady w ready good n number key bytes
+              (pair_of (owns_of w pair.0) own (cell_of key)) is (heard_known setting state steady w ready good n _ h (cell_of key) pair.0 n refl pair.1);
         }
 
     pub key_epoch : (number : ℕ) (key : Key) (bytes : List ℕ) → Followed number key bytes → key.epoch ≡ 0
@@ -88,7 +89,7 @@ module _ (state : State) (steady : IsSteady state) (lines : List Line) where
       | inr ne ↦ subst IsShort (sym (chain_apart chains cell chain q ne)) old
     ]
 
-    lead_short : ((cell : Cell) → IsShort (chain_in own.store.chains cell)) → (done : Done) → DidLead hears here own done
+    lead_short : ((cell : Cell) → IsShort (chain_in own.store.chains cell)) → (done : Done) → DidLead hears here state own done
         → (cell : Cell) → IsShort (chain_in done.own.store.chains cell)
     lead_short short _ (Puts op h is stage) cell =
         let p = asking.pending n op.cell op is in
@@ -102,7 +103,7 @@ module _ (state : State) (steady : IsSteady state) (lines : List Line) where
     lead_short short _ (Gives_up op h is stage) cell = short cell
     lead_short short _ (Closes op h is stage) cell = short cell
 
-    second_short : ((cell : Cell) → IsShort (chain_in own.store.chains cell)) → (done : Done) → DidSecond hears here own done
+    second_short : ((cell : Cell) → IsShort (chain_in own.store.chains cell)) → (done : Done) → DidSecond hears here state own done
         → (cell : Cell) → IsShort (chain_in done.own.store.chains cell)
     second_short short _ (Sets_apart number c store h s e le) cell = subst (λ t. IsShort (chain_in t cell)) (sym e) (short cell)
     second_short short _ (Promises number c how s is) cell =
@@ -113,35 +114,29 @@ module _ (state : State) (steady : IsSteady state) (lines : List Line) where
         (short_put (chain_in own.store.chains (cell_of key)) key.epoch _ (key_epoch number key bytes (followed number key version bytes h s is))
         (short (cell_of key))) (short cell)
 
-    did_short : ((cell : Cell) → IsShort (chain_in own.store.chains cell)) → (done : Done) → Did hears here own done
+    did_short : ((cell : Cell) → IsShort (chain_in own.store.chains cell)) → (done : Done) → Did hears here state own done
         → (cell : Cell) → IsShort (chain_in done.own.store.chains cell)
     did_short short _ Ignores cell = short cell
     did_short short _ (Refuses to said is why) cell = short cell
     did_short short _ (By_read done d) cell =
-        subst (λ (o : Own). IsShort (chain_in o.store.chains cell)) (sym (of_read hears here own done d).same) (short cell)
+        subst (λ (o : Own). IsShort (chain_in o.store.chains cell)) (sym (of_read hears here state own done d).same) (short cell)
     did_short short _ (By_lead done d) cell = lead_short short done d cell
     did_short short _ (By_second done d) cell = second_short short done d cell
 
-  short_later : (w v : World) → Ground state lines w → Happens state lines w v → (n : ℕ) (cell : Cell) → IsShort (chain_in (owns_of v n).store.chains cell)
-  short_later w _ ground (Serves n stamp done queue lt did queued) =
-      all_put w.servers n (served (w.servers n) done queue) (λ k server. (cell : Cell) → IsShort (chain_in server.own.store.chains cell)) ground.short
+  pub short_later : (w v : World) → Ground setting state w → Happens setting state w v → (n : ℕ) (cell : Cell)
+      → IsShort (chain_in (owns_of v n).store.chains cell)
+  short_later w _ ground (Serves n stamp log done queue lt did queued) =
+      all_put w.servers n (served (w.servers n) log done queue) (λ k server. (cell : Cell) → IsShort (chain_in server.own.store.chains cell)) ground.short
       (did_short w ground.ready ground.good ground.asking n (ground.short n) done did)
-  short_later w _ ground (Turns c stamp in_call reacted lt within turned) = ground.short
+  short_later w _ ground (Turns c stamp in_call reacted lt within turned onward) = ground.short
 
-  pub happens_ground : (servers slots : ℕ) (w v : World) → Ground state lines w → Happens state lines w v → Ground state lines v
-  happens_ground servers slots w v ground h = record {
-    ready = happens_ready servers slots lines state steady w v ground.ready h;
-    good = happens_good state steady lines w v ground.ready ground.good h;
-    asking = happens_asking state steady lines w v ground.ready ground.asking h;
-    named = happens_named state lines w v ground.named h;
-    short = short_later w v ground h;
-  }
-
-pub start_ground : (state : State) (script : Script) → Ground state script.lines (start (setting_of script))
-start_ground state script = record {
-  ready = start_ready state script;
+pub start_ground : (state : State) (script : Script) → Ready state (start (setting_of script)) → Ground (setting_of script) state (start (setting_of script))
+start_ground state script ready = record {
+  rests = start_rests script;
+  ready = ready;
   good = start_good state script;
   asking = start_asking state script;
   named = start_named script;
   short = λ n cell. inl (ap (λ o. unwrap_or {T = Chain} o []) (at-empty cell_cmp cell));
+  born = λ n cell none. ap (λ o. unwrap_or {T = Chain} o []) (at-empty cell_cmp cell);
 }

@@ -1,10 +1,10 @@
 -- A read looks where its data are sent: whoever accepts them later had asked for this.
 use Rattle.std.proofs.Common.{◌≡◌, ◌==◌, ◌&&◌, ℕ, zero, suc, List, [], ◌∷◌, Bool, true, false, Option, Some, None, refl, sym, ap, ◌∙◌, subst, ◌⊎◌, inl, inr}
 use Rattle.std.specs.Prelude.{slice_get, if◌then◌else◌}
-use Rattle.petal_table.specs.Table.{Table}
+use Rattle.petal_machine.specs.declared.state.Disk.{Disk}
 use Rattle.petal_machine.specs.declared.event.Event.{Event}
 use Rattle.petal_machine.specs.declared.event.Event.TheVariants.{Look}
-use Rattle.petal_machine.specs.Machine.{Plain, content}
+use Rattle.petal_machine.specs.Machine.{Plain, content, disk_of}
 use Rattle.petal_machine.specs.Run.{Obeys, after, replay}
 use Rattle.petal_msg.specs.declared.body.Body.{Body}
 use Rattle.petal_msg.specs.declared.body.Body.TheVariants as body
@@ -17,22 +17,19 @@ use Rattle.script_lines.specs.declared.request.Request.{Request}
 use Rattle.script_lines.specs.declared.request.Request.TheVariants as request
 use Rattle.petal_rules.specs.Lists.{In}
 use Rattle.petal_rules.specs.State.{State}
-use Rattle.petal_rules.specs.Clients.{Client, Asked, heard, hears, hears_of, counts, is_read}
-use Rattle.petal_rules.specs.World.{Setting, World, step, MayActor}
+use Rattle.petal_rules.specs.Clients.{Client, Asked, heard, hears, hears_any, hears_of, counts, is_read}
+use Rattle.petal_rules.specs.World.{Setting, World, step, client_state, MayActor}
 use Rattle.petal_rules.specs.declared.step.Step.{Step}
 use Rattle.petal_rules.specs.declared.step.Step.TheVariants.{Deliver}
 use Rattle.petal_rules.proofs.ListLemmas.{in_later, in-append}
 use Rattle.petal_history.specs.Events.{accepted, accepts, data_line, first_of, same_name, look_by, look_for, look_of}
 use Rattle.petal_history.specs.Legal.{IsLegalFrom, stepped}
 use Rattle.petal_history.specs.declared.record.Record.{Record}
-use Rattle.law_steps.specs.Steady.{IsSteady}
-use Rattle.law_steps.specs.Happens.{line_by}
-use Rattle.law_steps.proofs.Stepping.{fixed_setting, happens}
+use Rattle.law_steps.specs.Turned.{line_by}
 use Rattle.petal_rules.proofs.Tests.{by_test, by_bool, both_true, same_some, none_some, same_numbers, true_false}
-use Rattle.law_run.specs.Onward.{one_disk, HasOnly, IsMindful, Onward}
+use Rattle.law_run.specs.Onward.{IsMindful, Onward}
 use Rattle.law_run.specs.Follow.{Ground}
-use Rattle.law_run.proofs.Grounds.{happens_ground}
-use Rattle.law_run.proofs.Machine.{disk_there, disks_after, after_mindful, look_onward, onward_itself, onward_joined}
+use Rattle.law_run.proofs.Machine.{disks_after, after_mindful, look_onward, onward_itself, onward_joined}
 use Rattle.law_run.proofs.Members.{of_filter}
 
 -- ### Looks
@@ -41,31 +38,24 @@ use Rattle.law_run.proofs.Members.{of_filter}
 abbrev pub AllLooks : List ℕ → ℕ → List ℕ → List Event → Type 0
 AllLooks name block bytes es = (e : Event) → In e es → e ≡ Look name None block bytes
 
-pub record Looked (m : Plain) (name : List ℕ) (blocks : Table ℕ (List ℕ)) (es : List Event) : Type 0 where
+pub record Looked (m : Plain) (es : List Event) : Type 0 where
   pub may : Obeys m es
-  pub only : HasOnly (replay m es) name blocks
+  pub disks : (replay m es).disks ≡ m.disks
   pub mindful : IsMindful (replay m es)
   pub onward : Onward m (replay m es)
 
-pub looked : (m : Plain) (name : List ℕ) (blocks : Table ℕ (List ℕ)) (block : ℕ) (bytes : List ℕ) → HasOnly m name blocks → IsMindful m
-    → content blocks block ≡ bytes → (es : List Event) → AllLooks name block bytes es → Looked m name blocks es
+pub looked : (m : Plain) (name : List ℕ) (disk : Disk) (block : ℕ) (bytes : List ℕ) → disk_of m.disks name ≡ Some disk → IsMindful m
+    → content disk.now block ≡ bytes → (es : List Event) → AllLooks name block bytes es → Looked m es
 unfolding In
-looked m name blocks block bytes only mindful has [] all = record { may = tt; only = only; mindful = mindful; onward = onward_itself m }
-looked m name blocks block bytes only mindful has (e ∷ es) all =
+looked m name disk block bytes is mindful has [] all = record { may = tt; disks = refl; mindful = mindful; onward = onward_itself m }
+looked m name disk block bytes is mindful has (e ∷ es) all =
     let k = after m (Look name None block bytes) in
-    let only' : HasOnly k name blocks = disks_after m (Look name None block bytes) ∙ only in
-    let rest = looked k name blocks block bytes only' (after_mindful m (Look name None block bytes)) has es (λ x h. all x (inr h)) in
-    subst (λ x. Looked m name blocks (x ∷ es)) (sym (all e (inl refl))) (record {
-      may = (
-        record {
-          known = record { disk = one_disk name blocks; is = disk_there m name name blocks only refl };
-          blocks = blocks;
-          is = refl;
-          has = has;
-        },
-        rest.may,
-      );
-      only = rest.only;
+    let same : k.disks ≡ m.disks = disks_after m (Look name None block bytes) in
+    let rest = looked k name disk block bytes (ap (λ ds. disk_of ds name) same ∙ is) (after_mindful m (Look name None block bytes)) has es
+    (λ x h. all x (inr h)) in
+    subst (λ x. Looked m (x ∷ es)) (sym (all e (inl refl))) (record {
+      may = (record { known = record { disk = disk; is = is }; blocks = disk.now; is = refl; has = has }, rest.may);
+      disks = rest.disks ∙ same;
       mindful = rest.mindful;
       onward = onward_joined m k (replay k es) (look_onward m name None block bytes mindful) rest.onward;
     })
@@ -94,14 +84,19 @@ some_first : (one two : Option ℕ) (number : ℕ) → first_of one two ≡ Some
 some_first None two number e = inr e
 some_first (Some k) two number e = inl e
 
-module _ (servers slots : ℕ) (lines : List Line) (state : State) (steady : IsSteady state) where
-  abbrev setting : Setting
-  setting = fixed_setting servers slots lines state
+-- the ground holds at each world on the way
+abbrev pub AreGrounded : Setting → State → World → List Record → Type 0
+AreGrounded setting state w [] = Ground setting state w
+AreGrounded setting state w (own ∷ later) = Ground setting state w × AreGrounded setting state (stepped setting w own).world later
+
+module _ (setting : Setting) (state : State) where
+  abbrev lines : List Line
+  lines = setting.lines
 
   -- a client that answers with data had asked under this number
-  hears_data : (c : ℕ) (client : Client) (asked : Asked) (rev seq : ℕ) (bytes : List ℕ) (number : ℕ)
-      → data_line (hears state c client asked rev (body.Data seq bytes)).answer ≡ Some number → (seq ≡ asked.seq) × (asked.line ≡ number)
-  hears_data c client asked rev seq bytes number e =
+  hears_data : (own : State) (c : ℕ) (client : Client) (asked : Asked) (rev seq : ℕ) (bytes : List ℕ) (number : ℕ)
+      → data_line (hears own c client asked rev (body.Data seq bytes)).answer ≡ Some number → (seq ≡ asked.seq) × (asked.line ≡ number)
+  hears_data own c client asked rev seq bytes number e =
       by_bool (counts asked rev seq && is_read asked.request)
       (λ t.
       let tests = both_true (counts asked rev seq) (is_read asked.request) t in
@@ -113,27 +108,36 @@ module _ (servers slots : ℕ) (lines : List Line) (state : State) (steady : IsS
       (λ f. none_some (ap (λ b. data_line (if b then Rattle.petal_rules.specs.Clients.answers client asked
       (answer.Data bytes) else Rattle.petal_rules.specs.Clients.rests client).answer) f) e)
 
-  open_accepts : (w : World) → Ground state lines w → (letter : Letter) (seq : ℕ) (bytes : List ℕ) (number c : ℕ) (o : Option Asked)
+  open_accepts : (w : World) → Ground setting state w → (own : State) (letter : Letter) (seq : ℕ) (bytes : List ℕ) (number c : ℕ) (o : Option Asked)
       → (w.clients c).asked ≡ o → letter.to ≡ actor.Client c → letter.body ≡ body.Data seq bytes
-      → data_line (hears_of state c (w.clients c) o letter).answer ≡ Some number → Accepts lines letter seq number
-  open_accepts w ground letter seq bytes number c None is to says e = none_some refl e
-  open_accepts w ground letter seq bytes number c (Some asked) is to says e =
-      let h = hears_data c (w.clients c) asked letter.rev seq bytes number
-      (subst (λ (b : Body). data_line (hears state c (w.clients c) asked letter.rev b).answer ≡ Some number) says e) in
+      → data_line (hears_of own c (w.clients c) o letter).answer ≡ Some number → Accepts lines letter seq number
+  open_accepts w ground own letter seq bytes number c None is to says e = none_some refl e
+  open_accepts w ground own letter seq bytes number c (Some asked) is to says e =
+      let h = hears_data own c (w.clients c) asked letter.rev seq bytes number
+      (subst (λ (b : Body). data_line (hears own c (w.clients c) asked letter.rev b).answer ≡ Some number) says e) in
       let a = ground.asking.asked c asked is in
       record { client = c; to = to; line = a.line; is = ap (line_by lines c) h.0 ∙ a.is; number_is = sym a.number ∙ h.1 }
 
-  delivery_accepts : (w : World) → Ground state lines w → (who : Actor) (letter other : Letter) (stamp seq : ℕ) (bytes : List ℕ) (number : ℕ)
+  delivery_accepts : (w : World) → Ground setting state w → (who : Actor) (letter other : Letter) (stamp seq : ℕ) (bytes : List ℕ) (number : ℕ)
       → MayActor who (Deliver other) setting w → In letter w.sent → letter.body ≡ body.Data seq bytes → same_name letter other ≡ true
       → data_line (step who (Deliver other) setting w stamp).answer ≡ Some number → Accepts lines letter seq number
   unfolding step heard
   delivery_accepts w ground (actor.Server n) letter other stamp seq bytes number may h says same e = none_some refl e
   delivery_accepts w ground (actor.Client c) letter other stamp seq bytes number may h says same e =
       let one : letter ≡ other = ground.named.unique letter other h may.1.sent same in
-      open_accepts w ground letter seq bytes number c (w.clients c).asked refl (subst (λ (l : Letter). l.to ≡ actor.Client c) (sym one) may.1.own) says
-      (subst (λ (l : Letter). data_line (hears_of state c (w.clients c) (w.clients c).asked l).answer ≡ Some number) (sym one) e)
+      let own = client_state setting w c in
+      let heard_so : data_line (hears_any own c (w.clients c) letter letter.body).answer ≡ Some number =
+      subst (λ (l : Letter). data_line (hears_any own c (w.clients c) l l.body).answer ≡ Some number) (sym one) e in
+      open_accepts w ground own letter seq bytes number c (w.clients c).asked refl (subst (λ (l : Letter). l.to ≡ actor.Client c) (sym one) may.1.own) says
+      (as_data own c (w.clients c) letter seq bytes number says heard_so)
+    where
+      as_data : (own : State) (c : ℕ) (client : Client) (letter : Letter) (seq : ℕ) (bytes : List ℕ) (number : ℕ) → letter.body ≡ body.Data seq bytes
+          → data_line (hears_any own c client letter letter.body).answer ≡ Some number
+          → data_line (hears_of own c client client.asked letter).answer ≡ Some number
+      as_data own c client letter seq bytes number says e =
+          subst (λ (b : Body). data_line (hears_any own c client letter b).answer ≡ Some number) says e
 
-  record_accepts : (w : World) → Ground state lines w → (who : Actor) (what : Step) (letter : Letter) (stamp seq : ℕ) (bytes : List ℕ) (number : ℕ)
+  record_accepts : (w : World) → Ground setting state w → (who : Actor) (what : Step) (letter : Letter) (stamp seq : ℕ) (bytes : List ℕ) (number : ℕ)
       → MayActor who what setting w → In letter w.sent → letter.body ≡ body.Data seq bytes
       → accepts letter what (step who what setting w stamp).answer ≡ Some number → Accepts lines letter seq number
   record_accepts w ground who (Deliver other) letter stamp seq bytes number may h says e =
@@ -148,20 +152,18 @@ module _ (servers slots : ℕ) (lines : List Line) (state : State) (steady : IsS
   sent_later w (actor.Server n) what stamp letter h = in_later letter _ w.sent h
   sent_later w (actor.Client c) what stamp letter h = in_later letter _ w.sent h
 
-  pub who_accepts : (w : World) (records : List Record) → Ground state lines w → IsLegalFrom setting w records
+  -- whoever accepts the letter in one of these records had asked for it. At each world on the way the ground holds
+  pub who_accepts : (w : World) (records : List Record) → AreGrounded setting state w records → IsLegalFrom setting w records
       → (letter : Letter) (seq : ℕ) (bytes : List ℕ) (number : ℕ) → In letter w.sent → letter.body ≡ body.Data seq bytes → accepted records letter
       ≡ Some number → Accepts lines letter seq number
-  who_accepts w [] ground legal letter seq bytes number h says e = none_some refl e
-  who_accepts w (own ∷ later) ground legal letter seq bytes number h says e =
+  who_accepts w [] grounded legal letter seq bytes number h says e = none_some refl e
+  who_accepts w (own ∷ later) grounded legal letter seq bytes number h says e =
       let follows = legal.0 in
       let next = (stepped setting w own).world in
       elim (some_first (accepts letter own.step own.answer) (accepted later letter) number e) [
-        | inl now ↦ record_accepts w ground own.actor own.step letter own.stamp seq bytes number follows.may.may h says
+        | inl now ↦ record_accepts w grounded.0 own.actor own.step letter own.stamp seq bytes number follows.may.may h says
             (subst (λ o. accepts letter own.step o ≡ Some number) follows.answer now)
-        | inr behind ↦
-            who_accepts next later (happens_ground state steady lines servers slots w next ground
-            (happens servers slots lines state steady w own ground.ready follows)) legal.1 letter seq bytes number
-            (sent_later w own.actor own.step own.stamp letter h) says behind
+        | inr behind ↦ who_accepts next later grounded.1 legal.1 letter seq bytes number (sent_later w own.actor own.step own.stamp letter h) says behind
       ]
 
 -- ### What is told of a letter
@@ -208,5 +210,5 @@ is_data (body.Data seq bytes) = true
 is_data _ = false
 
 pub no_look : (lines : List Line) (later : List Record) (letter : Letter) (said : Body) → is_data said ≡ false → look_of lines later letter said ≡ []
-no_look lines later letter (body.Data seq bytes) e = true_false refl e
-no_look lines later letter _ e = refl
+no_look known_lines later letter (body.Data seq bytes) e = true_false refl e
+no_look known_lines later letter _ e = refl

@@ -1,4 +1,4 @@
--- What each event does to a machine with one disk.
+-- What each event does to the machine.
 use Rattle.std.proofs.Common.{◌≡◌, ◌≢◌, ℕ, List, [], ◌∷◌, ◌++◌, Bool, true, false, not, ◌||◌, ◌==◌, cond, Option, Some, None, refl, sym, ap, ◌∙◌, subst, inl, inr}
 use Rattle.std.specs.Prelude.{map, find, option_map, unwrap_or}
 use Rattle.std.specs.Option.{option_or}
@@ -9,15 +9,15 @@ use Rattle.petal_base.specs.Block.{zero_block}
 use Rattle.petal_table.specs.Table.{Table, put}
 use Rattle.petal_table.proofs.Rows.{at_same, at_apart}
 use Rattle.petal_machine.specs.declared.event.Event.{Event}
-use Rattle.petal_machine.specs.declared.event.Event.TheVariants.{Begin, Take, End, Look}
+use Rattle.petal_machine.specs.declared.event.Event.TheVariants.{Make, Begin, Take, End, Look}
 use Rattle.petal_machine.specs.declared.event.Write.{Write}
 use Rattle.petal_machine.specs.declared.event.WriteEnd.{WriteEnd}
 use Rattle.petal_machine.specs.declared.state.Disk.{Disk}
 use Rattle.petal_machine.specs.declared.state.Open.{Open}
-use Rattle.petal_machine.specs.Machine.{Plain, same_bytes, content, disk_of, open_of, is_of, but_of, stands, has_content, remembers, with_disk}
-use Rattle.petal_machine.specs.Run.{May, IsOpen, Obeys, after, changed, written, replay}
-use Rattle.petal_rules.proofs.Tests.{by_bool, same_some, none_some, some_or_none, same_numbers, number_itself, true_false}
-use Rattle.law_run.specs.Onward.{one_disk, HasOnly, IsMindful, held_in, Onward, Seat}
+use Rattle.petal_machine.specs.Machine.{Plain, same_bytes, is_named, content, disk_of, open_of, is_of, but_of, stands, has_content, remembers, with_disk}
+use Rattle.petal_machine.specs.Run.{IsOpen, Obeys, after, changed, written, replay}
+use Rattle.petal_rules.proofs.Tests.{by_bool, same_some, none_some, some_or_none, same_numbers, number_itself, nat_lists_same, true_false}
+use Rattle.law_run.specs.Onward.{IsMindful, held_in, Onward, Seat}
 
 pub Obeys-append : (m : Plain) (es fs : List Event) → Obeys m es → Obeys (replay m es) fs → Obeys m (es ++ fs)
 Obeys-append m [] fs h g = g
@@ -29,16 +29,38 @@ replay-append m (e ∷ es) fs = replay-append (after m e) es fs
 
 -- ### The disk
 
-pub found_disk : (name : List ℕ) (blocks : Table ℕ (List ℕ)) → disk_of (one_disk name blocks ∷ []) name ≡ Some (one_disk name blocks)
-found_disk name blocks = ap (λ b. cond b (Some (one_disk name blocks)) None) (nat_list_eq_equiv.refl name)
+pub stands_there : (m : Plain) (disk : Disk) (w : Write) → disk_of m.disks w.disk ≡ Some disk
+    → stands m.disks w ≡ same_bytes (content disk.now w.block) w.bytes
+stands_there m disk w is = ap (has_content w) is
 
-pub disk_there : (m : Plain) (name other : List ℕ) (blocks : Table ℕ (List ℕ)) → HasOnly m name blocks → other ≡ name
-    → disk_of m.disks other ≡ Some (one_disk name blocks)
-disk_there m name other blocks only e = (λ i. disk_of (only i) (e i)) ∙ found_disk name blocks
+unnamed : (name other : List ℕ) (disk : Disk) → disk.name ≡ name → other ≢ name → is_named other disk ≡ false
+unnamed name other disk is ne = by_bool (is_named other disk) (λ t. absurd (ne (sym (nat_lists_same disk.name other t) ∙ is))) (λ f. f)
 
-pub stands_there : (m : Plain) (name : List ℕ) (blocks : Table ℕ (List ℕ)) (w : Write) → HasOnly m name blocks → w.disk ≡ name
-    → stands m.disks w ≡ same_bytes (content blocks w.block) w.bytes
-stands_there m name blocks w only e = ap (has_content w) (disk_there m name w.disk blocks only e)
+-- a disk that was changed, and the others
+with_same : (ds : List Disk) (name : List ℕ) (f : Disk → Disk) (disk : Disk) → ((d : Disk) → (f d).name ≡ d.name) → disk_of ds name ≡ Some disk
+    → disk_of (with_disk ds name f) name ≡ Some (f disk)
+with_same [] name f disk keeps e = none_some refl e
+with_same (d ∷ ds) name f disk keeps e = by_bool (is_named name d)
+    (λ t.
+    let same : d ≡ disk = same_some (sym (ap (λ b. cond b (Some d) (disk_of ds name)) t) ∙ e) in
+    ap (λ b. disk_of (cond b (f d ∷ ds) (d ∷ with_disk ds name f)) name) t
+    ∙ ap (λ b. cond b (Some (f d)) (disk_of ds name)) (ap (λ n. same_bytes n name) (keeps d) ∙ t)
+    ∙ ap (λ x. Some (f x)) same)
+    (λ no. ap (λ b. disk_of (cond b (f d ∷ ds) (d ∷ with_disk ds name f)) name) no
+    ∙ ap (λ b. cond b (Some d) (disk_of (with_disk ds name f) name)) no
+    ∙ with_same ds name f disk keeps (sym (ap (λ b. cond b (Some d) (disk_of ds name)) no) ∙ e))
+
+with_apart : (ds : List Disk) (name : List ℕ) (f : Disk → Disk) (other : List ℕ) → ((d : Disk) → (f d).name ≡ d.name) → other ≢ name
+    → disk_of (with_disk ds name f) other ≡ disk_of ds other
+with_apart [] name f other keeps ne = refl
+with_apart (d ∷ ds) name f other keeps ne = by_bool (is_named name d)
+    (λ t.
+    let is : d.name ≡ name = nat_lists_same d.name name t in
+    ap (λ b. disk_of (cond b (f d ∷ ds) (d ∷ with_disk ds name f)) other) t
+    ∙ ap (λ b. cond b (Some (f d)) (disk_of ds other)) (unnamed name other (f d) (keeps d ∙ is) ne)
+    ∙ sym (ap (λ b. cond b (Some d) (disk_of ds other)) (unnamed name other d is ne)))
+    (λ no. ap (λ b. disk_of (cond b (f d ∷ ds) (d ∷ with_disk ds name f)) other) no
+    ∙ ap (cond (is_named other d) (Some d)) (with_apart ds name f other keeps ne))
 
 pub content_same : (blocks : Table ℕ (List ℕ)) (block : ℕ) (bytes : List ℕ) → content (put nat_cmp blocks block bytes) block ≡ bytes
 unfolding content
@@ -201,86 +223,105 @@ pub end_others : (m : Plain) (w : Write) (how : WriteEnd) (c : ℕ) → IsMindfu
 end_others m w how c h ne =
     opened_after m (End w how) c ∙ ap (option_map (remembers m.disks)) (but_others m.opened w.client c ne) ∙ still m c (open_of m.opened c) refl h
 
+-- ### Disks that are made
+
+abbrev pub new_disk : List ℕ → Disk
+new_disk name = record { name = name; now = []; snaps = [] }
+
+pub make_same : (m : Plain) (name : List ℕ) → disk_of m.disks name ≡ None → disk_of (after m (Make name)).disks name ≡ Some (new_disk name)
+make_same m name none =
+    ap (λ ds. disk_of ds name) (disks_after m (Make name)) ∙ find-append (is_named name) m.disks (new_disk name ∷ [])
+    ∙ ap (λ o. option_or o (disk_of (new_disk name ∷ []) name)) none
+    ∙ ap (λ b. cond b (Some (new_disk name)) None) (nat_list_eq_equiv.refl name)
+
+pub make_others : (m : Plain) (name other : List ℕ) → other ≢ name → disk_of (after m (Make name)).disks other ≡ disk_of m.disks other
+make_others m name other ne =
+    ap (λ ds. disk_of ds other) (disks_after m (Make name)) ∙ find-append (is_named other) m.disks (new_disk name ∷ [])
+    ∙ ap (λ b. option_or (disk_of m.disks other) (cond b (Some (new_disk name)) None)) (unnamed name other (new_disk name) refl ne)
+    ∙ or_none (disk_of m.disks other)
+  where
+    or_none : (o : Option Disk) → option_or o None ≡ o
+    or_none None = refl
+    or_none (Some x) = refl
+
+pub make_onward : (m : Plain) (name : List ℕ) → Onward m (after m (Make name))
+make_onward m name = onward_by m (after m (Make name)) (changed m (Make name)).disks (opened_after m (Make name))
+
 -- ### Takes
 
 -- a write whose block has its bytes has had them
-pub stands_held : (m : Plain) (name : List ℕ) (blocks : Table ℕ (List ℕ)) (c : ℕ) (w : Write) → HasOnly m name blocks → IsMindful m
-    → Seat (Some w) (open_of m.opened c) → w.disk ≡ name → content blocks w.block ≡ w.bytes → held_in (open_of m.opened c) ≡ true
-stands_held m name blocks c w only mindful seat disk has =
+pub stands_held : (m : Plain) (disk : Disk) (c : ℕ) (w : Write) → disk_of m.disks w.disk ≡ Some disk → IsMindful m
+    → Seat (Some w) (open_of m.opened c) → content disk.now w.block ≡ w.bytes → held_in (open_of m.opened c) ≡ true
+stands_held m disk c w is mindful seat has =
     ap held_in seat.1 ∙ mindful c (record { write = w; held = seat.0 }) seat.1
-    (stands_there m name blocks w only disk ∙ ap (λ b. same_bytes b w.bytes) has ∙ nat_list_eq_equiv.refl w.bytes)
+    (stands_there m disk w is ∙ ap (λ b. same_bytes b w.bytes) has ∙ nat_list_eq_equiv.refl w.bytes)
 
 -- the machine after a list of takes of one write
-pub record Taken (m : Plain) (name : List ℕ) (blocks : Table ℕ (List ℕ)) (block : ℕ) (bytes : List ℕ) (es : List Event) : Type 0 where
+pub record Taken (m : Plain) (disk : Disk) (w : Write) (es : List Event) : Type 0 where
   pub may : Obeys m es
-  pub later : Table ℕ (List ℕ)
-  pub only : HasOnly (replay m es) name later
-  pub has : content later block ≡ bytes
-  pub others : (other : ℕ) → other ≢ block → content later other ≡ content blocks other
+  pub later : Disk
+  pub is : disk_of (replay m es).disks w.disk ≡ Some later
+  pub has : content later.now w.block ≡ w.bytes
+  pub blocks : (other : ℕ) → other ≢ w.block → content later.now other ≡ content disk.now other
+  pub others : (name : List ℕ) → name ≢ w.disk → disk_of (replay m es).disks name ≡ disk_of m.disks name
   pub mindful : IsMindful (replay m es)
   pub onward : Onward m (replay m es)
 
 seat_open : (m : Plain) (w : Write) → Seat (Some w) (open_of m.opened w.client) → IsOpen m.opened w
 seat_open m w s = record { held = s.0; is = s.1 }
 
-disks_take : (m : Plain) (name : List ℕ) (blocks : Table ℕ (List ℕ)) (w : Write) → HasOnly m name blocks → w.disk ≡ name
-    → HasOnly (after m (Take w)) name (put nat_cmp blocks w.block w.bytes)
-disks_take m name blocks w only e =
-    disks_after m (Take w) ∙ (λ i. with_disk (only i) (e i) (written w.block w.bytes))
-    ∙ ap (λ b. cond b (one_disk name (put nat_cmp blocks w.block w.bytes) ∷ []) (one_disk name blocks ∷ [])) (nat_list_eq_equiv.refl name)
-
 -- each event is the same take
 abbrev pub AllTakes : Write → List Event → Type 0
 AllTakes w [] = Unit {0}
 AllTakes w (e ∷ es) = (e ≡ Take w) × AllTakes w es
 
-take_one : (m : Plain) (name : List ℕ) (blocks : Table ℕ (List ℕ)) (w : Write) → HasOnly m name blocks → w.disk ≡ name
-    → Seat (Some w) (open_of m.opened w.client) → May m (Take w)
-take_one m name blocks w only e seat = (seat_open m w seat, record { disk = one_disk name blocks; is = disk_there m name w.disk blocks only e })
+take_same : (m : Plain) (disk : Disk) (w : Write) → disk_of m.disks w.disk ≡ Some disk
+    → disk_of (after m (Take w)).disks w.disk ≡ Some (written w.block w.bytes disk)
+take_same m disk w is = ap (λ ds. disk_of ds w.disk) (disks_after m (Take w)) ∙ with_same m.disks w.disk (written w.block w.bytes) disk (λ d. refl) is
+
+take_others : (m : Plain) (w : Write) (name : List ℕ) → name ≢ w.disk → disk_of (after m (Take w)).disks name ≡ disk_of m.disks name
+take_others m w name ne =
+    ap (λ ds. disk_of ds name) (disks_after m (Take w)) ∙ with_apart m.disks w.disk (written w.block w.bytes) name (λ d. refl) ne
 
 take_onward : (m : Plain) (w : Write) → Onward m (after m (Take w))
 take_onward m w = onward_by m (after m (Take w)) (changed m (Take w)).disks (opened_after m (Take w))
 
+-- the first take, and those after it
+taken_on : (m : Plain) (disk : Disk) (w : Write) → disk_of m.disks w.disk ≡ Some disk → Seat (Some w) (open_of m.opened w.client) → (es : List Event)
+    → Taken (after m (Take w)) (written w.block w.bytes disk) w es → Taken m disk w (Take w ∷ es)
+taken_on m disk w is seat es rest = record {
+  may = ((seat_open m w seat, record { disk = disk; is = is }), rest.may);
+  later = rest.later;
+  is = rest.is;
+  has = rest.has;
+  blocks = λ other ne. rest.blocks other ne ∙ content_apart disk.now w.block w.bytes other ne;
+  others = λ name ne. rest.others name ne ∙ take_others m w name ne;
+  mindful = rest.mindful;
+  onward = onward_joined m (after m (Take w)) (replay (after m (Take w)) es) (take_onward m w) rest.onward;
+}
+
 -- takes of a write whose block has its bytes
-more_taken : (m : Plain) (name : List ℕ) (blocks : Table ℕ (List ℕ)) (w : Write) → HasOnly m name blocks → IsMindful m → w.disk ≡ name
-    → Seat (Some w) (open_of m.opened w.client) → content blocks w.block ≡ w.bytes → (es : List Event) → AllTakes w es → Taken m name blocks w.block w.bytes es
-more_taken m name blocks w only mindful e seat has [] all =
-    record { may = tt; later = blocks; only = only; has = has; others = λ other ne. refl; mindful = mindful; onward = onward_itself m }
-more_taken m name blocks w only mindful e seat has (x ∷ es) all =
-    subst (λ y. Taken m name blocks w.block w.bytes (y ∷ es)) (sym all.0) (
-    let k = after m (Take w) in
-    let blocks' = put nat_cmp blocks w.block w.bytes in
-    let onward = take_onward m w in
-    let rest = more_taken k name blocks' w (disks_take m name blocks w only e) (after_mindful m (Take w)) e
-    (seat_onward m k w.client (Some w) onward seat) (content_same blocks w.block w.bytes) es all.1 in
-    record {
-      may = (take_one m name blocks w only e seat, rest.may);
-      later = rest.later;
-      only = rest.only;
-      has = rest.has;
-      others = λ other ne. rest.others other ne ∙ content_apart blocks w.block w.bytes other ne;
-      mindful = rest.mindful;
-      onward = onward_joined m k (replay k es) onward rest.onward;
-    }
-    )
+more_taken : (m : Plain) (disk : Disk) (w : Write) → disk_of m.disks w.disk ≡ Some disk → IsMindful m → Seat (Some w) (open_of m.opened w.client)
+    → content disk.now w.block ≡ w.bytes → (es : List Event) → AllTakes w es → Taken m disk w es
+more_taken m disk w is mindful seat has [] all = record {
+  may = tt;
+  later = disk;
+  is = is;
+  has = has;
+  blocks = λ other ne. refl;
+  others = λ name ne. refl;
+  mindful = mindful;
+  onward = onward_itself m;
+}
+more_taken m disk w is mindful seat has (x ∷ es) all =
+    subst (λ y. Taken m disk w (y ∷ es)) (sym all.0) (taken_on m disk w is seat es
+    (more_taken (after m (Take w)) (written w.block w.bytes disk) w (take_same m disk w is) (after_mindful m (Take w))
+    (seat_onward m (after m (Take w)) w.client (Some w) (take_onward m w) seat) (content_same disk.now w.block w.bytes) es all.1))
 
 -- at least one take of a write
-pub takes_taken : (m : Plain) (name : List ℕ) (blocks : Table ℕ (List ℕ)) (w : Write) → HasOnly m name blocks → w.disk ≡ name
-    → Seat (Some w) (open_of m.opened w.client) → (e : Event) (es : List Event) → AllTakes w (e ∷ es) → Taken m name blocks w.block w.bytes (e ∷ es)
-takes_taken m name blocks w only e seat x es all =
-    subst (λ y. Taken m name blocks w.block w.bytes (y ∷ es)) (sym all.0) (
-    let k = after m (Take w) in
-    let blocks' = put nat_cmp blocks w.block w.bytes in
-    let onward = take_onward m w in
-    let rest = more_taken k name blocks' w (disks_take m name blocks w only e) (after_mindful m (Take w)) e
-    (seat_onward m k w.client (Some w) onward seat) (content_same blocks w.block w.bytes) es all.1 in
-    record {
-      may = (take_one m name blocks w only e seat, rest.may);
-      later = rest.later;
-      only = rest.only;
-      has = rest.has;
-      others = λ other ne. rest.others other ne ∙ content_apart blocks w.block w.bytes other ne;
-      mindful = rest.mindful;
-      onward = onward_joined m k (replay k es) onward rest.onward;
-    }
-    )
+pub takes_taken : (m : Plain) (disk : Disk) (w : Write) → disk_of m.disks w.disk ≡ Some disk → Seat (Some w) (open_of m.opened w.client)
+    → (e : Event) (es : List Event) → AllTakes w (e ∷ es) → Taken m disk w (e ∷ es)
+takes_taken m disk w is seat x es all =
+    subst (λ y. Taken m disk w (y ∷ es)) (sym all.0) (taken_on m disk w is seat es
+    (more_taken (after m (Take w)) (written w.block w.bytes disk) w (take_same m disk w is) (after_mindful m (Take w))
+    (seat_onward m (after m (Take w)) w.client (Some w) (take_onward m w) seat) (content_same disk.now w.block w.bytes) es all.1))

@@ -7,13 +7,11 @@ use Rattle.script_lines.specs.declared.script.Script.{Script}
 use Rattle.petal_rules.specs.Lists.{In}
 use Rattle.petal_rules.specs.State.{State}
 use Rattle.petal_rules.specs.Server.{Post, Sender, letters_of, sender}
-use Rattle.petal_rules.specs.Jobs.{here_of}
 use Rattle.petal_rules.specs.Clients.{client_sender}
-use Rattle.petal_rules.specs.World.{World, stamped, clock_of, start, setting_of, reacts}
+use Rattle.petal_rules.specs.World.{Setting, World, stamped, clock_of, start, setting_of, reacts}
 use Rattle.petal_rules.proofs.ListLemmas.{in-append, put_same}
 use Rattle.petal_history.specs.Events.{same_actor, same_name}
-use Rattle.script_lines.specs.declared.request.Line.{Line}
-use Rattle.law_steps.specs.Happens.{Happens, Serves, Turns, server_moves}
+use Rattle.law_steps.specs.Happens.{Happens, Serves, Turns, server_moves, own_place}
 use Rattle.law_steps.proofs.Letters.{said}
 use Rattle.petal_rules.proofs.Tests.{both_true, same_numbers, all_put}
 use Rattle.law_run.specs.Follow.{Named}
@@ -86,21 +84,21 @@ named_more w v who stamp posts named joined before now rises = record {
         let le : old.stamp ≤ clock_of w who.from = subst (λ (a : Actor). old.stamp ≤ clock_of w a) (sym n.from ∙ s.from) (named.early old g) in
         omega arith
 
-pub happens_named : (state : State) (lines : List Line) (w v : World) → Named w → Happens state lines w v → Named v
-happens_named state lines w _ named (Serves n stamp done queue lt did queued) =
-    let v = server_moves state w n stamp done queue in
-    named_more w v (sender (here_of state n (w.servers n))) stamp done.posts named refl lt
-    (subst (λ k. stamp ≤ k) (sym (put_same w.server_clocks n stamp)) (omega arith)) (rises v)
+pub happens_named : (setting : Setting) (state : State) (w v : World) → Named w → Happens setting state w v → Named v
+happens_named setting state w _ named (Serves n stamp log done queue lt did queued) =
+    let v = server_moves setting w n stamp log done queue in
+    named_more w v (sender (own_place setting w n)) stamp done.posts named refl lt
+    (subst (λ k. stamp ≤ k) (sym (put_same w.server_clocks n stamp)) (omega arith)) rises
   where
-    rises : (v : World) → (a : Actor) → clock_of w a ≤ clock_of (server_moves state w n stamp done queue) a
-    rises v (actor.Server k) = all_put w.server_clocks n stamp (λ j t. w.server_clocks j ≤ t) (λ j. omega arith) (omega arith) k
-    rises v (actor.Client c) = omega arith
-happens_named state lines w _ named (Turns c stamp in_call reacted lt within turned) =
-    let v = (reacts state w c stamp reacted).world in
-    named_more w v (client_sender state c) stamp reacted.posts named refl lt
+    rises : (a : Actor) → clock_of w a ≤ clock_of (server_moves setting w n stamp log done queue) a
+    rises (actor.Server k) = all_put w.server_clocks n stamp (λ j t. w.server_clocks j ≤ t) (λ j. omega arith) (omega arith) k
+    rises (actor.Client c) = omega arith
+happens_named setting state w _ named (Turns c stamp in_call reacted lt within turned onward) =
+    let v = (reacts w c stamp reacted).world in
+    named_more w v (client_sender c reacted.client) stamp reacted.posts named refl lt
     (subst (λ k. stamp ≤ k) (sym (put_same w.client_clocks c stamp)) (omega arith)) rises
   where
-    rises : (a : Actor) → clock_of w a ≤ clock_of (reacts state w c stamp reacted).world a
+    rises : (a : Actor) → clock_of w a ≤ clock_of (reacts w c stamp reacted).world a
     rises (actor.Server k) = omega arith
     rises (actor.Client d) = all_put w.client_clocks c stamp (λ j t. w.client_clocks j ≤ t) (λ j. omega arith) (omega arith) d
 

@@ -1,61 +1,68 @@
--- A pending operation is its client's open write of a block.
+-- A pending operation is its client's open write of a block of a disk that is chosen.
 use Rattle.std.proofs.Common.{◌≡◌, ◌<◌, ℕ, List, Some, refl, sym, ap, ◌∙◌}
 use Rattle.petal_base.specs.declared.cell.Cell.{Cell}
 use Rattle.petal_table.specs.Table.{at}
+use Rattle.global_tables.specs.declared.disk.DiskRow.{DiskRow}
 use Rattle.petal_machine.specs.declared.event.Write.{Write}
 use Rattle.petal_msg.specs.declared.operation.Pending.{Pending}
 use Rattle.script_lines.specs.Pattern.{pattern_block}
 use Rattle.script_lines.specs.declared.request.Line.{Line}
 use Rattle.script_lines.specs.declared.request.Request.TheVariants as request
+use Rattle.petal_rules.specs.Lists.{In}
+use Rattle.petal_rules.specs.State.{first}
 use Rattle.petal_rules.specs.Store.{cell_cmp}
-use Rattle.petal_rules.specs.World.{Setting}
-use Rattle.petal_history.specs.Contents.{cell_of_block, disk_name}
+use Rattle.petal_rules.specs.World.{chosen_state}
+use Rattle.petal_history.specs.Contents.{cell_of_block}
 use Rattle.petal_history.specs.Events.{open_write, write_asked, write_by}
-use Rattle.law_steps.specs.Happens.{line_by}
-use Rattle.law_steps.proofs.Stepping.{fixed_setting}
-use Rattle.petal_rules.proofs.Tests.{same_some}
+use Rattle.law_steps.specs.Turned.{line_by}
+use Rattle.law_steps.proofs.Histories.{own_steady}
+use Rattle.petal_rules.proofs.Tests.{same_some, is_the_one}
 use Rattle.law_copies.specs.Pair.{owns_of}
+use Rattle.law_run.proofs.Along.{rows_in, row_here, own_first}
 use Rattle.law_run.proofs.Calm.{ServerStep}
 
 module _ (this : ServerStep) where
-  abbrev setting : Setting
-  setting = fixed_setting this.servers this.slots this.lines this.state
-
-  abbrev name : List ℕ
-  name = disk_name setting
-
-  -- the open write of a pending operation
-  pub record Writes (op : Pending) (block : ℕ) (bytes : List ℕ) : Type 0 where
+  -- the client's open write is of this block
+  pub record Writes (op : Pending) (row : DiskRow) (block : ℕ) (bytes : List ℕ) : Type 0 where
     pub write : Write
     pub is : open_write this.w op.client ≡ Some write
     pub within : op.client < 9
     pub own : write.client ≡ op.client
-    pub disk_is : write.disk ≡ name
+    pub disk_is : write.disk ≡ row.name
     pub block_is : write.block ≡ block
     pub bytes_is : write.bytes ≡ bytes
 
   pub record Placed (op : Pending) (cell : Cell) (bytes : List ℕ) : Type 0 where
+    pub row : DiskRow
+    pub there : In row (rows_in this.setting this.w)
     pub block : ℕ
-    pub at_block : cell ≡ cell_of_block block
-    pub writes : Writes op block bytes
+    pub at_block : cell ≡ cell_of_block row block
+    pub writes : Writes op row block bytes
 
   pub placed : (p : ℕ) (cell : Cell) (op : Pending) → at cell_cmp (owns_of this.w p).pairs.pending cell ≡ Some op → Placed op cell op.bytes
   placed p cell op is =
       let k = this.ground.asking.pending p cell op is in
       let a = this.ground.asking.asked op.client k.still.asked k.still.is in
       let wr = k.write in
-      let disk = this.steady.disks wr.name wr.disk wr.found in
-      let line : a.line ≡ wr.line = same_some (sym a.is ∙ ap (λ i. line_by this.lines op.client i) k.still.same ∙ wr.is) in
+      let lead = ((this.ground.rests.pending p).staged cell op is).lead in
+      let leads : first (chosen_state this.setting this.w) cell ≡ Some p =
+      own_first this.setting this.state this.w this.along p cell p
+      (sym ((own_steady this.setting this.w this.along.firm p).leads cell) ∙ is_the_one _ p lead) in
+      let under : wr.disk.map ≡ cell.map = sym (ap (λ (c : Cell). c.map) wr.cell_is) in
+      let has = row_here this.setting this.state this.w this.along cell p leads wr.name wr.disk wr.found under in
+      let line : a.line ≡ wr.line = same_some (sym a.is ∙ ap (λ i. line_by this.setting.lines op.client i) k.still.same ∙ wr.is) in
       let asks : k.still.asked.request ≡ request.Write wr.name wr.block wr.pattern = a.asks ∙ ap (λ (l : Line). l.request) line ∙ wr.asks in
       record {
+        row = has.row;
+        there = has.there;
         block = wr.block;
-        at_block = wr.cell_is ∙ (λ i. record { map = disk.under i; block = wr.block });
+        at_block = wr.cell_is ∙ (λ i. record { map = (under ∙ sym has.map_is) i; block = wr.block });
         writes = record {
           write = record { client = op.client; seq = k.still.asked.seq; disk = wr.name; block = wr.block; bytes = pattern_block wr.pattern };
           is = ap (write_asked op.client) k.still.is ∙ ap (write_by op.client k.still.asked.seq) asks;
           within = a.within;
           own = refl;
-          disk_is = sym disk.named;
+          disk_is = sym has.name_is;
           block_is = refl;
           bytes_is = sym wr.bytes_is;
         };

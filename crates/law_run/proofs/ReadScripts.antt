@@ -1,8 +1,10 @@
 -- A script that is read is sound.
 use Rattle.std.proofs.Common.{◌≡◌, ◌≤◌, ◌<◌, ◌+◌, ℕ, List, [], ◌∷◌, ◌++◌, Bool, true, false, not, ◌&&◌, ◌==◌, ◌||◌, length, codes, cond, Some, None, Result, Ok, Err, refl, sym, ap, ◌∙◌, subst, inl, inr, arith}
-use Rattle.std.specs.Prelude.{is_some}
+use Rattle.std.specs.Prelude.{is_some, nat_le}
+use Rattle.std.proofs.lemmas.Bool.Decides.{nat_tests}
 use Rattle.petal_base.specs.Tuple.{is_tuple, tuple_of}
 use Rattle.script_words.specs.Words.{Word, ◌>>=◌, is_word, or_else, front_word, no_word, one_word, two_words, three_words, four_words}
+use Rattle.script_words.specs.Number.{number_of}
 use Rattle.script_words.specs.Fields.{a_name, a_block, a_byte, a_tuple, a_server, a_call, a_device, a_kind, in_limits, numbers_of, version_of}
 use Rattle.petal_script.specs.Client.{spread_of, disk_of, move_of, filled_of, halves_of, write_by, write_of, read_of, snap_of, client_request}
 use Rattle.petal_script.specs.Operator.{stop_at, stop_of, fault_of, boot_of, operator_request}
@@ -21,7 +23,7 @@ use Rattle.script_lines.specs.declared.script.Script.{Script}
 use Rattle.petal_rules.specs.Lists.{In}
 use Rattle.petal_rules.proofs.ListLemmas.{in-append}
 use Rattle.petal_history.specs.Sound.{IsSound}
-use Rattle.petal_rules.proofs.Tests.{by_test}
+use Rattle.petal_rules.proofs.Tests.{by_test, both_true}
 
 -- what holds of each result that is no fault
 abbrev EachOk : {A : Type 0} → (A → Type 0) → Result A Cause → Type 0
@@ -166,12 +168,30 @@ net_like s words = then_ok _ (two_words words) _ (λ parts e.
     by_test (EachOk (IsLike s)) (is_word parts.0 (codes "twice") && not (is_some s.twice)) _ _
     (λ t. then_ok _ (in_limits 2 1000000 parts.1) _ (λ k f. record { servers = refl; lines = refl })) (λ t. tt))))
 
-begun_empty : (words : List Word) → EachOk (λ (s : Script). s.lines ≡ []) (first_line words)
+-- a number within its limits
+within : (least most : ℕ) (word : Word) → EachOk (λ n. n ≤ most) (in_limits least most word)
+unfolding in_limits
+within least most word = then_ok _ (or_else (number_of word) BadNumber) _ (λ n e.
+    by_test (EachOk (λ n. n ≤ most)) (nat_le least n && nat_le n most) _ _ (λ t. high n (both_true (nat_le least n) (nat_le n most) t).1) (λ t. tt))
+  where
+    high : (n : ℕ) → nat_le n most ≡ true → n ≤ most
+    high n e = grind (arith, nat_tests)
+
+at_most : (least most : ℕ) (word : Word) (n : ℕ) → in_limits least most word ≡ Ok n → n ≤ most
+at_most least most word n e = ok_is (λ n. n ≤ most) (in_limits least most word) n (within least most word) e
+
+-- a script that begins has no line yet, and few servers
+record IsBegun (s : Script) : Type 0 where
+  empty : s.lines ≡ []
+  few : s.servers ≤ 256
+
+begun_empty : (words : List Word) → EachOk IsBegun (first_line words)
 unfolding first_line servers_line
 begun_empty [] = tt
-begun_empty (first ∷ words) = by_test (EachOk (λ (s : Script). s.lines ≡ [])) (is_word first (codes "servers")) _ _
-    (λ t. then_ok _ (three_words words) _ (λ parts e. by_test (EachOk (λ (s : Script). s.lines ≡ [])) (not (is_word parts.1 (codes "slots"))) _ _ (λ t. tt)
-    (λ t. then_ok _ (in_limits 2 8 parts.0) _ (λ servers f. then_ok _ (in_limits 1 1024 parts.2) _ (λ slots g. refl))))) (λ t. tt)
+begun_empty (first ∷ words) = by_test (EachOk IsBegun) (is_word first (codes "servers")) _ _
+    (λ t. then_ok _ (three_words words) _ (λ parts e. by_test (EachOk IsBegun) (not (is_word parts.1 (codes "slots"))) _ _ (λ t. tt)
+    (λ t. then_ok _ (in_limits 2 8 parts.0) _ (λ servers f. then_ok _ (in_limits 1 1024 parts.2) _
+    (λ slots g. record { empty = refl; few = let le = at_most 2 8 parts.0 servers f in omega arith }))))) (λ t. tt)
 
 -- ### Numbers
 
@@ -203,17 +223,19 @@ behind_rises (other ∷ front) told behind h = behind_rises front told behind h.
 record IsSoFar (s : Script) (above : ℕ) : Type 0 where
   numbered : (one other : Line) → In one s.lines → In other s.lines → one.number ≡ other.number → one ≡ other
   below : (line : Line) → In line s.lines → line.number ≤ above
+  few : s.servers ≤ 256
   spread : (line : Line) (name tuple : List ℕ) → In line s.lines → line.request ≡ request.Disk name tuple → is_tuple s.servers tuple ≡ true
 
 like_so_far : (s t : Script) (above : ℕ) → IsLike s t → IsSoFar s above → IsSoFar t above
 like_so_far s t above like h = record {
   numbered = λ one other i j e. h.numbered one other (subst (In one) like.lines i) (subst (In other) like.lines j) e;
   below = λ line i. h.below line (subst (In line) like.lines i);
+  few = let e = like.servers in let few = h.few in omega arith;
   spread = λ line name tuple i e. subst (λ n. is_tuple n tuple ≡ true) (sym like.servers) (h.spread line name tuple (subst (In line) like.lines i) e);
 }
 
 higher : (s : Script) (low high : ℕ) → low ≤ high → IsSoFar s low → IsSoFar s high
-higher s low high le h = record { numbered = h.numbered; below = λ line i. let b = h.below line i in omega arith; spread = h.spread }
+higher s low high le h = record { numbered = h.numbered; below = λ line i. let b = h.below line i in omega arith; few = h.few; spread = h.spread }
 
 more_so_far : (s t : Script) (above : ℕ) (line : Line) → above < line.number → t.servers ≡ s.servers → t.lines ≡ s.lines ++ line ∷ []
     → IsFit s.servers line.request → IsSoFar s above → IsSoFar t line.number
@@ -236,6 +258,7 @@ more_so_far s t above line lt servers lines fit h = record {
     | inl old ↦ let b = h.below other old in omega arith
     | inr new ↦ elim new [ inl is ↦ let e : other.number ≡ line.number = ap (λ (l : Line). l.number) is in omega arith | inr none ↦ absurd none ]
   ];
+  few = let e = servers in let few = h.few in omega arith;
   spread = λ other name tuple i e. elim (in-append other s.lines (line ∷ []) (subst (In other) lines i)) [
     | inl old ↦ subst (λ n. is_tuple n tuple ≡ true) (sym servers) (h.spread other name tuple old e)
     | inr new ↦ elim new [
@@ -252,15 +275,19 @@ does_so_far : (s : Script) (told : TextLine) (t : Script) (above : ℕ) → Does
 does_so_far s told t above (skipped is same) lt h = subst (λ x. IsSoFar x told.number) (sym same) (higher s above told.number (omega arith) h)
 does_so_far s told t above (nets first words spelled is took) lt h =
     like_so_far s t told.number (ok_is (IsLike s) (net_line s words) t (net_like s words) took) (higher s above told.number (omega arith) h)
-does_so_far s told t above (waits first spelled is same) lt h =
-    subst (λ x. IsSoFar x told.number) (sym same) (record { numbered = h.numbered; below = λ line i. let b = h.below line i in omega arith; spread = h.spread })
+does_so_far s told t above (waits first spelled is same) lt h = subst (λ x. IsSoFar x told.number) (sym same) (record {
+  numbered = h.numbered;
+  below = λ line i. let b = h.below line i in omega arith;
+  few = h.few;
+  spread = h.spread;
+})
 does_so_far s told t above (asks first words client asked spelled asks_for few many same) lt h =
     more_so_far s t above (line_at s told.number client asked) lt (ap (λ (x : Script). x.servers) same) (ap (λ (x : Script). x.lines) same)
     (asks_fits s.servers first words client asked asks_for) h
 
 follows_so_far : (lines : List TextLine) (s t : Script) (above : ℕ) → Follows s lines t → AreAbove above lines → AreRising lines → IsSoFar s above → IsSound t
 unfolding In
-follows_so_far [] s t above follows high rises h = subst IsSound (sym follows) (record { numbered = h.numbered; spread = h.spread })
+follows_so_far [] s t above follows high rises h = subst IsSound (sym follows) (record { numbered = h.numbered; spread = h.spread; told_apart = h.few })
 follows_so_far (told ∷ more) s t above follows high rises h =
     follows_so_far more follows.0 t told.number follows.2 rises.0 rises.1 (does_so_far s told follows.0 above follows.1 (high told (inl refl)) h)
 
@@ -278,13 +305,14 @@ pub read_sound : (text : List ℕ) (script : Script) → script_of text ≡ Ok s
 unfolding In
 read_sound text script e =
     let a = is_accepted text script e in
-    let empty : a.begun.lines ≡ [] =
-    ok_is (λ (s : Script). s.lines ≡ []) (first_line (words_of a.servers.text)) a.begun (begun_empty (words_of a.servers.text)) a.begins in
+    let begun = ok_is IsBegun (first_line (words_of a.servers.text)) a.begun (begun_empty (words_of a.servers.text)) a.begins in
+    let empty = begun.empty in
     follows_so_far a.behind a.begun script 0 a.follows
     (above_zero (text_lines text) (lines_above 0 0 (pieces text)) a.front a.servers a.behind a.lies)
     (behind_rises a.front a.servers a.behind (subst AreRising a.lies (lines_rise 0 0 (pieces text))))
     (record {
       numbered = λ one other i j e. absurd (subst (In one) empty i);
       below = λ line i. absurd (subst (In line) empty i);
+      few = begun.few;
       spread = λ line name tuple i e. absurd (subst (In line) empty i);
     })

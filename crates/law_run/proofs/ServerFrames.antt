@@ -2,33 +2,33 @@
 use Rattle.std.proofs.Common.{◌≡◌, ◌≢◌, ◌≤◌, ◌<◌, ◌+◌, ℕ, List, true, Some, sym, ap, ◌∙◌, subst, ◌⊎◌, inl, inr, arith}
 use Rattle.std.specs.Ordering.{nat_cmp}
 use Rattle.petal_base.specs.declared.cell.Cell.{Cell}
-use Rattle.petal_table.specs.Table.{Table, at}
-use Rattle.petal_machine.specs.Machine.{Plain, content}
+use Rattle.petal_table.specs.Table.{at}
+use Rattle.global_tables.specs.declared.disk.DiskRow.{DiskRow}
+use Rattle.petal_machine.specs.Machine.{Plain}
 use Rattle.petal_msg.specs.declared.body.Body.TheVariants as body
 use Rattle.petal_msg.specs.declared.letter.Actor.TheVariants as actor
 use Rattle.petal_msg.specs.declared.operation.Ending.TheVariants as ending
 use Rattle.petal_msg.specs.declared.operation.Finished.{Finished}
 use Rattle.petal_msg.specs.declared.operation.Pending.{Pending}
 use Rattle.petal_rules.specs.Lists.{In}
-use Rattle.petal_rules.specs.State.{State, second}
+use Rattle.petal_rules.specs.State.{State}
 use Rattle.petal_rules.specs.Store.{cell_cmp}
 use Rattle.petal_rules.specs.Server.{Own, Post, Done, sender}
-use Rattle.petal_rules.specs.Jobs.{here_of}
-use Rattle.petal_rules.specs.World.{World}
+use Rattle.petal_rules.specs.World.{Setting, World}
+use Rattle.petal_rules.specs.Log.{Log}
 use Rattle.petal_rules.specs.declared.job.Job.{Job}
 use Rattle.petal_rules.proofs.ListLemmas.{put_same, put_apart, in-append}
-use Rattle.petal_history.specs.Contents.{cell_of_block, content_by}
 use Rattle.petal_history.specs.Events.{open_write}
-use Rattle.law_steps.specs.Steady.{IsSteady}
+use Rattle.law_state.specs.Steady.{IsSteady}
 use Rattle.law_steps.specs.Operations.{progress}
-use Rattle.law_steps.specs.Happens.{server_moves, served}
+use Rattle.law_steps.specs.Happens.{server_moves, served, own_place}
 use Rattle.law_steps.proofs.Letters.{said}
 use Rattle.petal_rules.proofs.Tests.{same_or_apart}
 use Rattle.law_copies.specs.Pair.{IsPair, owns_of, Good}
 use Rattle.law_copies.proofs.Frames.{apart}
 use Rattle.law_requests.specs.Asked.{IsOpen}
-use Rattle.law_run.specs.Onward.{HasOnly, IsMindful, is_held, Onward}
-use Rattle.law_run.specs.Follow.{Follow}
+use Rattle.law_run.specs.Onward.{is_held, Onward}
+use Rattle.law_run.specs.Follow.{Follow, Stores}
 use Rattle.law_run.proofs.Machine.{seat_onward, held_onward}
 use Rattle.law_steps.specs.Ready.{Ready}
 
@@ -50,36 +50,34 @@ pub record JobFollow (state : State) (w : World) (k : Plain) (n : ℕ) (new : Ow
       → (op.op + op.op + 1 ≤ progress (at cell_cmp (owns_of w n).pairs.last cell)) ⊎ (is_held k op.client ≡ true)
   pub says : (post : Post) (c seq : ℕ) → In post posts → post.to ≡ actor.Client c → post.body ≡ body.Written seq → IsOpen (w.clients c) seq → is_held k c ≡ true
 
--- the machine's disk has the contents of this world
-pub record Stores (state : State) (name : List ℕ) (w : World) (k : Plain) : Type 0 where
-  pub blocks : Table ℕ (List ℕ)
-  pub only : HasOnly k name blocks
-  pub now : (block : ℕ) → content blocks block ≡ content_by w (cell_of_block block) 0 (second state (cell_of_block block))
-  pub mindful : IsMindful k
-
 -- a server in a world that the machine follows, and how the machine goes on in its step
 pub record Scene : Type 0 where
+  pub setting : Setting
   pub state : State
   pub steady : IsSteady state
-  pub name : List ℕ
+  pub rows : List DiskRow
   pub w : World
   pub ready : Ready state w
   pub good : Good state w
   pub n : ℕ
   pub m : Plain
   pub k : Plain
-  pub follow : Follow state name w m
+  pub follow : Follow state rows w m
   pub onward : Onward m k
 
-module _ (scene : Scene) (stamp : ℕ) (done : Done) (queue : List Job) (job : JobFollow scene.state scene.w scene.k scene.n done.own done.posts) where
+module _ (scene : Scene) (stamp : ℕ) (log : Log) (done : Done) (queue : List Job)
+    (job : JobFollow scene.state scene.w scene.k scene.n done.own done.posts) where
   abbrev state : State
   state = scene.state
 
   abbrev steady : IsSteady state
   steady = scene.steady
 
-  abbrev name : List ℕ
-  name = scene.name
+  abbrev setting : Setting
+  setting = scene.setting
+
+  abbrev rows : List DiskRow
+  rows = scene.rows
 
   abbrev w : World
   w = scene.w
@@ -93,20 +91,20 @@ module _ (scene : Scene) (stamp : ℕ) (done : Done) (queue : List Job) (job : J
   abbrev k : Plain
   k = scene.k
 
-  abbrev follow : Follow state name w m
+  abbrev follow : Follow state rows w m
   follow = scene.follow
 
   abbrev onward : Onward m k
   onward = scene.onward
 
   abbrev later : World
-  later = server_moves state w n stamp done queue
+  later = server_moves setting w n stamp log done queue
 
   own_now : owns_of later n ≡ done.own
-  own_now = ap (λ s. s.own) (put_same w.servers n (served (w.servers n) done queue))
+  own_now = ap (λ s. s.own) (put_same w.servers n (served (w.servers n) log done queue))
 
   own_other : (i : ℕ) → i ≢ n → owns_of later i ≡ owns_of w i
-  own_other i ne = ap (λ s. s.own) (put_apart w.servers n (served (w.servers n) done queue) i ne)
+  own_other i ne = ap (λ s. s.own) (put_apart w.servers n (served (w.servers n) log done queue) i ne)
 
   finished : (i c : ℕ) (last : Finished) → at nat_cmp (owns_of later i).pairs.finished c ≡ Some last → last.ending ≡ ending.Written
       → IsOpen (w.clients c) last.seq → is_held k c ≡ true
@@ -152,19 +150,27 @@ module _ (scene : Scene) (stamp : ℕ) (done : Done) (queue : List Job) (job : J
         ]
   ]
 
-  pub job_follow : Stores state name later k → Follow state name later k
+  pub job_follow : Stores state rows later k → Follow state rows later k
   job_follow stores = record {
-    blocks = stores.blocks;
-    only = stores.only;
-    now = stores.now;
-    mindful = stores.mindful;
+    stores = stores;
     seats = λ c. seat_onward m k c (open_write w c) onward (follow.seats c);
     letters = λ letter c seq h to says still. elim (in-append letter _ w.sent h) [
       | inl new ↦
-          let s = said (sender (here_of state n (w.servers n))) stamp 0 done.posts letter new in
+          let s = said (sender (own_place setting w n)) stamp 0 done.posts letter new in
           job.says s.post c seq s.there (sym s.to ∙ to) (sym s.body ∙ says) still
       | inr old ↦ held_onward m k c onward (follow.letters letter c seq old to says still)
     ];
     pending = pending;
     finished = finished;
   }
+
+-- other disks, or the same with other events, where no write begins or ends
+pub follow_onward : (last : State) (old new : List DiskRow) (v : World) (from to : Plain) → Follow last old v from → Onward from to → Stores last new v to
+    → Follow last new v to
+follow_onward last old new v from to follows goes_on stores = record {
+  stores = stores;
+  seats = λ c. seat_onward from to c (open_write v c) goes_on (follows.seats c);
+  letters = λ letter c seq h at says still. held_onward from to c goes_on (follows.letters letter c seq h at says still);
+  pending = λ cell p q op pair is past. held_onward from to op.client goes_on (follows.pending cell p q op pair is past);
+  finished = λ n c newest is how still. held_onward from to c goes_on (follows.finished n c newest is how still);
+}

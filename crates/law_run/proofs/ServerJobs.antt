@@ -3,9 +3,10 @@ use Rattle.std.proofs.Common.{◌≡◌, ◌≢◌, ◌≤◌, ◌<◌, ◌+◌,
 use Rattle.std.specs.Ordering.{nat_cmp}
 use Rattle.petal_base.specs.declared.cell.Cell.{Cell}
 use Rattle.petal_table.specs.Table.{Table, at, put, without}
+use Rattle.global_tables.specs.declared.disk.DiskRow.{DiskRow}
 use Rattle.petal_table.proofs.Rows.{at_same, at_apart}
 use Rattle.petal_machine.specs.Machine.{Plain}
-use Rattle.petal_msg.specs.Kinds.{Answered, Refused, about}
+use Rattle.petal_msg.specs.Kinds.{Answered, Refused, about, is_logged, subject_of}
 use Rattle.petal_msg.specs.declared.body.Body.{Body}
 use Rattle.petal_msg.specs.declared.body.Body.TheVariants as body
 use Rattle.petal_msg.specs.declared.letter.Actor.{Actor}
@@ -21,16 +22,15 @@ use Rattle.petal_rules.specs.State.{State, first, second}
 use Rattle.petal_rules.specs.Store.{cell_cmp, chain_in, version_of}
 use Rattle.petal_rules.specs.Server.{Own, Here, Post, Done, post_to}
 use Rattle.petal_rules.specs.Writes.{Wanted, operation, opened, puts, with_pending, with_reserved, with_paired, ended, tells}
-use Rattle.petal_rules.specs.Jobs.{here_of}
-use Rattle.petal_rules.specs.World.{World}
+use Rattle.petal_rules.specs.World.{Setting, World}
 use Rattle.petal_rules.proofs.CellTables.{cell_same, cell_apart, cell_gone, cell_gone_apart}
-use Rattle.law_steps.specs.Steady.{IsSteady}
+use Rattle.law_state.specs.Steady.{IsSteady}
 use Rattle.law_steps.specs.Operations.{progress}
 use Rattle.law_steps.specs.DidRead.{DidRead}
-use Rattle.law_steps.specs.DidLead.{DidLead, Asks_for, Repeats, Is_full, Opens, Puts, Gives_up, Closes, Asks, A_slot, A_copy}
+use Rattle.law_steps.specs.DidLead.{DidLead, Asks_for, Repeats, Is_full, Opens, Puts, Gives_up, Closes, Asks, A_slot, A_copy, Of_the_log}
 use Rattle.law_steps.specs.DidSecond.{DidSecond, Sets_apart, Promises, Declines, Follows}
 use Rattle.law_steps.specs.Did.{Did, Ignores, Refuses, IsRefusal, By_read, By_lead, By_second}
-use Rattle.law_steps.specs.Happens.{Handled}
+use Rattle.law_steps.specs.Happens.{Handled, own_place}
 use Rattle.law_steps.specs.Ready.{Ready}
 use Rattle.petal_rules.proofs.Tests.{same_or_apart, same_some, none_some, true_false}
 use Rattle.law_steps.proofs.Staged.{same_cell_or_apart}
@@ -45,11 +45,11 @@ use Rattle.law_steps.proofs.Letters.{one_post, posted}
 use Rattle.law_steps.proofs.Subjects.{of_read, told_own}
 
 -- all kinds of job but one: a second server puts
-abbrev pub IsCalmSecond : {heard : Body → Type 0} {here : Here} {own : Own} {done : Done} → DidSecond heard here own done → Type 0
+abbrev pub IsCalmSecond : {heard : Body → Type 0} {here : Here} {state : State} {own : Own} {done : Done} → DidSecond heard here state own done → Type 0
 IsCalmSecond (Follows number key version bytes h s is) = ⊥
 IsCalmSecond _ = Unit {0}
 
-abbrev pub IsCalm : {heard : Body → Type 0} {here : Here} {own : Own} {done : Done} → Did heard here own done → Type 0
+abbrev pub IsCalm : {heard : Body → Type 0} {here : Here} {state : State} {own : Own} {done : Done} → Did heard here state own done → Type 0
 IsCalm (By_second done d) = IsCalmSecond d
 IsCalm _ = Unit {0}
 
@@ -62,9 +62,14 @@ refusal_unwritten : (said : Body) → IsRefusal said → is_written said ≡ fal
 refusal_unwritten (body.Written seq) h = let f : Answered ≡ Refused = h in absurd cc
 refusal_unwritten _ h = refl
 
-asks_unwritten : (here : Here) (own : Own) (post : Post) → Asks here own post → is_written post.body ≡ false
-asks_unwritten here own _ (A_slot op to is stage e) = refl
-asks_unwritten here own _ (A_copy op to is stage e) = refl
+logged_unwritten : (said : Body) → is_logged (subject_of said) ≡ true → is_written said ≡ false
+logged_unwritten (body.Written seq) h = let f : false ≡ true = h in absurd cc
+logged_unwritten _ h = refl
+
+asks_unwritten : (here : Here) (state : State) (own : Own) (post : Post) → Asks here state own post → is_written post.body ≡ false
+asks_unwritten here state own _ (A_slot op to is stage e) = refl
+asks_unwritten here state own _ (A_copy op to is stage e) = refl
+asks_unwritten here state own _ (Of_the_log post e) = logged_unwritten post.body e
 
 tells_unwritten : (here : Here) (new : Own) (cell : Cell) (number : ℕ) (how : Far) (post : Post) → In post (tells here new cell number how).posts
     → is_written post.body ≡ false
@@ -78,8 +83,11 @@ module _ (scene : Scene) where
   abbrev steady : IsSteady state
   steady = scene.steady
 
-  abbrev name : List ℕ
-  name = scene.name
+  abbrev setting : Setting
+  setting = scene.setting
+
+  abbrev rows : List DiskRow
+  rows = scene.rows
 
   abbrev w : World
   w = scene.w
@@ -99,14 +107,14 @@ module _ (scene : Scene) where
   abbrev k : Plain
   k = scene.k
 
-  abbrev follow : Follow state name w m
+  abbrev follow : Follow state rows w m
   follow = scene.follow
 
   abbrev onward : Onward m k
   onward = scene.onward
 
   abbrev here : Here
-  here = here_of state n (w.servers n)
+  here = own_place setting w n
 
   abbrev own : Own
   own = owns_of w n
@@ -178,7 +186,7 @@ module _ (scene : Scene) where
   }
 
   opens_job : (want : Wanted) → at cell_cmp own.pairs.pending want.cell ≡ None
-      → J (opened here own want) (post_to (second state want.cell) (body.Reserve own.pairs.next want.cell))
+      → J (opened here own want) (post_to (second here.state want.cell) (body.Reserve own.pairs.next want.cell))
   opens_job want none =
       let op = operation here own.pairs.next want in
       let t = own.pairs.pending in
@@ -196,7 +204,7 @@ module _ (scene : Scene) where
           | inr ne ↦ inl (was_same cell o (sym (cell_apart t want.cell op cell ne) ∙ is))
         ];
         as_second = λ cell p o pair is past. inl past;
-        says = says_to (second state want.cell) (body.Reserve own.pairs.next want.cell) refl;
+        says = says_to (second here.state want.cell) (body.Reserve own.pairs.next want.cell) refl;
       }
 
   puts_job : (op : Pending) → at cell_cmp own.pairs.pending op.cell ≡ Some op → J (puts (with_pending own (with_reserved op)) (with_reserved op)).own []
@@ -236,8 +244,9 @@ module _ (scene : Scene) where
   -- an operation that the second server has put
   closes_held : (op : Pending) → hears (body.Replicated op.op op.cell) → at cell_cmp own.pairs.pending op.cell ≡ Some op → is_held k op.client ≡ true
   closes_held op h is =
-      let pair = lead_pair state steady w ready good n op.cell ((ready.pending n).staged op.cell op is).lead in
-      held_onward m k op.client onward (follow.pending op.cell n pair.0 op pair.1 is (heard_known state steady w ready good n _ h op.cell n pair.0 refl pair.1))
+      let pair = lead_pair setting state steady w ready good n op.cell ((ready.pending n).staged op.cell op is).lead in
+      held_onward m k op.client onward (follow.pending op.cell n pair.0 op pair.1 is
+      (heard_known setting state steady w ready good n _ h op.cell n pair.0 refl pair.1))
 
   one_client : {c d : ℕ} → actor.Client c ≡ actor.Client d → c ≡ d
   one_client e = cc
@@ -256,7 +265,7 @@ module _ (scene : Scene) where
           ∙ ap progress (cell_same own.pairs.last cell (record { op = number; far = far.Reserved })) in
           let known : number < ceiling_of (at cell_cmp (owns_of w p).pairs.pending q) (owns_of w p).pairs.next =
           subst (λ (x : Cell). number < ceiling_of (at cell_cmp (owns_of w p).pairs.pending x) (owns_of w p).pairs.next) (sym e)
-          (heard_known state steady w ready good n _ h cell p n refl (subst (λ (x : Cell). IsPair state x p n) e pair)) in
+          (heard_known setting state steady w ready good n _ h cell p n refl (subst (λ (x : Cell). IsPair state x p n) e pair)) in
           let top : ceiling_of (at cell_cmp (owns_of w p).pairs.pending q) (owns_of w p).pairs.next ≡ op.op + 1 =
           ap (λ o. ceiling_of o (owns_of w p).pairs.next) is in
           absurd (omega arith)
@@ -282,9 +291,9 @@ module _ (scene : Scene) where
       (λ c. ap (λ (o : Own). at nat_cmp o.pairs.finished c) same_own) (λ cell. ap (λ (o : Own). at cell_cmp o.pairs.pending cell) same_own)
       (λ cell. ap (λ (o : Own). at cell_cmp o.pairs.last cell) same_own) says
 
-  lead_job : (done : Done) → DidLead hears here own done → J done.own done.posts
+  lead_job : (done : Done) → DidLead hears here state own done → J done.own done.posts
   unfolding In
-  lead_job _ (Asks_for posts h) = speaks _ (unwritten posts (λ post i. asks_unwritten here own post (h post i)))
+  lead_job _ (Asks_for posts h) = speaks _ (unwritten posts (λ post i. asks_unwritten here state own post (h post i)))
   lead_job _ (Repeats want last h lead is e) = same own _ (λ c. refl) (λ cell. refl) (λ cell. refl)
       (λ post c seq i to says still.
       let p = one_post _ _ post i in
@@ -318,20 +327,20 @@ module _ (scene : Scene) where
         says = λ post c seq i to says still. subst (λ i. is_held k i ≡ true) (one_client (sym (one_post _ _ post i).0 ∙ to)) held;
       }
 
-  second_job : (done : Done) (d : DidSecond hears here own done) → IsCalmSecond d → J done.own done.posts
+  second_job : (done : Done) (d : DidSecond hears here state own done) → IsCalmSecond d → J done.own done.posts
   second_job _ (Sets_apart number cell store h s e le) calm = reserves_job number cell _ h refl refl refl
   second_job _ (Promises number cell how s is) calm =
       talked (tells here own cell number how) (told_own here own cell number how) (says_far own cell number how)
-  second_job _ (Declines number cell h s no_room) calm = speaks _ (says_to (first state cell) (body.PairFull number cell) refl)
+  second_job _ (Declines number cell h s no_room) calm = speaks _ (says_to (first here.state cell) (body.PairFull number cell) refl)
   second_job _ (Follows number key version bytes h s is) calm = absurd calm
 
-  read_job : (done : Done) → DidRead hears here own done → J done.own done.posts
+  read_job : (done : Done) → DidRead hears here state own done → J done.own done.posts
   read_job done d =
-      let frame = of_read hears here own done d in
+      let frame = of_read hears here state own done d in
       talked done frame.same (unwritten done.posts (λ post i. ap is_written (frame.says post i).is))
 
   -- each kind of job but a second server's put
-  pub calm_job : (done : Done) (d : Did hears here own done) → IsCalm d → J done.own done.posts
+  pub calm_job : (done : Done) (d : Did hears here state own done) → IsCalm d → J done.own done.posts
   unfolding In
   calm_job _ Ignores calm = speaks _ (λ post c seq i to says still. absurd i)
   calm_job _ (Refuses to said is why) calm = speaks _ (says_one to said (refusal_unwritten said is))

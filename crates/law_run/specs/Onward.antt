@@ -1,18 +1,8 @@
--- The plain machine with one disk, and how its writes under way go on.
-use Rattle.std.specs.Prelude.{◌≡◌, ℕ, Bool, true, false, List, [], ◌∷◌, Option, Some, None}
-use Rattle.petal_table.specs.Table.{Table}
+-- How the writes that are under way in the plain machine go on.
+use Rattle.std.specs.Prelude.{◌≡◌, ℕ, Bool, true, false, Option, Some, None}
 use Rattle.petal_machine.specs.declared.event.Write.{Write}
-use Rattle.petal_machine.specs.declared.state.Disk.{Disk}
 use Rattle.petal_machine.specs.declared.state.Open.{Open}
 use Rattle.petal_machine.specs.Machine.{Plain, open_of, stands}
-
--- the disk with these blocks and no snapshot
-abbrev pub one_disk : List ℕ → Table ℕ (List ℕ) → Disk
-one_disk name blocks = record { name = name; now = blocks; snaps = [] }
-
--- the machine has this disk alone
-abbrev pub HasOnly : Plain → List ℕ → Table ℕ (List ℕ) → Type 0
-HasOnly m name blocks = m.disks ≡ one_disk name blocks ∷ []
 
 -- a write whose block has its bytes is remembered to have had them
 abbrev pub IsMindful : Plain → Type 0

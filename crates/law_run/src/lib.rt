@@ -1,16 +1,15 @@
 //! The law of lock step: the events of every legal history of a sound script are a run of the plain machine, and the contents
-//! are its disk.
+//! are its disks'.
 //!
-//! To the layer above it promises the whole law: the two-copy rule, the rule of requests, the run and the contents. It speaks
-//! of definitions alone and knows nothing of code.
+//! To the layer above it promises the whole law: agreement, the two-copy rule, the rule of requests, the run and the contents.
+//! It speaks of definitions alone and knows nothing of code.
 #![tactic(auto)]
 
 ghost use Rattle.std.specs.Prelude.{◌≡◌, ℕ, List, Ok};
 ghost use Rattle.petal_script.specs.Script.{script_of};
 ghost use Rattle.script_lines.specs.declared.script.Script.{Script};
 ghost use Rattle.petal_rules.specs.World.{setting_of, start};
-ghost use Rattle.petal_history.specs.Claims.{Holds, Keeps, Law, machine_after};
-ghost use Rattle.petal_history.specs.Contents.{content_at, disk_name};
+ghost use Rattle.petal_history.specs.Claims.{AreHeld, Keeps, Law, machine_after};
 ghost use Rattle.petal_history.specs.Events.{IsRunOf, events_of};
 ghost use Rattle.petal_history.specs.Legal.{IsLegal, world_after};
 ghost use Rattle.petal_history.specs.Sound.{IsSound};
@@ -21,13 +20,13 @@ pub fn events_are_a_run()
     ensures { (script : Script) (records : List Record) → IsSound script → IsLegal script records → IsRunOf (events_of script records) }
 {}
 
-/// After it, the machine's disk has the contents of the world.
+/// After it, the machine has the disks of the chosen state, each with the contents of the world, and no other.
 pub fn contents_are_the_machines()
-    ensures { (script : Script) (records : List Record) → IsSound script → IsLegal script records → Holds (machine_after (events_of script records)).disks (disk_name (setting_of script)) (content_at (setting_of script) (world_after (setting_of script) (start (setting_of script)) records) 0) }
+    ensures { (script : Script) (records : List Record) → IsSound script → IsLegal script records → AreHeld (setting_of script) (world_after (setting_of script) (start (setting_of script)) records) (machine_after (events_of script records)).disks }
 {}
 
-/// The whole law: every legal history of a sound script keeps the two-copy rule and the rule of requests, is a run of the
-/// plain machine, and has the machine's contents.
+/// The whole law: every legal history of a sound script keeps agreement, the two-copy rule and the rule of requests, is a run
+/// of the plain machine, and has the machine's contents.
 pub fn every_history_keeps_the_law()
     ensures { Law }
 {}

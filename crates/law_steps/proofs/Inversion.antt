@@ -11,11 +11,10 @@ use Rattle.petal_msg.specs.declared.operation.Pending.{Pending}
 use Rattle.petal_rules.specs.State.{is_in, is_second}
 use Rattle.petal_rules.specs.Server.{Own, Here, Done}
 use Rattle.petal_rules.specs.Writes.{goes_on, pending_on, on_reserve, on_reserved, on_pair_full, on_replicate, on_replicated}
-use Rattle.petal_rules.specs.Reads.{said}
 use Rattle.petal_rules.specs.Jobs.{handles, at_other_rev, wrong_rev, is_from_in, does}
 use Rattle.petal_rules.specs.declared.job.Job.{Job}
 use Rattle.petal_rules.specs.declared.job.Job.TheVariants as job
-use Rattle.law_steps.specs.Steady.{IsSteady}
+use Rattle.law_state.specs.Steady.{IsSteady}
 use Rattle.law_steps.specs.Operations.{IsStaged}
 use Rattle.law_steps.specs.Did.{Did, Ignores, Refuses}
 use Rattle.petal_rules.proofs.Tests.{by_test}
@@ -27,13 +26,15 @@ use Rattle.law_steps.proofs.InvertSecond.{did_reserve, did_replicate}
 module _ (heard : Body → Type 0) (here : Here) (own : Own) (steady : IsSteady here.state)
     (staged : (cell : Cell) (op : Pending) → pending_on own cell ≡ Some op → IsStaged here.state here.me cell op) where
   abbrev D : Done → Type 0
-  D done = Did heard here own done
+  D done = Did heard here here.state own done
 
   did_handle : (said : Body) → heard said → D (handles here own said)
   unfolding handles on_reserve on_reserved on_pair_full on_replicate on_replicated
   did_handle (body.Read client seq cell epoch) h = did_read heard here own client seq cell epoch h
-  did_handle (body.Write client seq cell epoch bytes) h = did_write heard here own steady staged (record { client = client; seq = seq; cell = cell; epoch = epoch; bytes = bytes }) h
-  did_handle (body.Reserve number cell) h = by_test D (is_second here.state here.me cell) _ _ (λ s. did_reserve heard here own number cell _ h s refl) (λ t. Ignores)
+  did_handle (body.Write client seq cell epoch bytes) h =
+      did_write heard here own steady staged (record { client = client; seq = seq; cell = cell; epoch = epoch; bytes = bytes }) h
+  did_handle (body.Reserve number cell) h =
+      by_test D (is_second here.state here.me cell) _ _ (λ s. did_reserve heard here own number cell _ h s refl) (λ t. Ignores)
   did_handle (body.Reserved number cell) h = did_reserved heard here own steady staged number cell _ h refl
   did_handle (body.PairFull number cell) h = did_pair_full heard here own steady staged number cell _ h refl
   did_handle (body.Replicate number key version bytes) h =
@@ -52,7 +53,7 @@ module _ (heard : Body → Type 0) (here : Here) (own : Own) (steady : IsSteady 
   -- the job is one of the letters that were heard, or a stage
   abbrev pub IsHeard : Job → Type 0
   IsHeard (job.Letter letter) = heard letter.body
-  IsHeard (job.Stage cell) = Unit {0}
+  IsHeard _ = Unit {0}
 
   pub did : (what : Job) → IsHeard what → D (does here own what)
   unfolding does goes_on
@@ -61,3 +62,5 @@ module _ (heard : Body → Type 0) (here : Here) (own : Own) (steady : IsSteady 
       by_test D (not (letter.rev == here.state.rev)) _ _ (λ t. other_rev letter letter.from) (λ t.
       by_test D (not (is_from_in here.state letter.inc letter.from)) _ _ (λ t. Ignores) (λ t. did_handle letter.body h)))
   did (job.Stage cell) h = by_test D (is_in here.state here.me here.inc) _ _ (λ t. did_next heard here own steady staged cell _ refl) (λ t. Ignores)
+  did job.Apply h = Ignores
+  did job.Start h = Ignores

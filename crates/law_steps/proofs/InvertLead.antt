@@ -19,7 +19,7 @@ use Rattle.petal_rules.specs.Server.{Own, Here, Post, Done, post_to}
 use Rattle.petal_rules.specs.Writes.{Wanted, Older, Again, Newer, standing, next_stage, both_action, acts, goes_on, goes_on_with, pending_on, with_pending, with_reserved, with_paired, opened, operation, opens, takes, takes_newer, is_pending_for, is_reserving, is_replicating, hears_reserved, hears_pair_full, hears_replicated, on_write}
 use Rattle.petal_rules.specs.Reads.{said}
 use Rattle.petal_rules.proofs.CellTables.{cell_same}
-use Rattle.law_steps.specs.Steady.{IsSteady}
+use Rattle.law_state.specs.Steady.{IsSteady}
 use Rattle.law_steps.specs.Operations.{IsStaged, waiting, copying, done_to}
 use Rattle.law_steps.specs.DidLead.{Asks_for, Repeats, Is_full, Opens, Puts, Gives_up, Closes, Asks, A_slot, A_copy}
 use Rattle.law_steps.specs.Did.{Did, Ignores, Refuses, For_a_write, By_lead}
@@ -43,26 +43,26 @@ newer last seq e f = grind (arith, nat_tests)
 module _ (heard : Body → Type 0) (here : Here) (own : Own) (steady : IsSteady here.state)
     (staged : (cell : Cell) (op : Pending) → pending_on own cell ≡ Some op → IsStaged here.state here.me cell op) where
   abbrev D : Done → Type 0
-  D done = Did heard here own done
+  D done = Did heard here here.state own done
 
   leads : (cell : Cell) → is_lead here.state here.me cell ≡ true → leads_link here.state here.me cell ≡ true
   leads cell e = steady.goes_on here.me cell ∙ e
 
   -- ### The next stage
 
-  posts_ask : (o : Option ℕ) (said : Body) → ((to : ℕ) → o ≡ Some to → Asks here own (record { to = actor.Server to; body = said })) → (post : Post)
-      → In post (post_to o said) → Asks here own post
+  posts_ask : (o : Option ℕ) (said : Body) → ((to : ℕ) → o ≡ Some to → Asks here here.state own (record { to = actor.Server to; body = said })) → (post : Post)
+      → In post (post_to o said) → Asks here here.state own post
   unfolding In
   posts_ask None said h post i = absurd i
-  posts_ask (Some to) said h post i = only (Asks here own) _ post i (h to refl)
+  posts_ask (Some to) said h post i = only (Asks here here.state own) _ post i (h to refl)
 
   -- what an operation asks of the second server
   pub asks_slot : (op : Pending) → pending_on own op.cell ≡ Some op → op.stage ≡ waiting → (post : Post)
-      → In post (post_to (second here.state op.cell) (body.Reserve op.op op.cell)) → Asks here own post
+      → In post (post_to (second here.state op.cell) (body.Reserve op.op op.cell)) → Asks here here.state own post
   asks_slot op is stage = posts_ask _ _ (λ to e. A_slot op to is stage e)
 
   pub asks_copy : (op : Pending) → pending_on own op.cell ≡ Some op → op.stage ≡ copying → (post : Post)
-      → In post (post_to (second here.state op.cell) (body.Replicate op.op op.key op.version op.bytes)) → Asks here own post
+      → In post (post_to (second here.state op.cell) (body.Replicate op.op op.key op.version op.bytes)) → Asks here here.state own post
   asks_copy op is stage = posts_ask _ _ (λ to e. A_copy op to is stage e)
 
   -- the next action of an operation at its lead

@@ -1,5 +1,5 @@
 -- What a second server does for a write is one of the kinds that the relation names.
-use Rattle.std.proofs.Common.{◌≡◌, ◌≤◌, ◌<◌, ℕ, ◌+◌, ◌==◌, not, List, Bool, true, false, Option, Some, None, refl, ap, sym, ◌∙◌, subst, arith}
+use Rattle.std.proofs.Common.{◌≡◌, ◌≤◌, ◌<◌, ℕ, ◌+◌, ◌==◌, List, Bool, true, false, Option, Some, None, refl, ap, sym, ◌∙◌, subst, arith}
 use Rattle.std.specs.Prelude.{nat_lt}
 use Rattle.std.proofs.lemmas.Bool.Decides.{nat_tests}
 use Rattle.petal_base.specs.declared.cell.Cell.{Cell}
@@ -13,7 +13,7 @@ use Rattle.petal_msg.specs.declared.operation.LastOp.{LastOp}
 use Rattle.petal_rules.specs.State.{is_second}
 use Rattle.petal_rules.specs.Store.{free_of, with_ticket}
 use Rattle.petal_rules.specs.Server.{Own, Here, Done}
-use Rattle.petal_rules.specs.Writes.{operation, hears_reserve, hears_replicate, reserves, follows_once, has_slot, last_on}
+use Rattle.petal_rules.specs.Writes.{hears_reserve, hears_replicate, reserves, follows_once, has_slot, last_on}
 use Rattle.law_steps.specs.Operations.{progress}
 use Rattle.law_steps.specs.DidSecond.{Sets_apart, Promises, Declines, Follows}
 use Rattle.law_steps.specs.Did.{Did, Ignores, By_second}
@@ -41,7 +41,7 @@ record IsPast (own : Own) (cell : Cell) (number : ℕ) (has : Bool) : Type 0 whe
 
 module _ (heard : Body → Type 0) (here : Here) (own : Own) where
   abbrev D : Done → Type 0
-  D done = Did heard here own done
+  D done = Did heard here here.state own done
 
   no_past : (cell : Cell) (number : ℕ) → last_on own cell ≡ None → IsPast own cell number false
   no_past cell number e = record { newer = λ last is. none_some e is; slot = λ last is. none_some e is }

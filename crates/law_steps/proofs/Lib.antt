@@ -7,7 +7,11 @@ pub mod Inversion
 pub mod Letters
 pub mod Subjects
 pub mod Staged
+pub mod Lifting
 pub mod Sending
-pub mod Stepping
-pub mod Fixed
-pub mod Scripts
+pub mod Fronts
+pub mod LogJobs
+pub mod Turning
+pub mod Serving
+pub mod Histories
+pub mod Firms

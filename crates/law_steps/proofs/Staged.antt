@@ -49,50 +49,50 @@ put_gone : (t : Table Cell Pending) (cell : Cell) (one : Pending) (q : Cell) →
     → at cell_cmp (without cell_cmp (put cell_cmp t cell one) cell) q ≡ at cell_cmp t q
 put_gone t cell one q ne = cell_gone_apart (put cell_cmp t cell one) cell q ne ∙ cell_apart t cell one q ne
 
-module _ (heard : Body → Type 0) (here : Here) (own : Own) (ready : IsReady here.state here.me own.pairs.pending) where
+module _ (heard : Body → Type 0) (here : Here) (state : State) (own : Own) (ready : IsReady state here.me own.pairs.pending) where
   restaged : (op new : Pending) → at cell_cmp own.pairs.pending op.cell ≡ Some op → new.cell ≡ op.cell → new.key ≡ op.key
-      → (new.stage ≡ waiting) ⊎ (new.stage ≡ copying) → IsStaged here.state here.me op.cell new
+      → (new.stage ≡ waiting) ⊎ (new.stage ≡ copying) → IsStaged state here.me op.cell new
   restaged op new is cell key stage =
       let s = ready.staged op.cell op is in
       record { own = cell; keyed = ap cell_of key ∙ s.keyed; lead = s.lead; stage = stage }
 
-  lead_ready : (done : Done) → DidLead heard here own done → IsReady here.state here.me done.own.pairs.pending
+  lead_ready : (done : Done) → DidLead heard here state own done → IsReady state here.me done.own.pairs.pending
   lead_ready _ (Asks_for posts h) = ready
   lead_ready _ (Repeats want last h lead is e) = ready
   lead_ready _ (Is_full want h lead new none no_room) = ready
   lead_ready _ (Opens want h lead new none) =
       let t = own.pairs.pending in
       let op = operation here own.pairs.next want in
-      changed_ready here.state here.me t (put cell_cmp t want.cell op) want.cell ready (put_rises cell_cmp_total t want.cell op ready.rising)
+      changed_ready state here.me t (put cell_cmp t want.cell op) want.cell ready (put_rises cell_cmp_total t want.cell op ready.rising)
       (λ q ne. cell_apart t want.cell op q ne)
-      (λ o is. subst (IsStaged here.state here.me want.cell) (same_some (sym (cell_same t want.cell op) ∙ is))
+      (λ o is. subst (IsStaged state here.me want.cell) (same_some (sym (cell_same t want.cell op) ∙ is))
       (record { own = refl; keyed = refl; lead = lead; stage = inl refl }))
   lead_ready _ (Puts op h is stage) =
       let t = own.pairs.pending in
       let one = with_reserved op in
       let two : Pending = record one { version = version_of (chain_in own.store.chains op.cell) + 1; stage = record one.stage { put = true } } in
-      changed_ready here.state here.me t (put cell_cmp (put cell_cmp t op.cell one) op.cell two) op.cell ready
+      changed_ready state here.me t (put cell_cmp (put cell_cmp t op.cell one) op.cell two) op.cell ready
       (put_rises cell_cmp_total (put cell_cmp t op.cell one) op.cell two (put_rises cell_cmp_total t op.cell one ready.rising))
       (λ q ne. put_put t op.cell one two q ne)
-      (λ o there. subst (IsStaged here.state here.me op.cell) (same_some (sym (cell_same (put cell_cmp t op.cell one) op.cell two) ∙ there))
+      (λ o there. subst (IsStaged state here.me op.cell) (same_some (sym (cell_same (put cell_cmp t op.cell one) op.cell two) ∙ there))
       (restaged op two is refl refl (inr (ap (λ (x : Stage). (record x { reserved = true; put = true })) stage))))
   lead_ready _ (Gives_up op h is stage) =
       let t = own.pairs.pending in
-      changed_ready here.state here.me t (without cell_cmp t op.cell) op.cell ready (without_rises cell_cmp t op.cell ready.rising)
+      changed_ready state here.me t (without cell_cmp t op.cell) op.cell ready (without_rises cell_cmp t op.cell ready.rising)
       (λ q ne. cell_gone_apart t op.cell q ne) (λ o there. none_some (cell_gone t op.cell) there)
   lead_ready _ (Closes op h is stage) =
       let t = own.pairs.pending in
       let one = with_paired op in
-      changed_ready here.state here.me t (without cell_cmp (put cell_cmp t op.cell one) op.cell) op.cell ready
+      changed_ready state here.me t (without cell_cmp (put cell_cmp t op.cell one) op.cell) op.cell ready
       (without_rises cell_cmp (put cell_cmp t op.cell one) op.cell (put_rises cell_cmp_total t op.cell one ready.rising)) (λ q ne. put_gone t op.cell one q ne)
       (λ o there. none_some (cell_gone (put cell_cmp t op.cell one) op.cell) there)
 
-  still : (t : Table Cell Pending) → t ≡ own.pairs.pending → IsReady here.state here.me t
-  still t same = subst (IsReady here.state here.me) (sym same) ready
+  still : (t : Table Cell Pending) → t ≡ own.pairs.pending → IsReady state here.me t
+  still t same = subst (IsReady state here.me) (sym same) ready
 
-  pub did_ready : (done : Done) → Did heard here own done → IsReady here.state here.me done.own.pairs.pending
+  pub did_ready : (done : Done) → Did heard here state own done → IsReady state here.me done.own.pairs.pending
   did_ready _ Ignores = ready
   did_ready _ (Refuses to said is why) = ready
-  did_ready _ (By_read done d) = still _ (ap (λ (o : Own). o.pairs.pending) (of_read heard here own done d).same)
+  did_ready _ (By_read done d) = still _ (ap (λ (o : Own). o.pairs.pending) (of_read heard here state own done d).same)
   did_ready _ (By_lead done d) = lead_ready done d
-  did_ready _ (By_second done d) = still _ (of_second heard here own done d).pending
+  did_ready _ (By_second done d) = still _ (of_second heard here state own done d).pending

@@ -8,6 +8,7 @@ use Rattle.petal_msg.specs.declared.letter.Letter.{Letter}
 use Rattle.petal_msg.specs.declared.operation.Far.{Far}
 use Rattle.petal_msg.specs.declared.operation.Far.TheVariants as far
 use Rattle.petal_rules.specs.Lists.{In}
+use Rattle.petal_rules.specs.State.{State}
 use Rattle.petal_rules.specs.Server.{Own, Here, Post, Done}
 use Rattle.petal_rules.specs.Writes.{tells}
 use Rattle.petal_rules.specs.declared.job.Job.{Job}
@@ -48,15 +49,15 @@ pub told_own : (here : Here) (new : Own) (cell : Cell) (number : ℕ) (how : Far
 told_own here new cell number far.Reserved = refl
 told_own here new cell number far.Replicated = refl
 
-module _ (heard : Body → Type 0) (here : Here) (own : Own) where
-  pub of_read : (done : Done) → DidRead heard here own done → ReadFrame own done
+module _ (heard : Body → Type 0) (here : Here) (state : State) (own : Own) where
+  pub of_read : (done : Done) → DidRead heard here state own done → ReadFrame own done
   of_read _ (Shows client seq cell epoch h r none) = record {
     same = refl;
     no_jobs = refl;
     says = λ post i. record { seq = seq; bytes = _; is = (one_post _ _ post i).1 };
   }
 
-  pub of_lead : (done : Done) → DidLead heard here own done → LeadFrame own done
+  pub of_lead : (done : Done) → DidLead heard here state own done → LeadFrame own done
   unfolding In
   of_lead _ (Asks_for posts h) = record { last = refl; no_letters = λ letter i. i }
   of_lead _ (Repeats want last h lead is e) = record { last = refl; no_letters = λ letter i. i }
@@ -75,7 +76,7 @@ module _ (heard : Body → Type 0) (here : Here) (own : Own) where
   told new cell number far.Replicated pending next finished =
       record { pending = pending; next = next; finished = finished; no_jobs = refl; says = λ post i. ap subject_of (posted _ _ post i) }
 
-  pub of_second : (done : Done) → DidSecond heard here own done → SecondFrame own done
+  pub of_second : (done : Done) → DidSecond heard here state own done → SecondFrame own done
   of_second _ (Sets_apart number cell store h s e le) = told _ cell number far.Reserved refl refl refl
   of_second _ (Promises number cell how s is) = told own cell number how refl refl refl
   of_second _ (Declines number cell h s no_room) =
@@ -83,7 +84,7 @@ module _ (heard : Body → Type 0) (here : Here) (own : Own) where
   of_second _ (Follows number key version bytes h s is) = told _ _ number far.Replicated refl refl refl
 
   -- what follows a job up is a stage, and no letter
-  pub no_letters : (done : Done) → Did heard here own done → (letter : Letter) → In (job.Letter letter) done.jobs → ⊥
+  pub no_letters : (done : Done) → Did heard here state own done → (letter : Letter) → In (job.Letter letter) done.jobs → ⊥
   unfolding In
   no_letters _ Ignores letter i = i
   no_letters _ (Refuses to said is why) letter i = i

@@ -1,7 +1,9 @@
--- What the lead of a cell may have done for a write, rule by rule, with what was so when it was done.
+-- What the lead of a cell may have done for a write, rule by rule, with what was so when it was done. What it leaves and sends
+-- is by its own state, and the facts are of a later one.
 use Rattle.std.specs.Prelude.{◌≡◌, ◌≤◌, ℕ, true, List, [], Some, None}
 use Rattle.std.specs.Ordering.{nat_cmp}
 use Rattle.petal_table.specs.Table.{at}
+use Rattle.petal_msg.specs.Kinds.{is_logged, subject_of}
 use Rattle.petal_msg.specs.declared.body.Body.{Body}
 use Rattle.petal_msg.specs.declared.body.Body.TheVariants as body
 use Rattle.petal_msg.specs.declared.letter.Actor.TheVariants as actor
@@ -9,36 +11,37 @@ use Rattle.petal_msg.specs.declared.operation.Ending.TheVariants as ending
 use Rattle.petal_msg.specs.declared.operation.Finished.{Finished}
 use Rattle.petal_msg.specs.declared.operation.Pending.{Pending}
 use Rattle.petal_rules.specs.Lists.{In}
-use Rattle.petal_rules.specs.State.{second, is_lead}
+use Rattle.petal_rules.specs.State.{State, second, is_lead}
 use Rattle.petal_rules.specs.Store.{free_of}
 use Rattle.petal_rules.specs.Server.{Own, Here, Post, Done, says, says_to}
 use Rattle.petal_rules.specs.Writes.{Wanted, pending_on, with_pending, without_pending, gives_back, with_reserved, with_paired, opened, puts, finishes, ended}
 use Rattle.law_steps.specs.Operations.{waiting, copying, done_to}
 
--- what a pending operation asks of the second server
-pub data Asks (here : Here) (own : Own) : Post → Type 0 where
-  A_slot : (op : Pending) (to : ℕ) → pending_on own op.cell ≡ Some op → op.stage ≡ waiting → second here.state op.cell ≡ Some to
-      → Asks here own (record { to = actor.Server to; body = body.Reserve op.op op.cell })
-  A_copy : (op : Pending) (to : ℕ) → pending_on own op.cell ≡ Some op → op.stage ≡ copying → second here.state op.cell ≡ Some to
-      → Asks here own (record { to = actor.Server to; body = body.Replicate op.op op.key op.version op.bytes })
+-- what a pending operation asks of the second server, or what speaks of the agreed log
+pub data Asks (here : Here) (state : State) (own : Own) : Post → Type 0 where
+  A_slot : (op : Pending) (to : ℕ) → pending_on own op.cell ≡ Some op → op.stage ≡ waiting → second state op.cell ≡ Some to
+      → Asks here state own (record { to = actor.Server to; body = body.Reserve op.op op.cell })
+  A_copy : (op : Pending) (to : ℕ) → pending_on own op.cell ≡ Some op → op.stage ≡ copying → second state op.cell ≡ Some to
+      → Asks here state own (record { to = actor.Server to; body = body.Replicate op.op op.key op.version op.bytes })
+  Of_the_log : (post : Post) → is_logged (subject_of post.body) ≡ true → Asks here state own post
 
 -- what the lead may have done that handled only such letters as `heard` knows
-pub data DidLead (heard : Body → Type 0) (here : Here) (own : Own) : Done → Type 0 where
-  Asks_for : (posts : List Post) → ((post : Post) → In post posts → Asks here own post)
-      → DidLead heard here own (record { own = own; posts = posts; jobs = [] })
+pub data DidLead (heard : Body → Type 0) (here : Here) (state : State) (own : Own) : Done → Type 0 where
+  Asks_for : (posts : List Post) → ((post : Post) → In post posts → Asks here state own post)
+      → DidLead heard here state own (record { own = own; posts = posts; jobs = [] })
   Repeats : (want : Wanted) (last : Finished) → heard (body.Write want.client want.seq want.cell want.epoch want.bytes)
-      → is_lead here.state here.me want.cell ≡ true → at nat_cmp own.pairs.finished want.client ≡ Some last → want.seq ≡ last.seq
-      → DidLead heard here own (says own (actor.Client want.client) (ended want.seq last.ending))
+      → is_lead state here.me want.cell ≡ true → at nat_cmp own.pairs.finished want.client ≡ Some last → want.seq ≡ last.seq
+      → DidLead heard here state own (says own (actor.Client want.client) (ended want.seq last.ending))
   Is_full : (want : Wanted) → heard (body.Write want.client want.seq want.cell want.epoch want.bytes)
-      → is_lead here.state here.me want.cell ≡ true → done_to (at nat_cmp own.pairs.finished want.client) ≤ want.seq
+      → is_lead state here.me want.cell ≡ true → done_to (at nat_cmp own.pairs.finished want.client) ≤ want.seq
       → pending_on own want.cell ≡ None → free_of own.store ≡ 0
-      → DidLead heard here own (finishes own want.client want.seq ending.Full)
+      → DidLead heard here state own (finishes own want.client want.seq ending.Full)
   Opens : (want : Wanted) → heard (body.Write want.client want.seq want.cell want.epoch want.bytes)
-      → is_lead here.state here.me want.cell ≡ true → done_to (at nat_cmp own.pairs.finished want.client) ≤ want.seq → pending_on own want.cell ≡ None
-      → DidLead heard here own (says_to (opened here own want) (second here.state want.cell) (body.Reserve own.pairs.next want.cell))
+      → is_lead state here.me want.cell ≡ true → done_to (at nat_cmp own.pairs.finished want.client) ≤ want.seq → pending_on own want.cell ≡ None
+      → DidLead heard here state own (says_to (opened here own want) (second here.state want.cell) (body.Reserve own.pairs.next want.cell))
   Puts : (op : Pending) → heard (body.Reserved op.op op.cell) → pending_on own op.cell ≡ Some op → op.stage ≡ waiting
-      → DidLead heard here own (puts (with_pending own (with_reserved op)) (with_reserved op))
+      → DidLead heard here state own (puts (with_pending own (with_reserved op)) (with_reserved op))
   Gives_up : (op : Pending) → heard (body.PairFull op.op op.cell) → pending_on own op.cell ≡ Some op → op.stage ≡ waiting
-      → DidLead heard here own (finishes (gives_back (without_pending own op.cell)) op.client op.seq ending.Full)
+      → DidLead heard here state own (finishes (gives_back (without_pending own op.cell)) op.client op.seq ending.Full)
   Closes : (op : Pending) → heard (body.Replicated op.op op.cell) → pending_on own op.cell ≡ Some op → op.stage ≡ copying
-      → DidLead heard here own (finishes (without_pending (with_pending own (with_paired op)) op.cell) op.client op.seq ending.Written)
+      → DidLead heard here state own (finishes (without_pending (with_pending own (with_paired op)) op.cell) op.client op.seq ending.Written)

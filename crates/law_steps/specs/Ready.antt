@@ -1,5 +1,5 @@
 -- What holds of queues and pending operations in every world: the ground on which each step is one of the kinds named.
-use Rattle.std.specs.Prelude.{◌≡◌, ℕ, [], ◌∷◌, Some}
+use Rattle.std.specs.Prelude.{◌≡◌, ℕ, List, [], ◌∷◌, Some}
 use Rattle.std.specs.declared.cmp.Ordering.{Ordering}
 use Rattle.std.specs.declared.cmp.Ordering.TheVariants.{Less}
 use Rattle.petal_base.specs.declared.cell.Cell.{Cell}
@@ -8,7 +8,11 @@ use Rattle.petal_msg.specs.declared.operation.Pending.{Pending}
 use Rattle.petal_rules.specs.Lists.{In}
 use Rattle.petal_rules.specs.State.{State}
 use Rattle.petal_rules.specs.Store.{cell_cmp}
-use Rattle.petal_rules.specs.World.{World}
+use Rattle.petal_rules.specs.World.{Setting, World, server_state, chosen_log}
+use Rattle.petal_history.specs.Claims.{IsPrefix}
+use Rattle.petal_history.specs.Legal.{stepped}
+use Rattle.petal_history.specs.declared.record.Record.{Record}
+use Rattle.law_state.specs.Firm.{Firm}
 use Rattle.law_steps.specs.Operations.{IsStaged}
 use Rattle.law_steps.specs.Happens.{AreQueued}
 
@@ -26,3 +30,17 @@ pub record IsReady (state : State) (me : ℕ) (pending : Table Cell Pending) : T
 pub record Ready (state : State) (w : World) : Type 0 where
   pub queues : (n : ℕ) → AreQueued w n (w.servers n).queue
   pub pending : (n : ℕ) → IsReady state n (w.servers n).own.pairs.pending
+
+-- the same, at each server's own state
+pub record Rests (setting : Setting) (w : World) : Type 0 where
+  pub queues : (n : ℕ) → AreQueued w n (w.servers n).queue
+  pub pending : (n : ℕ) → IsReady (server_state setting w n) n (w.servers n).own.pairs.pending
+
+-- ### Histories
+
+-- each world on the way knows its log, and what is chosen stays chosen
+abbrev pub AreFirm : Setting → World → List Record → Type 0
+AreFirm setting w [] = Firm setting w
+AreFirm setting w (own ∷ later) =
+    let next = (stepped setting w own).world in
+    Firm setting w × IsPrefix (chosen_log setting w) (chosen_log setting next) × AreFirm setting next later

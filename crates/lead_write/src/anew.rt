@@ -56,11 +56,18 @@ fn with_awaited(
     }
 }
 
-fn all_anew(here: &Here, locks: &PairLock) -> Result<Sequence<Letter>, NoMemory>
-    ensures { IfOk result (λ letters. (own : Own) → letters ≡ letters_of (sender here.now) 0 (flat_map (λ row. sent_anew here.now own row.1) locks.now)) }
+fn all_after(
+    here: &Here,
+    locks: &PairLock,
+    before: Sequence<Letter>,
+) -> Result<Sequence<Letter>, NoMemory>
+    ensures { IfOk result (λ letters. (own : Own) → letters ≡ before ++ letters_of (sender here.now) (length before) (flat_map (λ row. sent_anew here.now own row.1) locks.now)) }
 {
-    let mut letters = Sequence::new(here.alloc());
-    let mut nth = 0;
+    let Ok(first) = u32::try_from(before.len()) else {
+        return Err(NoMemory);
+    };
+    let mut letters = before;
+    let mut nth = first;
     for (_, op) in locks.iter() {
         let more = with_awaited(here, letters, nth, op)?;
         letters = more.0;
@@ -69,12 +76,16 @@ fn all_anew(here: &Here, locks: &PairLock) -> Result<Sequence<Letter>, NoMemory>
     Ok(letters)
 }
 
-/// The letters of all pending operations that wait for an answer.
+/// These letters of a step, and after them those of all pending operations that wait for an answer.
 ///
 /// # Errors
 /// Out of memory.
-pub fn letters_anew(here: &Here, side: &Side) -> Result<Sequence<Letter>, NoMemory>
-    ensures { IfOk result (λ letters. (own : Own) → letters ≡ letters_of (sender here.now) 0 (flat_map (λ row. sent_anew here.now own row.1) side.now.pending)) }
+pub fn letters_after(
+    here: &Here,
+    side: &Side,
+    before: Sequence<Letter>,
+) -> Result<Sequence<Letter>, NoMemory>
+    ensures { IfOk result (λ letters. (own : Own) → letters ≡ before ++ letters_of (sender here.now) (length before) (flat_map (λ row. sent_anew here.now own row.1) side.now.pending)) }
 {
-    all_anew(here, &side.locks)
+    all_after(here, &side.locks, before)
 }

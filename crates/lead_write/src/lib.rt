@@ -12,7 +12,7 @@ mod stages;
 mod write;
 
 pub use acts::goes_on;
-pub use anew::letters_anew;
+pub use anew::letters_after;
 pub use lead::{on_pair_full, on_replicated, on_reserved};
 pub use stage::next_stage;
 pub use write::{Wanted, on_write};

@@ -1,14 +1,20 @@
--- A server with its store, as the rules see it.
+-- A server with its two stores, as the rules see it.
 use Rattle.kept_chains.specs.Kept.{store_of}
 use Rattle.world_desks.specs.Desks.{Site}
 use Rattle.server_core.specs.Core.{Core, server_of}
 use Rattle.server_store.specs.Holdings.{Holdings}
+use Rattle.state_store.specs.Device.{Keeping}
 
--- a server's core and its store
+-- a server's core, its store and its state store
 pub record Mounted (D : Type 0) : Type 0 where
   pub core : Core
   pub store : Holdings D
+  pub state : Keeping D
 
--- its number, its state and the server of the rules
+-- its number, how many servers there are and the server of the rules
 abbrev pub site_of : {D : Type 0} → Mounted D → Site
-site_of mounted = record { me = mounted.core.me; state = mounted.core.state; server = server_of mounted.core (store_of mounted.store) }
+site_of mounted = record {
+  me = mounted.core.log.voter.me;
+  servers = mounted.core.log.voter.servers;
+  server = server_of mounted.core (store_of mounted.store) mounted.state.records;
+}

@@ -1,4 +1,4 @@
-//! A server with its store on a disk in memory, as a world steps it.
+//! A server with its two stores on disks in memory, as a world steps it.
 //!
 //! To the layer above it promises the rule of each step, and that a script's servers are those that its run begins with. It
 //! knows nothing of how letters travel.

@@ -1,6 +1,7 @@
-//! A server and its store.
+//! A server and its two stores.
 
-ghost use Rattle.std.specs.Prelude.{◌≡◌, true, IfOk, OnOk};
+ghost use Rattle.std.specs.Prelude.{◌≡◌, ◌∷◌, [], true, IfOk, OnOk};
+ghost use Rattle.petal_paxos.specs.declared.record.StateRecord.TheVariants.{Inc};
 ghost use Rattle.petal_rules.specs.Server.{first_server};
 ghost use Rattle.petal_rules.specs.declared.step.Step.TheVariants.{Work};
 ghost use Rattle.petal_rules.specs.declared.step.WorkEnd.TheVariants.{Done};
@@ -8,22 +9,23 @@ ghost use Rattle.world_desks.specs.Desks.{acted_at, site_after};
 ghost use Rattle.server_store.specs.Slots.{slot_start};
 ghost use Rattle.memory_server.specs.Server.{site_of};
 
-use global_state::GlobalState;
 use petal_base::{NoMemory, Rev, Sequence, ServerId};
 use petal_disk::{Disk, MemDisk};
 use petal_msg::Letter;
 use petal_rules::{Step, WorkEnd};
 use server_core::ServerCore;
 use server_store::{DATA_START, SLOT_BYTES, Store};
+use state_store::{DEVICE_BYTES, StateStore};
 use std::alloc::Global;
 use std::marker::Model;
 use world_desks::Host;
 
-/// A server and its store. Contracts see the core and what the store holds.
+/// A server with its store and its state store, each on a disk in memory. Contracts see the core and what the stores hold.
 #[derive(Drop)]
 pub struct MemServer {
     core: ServerCore,
     store: Store<MemDisk>,
+    state: StateStore<MemDisk>,
     over: bool,
 }
 
@@ -35,30 +37,49 @@ impl Model for MemServer {
 
     ghost Value = { Mounted MemDisk };
 
-    ghost view = { λ s. record { core = s.core; store = s.store } };
+    ghost view = { λ s. record { core = s.core; store = s.store; state = s.state } };
 
     ghost invariant = { λ s. s.over ≡ false → HasTicketsAt s.core.side s.store };
 }
 
+/// The state store of a server that runs for the first time.
+fn first_state(alloc: Global) -> Result<StateStore<MemDisk>, NoMemory>
+    ensures { IfOk result (λ state. state.records ≡ Inc 1 ∷ []) }
+{
+    let Ok(disk) = MemDisk::new(alloc, DEVICE_BYTES) else {
+        return Err(NoMemory);
+    };
+    match StateStore::format(alloc, disk, 1) {
+        Ok(state) => Ok(state),
+        Err(_) => Err(NoMemory),
+    }
+}
+
 impl MemServer {
-    /// The first incarnation of a server, with a blank device that has exactly the bytes that so many slots need.
+    /// The first incarnation of one of so many servers, with a blank device that has exactly the bytes that so many slots need,
+    /// and a state device of its own.
+    ///
+    /// # Errors
+    /// Out of memory.
     pub fn start(
         alloc: Global,
         me: ServerId,
-        state: GlobalState,
+        servers: u8,
         slots: u32,
     ) -> Result<MemServer, NoMemory>
-        requires { state.rev ≡ 1 }
-        ensures site { IfOk result (λ server. site_of server ≡ record { me = me; state = state; server = first_server true slots }) }
+        ensures site { IfOk result (λ server. site_of server ≡ record { me = me; servers = servers; server = first_server true slots }) }
         ensures device { IfOk result (λ server. ⟦<MemDisk as Disk>⟧.size server.store.disk ≡ slot_start slots) }
     {
         let Ok(disk) = MemDisk::new(alloc, DATA_START + SLOT_BYTES * u64::from(slots)) else {
             return Err(NoMemory);
         };
+        let core = ServerCore::start(alloc, me, servers)?;
+        let state = first_state(alloc)?;
         match Store::format(alloc, disk, slots, false) {
             Ok(store) => Ok(MemServer {
-                core: ServerCore::start(alloc, me, state),
+                core,
                 store,
+                state,
                 over: false,
             }),
             Err(_) => Err(NoMemory),
@@ -73,7 +94,7 @@ impl MemServer {
         if self.over || self.core.spent(&self.store) {
             return Err(NoMemory);
         }
-        match self.core.work(alloc, &mut self.store) {
+        match self.core.work(alloc, &mut self.store, &mut self.state) {
             Ok(Some(letters)) => Ok(letters),
             Ok(None) => Ok(Sequence::new(alloc)),
             Err(_) => {

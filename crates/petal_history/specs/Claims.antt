@@ -1,8 +1,12 @@
 -- What every legal history keeps. These are statements; `law_run` shows them.
-use Rattle.std.specs.Prelude.{◌≡◌, ◌≢◌, ◌⊎◌, ◌+◌, ◌≤◌, ℕ, List, Option, Some, None, true, false}
+use Rattle.std.specs.Prelude.{◌≡◌, ◌≢◌, ◌⊎◌, ◌+◌, ◌++◌, ◌≤◌, ℕ, List, slice_get, Option, Some, None, true, false}
 use Rattle.std.specs.Ordering.{nat_cmp}
 use Rattle.petal_base.specs.declared.cell.Cell.{Cell}
+use Rattle.petal_command.specs.declared.command.Command.{Command}
+use Rattle.petal_paxos.specs.Kept.{known_at}
 use Rattle.petal_table.specs.Table.{at, put}
+use Rattle.global_tables.specs.Disk.{named}
+use Rattle.global_tables.specs.declared.disk.DiskRow.{DiskRow}
 use Rattle.petal_machine.specs.Machine.{Plain, blank, content, disk_of}
 use Rattle.petal_machine.specs.Run.{replay}
 use Rattle.petal_machine.specs.declared.event.Event.{Event}
@@ -17,8 +21,9 @@ use Rattle.petal_rules.specs.Lists.{In}
 use Rattle.petal_state.specs.declared.answer.Hold.TheVariants.{No}
 use Rattle.petal_rules.specs.State.{State, first, second, is_lead, held}
 use Rattle.petal_rules.specs.Store.{Chain, cell_cmp, chain_in, version_of}
-use Rattle.petal_rules.specs.World.{World, start, setting_of}
-use Rattle.petal_history.specs.Contents.{chosen_state, disk_name, content_at}
+use Rattle.petal_rules.specs.Log.{rev_of}
+use Rattle.petal_rules.specs.World.{Setting, World, start, setting_of, server_state, devices, chosen_log, chosen_state}
+use Rattle.petal_history.specs.Contents.{content_at}
 use Rattle.petal_history.specs.Events.{IsRunOf, events_of}
 use Rattle.petal_history.specs.Legal.{IsLegal, world_after}
 use Rattle.petal_history.specs.Sound.{IsSound}
@@ -49,19 +54,31 @@ pub record HasFinished (finished : Option Finished) (seq : ℕ) : Type 0 where
   pub is : finished ≡ Some last
   pub past : seq ≤ last.seq
 
--- a running server at the revision of a Write letter has its request as finished, or is not the cell's lead, or holds it
-abbrev pub IsLateAt : State → World → Letter → (client seq : ℕ) → Cell → ℕ → Type 0
-IsLateAt state w letter client seq cell n =
-    (w.servers n).life.running ≡ true → (w.servers n).life.rev ≡ letter.rev
-    → HasFinished (at nat_cmp (w.servers n).own.pairs.finished client) seq ⊎ (is_lead state n cell ≡ false) ⊎ (held state cell ≢ No)
+-- a running server at the revision of a Write letter has its request as finished, or by its own state is not the cell's
+-- lead, or holds it
+abbrev pub IsLateAt : Setting → World → Letter → (client seq : ℕ) → Cell → ℕ → Type 0
+IsLateAt setting w letter client seq cell n =
+    (w.servers n).life.running ≡ true → rev_of (w.servers n).log ≡ letter.rev
+    → HasFinished (at nat_cmp (w.servers n).own.pairs.finished client) seq
+    ⊎ (is_lead (server_state setting w n) n cell ≡ false) ⊎ (held (server_state setting w n) cell ≢ No)
 
 -- a request that its client has answered is pending at no running server, and its Write letters come too late everywhere
-pub record Requests (state : State) (w : World) : Type 0 where
-  pub pending : (n : ℕ) (cell : Cell) (op : Pending) → (w.servers n).life.running ≡ true → at cell_cmp (w.servers n).own.pairs.pending cell ≡ Some op
-      → IsOver w op.client op.seq → ⊥
-  pub late : (letter : Letter) (client seq epoch : ℕ) (cell : Cell) (bytes : List ℕ) → In letter w.sent
-      → letter.body ≡ body.Write client seq cell epoch bytes → IsOver w client seq
-      → (n : ℕ) → IsLateAt state w letter client seq cell n
+pub record Requests (setting : Setting) (w : World) : Type 0 where
+  pub pending : (n : ℕ) (cell : Cell) (op : Pending) → (w.servers n).life.running ≡ true → at cell_cmp (w.servers n).own.pairs.pending cell ≡ Some op → IsOver w op.client op.seq → ⊥
+  pub late : (letter : Letter) (client seq epoch : ℕ) (cell : Cell) (bytes : List ℕ) → In letter w.sent → letter.body ≡ body.Write client seq cell epoch bytes → IsOver w client seq
+      → (n : ℕ) → IsLateAt setting w letter client seq cell n
+
+-- these commands stand at the front of the log
+pub record IsPrefix (front whole : List Command) : Type 0 where
+  pub later : List Command
+  pub is : whole ≡ front ++ later
+
+-- what a state device knows to be chosen stands in the chosen log at its place, and what servers and clients have applied
+-- stands at its front
+pub record Agrees (setting : Setting) (w : World) : Type 0 where
+  pub known : (n i : ℕ) (command : Command) → known_at (devices w n) (i + 1) ≡ Some command → slice_get (chosen_log setting w) i ≡ Some command
+  pub servers : (n : ℕ) → IsPrefix (w.servers n).log.applied (chosen_log setting w)
+  pub clients : (c : ℕ) → IsPrefix (w.clients c).applied (chosen_log setting w)
 
 -- the machine after the events, where there are events
 abbrev pub machine_after : Option (List Event) → Plain
@@ -74,14 +91,31 @@ pub record Holds (disks : List Disk) (name : List ℕ) (contents : ℕ → List 
   pub is : disk_of disks name ≡ Some disk
   pub same : (block : ℕ) → content disk.now block ≡ contents block
 
--- what every legal history of a script keeps: the two-copy rule and the rule of requests at its end, that its events
--- are a run of the plain machine, and that the contents are the machine's
+-- the machine has the disks of the chosen state, each with its contents, and no other
+pub record AreHeld (setting : Setting) (w : World) (disks : List Disk) : Type 0 where
+  pub known : (row : DiskRow) → In row (chosen_state setting w).disks.rows → Holds disks row.name (content_at setting w row.id row.epoch)
+  pub unknown : (name : List ℕ) → named (chosen_state setting w).disks.rows name ≡ None → disk_of disks name ≡ None
+
+-- what a world keeps: agreement, the two-copy rule for each cell, and the rule of requests
+pub record Stands (setting : Setting) (w : World) : Type 0 where
+  pub agrees : Agrees setting w
+  pub copies : (cell : Cell) → TwoCopies (chosen_state setting w) w cell
+  pub requests : Requests setting w
+
+-- the chosen log after a list of records is at the front of that after more of them
+abbrev pub Grows : Script → List Record → Type 0
+Grows script records =
+    (front back : List Record) → records ≡ front ++ back
+    → IsPrefix (chosen_log (setting_of script) (world_after (setting_of script) (start (setting_of script)) front))
+    (chosen_log (setting_of script) (world_after (setting_of script) (start (setting_of script)) records))
+
+-- what every legal history of a script keeps: the rules of its world at its end, that the chosen log has only grown, that
+-- its events are a run of the plain machine, and that the contents are the machine's
 pub record Keeps (script : Script) (records : List Record) : Type 0 where
-  pub copies : (cell : Cell) → TwoCopies (chosen_state (setting_of script)) (world_after (setting_of script) (start (setting_of script)) records) cell
-  pub requests : Requests (chosen_state (setting_of script)) (world_after (setting_of script) (start (setting_of script)) records)
+  pub world : Stands (setting_of script) (world_after (setting_of script) (start (setting_of script)) records)
+  pub grows : Grows script records
   pub run : IsRunOf (events_of script records)
-  pub holds : Holds (machine_after (events_of script records)).disks (disk_name (setting_of script))
-      (content_at (setting_of script) (world_after (setting_of script) (start (setting_of script)) records) 0)
+  pub holds : AreHeld (setting_of script) (world_after (setting_of script) (start (setting_of script)) records) (machine_after (events_of script records)).disks
 
 -- the whole law, of each sound script
 abbrev pub Law : Type 0

@@ -1,8 +1,10 @@
 -- What of a history the plain machine is told.
-use Rattle.std.specs.Prelude.{ℕ, ◌==◌, ◌&&◌, not, Bool, false, List, [], ◌∷◌, ◌++◌, map, filter, find, if◌then◌else◌, Option, Some, None}
+use Rattle.std.specs.Prelude.{ℕ, ◌==◌, ◌&&◌, not, Bool, false, List, [], ◌∷◌, ◌++◌, map, filter, find, drop, length, if◌then◌else◌, Option, Some, None}
 use Rattle.std.specs.List.{flat_map, range_with_len, fold, filter_map}
 use Rattle.std.specs.Ordering.{nat_cmp}
 use Rattle.petal_table.specs.Table.{Table, put}
+use Rattle.global_tables.specs.Disk.{disk_at}
+use Rattle.global_tables.specs.declared.disk.DiskRow.{DiskRow}
 use Rattle.petal_machine.specs.Machine.{same_bytes}
 use Rattle.petal_machine.specs.Run.{IsRun}
 use Rattle.petal_machine.specs.declared.event.Event.{Event}
@@ -24,10 +26,11 @@ use Rattle.script_lines.specs.declared.request.Request.TheVariants as request
 use Rattle.script_lines.specs.declared.script.Script.{Script}
 use Rattle.petal_rules.specs.Clients.{Asked}
 use Rattle.petal_rules.specs.Server.{Server}
-use Rattle.petal_rules.specs.World.{Setting, World, start, setting_of}
+use Rattle.petal_rules.specs.State.{State}
+use Rattle.petal_rules.specs.World.{Setting, World, start, setting_of, chosen_state}
 use Rattle.petal_rules.specs.declared.step.Step.{Step}
 use Rattle.petal_rules.specs.declared.step.Step.TheVariants.{Call, Deliver}
-use Rattle.petal_history.specs.Contents.{disk_name, content_at}
+use Rattle.petal_history.specs.Contents.{content_in, content_where}
 use Rattle.petal_history.specs.Legal.{stepped}
 use Rattle.petal_history.specs.declared.record.Record.{Record}
 
@@ -87,16 +90,34 @@ abbrev pub blocks_in : Setting → World → List ℕ
 blocks_in setting w =
     map (λ row. row.0) (fold (λ (t : Table ℕ ℕ) b. put nat_cmp t b b) [] (flat_map (λ n. blocks_of (w.servers n)) (range_with_len 0 setting.servers)))
 
--- the blocks whose content is another after the step, by number
-abbrev pub changed_blocks : Setting → World → World → List ℕ
-changed_blocks setting w later = filter (λ b. not (same_bytes (content_at setting w 0 b) (content_at setting later 0 b))) (blocks_in setting later)
+-- a step, as contents see it: the worlds before and after it, and what is chosen in each
+pub record Change : Type 0 where
+  pub setting : Setting
+  pub w : World
+  pub next : World
+  pub chosen : State
+  pub chosen_next : State
+
+abbrev pub change_by : Setting → World → World → Change
+change_by setting w next = record { setting = setting; w = w; next = next; chosen = chosen_state setting w; chosen_next = chosen_state setting next }
+
+-- the content of a disk's block at the disk's epoch, before the step and after it
+abbrev pub before_step : Change → DiskRow → ℕ → List ℕ
+before_step change row block = content_in change.chosen change.w row row.epoch block
+
+abbrev pub after_step : Change → DiskRow → ℕ → List ℕ
+after_step change row block = content_where change.chosen_next change.next (disk_at change.chosen_next.disks.rows row.id) row.epoch block
+
+-- the blocks of a disk whose content is another after the step, by number
+abbrev pub changed_blocks : Change → DiskRow → List ℕ
+changed_blocks change row = filter (λ b. not (same_bytes (before_step change row b) (after_step change row b))) (blocks_in change.setting change.next)
 
 abbrev pub writes_so : List ℕ → ℕ → List ℕ → Write → Bool
 writes_so name block bytes write = same_bytes write.disk name && (write.block == block) && same_bytes write.bytes bytes
 
--- the write under way that gives the block this content: of several, the one of the least client
-abbrev pub taker : Setting → World → ℕ → List ℕ → Option Write
-taker setting w block bytes = find (writes_so (disk_name setting) block bytes) (filter_map (open_write w) (range_with_len 0 9))
+-- the write under way that gives the disk's block this content: of several, the one of the least client
+abbrev pub taker : World → List ℕ → ℕ → List ℕ → Option Write
+taker w name block bytes = find (writes_so name block bytes) (filter_map (open_write w) (range_with_len 0 9))
 
 abbrev pub with_first : Option Event → Option (List Event) → Option (List Event)
 with_first None events = None
@@ -112,9 +133,21 @@ abbrev pub taken : Option Write → Option Event
 taken None = None
 taken (Some write) = Some (Take write)
 
--- a content that changed was written by a write under way; where there is none, the events are no run
-abbrev pub takes : Setting → World → World → Option (List Event)
-takes setting w later = all_there (map (λ b. taken (taker setting w b (content_at setting later 0 b))) (changed_blocks setting w later))
+abbrev pub takes_on : Change → DiskRow → List (Option Event)
+takes_on change row = map (λ b. taken (taker change.w row.name b (after_step change row b))) (changed_blocks change row)
+
+-- a content that changed was written by a write under way, by disk and block; where there is none, the events are no run
+abbrev pub takes : Change → Option (List Event)
+takes change = all_there (flat_map (takes_on change) change.chosen.disks.rows)
+
+-- ### Disks
+
+abbrev pub make_of : DiskRow → Event
+make_of row = Make row.name
+
+-- the disks that the entries make which this step chose, in their order
+abbrev pub makes : Change → List Event
+makes change = map make_of (drop (length change.chosen.disks.rows) change.chosen_next.disks.rows)
 
 -- ### Reads
 
@@ -172,11 +205,12 @@ abbrev pub told_with : List Event → Option (List Event) → List Event → Opt
 told_with before None behind = None
 told_with before (Some taken_now) behind = Some (before ++ taken_now ++ behind)
 
--- the events of one step, in the order begin, take, look, end
+-- the events of one step, in the order begin, take, make, look, end
 abbrev pub told : Setting → World → Record → List Record → Option (List Event)
 told setting w own later =
     let next = (stepped setting w own).world in
-    told_with (begins own.step own.actor next) (takes setting w next) (looks setting.lines later own.sent ++ ends own.actor w own.answer)
+    let change = change_by setting w next in
+    told_with (begins own.step own.actor next) (takes change) (makes change ++ looks setting.lines later own.sent ++ ends own.actor w own.answer)
 
 abbrev pub joined : Option (List Event) → Option (List Event) → Option (List Event)
 joined None events = None
@@ -187,15 +221,9 @@ abbrev pub told_from : Setting → World → List Record → Option (List Event)
 told_from setting w [] = Some []
 told_from setting w (own ∷ later) = joined (told setting w own later) (told_from setting (stepped setting w own).world later)
 
-abbrev pub made : Option (List Event) → List ℕ → Option (List Event)
-made None name = None
-made (Some events) name = Some (Make name ∷ events)
-
--- the events of a history. The one disk is made before the first step, since the fixed state has it from the start
+-- the events of a history
 abbrev pub events_of : Script → List Record → Option (List Event)
-events_of script records =
-    let setting = setting_of script in
-    made (told_from setting (start setting) records) (disk_name setting)
+events_of script records = told_from (setting_of script) (start (setting_of script)) records
 
 -- the events are a run of the plain machine
 abbrev pub IsRunOf : Option (List Event) → Type 0

@@ -4,6 +4,7 @@ pub mod Contents
 pub mod Events
 pub mod Text
 pub mod Order
+pub mod Causes
 pub mod Claims
 pub mod Play
 pub mod Examples

@@ -1,20 +1,21 @@
 -- Runs that are computed from what is done in turn.
-use Rattle.std.specs.Prelude.{ℕ, List, [], ◌∷◌, reverse, slice_get, Option, Some, None}
+use Rattle.std.specs.Prelude.{ℕ, List, [], ◌∷◌, ◌++◌, reverse, slice_get, Option, Some, None}
 use Rattle.petal_msg.specs.declared.letter.Actor.{Actor}
 use Rattle.petal_msg.specs.declared.letter.Actor.TheVariants as actor
 use Rattle.petal_msg.specs.declared.letter.Letter.{Letter}
 use Rattle.petal_rules.specs.World.{Setting, World, Stepped, step, next_stamp}
 use Rattle.petal_rules.specs.declared.step.Step.{Step}
-use Rattle.petal_rules.specs.declared.step.Step.TheVariants.{Call, Deliver, Work}
+use Rattle.petal_rules.specs.declared.step.Step.TheVariants.{Call, Deliver, Tick, Work}
 use Rattle.petal_rules.specs.declared.step.WorkEnd.TheVariants as work_end
 use Rattle.petal_history.specs.declared.record.Record.{Record}
 
 -- one thing that is done: a client calls the line of this number, a letter is handed over (they are counted from 0 in the
--- order in which they were sent), a server does the first job of its queue
+-- order in which they were sent, those of one step from the last one), a server does the first job of its queue, an actor takes a tick
 pub data Move : Type 0 where
   Calls : (client line : ℕ) → Move
   Hands : (letter : ℕ) → Move
   Works : (server : ℕ) → Move
+  Ticks : (who : Actor) → Move
 
 -- a record of one step, in phase 0
 abbrev pub recorded : Actor → Step → ℕ → Stepped → Record
@@ -35,6 +36,7 @@ abbrev pub moved : Setting → World → Move → List Record
 moved setting w (Calls client line) = record_by setting w (actor.Client client) (Call line) ∷ []
 moved setting w (Hands letter) = handed setting w (slice_get (reverse w.sent) letter)
 moved setting w (Works server) = record_by setting w (actor.Server server) (Work work_end.Done) ∷ []
+moved setting w (Ticks who) = record_by setting w who Tick ∷ []
 
 -- the world behind a record
 abbrev pub behind : Setting → World → List Record → World
@@ -45,3 +47,10 @@ behind setting w (own ∷ later) = behind setting (step own.actor own.step setti
 abbrev pub plays : Setting → World → List Move → World
 plays setting w [] = w
 plays setting w (move ∷ moves) = plays setting (behind setting w (moved setting w move)) moves
+
+-- the records of a list of moves
+abbrev pub records_of : Setting → World → List Move → List Record
+records_of setting w [] = []
+records_of setting w (move ∷ moves) =
+    let now = moved setting w move in
+    now ++ records_of setting (behind setting w now) moves

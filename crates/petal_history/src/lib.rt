@@ -9,9 +9,13 @@ mod laws;
 mod record;
 mod witness;
 
-pub use laws::{a_beginning_is_legal, a_history_without_steps, the_start_keeps_the_rules};
+pub use laws::{
+    a_beginning_is_legal, a_history_without_steps, the_start_has_a_schedule,
+    the_start_keeps_the_rules,
+};
 pub use record::{History, Record};
 pub use witness::{
-    a_full_write_is_remembered, a_letter_comes_twice_and_in_reverse, a_write_finds_no_slot,
-    a_write_is_read_back,
+    a_choice_makes_the_disk, a_disk_is_made, a_disk_is_read_early, a_full_write_is_remembered,
+    a_letter_comes_twice_and_in_reverse, a_name_is_taken, a_name_is_unknown, a_write_finds_no_slot,
+    a_write_is_read_back, two_servers_propose,
 };

@@ -6,9 +6,10 @@ use Rattle.petal_base.specs.Cells.{cell_of}
 use Rattle.petal_msg.specs.declared.body.Body.{Body}
 use Rattle.petal_msg.specs.declared.body.Body.TheVariants as body
 
--- a client asks for a read, or for a write; a reply ends the request, or refuses it for a while; two servers of a pair speak
--- of an operation
+-- the agreed log; a client asks for a read, or for a write; a reply ends the request, or refuses it for a while; two servers
+-- of a pair speak of an operation
 pub data Subject : Type 0 where
+  Logged : Subject
   Read_asked : Subject
   Write_asked : Subject
   Answered : Subject
@@ -25,6 +26,10 @@ pub record About : Type 0 where
   pub any_rev : Bool
 
 abbrev pub about : Body → About
+about (body.Propose command) = record { subject = Logged; seq = None; cell = None; op = None; any_rev = true }
+about (body.Pax pax) = record { subject = Logged; seq = None; cell = None; op = None; any_rev = true }
+about (body.Ask rev) = record { subject = Logged; seq = None; cell = None; op = None; any_rev = true }
+about (body.News after commands) = record { subject = Logged; seq = None; cell = None; op = None; any_rev = true }
 about (body.Read client seq cell epoch) = record { subject = Read_asked; seq = Some seq; cell = Some cell; op = None; any_rev = false }
 about (body.Write client seq cell epoch bytes) = record { subject = Write_asked; seq = Some seq; cell = Some cell; op = None; any_rev = false }
 about (body.Data seq bytes) = record { subject = Answered; seq = Some seq; cell = None; op = None; any_rev = false }
@@ -44,6 +49,11 @@ abbrev pub subject_of : Body → Subject
 subject_of said = (about said).subject
 
 -- ### Subjects
+
+-- of the agreed log: handled at each revision of its receiver
+abbrev pub is_logged : Subject → Bool
+is_logged Logged = true
+is_logged _ = false
 
 -- a client's request
 abbrev pub is_asked : Subject → Bool

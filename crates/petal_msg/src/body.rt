@@ -1,10 +1,26 @@
 //! What letters say.
 
-use petal_base::{Cell, ClientId, Epoch, Key, Op, Seq, SharedBlock, Version};
+use petal_base::{Cell, ClientId, Epoch, Key, Op, Rev, Seq, Sequence, SharedBlock, Version};
+use petal_command::{Command, Pax};
 
 /// The content of a letter. A kind is added here, in the order of the format, and each `match` over the kinds names all.
 #[derive(Clone, PartialEq, Eq, Drop)]
 pub enum Body {
+    /// A client asks that this command be proposed.
+    Propose {
+        command: Command,
+    },
+    /// What proposers and acceptors tell one another.
+    Pax(Pax),
+    /// What follows this revision in the log?
+    Ask {
+        rev: Rev,
+    },
+    /// The commands that are chosen for the places after this one, at most 64, as far as the sender knows.
+    News {
+        after: Rev,
+        commands: Sequence<Command>,
+    },
     /// A client asks for the entry of a cell of the greatest epoch not above this one.
     Read {
         client: ClientId,

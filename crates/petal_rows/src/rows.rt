@@ -62,6 +62,37 @@ fn whole_sessions(rt: HostRuntime) -> Result<(), Fail> {
 }
 
 #[test]
+fn names_of_disks(rt: HostRuntime) -> Result<(), Fail> {
+    let rows: [Row; 3] = [
+        Row {
+            shows: "a name that no disk has",
+            lines: "a read nosuch 0\n",
+            written: &["2: nodisk\n"],
+            ..RUN
+        },
+        Row {
+            shows: "a name that a disk has already",
+            lines: "a disk vol on 0 1\na disk vol on 1 0\n",
+            written: &["2: ok\n3: exists\n"],
+            ..RUN
+        },
+        Row {
+            shows: "two clients make a disk of one name at once: one of them does",
+            lines: "a disk vol on 0 1\nb disk vol on 1 0\nwait\na write vol 1 fill 3\nb read vol 0\n",
+            written: &[
+                "2: ok\n3: exists\n5: ok\n6: data 65536x0\n",
+                "2: exists\n3: ok\n5: ok\n6: data 65536x0\n",
+            ],
+            ..RUN
+        },
+    ];
+    for row in &rows {
+        assert!(rt; is_so(&rt, rt.alloc(), row)?, "{}", row.shows);
+    }
+    Ok(())
+}
+
+#[test]
 fn lines_that_are_refused(rt: HostRuntime) -> Result<(), Fail> {
     let rows: [Row; 3] = [
         Row {
@@ -100,15 +131,15 @@ fn lines_that_are_not_built_yet(rt: HostRuntime) -> Result<(), Fail> {
             ..REFUSED
         },
         Row {
-            shows: "a read before the disk is not built yet",
-            lines: "a read vol 5\n",
-            written: &["refused line 2: not built\n"],
+            shows: "a snapshot is not built yet",
+            lines: "a disk vol on 0 1\n# the other\na snap vol monday\n",
+            written: &["refused line 4: not built\n"],
             ..REFUSED
         },
         Row {
-            shows: "a second disk is not built yet",
-            lines: "a disk vol on 0 1\n# the other\na disk two on 1 0\n",
-            written: &["refused line 4: not built\n"],
+            shows: "a read of a snapshot is not built yet",
+            lines: "a read vol@monday 5\n",
+            written: &["refused line 2: not built\n"],
             ..REFUSED
         },
     ];

@@ -1,3 +1,5 @@
+pub mod Applied
 pub mod CellTables
+pub mod Letters
 pub mod ListLemmas
 pub mod Tests

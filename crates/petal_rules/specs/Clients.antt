@@ -1,8 +1,13 @@
 -- What a client does: at a call, with a letter that comes, and at a tick.
-use Rattle.std.specs.Prelude.{ℕ, ◌+◌, ◌%◌, ◌==◌, ◌&&◌, Bool, true, false, List, [], length, filter, slice_get, if◌then◌else◌, Option, Some, None}
+use Rattle.std.specs.Prelude.{ℕ, ◌+◌, ◌-◌, ◌%◌, ◌==◌, ◌&&◌, Bool, true, false, nat_le, List, [], ◌∷◌, ◌++◌, length, filter, fold, drop, slice_get, if◌then◌else◌, Option, Some, None, is_some}
 use Rattle.std.specs.List.{range_with_len}
 use Rattle.std.specs.Option.{option_map_or}
 use Rattle.petal_base.specs.declared.cell.Cell.{Cell}
+use Rattle.petal_command.specs.declared.command.Command.{Command}
+use Rattle.petal_command.specs.declared.command.Command.TheVariants.{MakeDisk, Witness}
+use Rattle.global_tables.specs.declared.disk.Latest.{Latest}
+use Rattle.global_tables.specs.declared.disk.Verdict.{Verdict}
+use Rattle.global_tables.specs.declared.disk.Verdict.TheVariants as verdict
 use Rattle.petal_msg.specs.Kinds.{About, about}
 use Rattle.petal_msg.specs.declared.body.Body.{Body}
 use Rattle.petal_msg.specs.declared.body.Body.TheVariants as body
@@ -14,27 +19,33 @@ use Rattle.script_lines.specs.declared.answer.Answer.{Answer}
 use Rattle.script_lines.specs.declared.answer.Answer.TheVariants as answer
 use Rattle.script_lines.specs.declared.request.Request.{Request}
 use Rattle.script_lines.specs.declared.request.Request.TheVariants as request
+use Rattle.petal_state.specs.State.{latest}
+use Rattle.petal_state.specs.Command.{after}
 use Rattle.petal_state.specs.declared.answer.DiskView.{DiskView}
 use Rattle.petal_rules.specs.State.{State, servers_of, find, snapshot, lead, readable}
 use Rattle.petal_rules.specs.Server.{Post, Sender, post_to}
 
--- a request that is open: its line, its number, how often it was sent, and the revision of the latest send
+-- a request that is open: its line, its number, how often it was sent, the revision of the latest send, and how many
+-- Witnesses of it were applied
 pub record Asked : Type 0 where
   pub line : ℕ
   pub seq : ℕ
   pub request : Request
   pub turn : ℕ
   pub rev : ℕ
+  pub witnesses : ℕ
 
--- a client: its revision, the number of its last request, and the request that is open
+-- a client: the entries of the log that it has applied, the number of its last request, which server it asks or proposes to
+-- next, and the request that is open
 pub record Client : Type 0 where
-  pub rev : ℕ
+  pub applied : List Command
   pub seq : ℕ
+  pub asks : ℕ
   pub asked : Option Asked
 
 -- a client of a run that begins
 abbrev pub first_client : Client
-first_client = record { rev = 1; seq = 0; asked = None }
+first_client = record { applied = []; seq = 0; asks = 0; asked = None }
 
 -- what a step of a client leaves, sends and answers, with the line that is answered
 pub record Reaction : Type 0 where
@@ -78,14 +89,63 @@ abbrev pub read_posts : State → Option DiskView → Option (List ℕ) → (cli
 read_posts state None snap client seq at = []
 read_posts state (Some disk) snap client seq at = read_posts_at state (cell_on disk at.0) (epoch_for state disk snap) client seq at.1
 
--- what is sent for a request: a write goes to the lead, a read to the servers that may read, in turn at each send. Other
--- requests send nothing at this stage
+-- what is sent for a request: a write goes to the lead, a read to the servers that may read, in turn at each send
 abbrev pub posts_for : State → (client seq turn : ℕ) → Request → List Post
 posts_for state client seq turn (request.Write name block pattern) = write_posts state (find state name) client seq block (pattern_block pattern)
 posts_for state client seq turn (request.Read name snap block) = read_posts state (find state name) snap client seq (block, turn)
 posts_for state client seq turn _ = []
 
--- the open request is sent, at the client's revision
+-- ### Commands of a client
+
+-- the command that carries the request out. Snapshots and moves send nothing at this stage
+abbrev pub command_of : (client seq : ℕ) → Request → Option Command
+command_of client seq (request.Disk name tuple) = Some (MakeDisk client seq name tuple)
+command_of client seq _ = None
+
+abbrev pub write_refusal : State → Option DiskView → ℕ → Option Answer
+write_refusal state None block = Some answer.NoDisk
+write_refusal state (Some disk) block = if is_some (lead state (cell_on disk block)) then None else Some answer.Unavailable
+
+abbrev pub read_refusal_at : State → Cell → Option ℕ → Option Answer
+read_refusal_at state cell None = Some answer.NoSnap
+read_refusal_at state cell (Some epoch) = if length (readers state cell) == 0 then Some answer.Unavailable else None
+
+abbrev pub read_refusal : State → Option DiskView → Option (List ℕ) → ℕ → Option Answer
+read_refusal state None snap block = Some answer.NoDisk
+read_refusal state (Some disk) snap block = read_refusal_at state (cell_on disk block) (epoch_for state disk snap)
+
+-- why a read or write can't be served in this state: its disk or snapshot is unknown, or it has no usable server
+unfoldable pub refusal : State → Request → Option Answer
+refusal state (request.Write name block pattern) = write_refusal state (find state name) block
+refusal state (request.Read name snap block) = read_refusal state (find state name) snap block
+refusal state _ = None
+
+-- a place of the log from which the client can tell that its request can't be served
+abbrev pub witness_of : ℕ → Asked → Command
+witness_of client asked = Witness client asked.seq asked.witnesses
+
+abbrev pub witness_where : Option Answer → ℕ → Asked → Option Command
+witness_where None client asked = None
+witness_where (Some cause) client asked = Some (witness_of client asked)
+
+abbrev pub or_command : Option Command → Option Command → Option Command
+or_command None other = other
+or_command (Some command) other = Some command
+
+-- what is to be proposed for the open request: its own command, or a Witness where the state can't serve it
+abbrev pub to_propose : State → ℕ → Asked → Option Command
+to_propose state me asked = or_command (command_of me asked.seq asked.request) (witness_where (refusal state asked.request) me asked)
+
+-- ### Sending the open request
+
+abbrev pub post_in_turn : Client → Body → List Post
+post_in_turn client said = record { to = actor.Server client.asks; body = said } ∷ []
+
+-- the client that asks or proposes to the next server next
+abbrev pub next_asked : State → Client → Client
+next_asked state client = record client { asks = (client.asks + 1) % servers_of state }
+
+-- the request goes to its servers, at the client's revision
 abbrev pub sends : State → ℕ → Client → Asked → Reaction
 sends state me client asked = record {
   client = record client { asked = Some (record asked { turn = asked.turn + 1; rev = state.rev }) };
@@ -93,29 +153,45 @@ sends state me client asked = record {
   answer = None;
 }
 
+-- the command is proposed. The revision of the latest send stays: replies of that revision still count
+abbrev pub asks_to_propose : State → Client → Asked → Command → Reaction
+asks_to_propose state client asked command = record {
+  client = record (next_asked state client) { asked = Some asked };
+  posts = post_in_turn client (body.Propose command);
+  answer = None;
+}
+
+abbrev pub sends_or_proposes : State → ℕ → Client → Asked → Option Command → Reaction
+sends_or_proposes state me client asked None = sends state me client asked
+sends_or_proposes state me client asked (Some command) = asks_to_propose state client asked command
+
+abbrev pub goes_out : State → ℕ → Client → Asked → Reaction
+goes_out state me client asked = sends_or_proposes state me client asked (to_propose state me asked)
+
+abbrev pub goes_out_where : State → ℕ → Client → Option Asked → Reaction
+goes_out_where state me client None = rests client
+goes_out_where state me client (Some asked) = goes_out state me client asked
+
+-- one of the servers, in turn, is asked what follows; what is proposed in the same step goes to it too
+abbrev pub asking : State → Client → Reaction → Reaction
+asking state client reacted = record reacted {
+  client = record reacted.client { asks = (client.asks + 1) % servers_of state };
+  posts = post_in_turn client (body.Ask state.rev) ++ reacted.posts;
+}
+
+-- it asks what follows, and sends its request again
+abbrev pub asks_and_sends : State → ℕ → Client → Asked → Reaction
+asks_and_sends state me client asked = asking state client (goes_out state me client asked)
+
 -- ### A call
 
--- the client with its next number open for this request
-abbrev pub opens : State → ℕ → Client → ℕ → Request → Reaction
-opens state me client line asked =
-    let seq = client.seq + 1 in
-    sends state me (record client { seq = seq }) (record { line = line; seq = seq; request = asked; turn = 0; rev = state.rev })
-
--- a request is called. That the one disk be made is answered at once at this stage, since the fixed state has it
+-- the request is open under the client's next number, and goes out
 abbrev pub called : State → ℕ → Client → ℕ → Request → Reaction
-called state me client line (request.Disk name tuple) = record { client = record client { seq = client.seq + 1 }; posts = []; answer = Some (line, answer.Ok) }
-called state me client line (request.Write name block pattern) = opens state me client line (request.Write name block pattern)
-called state me client line (request.Read name snap block) = opens state me client line (request.Read name snap block)
-called state me client line (request.Snap name snap) = opens state me client line (request.Snap name snap)
-called state me client line (request.Move name tuple) = opens state me client line (request.Move name tuple)
-called state me client line (request.Stop server) = opens state me client line (request.Stop server)
-called state me client line (request.StopAt server at) = opens state me client line (request.StopAt server at)
-called state me client line (request.Fault server which kind at) = opens state me client line (request.Fault server which kind at)
-called state me client line (request.Start server) = opens state me client line (request.Start server)
-called state me client line (request.Blank server) = opens state me client line (request.Blank server)
-called state me client line request.Settle = opens state me client line request.Settle
+called state me client line asked =
+    let seq = client.seq + 1 in
+    goes_out state me (record client { seq = seq }) (record { line = line; seq = seq; request = asked; turn = 0; rev = state.rev; witnesses = 0 })
 
--- ### A letter
+-- ### A reply
 
 -- a reply counts where its number is the open request's and its revision that of the latest send
 abbrev pub counts : Asked → ℕ → ℕ → Bool
@@ -134,17 +210,24 @@ abbrev pub answers : Client → Asked → Answer → Reaction
 answers client asked given = record { client = record client { asked = None }; posts = []; answer = Some (asked.line, given) }
 
 -- Data answers only a read, Written and Full only a write. What was refused for a while, or at another revision, is sent
--- again
+-- again, and the client asks what follows
 abbrev pub hears : State → ℕ → Client → Asked → ℕ → Body → Reaction
+hears state me client asked rev (body.Propose command) = rests client
+hears state me client asked rev (body.Pax said) = rests client
+hears state me client asked rev (body.Ask asked_rev) = rests client
+hears state me client asked rev (body.News from commands) = rests client
 hears state me client asked rev (body.Data seq bytes) =
     if replies asked rev (about (body.Data seq bytes)) && is_read asked.request then answers client asked (answer.Data bytes) else rests client
 hears state me client asked rev (body.Written seq) =
     if replies asked rev (about (body.Written seq)) && is_write asked.request then answers client asked answer.Ok else rests client
 hears state me client asked rev (body.Full seq) =
     if replies asked rev (about (body.Full seq)) && is_write asked.request then answers client asked answer.NoSpace else rests client
-hears state me client asked rev (body.BlockBusy seq) = if replies asked rev (about (body.BlockBusy seq)) then sends state me client asked else rests client
-hears state me client asked rev (body.Held seq) = if replies asked rev (about (body.Held seq)) then sends state me client asked else rests client
-hears state me client asked rev (body.WrongRev seq) = if replies asked rev (about (body.WrongRev seq)) then sends state me client asked else rests client
+hears state me client asked rev (body.BlockBusy seq) =
+    if replies asked rev (about (body.BlockBusy seq)) then asks_and_sends state me client asked else rests client
+hears state me client asked rev (body.Held seq) =
+    if replies asked rev (about (body.Held seq)) then asks_and_sends state me client asked else rests client
+hears state me client asked rev (body.WrongRev seq) =
+    if replies asked rev (about (body.WrongRev seq)) then asks_and_sends state me client asked else rests client
 hears state me client asked rev (body.NotHere seq) = rests client
 hears state me client asked rev (body.Read to seq cell epoch) = rests client
 hears state me client asked rev (body.Write to seq cell epoch bytes) = rests client
@@ -158,19 +241,88 @@ abbrev pub hears_of : State → ℕ → Client → Option Asked → Letter → R
 hears_of state me client None letter = rests client
 hears_of state me client (Some asked) letter = hears state me client asked letter.rev letter.body
 
+-- ### News
+
+-- a client on its way through the entries of a letter: the state that its entries make, itself, and the answer given so far
+pub record Learning : Type 0 where
+  pub state : State
+  pub client : Client
+  pub answer : Option (ℕ × Answer)
+
+abbrev pub answered : Learning → Asked → Answer → Learning
+answered now asked given = record now { client = record now.client { asked = None }; answer = Some (asked.line, given) }
+
+-- what a verdict answers; one that waits answers nothing yet
+abbrev pub verdict_answer : Verdict → Option Answer
+verdict_answer verdict.Ok = Some answer.Ok
+verdict_answer verdict.Waiting = None
+verdict_answer verdict.Exists = Some answer.Exists
+verdict_answer verdict.NoDisk = Some answer.NoDisk
+verdict_answer verdict.Moving = Some answer.Moving
+
+abbrev pub verdict_for : ℕ → Option Latest → Option Answer
+verdict_for seq None = None
+verdict_for seq (Some last) = if last.seq == seq then verdict_answer last.verdict else None
+
+abbrev pub answered_where : Learning → Asked → Option Answer → Learning
+answered_where now asked None = now
+answered_where now asked (Some given) = answered now asked given
+
+-- the state at the place of its own Witness answers the request, or it goes on
+abbrev pub witnessed : Learning → Asked → Option Answer → Learning
+witnessed now asked None = record now { client = record now.client { asked = Some (record asked { witnesses = asked.witnesses + 1 }) } }
+witnessed now asked (Some given) = answered now asked given
+
+abbrev pub is_witness : ℕ → ℕ → Command → Bool
+is_witness me seq (Witness client number turn) = (client == me) && (number == seq)
+is_witness me seq _ = false
+
+-- a request with a command of its own waits for its verdict; another one for its own Witness
+abbrev pub judged_by : ℕ → Command → Learning → Asked → Option Command → Learning
+judged_by me entry now asked (Some command) = answered_where now asked (verdict_for asked.seq (latest now.state me))
+judged_by me entry now asked None = if is_witness me asked.seq entry then witnessed now asked (refusal now.state asked.request) else now
+
+abbrev pub judged : ℕ → Command → Learning → Option Asked → Learning
+judged me entry now None = now
+judged me entry now (Some asked) = judged_by me entry now asked (command_of me asked.seq asked.request)
+
+-- one entry more is applied, and may answer the open request
+abbrev pub takes_entry : ℕ → Learning → Command → Learning
+takes_entry me now entry =
+    judged me entry
+    (record now { state = after now.state entry; client = record now.client { applied = now.client.applied ++ entry ∷ [] } })
+    now.client.asked
+
+-- the entries of a letter that come next, where it leaves no gap
+abbrev pub next_entries : Client → ℕ → List Command → List Command
+next_entries client from commands = if nat_le from (length client.applied) then drop (length client.applied - from) commands else []
+
+abbrev pub takes_all : ℕ → Learning → List Command → Learning
+takes_all me now entries = fold (takes_entry me) now entries
+
+-- then the request, if it is still open, goes out at the new revision
+abbrev pub then_goes_out : ℕ → Learning → Reaction
+then_goes_out me now = record (goes_out_where now.state me now.client now.client.asked) { answer = now.answer }
+
+abbrev pub takes_entries : State → ℕ → Client → List Command → Reaction
+takes_entries state me client [] = rests client
+takes_entries state me client (entry ∷ entries) =
+    then_goes_out me (takes_all me (record { state = state; client = client; answer = None }) (entry ∷ entries))
+
+-- ### A letter and a tick
+
+abbrev pub hears_any : State → ℕ → Client → Letter → Body → Reaction
+hears_any state me client letter (body.News from commands) = takes_entries state me client (next_entries client from commands)
+hears_any state me client letter _ = hears_of state me client client.asked letter
+
 -- a letter comes
 unfoldable pub heard : State → ℕ → Client → Letter → Reaction
-heard state me client letter = hears_of state me client client.asked letter
+heard state me client letter = hears_any state me client letter letter.body
 
--- ### A tick
-
-abbrev pub asks_anew : State → ℕ → Client → Option Asked → Reaction
-asks_anew state me client None = rests client
-asks_anew state me client (Some asked) = sends state me client asked
-
--- the letter of the open request goes out again
+-- what follows is asked, and the open request goes out again
 unfoldable pub ticked : State → ℕ → Client → Reaction
-ticked state me client = asks_anew state me client client.asked
+ticked state me client = asking state client (goes_out_where state me client client.asked)
 
-abbrev pub client_sender : State → ℕ → Sender
-client_sender state me = record { from = actor.Client me; inc = 0; rev = state.rev }
+-- what a step of a client sends is of the revision that the step leaves
+abbrev pub client_sender : ℕ → Client → Sender
+client_sender me client = record { from = actor.Client me; inc = 0; rev = length client.applied }

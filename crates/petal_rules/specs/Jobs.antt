@@ -1,7 +1,8 @@
 -- What a server does: with the first job of its queue, with a letter that is delivered, and at a tick.
-use Rattle.std.specs.Prelude.{ℕ, ◌==◌, not, Bool, true, List, [], ◌∷◌, ◌++◌, if◌then◌else◌, Option, Some, None}
+use Rattle.std.specs.Prelude.{ℕ, ◌==◌, not, Bool, true, false, List, [], ◌∷◌, ◌++◌, if◌then◌else◌, Option, Some, None}
 use Rattle.std.specs.List.{flat_map}
 pub use Rattle.petal_msg.specs.Kinds.{asked_by}
+use Rattle.petal_msg.specs.Kinds.{is_logged, subject_of}
 use Rattle.petal_msg.specs.declared.body.Body.{Body}
 use Rattle.petal_msg.specs.declared.body.Body.TheVariants as body
 use Rattle.petal_msg.specs.declared.letter.Actor.{Actor}
@@ -10,15 +11,22 @@ use Rattle.petal_msg.specs.declared.letter.Letter.{Letter}
 use Rattle.petal_msg.specs.declared.operation.Action.{Action}
 use Rattle.petal_msg.specs.declared.operation.Action.TheVariants as action
 use Rattle.petal_msg.specs.declared.operation.Pending.{Pending}
-use Rattle.petal_rules.specs.State.{State, is_in}
+use Rattle.petal_rules.specs.Ballots.{wanted, on_propose, on_pax, starts, ballot_posts, ask_posts, asks_next, start_jobs}
+use Rattle.petal_rules.specs.Entries.{on_ask, on_news, applies}
+use Rattle.petal_rules.specs.Log.{Log, LogDone, Voter, keeps}
+use Rattle.petal_rules.specs.State.{State, is_in, servers_of}
 use Rattle.petal_rules.specs.Server.{Server, Own, Here, Post, Done, silent, says, sender, letters_of}
 use Rattle.petal_rules.specs.Writes.{next_stage, acts, goes_on, on_write, on_reserve, on_reserved, on_pair_full, on_replicate, on_replicated}
 use Rattle.petal_rules.specs.Reads.{on_read}
 use Rattle.petal_rules.specs.declared.job.Job.{Job}
 use Rattle.petal_rules.specs.declared.job.Job.TheVariants as job
 
--- what is done with a letter's content, at a server that handles it
+-- what is done with the content of a letter of the pairs, at a server of its revision that handles it
 unfoldable pub handles : Here → Own → Body → Done
+handles here own (body.Propose command) = silent own
+handles here own (body.Pax said) = silent own
+handles here own (body.Ask rev) = silent own
+handles here own (body.News after commands) = silent own
 handles here own (body.Read client seq cell epoch) = on_read here own client seq cell epoch
 handles here own (body.Write client seq cell epoch bytes) = on_write here own (record { client = client; seq = seq; cell = cell; epoch = epoch; bytes = bytes })
 handles here own (body.Data seq bytes) = silent own
@@ -48,8 +56,8 @@ abbrev pub is_from_in : State → ℕ → Actor → Bool
 is_from_in state inc (actor.Server n) = is_in state n inc
 is_from_in state inc (actor.Client c) = true
 
--- the three tests before a letter is handled: this server is In with its own incarnation, the letter has the server's
--- revision, and its sender is In
+-- the three tests before a letter of the pairs is handled: this server is In with its own incarnation, the letter has the
+-- server's revision, and its sender is In
 abbrev pub on_letter : Here → Own → Letter → Done
 on_letter here own letter =
     if not (is_in here.state here.me here.inc) then silent own
@@ -57,10 +65,42 @@ on_letter here own letter =
     else if not (is_from_in here.state letter.inc letter.from) then silent own
     else handles here own letter.body
 
--- one job, with at most one commit; a follow-up stage is a job only while the server is In with its own incarnation
+-- one job of the pairs, with at most one commit; a follow-up stage is a job only while the server is In with its own
+-- incarnation
 unfoldable pub does : Here → Own → Job → Done
 does here own (job.Letter letter) = on_letter here own letter
 does here own (job.Stage cell) = if is_in here.state here.me here.inc then goes_on here own cell else silent own
+does here own job.Apply = silent own
+does here own job.Start = silent own
+
+-- ### The agreed log
+
+-- what is done with a letter of the agreed log, at each revision
+unfoldable pub hears_log : Voter → Log → Letter → Body → LogDone
+hears_log voter log letter (body.Propose command) = on_propose log command
+hears_log voter log letter (body.Pax said) = on_pax voter log letter.from said
+hears_log voter log letter (body.Ask rev) = on_ask log letter.from rev
+hears_log voter log letter (body.News after commands) = on_news log letter after commands
+hears_log voter log letter _ = keeps log
+
+-- one job of the agreed log, with at most one commit
+unfoldable pub log_does : Voter → Log → Job → LogDone
+log_does voter log (job.Letter letter) = hears_log voter log letter letter.body
+log_does voter log (job.Stage cell) = keeps log
+log_does voter log job.Apply = applies log
+log_does voter log job.Start = starts voter log
+
+-- the job is of the agreed log, and not of the pairs
+abbrev pub is_log_job : Job → Bool
+is_log_job (job.Letter letter) = is_logged (subject_of letter.body)
+is_log_job (job.Stage cell) = false
+is_log_job job.Apply = true
+is_log_job job.Start = true
+
+abbrev pub voter_of : Here → Voter
+voter_of here = record { me = here.me; servers = servers_of here.state }
+
+-- ### A server's steps
 
 -- where a server stands
 abbrev pub here_of : State → ℕ → Server → Here
@@ -78,10 +118,19 @@ worked here server rest done = record {
   letters = letters_of (sender here) 0 done.posts;
 }
 
+-- the same after a job of the agreed log
+abbrev pub entered : Here → Server → List Job → LogDone → Acted
+entered here server rest done = record {
+  server = record server { log = done.log; queue = rest ++ done.jobs };
+  letters = letters_of (sender here) 0 done.posts;
+}
+
 -- a server does the first job of its queue
 abbrev pub works : Here → Server → List Job → Acted
 works here server [] = record { server = server; letters = [] }
-works here server (first ∷ rest) = worked here server rest (does here server.own first)
+works here server (first ∷ rest) =
+    if is_log_job first then entered here server rest (log_does (voter_of here) server.log first)
+    else worked here server rest (does here server.own first)
 
 -- a letter is delivered: a running server queues it, a stopped one drops it
 abbrev pub delivered : Server → Letter → Server
@@ -98,9 +147,16 @@ awaited here own op action.Drop = []
 abbrev pub sent_anew : Here → Own → Pending → List Post
 sent_anew here own op = awaited here own op (next_stage here.state here.me op)
 
--- a tick: each letter that is not yet answered goes out again
+-- each letter that is not yet answered goes out again, and one of the other servers is asked what follows
 abbrev pub tick_posts : Here → Server → List Post
-tick_posts here server = flat_map (λ row. sent_anew here server.own row.1) server.own.pairs.pending
+tick_posts here server =
+    ballot_posts (voter_of here) server.log.phase
+    ++ flat_map (λ row. sent_anew here server.own row.1) server.own.pairs.pending
+    ++ ask_posts (voter_of here) server.log
 
+-- a tick: letters go out again, and an idle proposer is to start a ballot where a command is wanted
 abbrev pub ticks : Here → Server → Acted
-ticks here server = record { server = server; letters = letters_of (sender here) 0 (tick_posts here server) }
+ticks here server = record {
+  server = record server { log = asks_next (voter_of here) server.log; queue = server.queue ++ start_jobs server.log.phase (wanted server.log) };
+  letters = letters_of (sender here) 0 (tick_posts here server);
+}

@@ -1,9 +1,14 @@
 pub mod Lists
 pub mod State
 pub mod Store
+pub mod Posts
+pub mod Log
 pub mod Server
+pub mod Entries
+pub mod Ballots
 pub mod Writes
 pub mod Reads
 pub mod Jobs
 pub mod Clients
 pub mod World
+pub mod Agreement

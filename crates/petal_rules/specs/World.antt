@@ -1,16 +1,19 @@
 -- The world of all servers and clients, and its steps.
-use Rattle.std.specs.Prelude.{◌≡◌, ◌≢◌, ℕ, ◌+◌, ◌==◌, ◌||◌, ◌<◌, max, Bool, true, false, nat_lt, List, [], ◌∷◌, ◌++◌, map, filter, slice_get, Option, Some, None}
+use Rattle.std.specs.Prelude.{◌≡◌, ◌≢◌, ℕ, ◌+◌, ◌==◌, ◌||◌, ◌<◌, max, Bool, true, false, nat_lt, List, [], ◌∷◌, ◌++◌, map, filter, slice_get, take, Option, Some, None}
 use Rattle.std.specs.Option.{option_map_or}
+use Rattle.petal_command.specs.declared.command.Command.{Command}
 use Rattle.petal_msg.specs.declared.letter.Actor.{Actor}
 use Rattle.petal_msg.specs.declared.letter.Actor.TheVariants as actor
 use Rattle.petal_msg.specs.declared.letter.Letter.{Letter}
 use Rattle.script_lines.specs.declared.answer.Answer.{Answer}
 use Rattle.script_lines.specs.declared.request.Line.{Line}
-use Rattle.script_lines.specs.declared.request.Request.{Request}
-use Rattle.script_lines.specs.declared.request.Request.TheVariants as request
 use Rattle.script_lines.specs.declared.script.Script.{Script}
+use Rattle.petal_paxos.specs.Chosen.{Devices}
+use Rattle.petal_paxos.specs.Chosen.{chosen_log as chosen_by}
+use Rattle.petal_state.specs.Command.{state_after}
 use Rattle.petal_rules.specs.Lists.{In, put_at}
-use Rattle.petal_rules.specs.State.{State, fixed}
+use Rattle.petal_rules.specs.Log.{state_in}
+use Rattle.petal_rules.specs.State.{State}
 use Rattle.petal_rules.specs.Store.{top_of}
 use Rattle.petal_rules.specs.Server.{Server, first_server, letters_of}
 use Rattle.petal_rules.specs.Jobs.{Acted, here_of, works, delivered, ticks}
@@ -19,12 +22,11 @@ use Rattle.petal_rules.specs.declared.step.Step.{Step}
 use Rattle.petal_rules.specs.declared.step.Step.TheVariants.{Call, Deliver, Tick, Work}
 use Rattle.petal_rules.specs.declared.step.WorkEnd.TheVariants as work_end
 
--- what a run is given: how many servers and slots, the lines of its script, and the global state at each revision
+-- what a run is given: how many servers and slots, and the lines of its script
 pub record Setting : Type 0 where
   pub servers : ℕ
   pub slots : ℕ
   pub lines : List Line
-  pub states : ℕ → State
 
 -- all servers and clients, by number, with the stamp of the last step of each; all letters ever sent, the newest first; and
 -- the answers given so far, each with its line
@@ -49,22 +51,11 @@ start setting = record {
 
 -- ### What a script sets
 
--- the state of a run whose one disk a line makes
-abbrev pub state_by : ℕ → Request → State → State
-state_by servers (request.Disk name tuple) other = fixed servers name tuple
-state_by servers _ other = other
-
--- the fixed state has the disk of the first disk line
-abbrev pub state_of : ℕ → List Line → State
-state_of servers [] = fixed servers [] []
-state_of servers (line ∷ lines) = state_by servers line.request (state_of servers lines)
-
 abbrev pub setting_of : Script → Setting
 setting_of script = record {
   servers = script.servers;
   slots = script.slots;
   lines = script.lines;
-  states = λ rev. state_of script.servers script.lines;
 }
 
 -- the lines of a client, in order
@@ -90,6 +81,34 @@ letter_in (Call line) = None
 letter_in (Deliver letter) = Some letter
 letter_in Tick = None
 letter_in (Work end) = None
+
+-- ### States
+
+-- the state of a server: what the entries make that it has applied
+abbrev pub server_state : Setting → World → ℕ → State
+server_state setting w n = state_in setting.servers (w.servers n).log
+
+-- the state of a client, likewise
+abbrev pub client_state : Setting → World → ℕ → State
+client_state setting w c = state_after setting.servers (w.clients c).applied
+
+-- ### What is chosen
+
+-- the records on each state device. Those that accept are the votes made so far
+abbrev pub devices : World → Devices
+devices w n = (w.servers n).log.records
+
+-- the longest list of commands that are chosen for the places 1, 2, ..
+abbrev pub chosen_log : Setting → World → List Command
+chosen_log setting w = chosen_by setting.servers (devices w)
+
+-- the state at a place: what the chosen entries up to it make
+abbrev pub state_at : Setting → World → ℕ → State
+state_at setting w place = state_after setting.servers (take place (chosen_log setting w))
+
+-- what all of them make
+abbrev pub chosen_state : Setting → World → State
+chosen_state setting w = state_after setting.servers (chosen_log setting w)
 
 -- ### What a step does
 
@@ -136,9 +155,9 @@ abbrev pub with_answer : Option (ℕ × Answer) → List (ℕ × Answer) → Lis
 with_answer None given = given
 with_answer (Some answer) given = answer ∷ given
 
-abbrev pub reacts : State → World → ℕ → ℕ → Reaction → Stepped
-reacts state w c stamp reacted =
-    let letters = stamped stamp (letters_of (client_sender state c) 0 reacted.posts) in
+abbrev pub reacts : World → ℕ → ℕ → Reaction → Stepped
+reacts w c stamp reacted =
+    let letters = stamped stamp (letters_of (client_sender c reacted.client) 0 reacted.posts) in
     record {
       world = record w {
         clients = put_at w.clients c reacted.client;
@@ -152,10 +171,9 @@ reacts state w c stamp reacted =
 
 -- a step of an actor with this stamp
 unfoldable pub step : Actor → Step → Setting → World → ℕ → Stepped
-step (actor.Server n) what setting w stamp = acts w n stamp (server_step what (setting.states (w.servers n).life.rev) n (w.servers n))
+step (actor.Server n) what setting w stamp = acts w n stamp (server_step what (server_state setting w n) n (w.servers n))
 step (actor.Client c) what setting w stamp =
-    let state = setting.states (w.clients c).rev in
-    reacts state w c stamp (client_step what state c (w.clients c) (next_line setting.lines c (w.clients c)))
+    reacts w c stamp (client_step what (client_state setting w c) c (w.clients c) (next_line setting.lines c (w.clients c)))
 
 -- ### When a step is allowed
 

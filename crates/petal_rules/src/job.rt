@@ -10,4 +10,8 @@ pub enum Job {
     Letter(SharedLetter),
     /// The next stage of the operation that is pending on a cell.
     Stage(Cell),
+    /// The next entry of the log, which is known to be chosen, is applied.
+    Apply,
+    /// A ballot is started for the first command that is wanted.
+    Start,
 }

@@ -132,7 +132,7 @@ nothing_built script None old keeps = (tt, keeps, none_added old _)
 
 nothing_of : (text : List ℕ) (r : Result Script Refusal) (old : List ℕ) → KeepsLaw → script_of text ≡ r → DoneInPart (by_text r) [] old old
 nothing_of text (Err refusal) old law is = (refl, none_added old _)
-nothing_of text (Ok script) old law is = nothing_built script (first_not_built [] script.lines) old (law text script [] is tt)
+nothing_of text (Ok script) old law is = nothing_built script (first_not_built script.lines) old (law text script [] is tt)
 
 pub nothing_done : KeepsLaw → (text old : List ℕ) → DoneInPart (by_text (script_of text)) [] old old
 nothing_done law text old = nothing_of text (script_of text) old law refl
@@ -143,7 +143,7 @@ nothing_built_wrote script None old = none_wrote script old
 
 nothing_of_wrote : (r : Result Script Refusal) (old : List ℕ) → WrittenByPhases (by_text r) [] old old
 nothing_of_wrote (Err refusal) old = refl
-nothing_of_wrote (Ok script) old = nothing_built_wrote script (first_not_built [] script.lines) old
+nothing_of_wrote (Ok script) old = nothing_built_wrote script (first_not_built script.lines) old
 
 pub nothing_wrote : (text old : List ℕ) → WrittenByPhases (by_text (script_of text)) [] old old
 nothing_wrote text old = nothing_of_wrote (script_of text) old

@@ -20,7 +20,7 @@ by_built script None = Play script
 -- a text that is no script is refused at its first refused line
 abbrev pub by_text : Result Script Refusal → Asked
 by_text (Err refusal) = Refuse 2 (refusal_line refusal.line (cause_text refusal.cause))
-by_text (Ok script) = by_built script (first_not_built [] script.lines)
+by_text (Ok script) = by_built script (first_not_built script.lines)
 
 -- other words than `run` get a line that says how the program is used
 abbrev pub asked : List (List ℕ) → List ℕ → Asked

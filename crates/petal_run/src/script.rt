@@ -159,7 +159,7 @@ fn play_phases<R: Wait, W: Sink>(rt: &R, alloc: Global, playing: &mut Playing, s
 
 /// Plays a script whose lines are all built.
 fn play<R: Wait, W: Sink>(rt: &R, alloc: Global, script: Script, sink: &mut W) -> Outcome
-    requires built { first_not_built [] script.lines ≡ None }
+    requires built { first_not_built script.lines ≡ None }
     requires sound { IsSound script }
     requires ordered { AreOrdered script.lines }
     requires rising { AreRising script.lines }
@@ -174,9 +174,6 @@ fn play<R: Wait, W: Sink>(rt: &R, alloc: Global, script: Script, sink: &mut W) -
 {
     every_history_keeps_the_law();
     phases_come_one_after_the_other();
-    if script.lines.as_slice().is_empty() {
-        return without_history(alloc, ENDED);
-    }
     match Playing::start(alloc, script) {
         Ok(mut playing) => {
             let status = play_phases(rt, alloc, &mut playing, sink);
@@ -196,14 +193,14 @@ fn run_script<R: Wait, W: Sink>(rt: &R, alloc: Global, script: Script, sink: &mu
     requires rising { AreRising script.lines }
     ensures known { (result.status ≡ 0) ⊎ (result.status ≡ 2) ⊎ (result.status ≡ 3) ⊎ (result.status ≡ 5) }
     ensures done { W.told → result.status ≤ 2
-        → Done (by_built script (first_not_built [] script.lines)) result.status result.history.records [] (W.taken sink.old) (W.taken sink.new) }
+        → Done (by_built script (first_not_built script.lines)) result.status result.history.records [] (W.taken sink.old) (W.taken sink.new) }
     ensures in_part { W.told → (result.status ≡ 3) ⊎ (result.status ≡ 5)
-        → DoneInPart (by_built script (first_not_built [] script.lines)) result.history.records (W.taken sink.old) (W.taken sink.new) }
-    ensures whole_phase { result.status ≡ 5 → EndsWithPhase (by_built script (first_not_built [] script.lines)) result.history.records }
+        → DoneInPart (by_built script (first_not_built script.lines)) result.history.records (W.taken sink.old) (W.taken sink.new) }
+    ensures whole_phase { result.status ≡ 5 → EndsWithPhase (by_built script (first_not_built script.lines)) result.history.records }
     ensures by_phases { W.told → result.status ≡ 3
-        → WrittenByPhases (by_built script (first_not_built [] script.lines)) result.history.records (W.taken sink.old) (W.taken sink.new) }
+        → WrittenByPhases (by_built script (first_not_built script.lines)) result.history.records (W.taken sink.old) (W.taken sink.new) }
     ensures last_phase { W.told → result.status ≡ 5
-        → WrittenInPhase (by_built script (first_not_built [] script.lines)) result.history.records (W.taken sink.old) (W.taken sink.new) }
+        → WrittenInPhase (by_built script (first_not_built script.lines)) result.history.records (W.taken sink.old) (W.taken sink.new) }
     ensures failed { result.status ≡ 5 → W.faults sink.old < W.faults sink.new }
     ensures later { W.faults sink.old ≤ W.faults sink.new }
 {

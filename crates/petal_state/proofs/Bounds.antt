@@ -17,7 +17,7 @@ use Rattle.petal_command.specs.declared.command.Command.{Command}
 use Rattle.petal_command.specs.declared.command.Command.TheVariants.{Join, Leave, Caught, MakeDisk, Snap, StartMove, Drained, Moved, Witness}
 use Rattle.petal_state.specs.State.{State, start, latest, told, links_of}
 use Rattle.petal_state.specs.Fence.{confirmed, effect, let_through, settled}
-use Rattle.petal_state.specs.Command.{act, after, caught, snap_target, snapped, move_target, move_begun, drained, note, moved_by, mover_in, after_region, with_map, with_disk, with_fence, with_move, move_of, fixed}
+use Rattle.petal_state.specs.Command.{act, after, caught, snap_target, snapped, move_target, move_begun, drained, note, moved_by, mover_in, after_region, with_map, with_disk, with_fence, with_move, move_of}
 use Rattle.petal_state.specs.Bound.{EpochsBelow, IsWithin}
 use Rattle.petal_state.proofs.Passing.{length-behind}
 
@@ -228,8 +228,3 @@ after_within s command h =
 
 pub start_within : (servers : ℕ) → IsWithin 0 (start servers)
 start_within servers = record { maps = omega arith; made = omega arith; queued = omega arith; queue = omega arith; epochs = tt }
-
-pub fixed_within : (servers : ℕ) (name tuple : List ℕ) → IsWithin 1 (fixed servers name tuple)
-fixed_within servers name tuple =
-    let h : IsWithin (0 + 1) (with_disk (start servers) name tuple) = disk_within 0 (start servers) name tuple (start_within servers) in
-    record { maps = h.maps; made = h.made; queued = h.queued; queue = h.queue; epochs = h.epochs }

@@ -181,7 +181,3 @@ after s command = record (settled (act command s)) { rev = s.rev + 1 }
 -- the fold: what a log makes of the state at the start
 abbrev pub state_after : ℕ → List Command → State
 state_after servers log = fold after (start servers) log
-
--- a state that no entry made: one disk over these servers, with every server In, at revision 1
-abbrev pub fixed : ℕ → (name tuple : List ℕ) → State
-fixed servers name tuple = record (with_disk (start servers) name tuple) { rev = 1 }

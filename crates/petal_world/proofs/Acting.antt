@@ -9,7 +9,7 @@ use Rattle.petal_rules.specs.declared.step.Step.{Step}
 use Rattle.petal_world.specs.declared.seat.Seat.{Seat}
 use Rattle.petal_world.specs.declared.stepped.Stepped.{Stepped}
 use Rattle.world_desks.specs.Desks.{Desk, desk_of}
-use Rattle.petal_world.specs.Play.{IsSteady, Leaves, LeavesIn}
+use Rattle.petal_world.specs.Play.{Leaves, LeavesIn}
 use Rattle.petal_world.specs.Seats.{seat_of, reacted_at}
 use Rattle.petal_world.specs.Actors.{Actors, Shows, client_letters, server_letters, with_client, with_server}
 use Rattle.petal_world.proofs.Allowed.{no_client, no_server, seat_is, desk_is}
@@ -33,15 +33,15 @@ module _ (setting : Setting) (w : World) (actors : Actors) (who : Actor) (what :
 
 -- ### Steps
 
-module _ (setting : Setting) (steady : IsSteady setting) (w : World) (actors : Actors) (h : Shows setting w actors) (what : Step) (stamp : ℕ) (new : Actors) (told : Stepped) where
+module _ (setting : Setting) (w : World) (actors : Actors) (h : Shows setting w actors) (what : Step) (stamp : ℕ) (new : Actors) (told : Stepped) where
   serves_so : (n : ℕ) → MayStep setting w (actor.Server n) what → clock_of w (actor.Server n) < stamp
       → ((desk : Desk) → slice_get actors.desks n ≡ Some desk → (told ≡ record { letters = server_letters desk what stamp; answer = None }) × (new ≡ with_server actors n desk what stamp))
       → Leaves setting w (actor.Server n) what stamp new told
   serves_so n may less told_so =
       let at : slice_get actors.desks n ≡ Some (desk_of setting w n) = ap (λ desks. slice_get desks n) h.desks ∙ get_range (desk_of setting w) setting.servers n may.may.0 in
       let own = told_so (desk_of setting w n) at in
-      let gives = server_gives setting steady w actors h n what stamp in (
-        subst (λ (k : Actors). Shows setting (step (actor.Server n) what setting w stamp).world k) (sym own.1) (server_shows setting steady w actors h n what stamp may.may.0 less),
+      let gives = server_gives setting w actors h n what stamp in (
+        subst (λ (k : Actors). Shows setting (step (actor.Server n) what setting w stamp).world k) (sym own.1) (server_shows setting w actors h n what stamp may.may.0 less),
         own.0 ∙ (λ i. record { letters = sym gives.0 i; answer = sym gives.1 i }),
       )
 
@@ -51,8 +51,8 @@ module _ (setting : Setting) (steady : IsSteady setting) (w : World) (actors : A
   reacts_so c may less told_so =
       let at : slice_get actors.seats c ≡ Some (seat_of setting w c) = ap (λ seats. slice_get seats c) h.seats ∙ get_range (seat_of setting w) 9 c may.may.0 in
       let own = told_so (seat_of setting w c) at in
-      let gives = client_gives setting steady w actors h c what stamp in (
-        subst (λ (k : Actors). Shows setting (step (actor.Client c) what setting w stamp).world k) (sym own.1) (client_shows setting steady w actors h c what stamp may.may.0 less),
+      let gives = client_gives setting w actors h c what stamp in (
+        subst (λ (k : Actors). Shows setting (step (actor.Client c) what setting w stamp).world k) (sym own.1) (client_shows setting w actors h c what stamp may.may.0 less),
         own.0 ∙ (λ i. record { letters = sym gives.0 i; answer = sym gives.1 i }),
       )
 
@@ -75,9 +75,9 @@ ReactedSo actors c what stamp new told = (seat : Seat) → slice_get actors.seat
 pub serves_ok : {E : Type 0} (r : Result Stepped E) (actors : Actors) (who : Actor) (n : ℕ) (what : Step) (stamp : ℕ) (new : Actors) → who ≡ actor.Server n → IfOk r (ServedSo actors n what stamp new) → IfOk r (LeavesIn actors who what stamp new)
 serves_ok r actors who n what stamp new is =
     IfOk-weaker r (ServedSo actors n what stamp new) (LeavesIn actors who what stamp new)
-    (λ told so setting w steady h may less. serves setting steady w actors h what stamp new told who n is so may less)
+    (λ told so setting w h may less. serves setting w actors h what stamp new told who n is so may less)
 
 pub reacts_ok : {E : Type 0} (r : Result Stepped E) (actors : Actors) (who : Actor) (c : ℕ) (what : Step) (stamp : ℕ) (new : Actors) → who ≡ actor.Client c → IfOk r (ReactedSo actors c what stamp new) → IfOk r (LeavesIn actors who what stamp new)
 reacts_ok r actors who c what stamp new is =
     IfOk-weaker r (ReactedSo actors c what stamp new) (LeavesIn actors who what stamp new)
-    (λ told so setting w steady h may less. reacts setting steady w actors h what stamp new told who c is so may less)
+    (λ told so setting w h may less. reacts setting w actors h what stamp new told who c is so may less)

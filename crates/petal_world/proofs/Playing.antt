@@ -86,7 +86,7 @@ module _ (play : Play) (actors new : Actors) (who : Actor) (what : Step) (stamp 
   leaves = subst (λ s. LeavesIn actors who what s new told) at left
 
   pub told_so : told ≡ told_by play who what
-  told_so = (leaves (setting_of play.script) (world_of play) (λ one other. refl) (h.shows going) may (stamp_later play.floor (world_of play) who what)).1
+  told_so = (leaves (setting_of play.script) (world_of play) (h.shows going) may (stamp_later play.floor (world_of play) who what)).1
 
   -- the record is that of the step
   pub record_so : record { actor = who; stamp = stamp; phase = phase; step = what; sent = told.letters; answer = told.answer } ≡ record_of play who what
@@ -99,7 +99,7 @@ module _ (play : Play) (actors new : Actors) (who : Actor) (what : Step) (stamp 
       let shown : Shows (setting_of play.script) (world_of (played play who what)) new =
       subst (λ (w : World). Shows (setting_of play.script) w new)
       (sym (after_more (setting_of play.script) play.records (start (setting_of play.script)) (record_of play who what)))
-      (leaves (setting_of play.script) (world_of play) (λ one other. refl) (h.shows going) may (stamp_later play.floor (world_of play) who what)).0 in
+      (leaves (setting_of play.script) (world_of play) (h.shows going) may (stamp_later play.floor (world_of play) who what)).0 in
       subst (λ (rs : List Record). IsKept (record play { records = rs }) new) (sym same) (record {
         ordered = h.ordered;
         legal = legal_more (setting_of play.script) play.records (start (setting_of play.script)) (record_of play who what) h.legal (follows play who what may);

@@ -1,7 +1,7 @@
 -- What is kept after a step is that of the world after it.
 use Rattle.std.proofs.Common.{◌≡◌, ◌≢◌, ℕ, ◌≤◌, ◌<◌, List, [], ◌∷◌, ◌++◌, inl, inr, Option, Some, None, refl, sym, ap, ◌∙◌, subst, arith}
 use Rattle.std.proofs.lemmas.Bool.{cases_eq}
-use Rattle.std.specs.Prelude.{slice_set}
+use Rattle.std.specs.Prelude.{Bool, true, false, if◌then◌else◌, slice_set}
 use Rattle.petal_table.specs.Table.{Table}
 use Rattle.petal_msg.specs.declared.letter.Actor.{Actor}
 use Rattle.petal_msg.specs.declared.letter.Actor.TheVariants as actor
@@ -10,10 +10,11 @@ use Rattle.script_lines.specs.declared.answer.Answer.{Answer}
 use Rattle.script_lines.specs.declared.request.Line.{Line}
 use Rattle.petal_rules.specs.Lists.{In, put_at}
 use Rattle.petal_rules.specs.State.{State}
-use Rattle.petal_rules.specs.Server.{Post, Sender, Server, letters_of, sender}
-use Rattle.petal_rules.specs.Jobs.{Acted, here_of, works}
+use Rattle.petal_rules.specs.Log.{LogDone}
+use Rattle.petal_rules.specs.Server.{Done, Here, Post, Sender, Server, letters_of, sender}
+use Rattle.petal_rules.specs.Jobs.{Acted, does, entered, here_of, is_log_job, log_does, voter_of, worked, works}
 use Rattle.petal_rules.specs.Clients.{Reaction, client_sender}
-use Rattle.petal_rules.specs.World.{Setting, World, Stepped, step, stamped, clock_of, with_answer, client_step, server_step, next_line, lines_of}
+use Rattle.petal_rules.specs.World.{Setting, World, Stepped, step, stamped, clock_of, with_answer, client_step, server_step, next_line, lines_of, client_state, server_state}
 use Rattle.petal_rules.specs.declared.job.Job.{Job}
 use Rattle.petal_rules.specs.declared.step.Step.{Step}
 use Rattle.petal_rules.specs.declared.step.Step.TheVariants.{Call, Deliver, Tick, Work}
@@ -26,7 +27,6 @@ use Rattle.petal_world.specs.Seats.{seat_of, reacted_at}
 use Rattle.world_desks.specs.Sent.{Lists, with_letters}
 use Rattle.world_desks.specs.Waiting.{Await}
 use Rattle.petal_world.specs.Actors.{Actors, Shows, without_answered, client_letters, with_client, server_letters, with_server}
-use Rattle.petal_world.specs.Play.{IsSteady}
 use Rattle.world_desks.proofs.Ranges.{set_range, same_range}
 use Rattle.world_desks.proofs.Letters.{IsPast, lists_all, step_letters_new, of_step}
 use Rattle.world_desks.proofs.Awaiting.{one_answered}
@@ -74,7 +74,7 @@ posted_past w later who stamp letters posted sent clock grows past letter m =
 
 -- ### A client's step
 
-module _ (setting : Setting) (steady : IsSteady setting) (w : World) (actors : Actors) (h : Shows setting w actors) (c : ℕ) (what : Step) (stamp : ℕ) where
+module _ (setting : Setting) (w : World) (actors : Actors) (h : Shows setting w actors) (c : ℕ) (what : Step) (stamp : ℕ) where
   abbrev seat : Seat
   seat = seat_of setting w c
 
@@ -82,7 +82,7 @@ module _ (setting : Setting) (steady : IsSteady setting) (w : World) (actors : A
   by_client = step (actor.Client c) what setting w stamp
 
   client_posts : ArePosted (actor.Client c) stamp (client_letters seat what stamp)
-  client_posts = record { sender = client_sender (setting.states (w.clients c).rev) c; posts = _; from = refl; are = refl }
+  client_posts = record { sender = client_sender c (reacted_at seat what).0.client; posts = _; from = refl; are = refl }
 
   client_sent : by_client.world.sent ≡ client_letters seat what stamp ++ w.sent
   unfolding step
@@ -104,7 +104,7 @@ module _ (setting : Setting) (steady : IsSteady setting) (w : World) (actors : A
   ]
 
   abbrev reacts_so : Reaction
-  reacts_so = client_step what (setting.states (w.clients c).rev) c (w.clients c) (next_line setting.lines c (w.clients c))
+  reacts_so = client_step what (client_state setting w c) c (w.clients c) (next_line setting.lines c (w.clients c))
 
   -- the client's own seat is that of the world after
   own_seat : record seat { core = (reacted_at seat what).0; clock = stamp } ≡ seat_of setting by_client.world c
@@ -112,15 +112,14 @@ module _ (setting : Setting) (steady : IsSteady setting) (w : World) (actors : A
   own_seat =
       let client : reacts_so.client ≡ put_at w.clients c reacts_so.client c = sym (put_same w.clients c reacts_so.client) in
       let clock : stamp ≡ put_at w.client_clocks c stamp c = sym (put_same w.client_clocks c stamp) in
-      let state = steady (w.clients c).rev (put_at w.clients c reacts_so.client c).rev in
-      λ i. record { core = record { me = c; state = state i; client = client i }; clock = clock i; lines = lines_of setting.lines c }
+      λ i. record { core = record { me = c; servers = setting.servers; client = client i }; clock = clock i; lines = lines_of setting.lines c }
 
   other_seat : (k : ℕ) → k ≢ c → seat_of setting w k ≡ seat_of setting by_client.world k
   unfolding step
   other_seat k ne =
       let client : w.clients k ≡ put_at w.clients c reacts_so.client k = sym (put_apart w.clients c reacts_so.client k ne) in
       let clock : w.client_clocks k ≡ put_at w.client_clocks c stamp k = sym (put_apart w.client_clocks c stamp k ne) in
-      λ i. record { core = record { me = k; state = setting.states (client i).rev; client = client i }; clock = clock i; lines = lines_of setting.lines k }
+      λ i. record { core = record { me = k; servers = setting.servers; client = client i }; clock = clock i; lines = lines_of setting.lines k }
 
   same_desk : (n : ℕ) → desk_of setting w n ≡ desk_of setting by_client.world n
   unfolding step
@@ -148,9 +147,16 @@ module _ (setting : Setting) (steady : IsSteady setting) (w : World) (actors : A
 
 -- ### A server's step
 
+by_kind : (b : Bool) (here : Here) (server : Server) (rest : List Job) (log : LogDone) (done : Done) (stamp : ℕ)
+    → ArePosted (actor.Server here.me) stamp (stamped stamp (if b then entered here server rest log else worked here server rest done).letters)
+by_kind true here server rest log done stamp = record { sender = sender here; posts = log.posts; from = refl; are = refl }
+by_kind false here server rest log done stamp = record { sender = sender here; posts = done.posts; from = refl; are = refl }
+
 work_posts : (queue : List Job) (state : State) (n stamp : ℕ) (server : Server) → ArePosted (actor.Server n) stamp (stamped stamp (works (here_of state n server) server queue).letters)
 work_posts [] state n stamp server = record { sender = sender (here_of state n server); posts = []; from = refl; are = refl }
-work_posts (first ∷ rest) state n stamp server = record { sender = sender (here_of state n server); posts = _; from = refl; are = refl }
+work_posts (first ∷ rest) state n stamp server =
+    let here = here_of state n server in
+    by_kind (is_log_job first) here server rest (log_does (voter_of here) server.log first) (does here server.own first) stamp
 
 server_posts : (what : Step) (state : State) (n stamp : ℕ) (server : Server) → ArePosted (actor.Server n) stamp (stamped stamp (server_step what state n server).letters)
 server_posts (Call line) state n stamp server = record { sender = sender (here_of state n server); posts = []; from = refl; are = refl }
@@ -158,7 +164,7 @@ server_posts (Deliver letter) state n stamp server = record { sender = sender (h
 server_posts Tick state n stamp server = record { sender = sender (here_of state n server); posts = _; from = refl; are = refl }
 server_posts (Work work_end.Done) state n stamp server = work_posts server.queue state n stamp server
 
-module _ (setting : Setting) (steady : IsSteady setting) (w : World) (actors : Actors) (h : Shows setting w actors) (n : ℕ) (what : Step) (stamp : ℕ) where
+module _ (setting : Setting) (w : World) (actors : Actors) (h : Shows setting w actors) (n : ℕ) (what : Step) (stamp : ℕ) where
   abbrev desk : Desk
   desk = desk_of setting w n
 
@@ -185,22 +191,21 @@ module _ (setting : Setting) (steady : IsSteady setting) (w : World) (actors : A
   ]
 
   abbrev acts_so : Acted
-  acts_so = server_step what (setting.states (w.servers n).life.rev) n (w.servers n)
+  acts_so = server_step what (server_state setting w n) n (w.servers n)
 
   own_desk : record { site = site_after desk.site what; clock = stamp } ≡ desk_of setting by_server.world n
   unfolding step
   own_desk =
       let server : acts_so.server ≡ put_at w.servers n acts_so.server n = sym (put_same w.servers n acts_so.server) in
       let clock : stamp ≡ put_at w.server_clocks n stamp n = sym (put_same w.server_clocks n stamp) in
-      let state = steady (w.servers n).life.rev (put_at w.servers n acts_so.server n).life.rev in
-      λ i. record { site = record { me = n; state = state i; server = server i }; clock = clock i }
+      λ i. record { site = record { me = n; servers = setting.servers; server = server i }; clock = clock i }
 
   other_desk : (k : ℕ) → k ≢ n → desk_of setting w k ≡ desk_of setting by_server.world k
   unfolding step
   other_desk k ne =
       let server : w.servers k ≡ put_at w.servers n acts_so.server k = sym (put_apart w.servers n acts_so.server k ne) in
       let clock : w.server_clocks k ≡ put_at w.server_clocks n stamp k = sym (put_apart w.server_clocks n stamp k ne) in
-      λ i. record { site = record { me = k; state = setting.states (server i).life.rev; server = server i }; clock = clock i }
+      λ i. record { site = record { me = k; servers = setting.servers; server = server i }; clock = clock i }
 
   same_seat : (c : ℕ) → seat_of setting w c ≡ seat_of setting by_server.world c
   unfolding step
@@ -211,7 +216,7 @@ module _ (setting : Setting) (steady : IsSteady setting) (w : World) (actors : A
   server_waits = h.waiting
 
   abbrev posts : ArePosted (actor.Server n) stamp (server_letters desk what stamp)
-  posts = server_posts what (setting.states (w.servers n).life.rev) n stamp (w.servers n)
+  posts = server_posts what (server_state setting w n) n stamp (w.servers n)
 
   -- what is kept after a server's step is that of the world after it
   pub server_shows : n < setting.servers → clock_of w (actor.Server n) < stamp → Shows setting by_server.world (with_server actors n desk what stamp)

@@ -6,6 +6,7 @@ use Rattle.petal_msg.specs.declared.letter.Actor.TheVariants as actor
 use Rattle.script_lines.specs.declared.request.Line.{Line}
 use Rattle.script_lines.specs.declared.script.Script.{Script}
 use Rattle.petal_rules.specs.World.{Setting, World, start, step, setting_of, next_line, next_stamp, clock_of, MayStep, greatest_u64}
+use Rattle.petal_rules.specs.Log as log
 use Rattle.petal_rules.specs.World as rules
 use Rattle.petal_rules.specs.declared.step.Step.{Step}
 use Rattle.petal_rules.specs.declared.step.Step.TheVariants.{Call, Deliver, Tick, Work}
@@ -25,10 +26,6 @@ pub record Play : Type 0 where
   pub phase : ℕ
   pub floor : ℕ
   pub over : Bool
-
--- the global state is one at all revisions
-abbrev pub IsSteady : Setting → Type 0
-IsSteady setting = (one other : ℕ) → setting.states one ≡ setting.states other
 
 -- the world behind the records
 abbrev pub world_of : Play → World
@@ -84,8 +81,8 @@ told_by play who what = record { letters = (done_by play who what).letters; answ
 
 -- the revision of a running server or a client
 abbrev pub rev_of : Setting → World → Actor → Option ℕ
-rev_of setting w (actor.Server n) = if nat_lt n setting.servers && (w.servers n).life.running then Some (w.servers n).life.rev else None
-rev_of setting w (actor.Client c) = if nat_lt c 9 then Some (w.clients c).rev else None
+rev_of setting w (actor.Server n) = if nat_lt n setting.servers && (w.servers n).life.running then Some (log.rev_of (w.servers n).log) else None
+rev_of setting w (actor.Client c) = if nat_lt c 9 then Some (length (w.clients c).applied) else None
 
 -- the step may be taken by what is kept
 abbrev pub Can : Actors → Actor → Step → Type 0
@@ -106,4 +103,4 @@ Leaves setting w who what stamp new told =
     Shows setting (step who what setting w stamp).world new × (told ≡ record { letters = (step who what setting w stamp).letters; answer = (step who what setting w stamp).answer })
 
 abbrev pub LeavesIn : Actors → Actor → Step → ℕ → Actors → Stepped → Type 0
-LeavesIn actors who what stamp new told = (setting : Setting) (w : World) → IsSteady setting → Shows setting w actors → MayStep setting w who what → clock_of w who < stamp → Leaves setting w who what stamp new told
+LeavesIn actors who what stamp new told = (setting : Setting) (w : World) → Shows setting w actors → MayStep setting w who what → clock_of w who < stamp → Leaves setting w who what stamp new told

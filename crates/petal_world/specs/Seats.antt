@@ -5,7 +5,7 @@ use Rattle.petal_rules.specs.Clients.{Client}
 use Rattle.petal_rules.specs.World.{Setting, World, client_step, lines_of}
 use Rattle.petal_rules.specs.declared.step.Step.{Step}
 use Rattle.petal_rules.specs.declared.step.Step.TheVariants.{Call, Deliver, Tick, Work}
-use Rattle.client_core.specs.Core.{Core, at_core}
+use Rattle.client_core.specs.Core.{Core, at_core, state_of}
 use Rattle.client_core.specs.declared.reaction.Reaction.{Reaction}
 use Rattle.petal_world.specs.declared.seat.Seat.{Seat}
 
@@ -18,12 +18,12 @@ CanTake (Work end) client = Unit {0}
 
 -- the rule of a step, at this client: the core after it, and what it gives
 abbrev pub reacted_at : Seat → Step → Core × Reaction
-reacted_at seat step = at_core seat.core (client_step step seat.core.state seat.core.me seat.core.client (slice_get seat.lines seat.core.client.seq))
+reacted_at seat step = at_core seat.core (client_step step (state_of seat.core) seat.core.me seat.core.client (slice_get seat.lines seat.core.client.seq))
 
 -- what a world keeps of one client
 abbrev pub seat_of : Setting → World → ℕ → Seat
 seat_of setting w c = record {
-  core = record { me = c; state = setting.states (w.clients c).rev; client = w.clients c };
+  core = record { me = c; servers = setting.servers; client = w.clients c };
   clock = w.client_clocks c;
   lines = lines_of setting.lines c;
 }

@@ -8,7 +8,6 @@
 mod actors;
 mod deciding;
 mod error;
-mod script;
 mod seat;
 mod seats;
 mod stepped;
@@ -18,7 +17,6 @@ mod world;
 pub use error::WorldError;
 pub use petal_history::{History, Record};
 pub use petal_rules::{Step, WorkEnd};
-pub use script::fixed_state;
 pub use stepped::Stepped;
 pub use world::World;
 pub use world_desks::{Host, are_in_order};

@@ -1,7 +1,7 @@
 //! One client of a world.
 
 ghost use Rattle.std.specs.Prelude.{◌≡◌, ◌∷◌, [], None, false, slice_get, option_copied, IfOk, OnErr};
-ghost use Rattle.client_core.specs.Core.{at_core, is_spent};
+ghost use Rattle.client_core.specs.Core.{at_core, is_spent, state_of};
 ghost use Rattle.petal_rules.specs.World.{calls};
 ghost use Rattle.petal_world.specs.Seats.{CanTake, reacted_at};
 
@@ -33,7 +33,7 @@ impl Seat {
         requires free { self.old.core.client.asked ≡ None }
         requires goes_on { is_spent self.old.core.client ≡ false }
         ensures ok { IfOk result (λ reaction. (self.new.core, reaction)
-            ≡ at_core self.old.core (calls self.old.core.state self.old.core.me self.old.core.client (slice_get self.old.lines self.old.core.client.seq))) }
+            ≡ at_core self.old.core (calls (state_of self.old.core) self.old.core.me self.old.core.client (slice_get self.old.lines self.old.core.client.seq))) }
         ensures rest { self.new ≡ record self.old { core = self.new.core } }
         ensures err { OnErr result (self.new ≡ self.old) }
     {

@@ -3,14 +3,12 @@
 ghost use Rattle.std.specs.Prelude.{◌≡◌, ◌<◌, false, max, map, Some, length, slice_get, slice_set, option_copied, IfOk, IfSome};
 ghost use Rattle.std.specs.List.{fold};
 ghost use Rattle.client_core.specs.Core.{is_spent};
-ghost use Rattle.petal_rules.specs.State.{servers_of};
-ghost use Rattle.petal_rules.specs.World.{lines_of, setting_of, start, state_of};
+ghost use Rattle.petal_rules.specs.World.{lines_of, setting_of, start};
 ghost use Rattle.petal_world.specs.Seats.{CanTake, reacted_at, seat_of, seats_of};
 ghost use Rattle.petal_world.specs.declared.seat.Seat.{Seat};
 
 use crate::seat::Seat;
 use client_core::{ClientCore, Reaction};
-use global_state::GlobalState;
 use petal_base::{CLIENTS, ClientId, NoMemory, Sequence, Stamp};
 use petal_rules::Step;
 use script_lines::{Line, Script};
@@ -47,18 +45,12 @@ fn lines_of(alloc: Global, lines: &[Line], client: ClientId) -> Result<Sequence<
 }
 
 /// A client of a run that begins.
-fn first_seat(
-    alloc: Global,
-    script: &Script,
-    state: &GlobalState,
-    client: ClientId,
-) -> Result<Seat, NoMemory>
-    requires state { state.now ≡ state_of script.now.servers script.now.lines }
-    requires servers { servers_of state.now ≡ script.now.servers }
+fn first_seat(alloc: Global, script: &Script, client: ClientId) -> Result<Seat, NoMemory>
+    requires { client < 9 }
     ensures { IfOk result (λ seat. seat ≡ seat_of (setting_of script.now) (start (setting_of script.now)) client) }
 {
     Ok(Seat {
-        core: ClientCore::new(client, script.servers, state.copy()?),
+        core: ClientCore::new(alloc, client, script.servers)?,
         clock: 0,
         lines: lines_of(alloc, script.lines.as_slice(), client)?,
     })
@@ -66,14 +58,12 @@ fn first_seat(
 
 impl Seats {
     /// The clients of a run that begins.
-    pub fn start(alloc: Global, script: &Script, state: &GlobalState) -> Result<Seats, NoMemory>
-        requires state { state.now ≡ state_of script.now.servers script.now.lines }
-        requires servers { servers_of state.now ≡ script.now.servers }
+    pub fn start(alloc: Global, script: &Script) -> Result<Seats, NoMemory>
         ensures { IfOk result (λ seats. seats ≡ seats_of (setting_of script.now) (start (setting_of script.now))) }
     {
         let mut seats = Vec::new(alloc);
         for client in 0..CLIENTS {
-            seats.push(first_seat(alloc, script, state, client)?)?;
+            seats.push(first_seat(alloc, script, client)?)?;
         }
         Ok(Seats { seats })
     }

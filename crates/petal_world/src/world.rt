@@ -2,7 +2,7 @@
 
 ghost use Rattle.std.specs.Prelude.{◌≡◌, ◌+◌, ◌++◌, ◌∷◌, [], map, min, false, true, IfOk, OnOk, OnErr, IsErrOf};
 ghost use Rattle.petal_history.specs.Legal.{IsLegal};
-ghost use Rattle.petal_rules.specs.World.{MayStep, greatest_u64, setting_of, state_of};
+ghost use Rattle.petal_rules.specs.World.{MayStep, greatest_u64, setting_of};
 ghost use Rattle.petal_world.specs.Play.{Can, LeavesIn, entered, played, rev_of, told_by, world_of};
 ghost use Rattle.world_desks.specs.Desks.{first_sites};
 ghost use Rattle.world_desks.specs.Playable.{AreNumbered, AreOrdered};
@@ -11,7 +11,6 @@ ghost use Rattle.petal_world.specs.declared.error.WorldError.TheVariants as erro
 use crate::actors::Actors;
 use crate::seats::Seats;
 use crate::{Stepped, WorldError};
-use global_state::GlobalState;
 use petal_base::{NoMemory, Rev, Sequence, Stamp};
 use petal_history::{History, Record};
 use petal_msg::{Actor, SharedLetter};
@@ -115,22 +114,16 @@ fn after(stamp: Stamp) -> Stamp
 }
 
 impl<H: Host> World<H> {
-    /// The world of a run that begins: nothing was called or sent. The servers and the state are those of the script, whose
-    /// lines have numbers of their own that rise with their phases.
-    pub fn start(
-        alloc: Global,
-        script: Script,
-        state: &GlobalState,
-        hosts: Sequence<H>,
-    ) -> Result<World<H>, NoMemory>
+    /// The world of a run that begins: nothing was called or sent. The servers are those of the script, whose lines have
+    /// numbers of their own that rise with their phases.
+    pub fn start(alloc: Global, script: Script, hosts: Sequence<H>) -> Result<World<H>, NoMemory>
         requires numbered { AreNumbered script.lines }
         requires ordered { AreOrdered script.lines }
-        requires state { state.now ≡ state_of script.servers script.lines }
         requires hosts { map H.seen hosts ≡ first_sites script }
         ensures { IfOk result (λ world. world ≡ record { script = script; records = []; phase = 0; floor = 0; over = false }) }
     {
         let actors = Actors {
-            seats: Seats::start(alloc, &script, state)?,
+            seats: Seats::start(alloc, &script)?,
             desks: Desks::start(alloc, hosts)?,
             sent: Sent::new(alloc),
             waiting: Waiting::start(alloc, script.lines.as_slice())?,

@@ -7,7 +7,6 @@
 
 mod answers;
 mod caller;
-mod cast;
 mod patience;
 mod playing;
 mod post;

@@ -1,22 +1,33 @@
 //! How long an actor waits before it is ticked again.
 
+use petal_base::Rev;
+
 /// Past this many ticks the pauses grow no longer.
 const LONGEST: u32 = 12;
-
-/// So many ticks are passed on in the turn after a loss. Of four equal letters in a row at least two are handed over, whatever
-/// every K-th is, and of the two replies in a row at least one.
-const AFTER_LOSS: u32 = 4;
 
 /// Counts the ticks that come to an actor and how many were passed on to it, since it last got on.
 #[derive(Drop)]
 pub(crate) struct Patience {
     came: u32,
     passed: u32,
+    rev: Option<Rev>,
 }
 
 impl Patience {
     pub(crate) fn new() -> Patience {
-        Patience { came: 0, passed: 0 }
+        Patience {
+            came: 0,
+            passed: 0,
+            rev: None,
+        }
+    }
+
+    /// The actor is at this revision. It got on where it was at another one before.
+    pub(crate) fn at_rev(&mut self, rev: Option<Rev>) {
+        if rev != self.rev {
+            self.rev = rev;
+            self.renew();
+        }
     }
 
     /// The actor got on: the next tick is passed on at once.
@@ -32,23 +43,17 @@ impl Patience {
         if self.came < 1 << self.passed.min(LONGEST) {
             return false;
         }
-        self.pass();
+        self.came = 0;
+        self.passed = self.passed.saturating_add(1);
         true
     }
 
-    fn pass(&mut self) {
-        self.came = 0;
-        self.passed = self.passed.saturating_add(1);
-    }
-
-    /// How many ticks are passed on in a turn. One tick comes, and after a loss as many as it takes until four are passed on.
-    pub(crate) fn ticks(&mut self, after_loss: bool) -> u32 {
-        if !after_loss {
+    /// How many ticks are passed on in a turn: so many where some are passed on at once, and else one where the actor has waited
+    /// for it long enough.
+    pub(crate) fn ticks(&mut self, at_once: u32) -> u32 {
+        if at_once == 0 {
             return u32::from(self.passes());
         }
-        for _ in 0..AFTER_LOSS {
-            self.pass();
-        }
-        AFTER_LOSS
+        at_once
     }
 }

@@ -9,7 +9,6 @@ ghost use Rattle.petal_history.specs.Text.{answers_of};
 ghost use Rattle.world_desks.specs.Playable.{AreOrdered};
 ghost use Rattle.plain_schedule.specs.Phases.{Ends, GoesByPhases, records_of};
 ghost use Rattle.plain_schedule.specs.Places.{GoesOn, numbers, phase_run, progress_of, KeepsPlaces};
-ghost use Rattle.plain_schedule.specs.Whole.{begins_with_disk};
 
 use crate::answers::Answers;
 use crate::schedule::Schedule;
@@ -120,9 +119,8 @@ fn play_lines<R: Wait>(
 }
 
 impl Playing {
-    /// The play of a script, whose first request makes its disk, before its first step.
+    /// The play of a script, before its first step.
     pub fn start(alloc: Global, script: Script) -> Result<Playing, NoMemory>
-        requires disk { begins_with_disk script.lines ≡ true }
         requires sound { IsSound script }
         requires ordered { AreOrdered script.lines }
         requires rising { AreRising script.lines }

@@ -72,6 +72,16 @@ impl Post {
         self.boxes.get_mut(place)?.pop_front()
     }
 
+    /// Puts so many of the first letters of the box at this place behind its others.
+    pub(crate) fn turn(&mut self, place: usize, count: usize) -> Result<(), NoMemory> {
+        for _ in 0..count {
+            if let Some(letter) = self.take(place) {
+                self.send(place, letter)?;
+            }
+        }
+        Ok(())
+    }
+
     /// What becomes of the next letter that is to be handed over. A letter that is lost is not doubled.
     pub(crate) fn next_handing(&mut self) -> Handing {
         self.handed = self.handed.wrapping_add(1);
@@ -84,6 +94,7 @@ impl Post {
             Handing::Once
         }
     }
+
     /// Whether a letter was lost since this was last asked.
     pub(crate) fn take_loss(&mut self) -> bool {
         let lost = self.has_lost;

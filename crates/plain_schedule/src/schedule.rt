@@ -4,10 +4,8 @@ ghost use Rattle.std.specs.Prelude.{◌≡◌, [], true, IfOk};
 ghost use Rattle.petal_history.specs.Sound.{IsSound};
 ghost use Rattle.world_desks.specs.Playable.{AreOrdered};
 ghost use Rattle.plain_schedule.specs.Places.{GoesOn};
-ghost use Rattle.plain_schedule.specs.Whole.{begins_with_disk};
 
 use crate::caller::{Caller, callers_of};
-use crate::cast::fixed_state;
 use crate::patience::Patience;
 use crate::post::{Handing, Post};
 use memory_server::{MemServer, members};
@@ -19,8 +17,14 @@ use script_lines::Script;
 use std::alloc::Global;
 use std::sync::Wait;
 
+/// So many ticks, or one or two more, are passed on at once after a loss.
+const AT_ONCE: u32 = 4;
+
+/// For so many rounds they come to one client and one server.
+const SPAN: u32 = 8;
+
 /// A world in the middle of a run: the letters that are on their way, what each client has still to call, how long each server
-/// waits to be ticked, the phase, and how many of its lines have no answer yet.
+/// waits to be ticked, the phase, how many of its lines have no answer yet, and whether it has only begun.
 #[derive(Drop)]
 pub(crate) struct Schedule {
     pub(crate) world: World<MemServer>,
@@ -30,6 +34,9 @@ pub(crate) struct Schedule {
     patience: Vec<Patience>,
     phase: u32,
     left: usize,
+    // Whether no round of the phase has been gone through.
+    is_new: bool,
+    rounds: u32,
     // Whether a letter was lost in the round before.
     after_loss: bool,
 }
@@ -44,21 +51,18 @@ fn is_refusal(body: &Body) -> bool {
 
 /// The world of a run that begins.
 fn world_of(alloc: Global, script: Script) -> Result<World<MemServer>, NoMemory>
-    requires disk { begins_with_disk script.lines ≡ true }
     requires sound { IsSound script }
     requires ordered { AreOrdered script.lines }
     ensures script { IfOk result (λ world. world.script ≡ script) }
     ensures records { IfOk result (λ world. world.records ≡ []) }
 {
-    let state = fixed_state(alloc, &script)?;
-    let members = members(alloc, &script, &state)?;
-    World::start(alloc, script, &state, members)
+    let members = members(alloc, &script)?;
+    World::start(alloc, script, members)
 }
 
 impl Schedule {
     /// No step was taken, and no phase has begun.
     pub(crate) fn new(alloc: Global, script: Script) -> Result<Schedule, NoMemory>
-        requires disk { begins_with_disk script.lines ≡ true }
         requires sound { IsSound script }
         requires ordered { AreOrdered script.lines }
         ensures script { IfOk result (λ schedule. schedule.world.script ≡ script) }
@@ -80,6 +84,8 @@ impl Schedule {
             patience,
             phase: 0,
             left: 0,
+            is_new: false,
+            rounds: 0,
             after_loss: false,
         })
     }
@@ -149,6 +155,20 @@ impl Schedule {
         }
     }
 
+    // A server gets on with the command that is proposed to it. After a loss it may be one that is proposed again.
+    fn note_letter(&mut self, actor: Actor, body: &Body)
+        ensures { self.new.world ≡ self.old.world }
+    {
+        if self.after_loss {
+            return;
+        }
+        if let (Actor::Server(server), Body::Propose { .. }) = (actor, body) {
+            if let Some(patience) = self.patience.get_mut(server as usize) {
+                patience.renew();
+            }
+        }
+    }
+
     // Gives whether the actor sent letters of its own.
     fn hand_over(
         &mut self,
@@ -163,6 +183,7 @@ impl Schedule {
         if handing == Handing::Lost {
             return Ok(false);
         }
+        self.note_letter(actor, &letter.get().body);
         if handing == Handing::Twice {
             let again = letter.share()?;
             self.take(alloc, actor, &Step::Deliver { letter: again })?;
@@ -171,12 +192,24 @@ impl Schedule {
         Ok(sent.unwrap_or(0) > 0)
     }
 
+    // After a loss a box is emptied from another letter on in each round.
+    fn turn_box(&mut self, place: usize) -> Result<(), NoMemory>
+        ensures { self.new.world ≡ self.old.world }
+    {
+        let waiting = self.post.waiting(place);
+        if !self.after_loss || waiting == 0 {
+            return Ok(());
+        }
+        self.post.turn(place, self.rounds as usize % waiting)
+    }
+
     // The actor gets each letter that waits for it.
     fn get_mail(&mut self, alloc: Global, actor: Actor) -> Result<(), NoMemory>
         ensures script { self.new.world.script ≡ self.old.world.script }
         ensures goes_on { GoesOn self.old.world.records self.new.world.records }
     {
         let place = self.place_of(actor);
+        self.turn_box(place)?;
         for _ in 0..self.post.waiting(place) {
             if let Some(letter) = self.post.take(place) {
                 self.hand_over(alloc, actor, letter)?;
@@ -225,12 +258,29 @@ impl Schedule {
         Ok(())
     }
 
-    // A client with nothing open has nothing to send again.
+    // How many ticks are passed on at once to one of so many actors. After a loss they come to one after the other, for some rounds
+    // each: were they to come to all at once, servers that propose would go on refusing each other's ballots.
+    fn at_once(&self, number: u8, count: u8) -> u32 {
+        let turn = self.rounds / SPAN;
+        if self.after_loss && count != 0 && turn % u32::from(count) == u32::from(number) {
+            AT_ONCE + self.rounds % 3
+        } else {
+            0
+        }
+    }
+
+    // A client with nothing open has nothing to send again. Before its first call of a phase it asks what was chosen.
     fn client_ticks(&mut self, client: ClientId) -> u32
         ensures { self.new.world ≡ self.old.world }
     {
+        let at_once = self.at_once(client, CLIENTS);
+        let rev = self.world.rev(Actor::Client(client));
         match self.callers.get_mut(client as usize) {
-            Some(caller) if caller.is_open => caller.patience.ticks(self.after_loss),
+            Some(caller) if caller.is_open => {
+                caller.patience.at_rev(rev);
+                caller.patience.ticks(at_once)
+            }
+            Some(caller) if self.is_new => u32::from(caller.next(self.phase).is_some()),
             _ => 0,
         }
     }
@@ -254,14 +304,22 @@ impl Schedule {
         self.get_second_mail(alloc, client)?;
         let times = self.client_ticks(client);
         self.tick(alloc, actor, times)?;
+        if self.is_new {
+            return Ok(());
+        }
         self.call_next(alloc, client)
     }
 
     fn server_ticks(&mut self, server: ServerId) -> u32
         ensures { self.new.world ≡ self.old.world }
     {
+        let at_once = self.at_once(server, self.servers);
+        let rev = self.world.rev(Actor::Server(server));
         match self.patience.get_mut(server as usize) {
-            Some(patience) => patience.ticks(self.after_loss),
+            Some(patience) => {
+                patience.at_rev(rev);
+                patience.ticks(at_once)
+            }
             None => 0,
         }
     }
@@ -291,6 +349,7 @@ impl Schedule {
     {
         let actor = Actor::Server(server);
         self.get_mail(alloc, actor)?;
+        self.work_off(rt, alloc, server)?;
         let times = self.server_ticks(server);
         self.tick(alloc, actor, times)?;
         self.work_off(rt, alloc, server)
@@ -298,13 +357,16 @@ impl Schedule {
 
     /// Each client and then each server has its turn, by number. In it an actor gets the letters that were sent to it, ticks are
     /// passed on to it, a client with nothing open calls its next line of the phase, and a server works until its queue is
-    /// empty. A tick is passed on where the actor has waited for it long enough. In the round after a loss ticks come until
-    /// four are passed on, so that each letter that is waited for goes out four times in a row, and one exchange at least is
-    /// done: no loss of every K-th letter lasts for ever.
+    /// empty, before the ticks and after them. A tick is passed on where the actor has waited for it long enough. In the round
+    /// after a loss four to six are passed on at once to one client and one server, and each box is emptied from another letter on
+    /// than in the round before, so that no loss of every K-th letter hits the same letters for ever. In the first round of a later phase a client
+    /// calls nothing, and one that has a line to call asks what was chosen: so it need not find out by an entry of its own that
+    /// a disk was made.
     pub(crate) fn round<R: Wait>(&mut self, rt: &R, alloc: Global) -> Result<(), NoMemory>
         ensures script { self.new.world.script ≡ self.old.world.script }
         ensures goes_on { GoesOn self.old.world.records self.new.world.records }
     {
+        self.rounds = self.rounds.wrapping_add(1);
         self.after_loss = self.post.take_loss();
         for client in 0..CLIENTS {
             self.client_turn(alloc, client)?;
@@ -312,6 +374,7 @@ impl Schedule {
         for server in 0..self.servers {
             self.server_turn(rt, alloc, server)?;
         }
+        self.is_new = false;
         Ok(())
     }
 
@@ -322,6 +385,7 @@ impl Schedule {
     {
         self.phase = phase;
         self.left = lines;
+        self.is_new = phase > 0;
         self.world.enter(phase)
     }
 

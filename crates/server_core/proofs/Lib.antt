@@ -1,2 +1,4 @@
 pub mod Reading
 pub mod Steps
+pub mod Works
+pub mod Ticks

@@ -1,43 +1,53 @@
--- A server in memory, and the server of the rules that it is with its store.
-use Rattle.std.specs.Prelude.{◌≡◌, ℕ, ◌==◌, ◌||◌, Bool, true, List, [], Option, None, Some}
+-- A server in memory, and the server of the rules that it is with its two stores.
+use Rattle.std.specs.Prelude.{◌≡◌, ◌≤◌, ◌<◌, ◌⊎◌, ℕ, ◌==◌, ◌||◌, Bool, true, List, [], Option, None, Some, Result, Err}
+use Rattle.log_side.specs.Part.{Part, log_of, state_of}
+use Rattle.pair_side.specs.Side.{Side, pairs_of}
+use Rattle.pair_side.specs.declared.error.WorkError.{WorkError}
+use Rattle.pair_side.specs.declared.error.WorkError.TheVariants.{Failed}
 use Rattle.petal_msg.specs.declared.letter.Letter.{Letter}
-use Rattle.petal_rules.specs.State.{State}
+use Rattle.petal_paxos.specs.declared.record.StateRecord.{StateRecord}
 use Rattle.petal_rules.specs.Store.{Store, top_of}
 use Rattle.petal_rules.specs.Server.{Server, Here}
 use Rattle.petal_rules.specs.Jobs.{Acted, works}
 use Rattle.petal_rules.specs.World.{greatest_u64}
 use Rattle.petal_rules.specs.declared.job.Job.{Job}
-use Rattle.pair_side.specs.Side.{Side, pairs_of}
 
--- its number and incarnation, the state at its revision, its side of its pairs, and its queue
+-- its incarnation, its part of the agreed log, which has its number, its side of its pairs, and its queue
 pub record Core : Type 0 where
-  pub me : ℕ
   pub inc : ℕ
-  pub state : State
+  pub log : Part
   pub side : Side
   pub queue : List Job
 
 -- where its jobs are done
 abbrev pub here_in : Core → Here
-here_in core = record { state = core.state; me = core.me; inc = core.inc }
+here_in core = record { state = state_of core.log; me = core.log.voter.me; inc = core.inc }
 
--- the server, which runs, with this store
-abbrev pub server_of : Core → Store → Server
-server_of core store = record {
-  life = record { running = true; inc = core.inc; rev = core.state.rev };
+-- the server, which runs, with this store and these records on its state device
+abbrev pub server_of : Core → Store → List StateRecord → Server
+server_of core store records = record {
+  life = record { running = true; inc = core.inc };
+  log = log_of core.log records;
   own = record { pairs = pairs_of core.side; store = store };
   queue = core.queue;
 }
 
 -- the server and its letters after a call
-abbrev pub acted : Core → Store → List Letter → Acted
-acted core store letters = record { server = server_of core store; letters = letters }
+abbrev pub acted : Core → Store → List StateRecord → List Letter → Acted
+acted core store records letters = record { server = server_of core store records; letters = letters }
 
 -- the first job is done as the rule says; without a job nothing is
-abbrev pub IsWork : (old : Core) (old_store : Store) (new : Core) (new_store : Store) → Option (List Letter) → Type 0
-IsWork old old_store new new_store None = (old.queue ≡ []) × (new ≡ old) × (new_store ≡ old_store)
-IsWork old old_store new new_store (Some letters) = acted new new_store letters ≡ works (here_in old) (server_of old old_store) old.queue
+abbrev pub IsWork : (old : Core) → Store → List StateRecord → (new : Core) → Store → List StateRecord → Option (List Letter) → Type 0
+IsWork old store records new store' records' None = (old.queue ≡ []) × (new ≡ old) × (store' ≡ store) × (records' ≡ records)
+IsWork old store records new store' records' (Some letters) =
+    acted new store' records' letters ≡ works (here_in old) (server_of old store records) old.queue
 
 -- a number of the server is the greatest of its type, so that a job could not count on
 abbrev pub is_spent : Core → Store → Bool
 is_spent core store = (core.side.next == greatest_u64) || (top_of store.chains == greatest_u64)
+
+-- neither count of faults falls, that of the data device or that of the state device, and `Failed` comes only where one has risen
+pub record HasFaults {T : Type 0} (data_before data_now state_before state_now : ℕ) (result : Result T WorkError) : Type 0 where
+  pub data_later : data_before ≤ data_now
+  pub state_later : state_before ≤ state_now
+  pub failed : result ≡ Err Failed → (data_before < data_now) ⊎ (state_before < state_now)

@@ -112,6 +112,9 @@ fn handles<D: Disk>(
         (handles here.now (own_of side.old store.old) letter.now.body) }
 {
     match &letter.body {
+        Body::Propose { .. } | Body::Pax(_) | Body::Ask { .. } | Body::News { .. } => {
+            silent(here, side, store)
+        },
         Body::Read {
             client,
             seq,
@@ -179,5 +182,6 @@ pub fn does<D: Disk>(
                 silent(here, side, store)
             }
         }
+        Job::Apply | Job::Start => silent(here, side, store),
     }
 }

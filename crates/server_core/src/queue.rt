@@ -1,71 +1,69 @@
 //! The jobs of a server, in order.
 
-ghost use Rattle.std.specs.Prelude.{◌≡◌, ◌<◌, ◌++◌, ◌∷◌, [], length, drop, slice_get, IsTrue, ◌↔◌, OnOk, OnErr};
-ghost use Rattle.std.specs.Option.{option_copied};
+ghost use Rattle.std.specs.Prelude.{◌≡◌, ◌≤◌, ◌<◌, ◌+◌, drop, ◌++◌, OnOk};
+ghost use Rattle.std.specs.VecDeque.{deque_len, deque_capacity};
+ghost use Rattle.log_side.specs.Done.{apply_first, letter_again};
 ghost use Rattle.pair_side.specs.Done.{follow_up};
+ghost use Rattle.petal_msg.specs.Kinds.{is_logged, subject_of};
+ghost use Rattle.petal_rules.specs.Jobs.{is_log_job};
 
 use petal_base::{Cell, NoMemory};
+use petal_msg::{Body, SharedLetter};
 use petal_rules::Job;
-use std::alloc::Global;
 use std::collections::VecDeque;
-use std::marker::Model;
 
-/// Jobs in the order in which they came. Contracts see the list of them.
-#[derive(Drop)]
-pub struct JobQueue {
-    jobs: VecDeque<Job>,
+/// Whether a letter is of the agreed log.
+fn is_logged(body: &Body) -> bool
+    ensures { result ≡ is_logged (subject_of body.now) }
+{
+    match body {
+        Body::Propose { .. } | Body::Pax(_) | Body::Ask { .. } | Body::News { .. } => true,
+        _ => false,
+    }
 }
 
-impl Model for JobQueue {
-    ghost use Rattle.std.specs.Prelude.{List};
-    ghost use Rattle.petal_rules.specs.declared.job.Job.{Job};
-
-    ghost Value = { List Job };
-
-    ghost view = { λ q. q.jobs.items };
+/// Whether the job is of the agreed log, and not of the pairs.
+pub fn is_log_job(job: &Job) -> bool
+    ensures { result ≡ is_log_job job.now }
+{
+    match job {
+        Job::Letter(letter) => is_logged(&letter.get().body),
+        Job::Stage(_) => false,
+        Job::Apply | Job::Start => true,
+    }
 }
 
-impl JobQueue {
-    /// No jobs. It takes no memory.
-    pub fn new(alloc: Global) -> JobQueue
-        ensures { result ≡ [] }
-    {
-        JobQueue {
-            jobs: VecDeque::new(alloc),
-        }
-    }
+/// There is room for one job more.
+pub fn make_room(jobs: &mut VecDeque<Job>) -> Result<(), NoMemory>
+    ensures same { jobs.new.items ≡ jobs.old.items }
+    ensures room { OnOk result (deque_len jobs.new + 1 ≤ deque_capacity jobs.new) }
+{
+    jobs.reserve(1)?;
+    Ok(())
+}
 
-    /// One job more.
-    pub fn push(&mut self, job: Job) -> Result<(), NoMemory>
-        ensures ok { OnOk result (self.new ≡ self.old ++ job ∷ []) }
-        ensures err { OnErr result (self.new ≡ self.old) }
-    {
-        self.jobs.push_back(job)?;
-        Ok(())
+/// The first job is done, and a stage may follow it up. It takes no memory.
+pub fn go_on(jobs: &mut VecDeque<Job>, follow: Option<Cell>)
+    requires { 0 < deque_len jobs.old }
+    ensures { jobs.new.items ≡ drop 1 jobs.old.items ++ follow_up follow }
+{
+    let _ = jobs.pop_front();
+    if let Some(cell) = follow {
+        jobs.push_back_reserved(Job::Stage(cell));
     }
+}
 
-    /// Whether there is no job.
-    pub fn is_empty(&self) -> bool
-        ensures { IsTrue result ↔ (self.now ≡ []) }
-    {
-        self.jobs.is_empty()
+/// The first job is done; that an entry is applied may follow it up, and a letter again, for which there is room.
+pub fn enter(jobs: &mut VecDeque<Job>, apply: bool, again: Option<SharedLetter>)
+    requires some { 0 < deque_len jobs.old }
+    requires room { deque_len jobs.old + 1 ≤ deque_capacity jobs.old }
+    ensures { jobs.new.items ≡ drop 1 jobs.old.items ++ apply_first apply (letter_again again) }
+{
+    let _ = jobs.pop_front();
+    if apply {
+        jobs.push_back_reserved(Job::Apply);
     }
-
-    /// The first job.
-    pub fn first(&self) -> Option<&Job>
-        ensures { option_copied result ≡ slice_get self.now 0 }
-    {
-        self.jobs.front()
-    }
-
-    /// The first job is done, and a stage may follow it up. It takes no memory.
-    pub fn go_on(&mut self, follow: Option<Cell>)
-        requires { 0 < length self.old }
-        ensures { self.new ≡ drop 1 self.old ++ follow_up follow }
-    {
-        let _ = self.jobs.pop_front();
-        if let Some(cell) = follow {
-            self.jobs.push_back_reserved(Job::Stage(cell));
-        }
+    if let Some(letter) = again {
+        jobs.push_back_reserved(Job::Letter(letter));
     }
 }

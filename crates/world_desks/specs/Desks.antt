@@ -2,22 +2,22 @@
 use Rattle.std.specs.Prelude.{ℕ, ◌==◌, ◌||◌, Bool, List, map}
 use Rattle.std.specs.List.{range_with_len}
 use Rattle.script_lines.specs.declared.script.Script.{Script}
-use Rattle.petal_rules.specs.State.{State}
+use Rattle.petal_rules.specs.Log.{state_in}
 use Rattle.petal_rules.specs.Store.{top_of}
 use Rattle.petal_rules.specs.Server.{Server}
 use Rattle.petal_rules.specs.Jobs.{Acted}
 use Rattle.petal_rules.specs.World.{Setting, World, server_step, setting_of, start, greatest_u64}
 use Rattle.petal_rules.specs.declared.step.Step.{Step}
 
--- a server's number, the global state at its revision, and what the rules know of it
+-- a server's number, how many servers there are, and what the rules know of it
 pub record Site : Type 0 where
   pub me : ℕ
-  pub state : State
+  pub servers : ℕ
   pub server : Server
 
--- the rule of a step, at this server
+-- the rule of a step, at this server and the state that its applied entries make
 abbrev pub acted_at : Site → Step → Acted
-acted_at site step = server_step step site.state site.me site.server
+acted_at site step = server_step step (state_in site.servers site.server.log) site.me site.server
 
 -- the server after it
 abbrev pub site_after : Site → Step → Site
@@ -35,7 +35,7 @@ pub record Desk : Type 0 where
 -- what a world keeps of one server
 abbrev pub desk_of : Setting → World → ℕ → Desk
 desk_of setting w n = record {
-  site = record { me = n; state = setting.states (w.servers n).life.rev; server = w.servers n };
+  site = record { me = n; servers = setting.servers; server = w.servers n };
   clock = w.server_clocks n;
 }
 

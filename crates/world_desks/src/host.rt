@@ -1,6 +1,7 @@
 //! One server of a world.
 
 ghost use Rattle.std.specs.Prelude.{◌≡◌, ◌↔◌, [], IfOk, OnOk, IsTrue};
+ghost use Rattle.petal_rules.specs.Log.{rev_of};
 ghost use Rattle.world_desks.specs.Desks.{Site, acted_at, is_spent, site_after};
 
 use petal_base::{NoMemory, Rev, Sequence};
@@ -10,7 +11,7 @@ use std::alloc::Global;
 
 /// A server with its store, as a world steps it.
 pub trait Host: Drop {
-    /// Its number, the global state at its revision, and what the rules know of it.
+    /// Its number, how many servers there are, and what the rules know of it.
     ghost seen: { Self → Site };
 
     /// Takes a step. The letters have no stamp yet. After it ran out of memory nothing is said of the server.
@@ -32,5 +33,5 @@ pub trait Host: Drop {
 
     /// Its revision of the global state.
     fn rev(&self) -> Rev
-        ensures { result ≡ (seen self.now).server.life.rev };
+        ensures { result ≡ rev_of (seen self.now).server.log };
 }

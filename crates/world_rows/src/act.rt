@@ -9,6 +9,8 @@ use petal_msg::Actor;
 pub enum Want {
     Ok,
     NoSpace,
+    NoDisk,
+    Exists,
     /// There is none yet.
     Open,
     /// A block of this byte.
@@ -33,10 +35,14 @@ pub enum Act<'a> {
     Changed(Mail<'a>),
     Wait,
     PlayOut,
+    /// Everyone but this actor comes to one revision.
+    Agree(Option<Actor>),
     Line(u32, Want),
     Sent(u32, Mail<'a>),
     Owners(u32, Mail<'a>),
     Told(&'a [&'a str]),
+    /// So many disks were made.
+    Made(u32),
 }
 
 /// The words by which the plain machine's events are told.
@@ -67,6 +73,8 @@ fn want_of(words: &[&str]) -> Result<Want, usize> {
     match *words {
         ["ok"] => Ok(Want::Ok),
         ["nospace"] => Ok(Want::NoSpace),
+        ["nodisk"] => Ok(Want::NoDisk),
+        ["exists"] => Ok(Want::Exists),
         ["open"] => Ok(Want::Open),
         ["fill", word] => fill(word),
         ["as", line] => Ok(Want::As(number(line, 4)?)),
@@ -117,6 +125,9 @@ pub fn act_of<'a>(words: &'a [&'a str]) -> Result<Act<'a>, usize> {
         ["told", ..] => told(&words[1..]),
         ["wait"] => Ok(Act::Wait),
         ["play", "out"] => Ok(Act::PlayOut),
+        ["agree"] => Ok(Act::Agree(None)),
+        ["agree", "without", who] => Ok(Act::Agree(Some(actor(who, 3)?))),
+        ["made", count] => Ok(Act::Made(number(count, 2)?)),
         [who, "calls", line] => Ok(Act::Call(client(who, 1)?, number(line, 3)?)),
         [who, "works"] => Ok(Act::Work(server(who, 1)?)),
         [who, "works", "off"] => Ok(Act::WorkOff(server(who, 1)?)),

@@ -19,6 +19,20 @@ pub fn is_no_space(answer: Option<&Answer>) -> bool {
     }
 }
 
+fn is_no_disk(answer: Option<&Answer>) -> bool {
+    match answer {
+        Some(Answer::NoDisk) => true,
+        _ => false,
+    }
+}
+
+fn is_exists(answer: Option<&Answer>) -> bool {
+    match answer {
+        Some(Answer::Exists) => true,
+        _ => false,
+    }
+}
+
 /// The block that a read was answered with.
 fn shown(answer: Option<&Answer>) -> Option<&SharedBlock> {
     match answer {
@@ -49,6 +63,8 @@ pub fn is_so(run: &Run, line: u32, want: &Want) -> bool {
     match want {
         Want::Ok => is_done(answer),
         Want::NoSpace => is_no_space(answer),
+        Want::NoDisk => is_no_disk(answer),
+        Want::Exists => is_exists(answer),
         Want::Open => answer.is_none(),
         Want::Fill(fill) => is_filled(answer, *fill),
         Want::Either(one, other) => is_filled(answer, *one) || is_filled(answer, *other),

@@ -2,18 +2,19 @@
 //!
 //! This says again, from the records alone, what the definition of a history's events says over the worlds of the rules.
 
+use crate::choices::Choices;
 use crate::operations::{Operation, bytes_of, is_replicated_in, replicated_by};
 use crate::reads::accepted;
 use crate::writes::Writers;
-use petal_base::{ClientId, Name, NoMemory, SharedBlock};
+use petal_base::{ClientId, NoMemory, SharedBlock};
 use petal_machine::{Event, WriteEnd};
 use petal_msg::{Actor, Body, SharedLetter};
 use petal_rules::Step;
 use petal_world::Record;
-use script_lines::{Answer, Line, Request, Script};
+use script_lines::{Answer, Request, Script};
 use std::alloc::Global;
 
-/// An event, and the number of the record that tells it: 0 for what stands before the first. There is no event where a
+/// An event, and the number of the record that tells it, from 1. There is no event where a
 /// second server puts what no write under way has asked for.
 #[derive(Drop)]
 pub struct Told {
@@ -36,6 +37,7 @@ struct Telling<'a> {
     alloc: Global,
     script: &'a Script,
     writers: Writers,
+    choices: Choices,
     told: Vec<Told>,
 }
 
@@ -62,26 +64,24 @@ fn word_of(told: &Told) -> &'static str {
     }
 }
 
-/// Whether these words are those of what is told, after the disk.
+/// Whether these words are those of what is told, but for the disks that are made.
 pub fn tells(told: &[Told], words: &[&str]) -> bool {
-    match told.split_first() {
-        None => false,
-        Some((_disk, told)) => {
-            told.len() == words.len()
-                && told
-                    .iter()
-                    .zip(words.iter())
-                    .all(|(told, word)| word_of(told) == *word)
+    let mut at = 0;
+    for told in told {
+        let word = word_of(told);
+        if word != "make" {
+            if words.get(at) != Some(&word) {
+                return false;
+            }
+            at += 1;
         }
     }
+    at == words.len()
 }
 
-/// The name of the disk that the line makes.
-fn disk_made(line: &Line) -> Option<&Name> {
-    match &line.request {
-        Request::Disk { name, tuple: _ } => Some(name),
-        _ => None,
-    }
+/// How many disks are told to be made.
+pub fn made(told: &[Told]) -> usize {
+    told.iter().filter(|told| word_of(told) == "make").count()
 }
 
 /// How a write ends that is answered so.
@@ -113,13 +113,14 @@ impl<'a> Telling<'a> {
         Ok(())
     }
 
-    // The one disk is there from the start.
-    fn makes(&mut self) -> Result<(), NoMemory> {
-        for line in self.script.lines.as_slice() {
-            if let Some(name) = disk_made(line) {
-                let disk = name.again();
-                return self.tell(0, Some(Event::Make { disk }));
-            }
+    // The step chose entries that make disks.
+    fn makes(&mut self, here: &Here) -> Result<(), NoMemory> {
+        let before = self.choices.note_all(here.own.sent.as_slice())?;
+        for name in self.choices.disks_from(before) {
+            self.told.push(Told {
+                step: here.step,
+                event: Some(Event::Make { disk: name.again() }),
+            })?;
         }
         Ok(())
     }
@@ -142,9 +143,10 @@ impl<'a> Telling<'a> {
     }
 
     fn take(&mut self, here: &Here, operation: Operation) -> Result<(), NoMemory> {
-        let write = match bytes_of(here.before, operation) {
-            Some(bytes) => self.writers.giving(operation.cell.block, bytes)?,
-            None => None,
+        let disk = self.choices.disk(operation.cell.map as usize);
+        let write = match (disk, bytes_of(here.before, operation)) {
+            (Some(disk), Some(bytes)) => self.writers.giving(disk, operation.cell.block, bytes)?,
+            _ => None,
         };
         self.tell(here.step, write.map(Event::Take))
     }
@@ -202,7 +204,6 @@ impl<'a> Telling<'a> {
 }
 
 fn tell_all(telling: &mut Telling, records: &[Record]) -> Result<(), NoMemory> {
-    telling.makes()?;
     for at in 0..records.len() {
         let here = Here {
             step: at + 1,
@@ -212,6 +213,7 @@ fn tell_all(telling: &mut Telling, records: &[Record]) -> Result<(), NoMemory> {
         };
         telling.begins(&here)?;
         telling.takes(&here)?;
+        telling.makes(&here)?;
         telling.looks(&here)?;
         telling.ends(&here)?;
     }
@@ -224,6 +226,7 @@ pub fn events(alloc: Global, script: &Script, records: &[Record]) -> Result<Vec<
         alloc,
         script,
         writers: Writers::new(alloc)?,
+        choices: Choices::new(alloc, script.servers),
         told: Vec::new(alloc),
     };
     tell_all(&mut telling, records)?;

@@ -10,6 +10,8 @@ mod answers;
 #[cfg(test)]
 mod chance;
 #[cfg(test)]
+mod choices;
+#[cfg(test)]
 mod events;
 #[cfg(test)]
 mod operations;

@@ -2,7 +2,7 @@
 
 use crate::act::Act;
 use crate::answers::is_so;
-use crate::events::tells;
+use crate::events::{made, tells};
 use crate::rounds::play;
 use crate::run::Run;
 use crate::words::Mail;
@@ -17,6 +17,12 @@ pub struct Player {
     run: Run,
     gone: Vec<bool>,
 }
+
+/// Those who don't agree after so many rounds are taken to hang.
+const MOST_ROUNDS: u32 = 400;
+
+/// In every such round one server ticks, and all clients: servers that tick together can outbid one another for ever.
+const TICK_EVERY: u32 = 8;
 
 /// A server with so many jobs is taken to hang.
 const MOST_JOBS: u32 = 10_000;
@@ -165,6 +171,77 @@ impl Player {
         Ok(false)
     }
 
+    // Each letter to one of these that is on its way is handed over.
+    fn hand_all(&mut self, alloc: Global, actors: &[Actor]) -> Result<(), NoMemory> {
+        for at in 0..self.run.sent.len() {
+            if self.is_gone(at) {
+                continue;
+            }
+            if let Some(letter) = self.letter(Some(at))? {
+                if actors.contains(&letter.get().to) {
+                    self.remove(at)?;
+                    self.run.deliver(alloc, letter)?;
+                }
+            }
+        }
+        Ok(())
+    }
+
+    fn work_all(&mut self, alloc: Global, actors: &[Actor]) -> Result<(), NoMemory> {
+        for actor in actors {
+            if let Actor::Server(server) = actor {
+                self.work_off(alloc, *server)?;
+            }
+        }
+        Ok(())
+    }
+
+    // A tick comes to the clients, and to the server whose turn it is.
+    fn tick_some(&mut self, alloc: Global, actors: &[Actor], turn: u32) -> Result<(), NoMemory> {
+        let servers = u32::from(self.run.script().servers);
+        for actor in actors {
+            match actor {
+                Actor::Server(server) if servers == 0 || turn % servers != u32::from(*server) => {}
+                _ => {
+                    self.run.tick(alloc, *actor)?;
+                }
+            }
+        }
+        Ok(())
+    }
+
+    // All letters are gone.
+    fn lose_all(&mut self) -> Result<(), NoMemory> {
+        for at in 0..self.run.sent.len() {
+            self.remove(at)?;
+        }
+        Ok(())
+    }
+
+    // Rounds in which all but one get their letters and work, and in some of which they tick, until each line that was called is
+    // answered and they are at one revision. What is then still on its way is lost. Gives whether it came to that.
+    fn agree(&mut self, alloc: Global, without: Option<Actor>) -> Result<bool, NoMemory> {
+        let mut actors = self.run.actors(alloc)?;
+        actors.retain(|actor| Some(*actor) != without);
+        for round in 0..MOST_ROUNDS {
+            self.hand_all(alloc, &actors)?;
+            self.work_all(alloc, &actors)?;
+            if self.run.agrees(&actors) {
+                self.lose_all()?;
+                return Ok(true);
+            }
+            if round % TICK_EVERY == 0 {
+                self.tick_some(alloc, &actors, round / TICK_EVERY)?;
+            }
+        }
+        Ok(false)
+    }
+
+    fn made(&self, alloc: Global) -> Result<usize, NoMemory> {
+        let told = self.run.events(alloc)?;
+        Ok(made(&told))
+    }
+
     // How many of these letters were sent.
     fn count(&self, mail: &Mail) -> usize {
         self.run
@@ -204,6 +281,8 @@ impl Player {
             Act::Changed(mail) => self.hand_changed(alloc, mail),
             Act::Wait => self.run.go_on(),
             Act::PlayOut => play(alloc, &mut self.run),
+            Act::Agree(without) => self.agree(alloc, *without),
+            Act::Made(count) => Ok(self.made(alloc)? == *count as usize),
             Act::Line(line, want) => Ok(is_so(&self.run, *line, want)),
             Act::Sent(count, mail) => Ok(self.count(mail) >= *count as usize),
             Act::Owners(count, mail) => Ok(self.owners(mail) >= *count as usize),

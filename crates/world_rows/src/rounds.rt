@@ -2,10 +2,14 @@
 
 use crate::run::Run;
 use petal_base::{NoMemory, OPERATOR};
+use petal_msg::Actor;
 use std::alloc::Global;
 
 /// A run that is not over after so many rounds is taken to hang.
-const MOST_ROUNDS: u32 = 100;
+const MOST_ROUNDS: u32 = 400;
+
+/// In every such round one server ticks, and all clients.
+const TICK_EVERY: u32 = 8;
 
 /// A server with so many jobs in one round is taken to hang.
 const MOST_JOBS: u32 = 10_000;
@@ -42,17 +46,32 @@ fn call_all(alloc: Global, run: &mut Run) -> Result<(), NoMemory> {
     Ok(())
 }
 
+// A tick comes to the clients, and to the server whose turn it is: servers that tick together can outbid one another for ever.
+fn tick_some(alloc: Global, run: &mut Run, turn: u32) -> Result<(), NoMemory> {
+    let servers = u32::from(run.script().servers);
+    if servers > 0 {
+        run.tick(alloc, Actor::Server((turn % servers) as u8))?;
+    }
+    for client in 0..OPERATOR {
+        run.tick(alloc, Actor::Client(client))?;
+    }
+    Ok(())
+}
+
 /// Plays a run until each line is answered: in each round the letters of the round before are handed over, then each server
-/// works until it is idle, and then each client calls. Gives whether it came to that.
+/// works until it is idle, each client calls, and in every eighth round the clients and one of the servers tick. Gives whether it came to that.
 pub fn play(alloc: Global, run: &mut Run) -> Result<bool, NoMemory> {
     let mut handed = 0;
-    for _ in 0..MOST_ROUNDS {
+    for round in 0..MOST_ROUNDS {
         if run.is_over() {
             return Ok(true);
         }
         handed = hand_over(alloc, run, handed)?;
         work_off(alloc, run)?;
         call_all(alloc, run)?;
+        if round % TICK_EVERY == 0 {
+            tick_some(alloc, run, round / TICK_EVERY)?;
+        }
         run.go_on()?;
     }
     Ok(false)

@@ -2,12 +2,12 @@
 
 use crate::events::{Told, events};
 use memory_server::{MemServer, members};
-use petal_base::{ClientId, NoMemory, ServerId};
+use petal_base::{ClientId, NoMemory, OPERATOR, ServerId};
 use petal_machine::{Event, EventError, Machine};
 use petal_msg::{Actor, SharedLetter};
 use petal_rules::{Step, WorkEnd};
 use petal_script::{Answer, Script, read_script};
-use petal_world::{Record, World, WorldError, are_in_order, fixed_state};
+use petal_world::{Record, World, WorldError, are_in_order};
 use std::alloc::Global;
 use std::test::Fail;
 
@@ -24,11 +24,8 @@ fn world_of(alloc: Global, script: Script) -> Result<World<MemServer>, Fail> {
     if !are_in_order(script.lines.as_slice()) {
         return Err(Fail::new("the lines are in no order"));
     }
-    let Some(state) = fixed_state(alloc, script.servers, script.lines.as_slice())? else {
-        return Err(Fail::new("no line makes a disk"));
-    };
-    let hosts = members(alloc, &script, &state)?;
-    Ok(World::start(alloc, script, &state, hosts)?)
+    let hosts = members(alloc, &script)?;
+    Ok(World::start(alloc, script, hosts)?)
 }
 
 impl Run {
@@ -113,6 +110,42 @@ impl Run {
         Ok(true)
     }
 
+    // Whether each line is answered that was called.
+    fn is_idle(&self) -> bool {
+        let mut called: usize = 0;
+        let mut answered: usize = 0;
+        for record in self.records() {
+            if is_call(&record.step) {
+                called = called.saturating_add(1);
+            }
+            if record.answer.is_some() {
+                answered = answered.saturating_add(1);
+            }
+        }
+        called == answered
+    }
+
+    /// All servers and clients.
+    pub fn actors(&self, alloc: Global) -> Result<Vec<Actor>, NoMemory> {
+        let mut actors = Vec::new(alloc);
+        for server in 0..self.script().servers {
+            actors.push(Actor::Server(server))?;
+        }
+        for client in 0..OPERATOR {
+            actors.push(Actor::Client(client))?;
+        }
+        Ok(actors)
+    }
+
+    /// Whether each line is answered that was called, and these are at one revision.
+    pub fn agrees(&self, actors: &[Actor]) -> bool {
+        let Some(first) = actors.first() else {
+            return true;
+        };
+        let rev = self.world.rev(*first);
+        self.is_idle() && actors.iter().all(|actor| self.world.rev(*actor) == rev)
+    }
+
     pub fn script(&self) -> &Script {
         self.world.script()
     }
@@ -131,7 +164,7 @@ impl Run {
         events(alloc, self.world.script(), self.world.records())
     }
 
-    /// The first record whose events the plain machine refuses, counted from 1; 0 where it does not make the disk.
+    /// The first record whose events the plain machine refuses, counted from 1.
     pub fn first_refused(&self, alloc: Global) -> Result<Option<usize>, NoMemory> {
         let told = self.events(alloc)?;
         let mut machine = Machine::new(alloc)?;

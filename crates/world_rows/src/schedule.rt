@@ -12,23 +12,27 @@
 //! | `1 works` | server 1 does the first job of its queue |
 //! | `1 works off` | server 1 does jobs until its queue is empty, and at least one |
 //! | `1 ticks`, `a ticks` | the server or the client sends again what is not answered |
+//! | `agree` | rounds in which everyone gets its letters and works, and in some of which they tick, until each line that was called is answered and all are at one revision; what is then on its way is lost |
+//! | `agree without 1`, `agree without b` | the same without this actor |
 //! | `wait` | the next phase begins; each line before it is answered |
-//! | `play out` | rounds, until each line is answered: each letter is handed over twice, the last one first, servers work off their queues, and clients call |
+//! | `play out` | rounds, until each line is answered: each letter is handed over twice, the last one first, servers work off their queues, clients call, and in every eighth round clients and a server tick |
 //! | `renamed write a>1` | the letter that is next to be handed over comes with a later stamp |
 //! | `changed write a>1` | it comes with another content |
 //!
 //! | expectation | what is so at this place |
 //! |---|---|
-//! | `line 3 ok`, `line 3 nospace` | the line has this answer |
+//! | `line 3 ok`, `line 3 nospace`, `line 3 nodisk`, `line 3 exists` | the line has this answer |
 //! | `line 3 open` | the line has no answer yet |
 //! | `line 5 fill 7`, `line 5 fill 1\|2` | it is answered with a block of this byte, or of one of the two |
 //! | `line 8 as 7` | it is answered with the same block as line 7 |
-//! | `told begin take end` | of all that the plain machine is told so far, but for its disk, these are the events |
+//! | `told begin take end` | of all that the plain machine is told so far, but for the disks that are made, these are the events |
+//! | `made 2` | the plain machine is told so far that so many disks are made |
 //! | `sent 4 write a>1` | at least so many letters of this kind and way were sent |
 //! | `owners 8 data 0>a` | the block that the last such letter brings has at least so many owners |
 //!
 //! `not` before a step says that the world refuses it, or that there is no such letter; before an expectation, that it is not
-//! so. The kinds of letters are `read`, `write`, `data`, `nothere`, `busy`, `held`, `wrongrev`, `written`, `full`, `reserve`,
+//! so. The kinds of letters are `propose`, `prepare`, `promise`, `accept`,
+//! `accepted`, `refuse`, `chosen`, `ask`, `news`, `read`, `write`, `data`, `nothere`, `busy`, `held`, `wrongrev`, `written`, `full`, `reserve`,
 //! `reserved`, `pairfull`, `replicate` and `replicated`; the events `make`, `freeze`, `begin`, `take`, `end` and `look`.
 //!
 //! At the end of each row the plain machine takes all that it is told. A row that fails names itself, the step and, where a

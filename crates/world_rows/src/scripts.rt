@@ -3,7 +3,7 @@
 use crate::chance::Chance;
 use std::alloc::{AllocError, Global};
 
-/// How many lines a script has after the one that makes the disk. The writes among them have fills of their own.
+/// How many lines a script has after those that make its disks. The writes among them have fills of their own.
 const LINES: u8 = 240;
 
 fn client_word(client: usize) -> &'static str {
@@ -14,22 +14,24 @@ fn client_word(client: usize) -> &'static str {
     }
 }
 
-/// A client's write or read of one of four blocks.
+/// A client's write or read of one of four blocks of one of two disks.
 fn line_by(alloc: Global, chance: &mut Chance, fill: u8) -> Result<String, AllocError> {
     let client = client_word(chance.below(3));
     let block = chance.below(4);
+    let disk = if chance.below(3) == 0 { "log" } else { "vol" };
     if chance.below(2) == 0 {
-        format!(in alloc; "{client} write vol {block} fill {fill}\n")
+        format!(in alloc; "{client} write {disk} {block} fill {fill}\n")
     } else {
-        format!(in alloc; "{client} read vol {block}\n")
+        format!(in alloc; "{client} read {disk} {block}\n")
     }
 }
 
-/// A script of three servers and three clients. Three blocks are on server 0, and each write takes a slot more while it is
-/// under way, so that some find none.
+/// A script of three servers and three clients. Each write takes a slot more while it is under way, so that some find none.
 pub fn script_by(alloc: Global, chance: &mut Chance) -> Result<String, AllocError> {
     let slots = 3 + chance.below(3);
-    let mut text = format!(in alloc; "servers 3 slots {slots}\na disk vol on 0 1 2\n")?;
+    let mut text = format!(in alloc;
+        "servers 3 slots {slots}\na disk vol on 0 1 2\nb disk log on 1 2\n"
+    )?;
     for fill in 1..=LINES {
         let line = line_by(alloc, chance, fill)?;
         text.push_str(line.as_str())?;

@@ -1,10 +1,20 @@
 //! What the words of a row stand for.
 
 use petal_base::{ClientId, ServerId};
+use petal_command::Pax;
 use petal_msg::{Actor, Body, Letter};
 
 /// The kinds of letters, in the order of the format.
-const KINDS: [&str; 14] = [
+const KINDS: [&str; 23] = [
+    "propose",
+    "prepare",
+    "promise",
+    "accept",
+    "accepted",
+    "refuse",
+    "chosen",
+    "ask",
+    "news",
     "read",
     "write",
     "data",
@@ -21,9 +31,25 @@ const KINDS: [&str; 14] = [
     "replicated",
 ];
 
+/// The word of what servers say of a ballot.
+fn ballot_kind(said: &Pax) -> &'static str {
+    match said {
+        Pax::Prepare { .. } => "prepare",
+        Pax::Promise { .. } => "promise",
+        Pax::Accept { .. } => "accept",
+        Pax::Accepted { .. } => "accepted",
+        Pax::Refuse { .. } => "refuse",
+        Pax::Chosen { .. } => "chosen",
+    }
+}
+
 /// The word of a letter's kind.
 fn kind_of(body: &Body) -> &'static str {
     match body {
+        Body::Propose { .. } => "propose",
+        Body::Pax(said) => ballot_kind(said),
+        Body::Ask { .. } => "ask",
+        Body::News { .. } => "news",
         Body::Read { .. } => "read",
         Body::Write { .. } => "write",
         Body::Data { .. } => "data",

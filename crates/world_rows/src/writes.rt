@@ -1,6 +1,6 @@
 //! The writes that clients have open.
 
-use petal_base::{BlockNo, ClientId, NoMemory, OPERATOR, Seq, SharedBlock};
+use petal_base::{BlockNo, ClientId, Name, NoMemory, OPERATOR, Seq, SharedBlock};
 use petal_machine::Write;
 use script_lines::Request;
 use std::alloc::Global;
@@ -84,11 +84,16 @@ impl Writers {
         }
     }
 
-    /// The open write that gives the block these bytes: of several, that of the least client.
-    pub fn giving(&self, block: BlockNo, bytes: &SharedBlock) -> Result<Option<Write>, NoMemory> {
+    /// The open write that gives the disk's block these bytes: of several, that of the least client.
+    pub fn giving(
+        &self,
+        disk: &Name,
+        block: BlockNo,
+        bytes: &SharedBlock,
+    ) -> Result<Option<Write>, NoMemory> {
         for writer in &self.writers {
             if let Some(write) = &writer.open {
-                if write.block == block && write.bytes == *bytes {
+                if write.disk == *disk && write.block == block && write.bytes == *bytes {
                     return Ok(Some(again(write)?));
                 }
             }

@@ -59,7 +59,11 @@ pub fn on_letter<D: Disk>(
             bytes,
         } => on_replicate(here, side, store, *op, *key, bytes),
         Body::Replicated { op, cell } => on_replicated(here, side, store, *op, *cell),
-        Body::Read { .. }
+        Body::Propose { .. }
+        | Body::Pax(_)
+        | Body::Ask { .. }
+        | Body::News { .. }
+        | Body::Read { .. }
         | Body::Data { .. }
         | Body::NotHere { .. }
         | Body::BlockBusy { .. }

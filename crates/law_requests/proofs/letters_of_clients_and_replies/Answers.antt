@@ -1,6 +1,7 @@
 -- By induction on the history.
+use Rattle.law_steps.proofs.Firms.{always_firm}
 use Rattle.law_requests.proofs.Histories.{asking_after}
 use Rattle.law_requests.proofs.letters_of_clients_and_replies.Goals as goal
 
 pub returns : goal.returns
-returns c = asking_after
+returns c script records sound legal = asking_after script records (always_firm script records sound legal) legal

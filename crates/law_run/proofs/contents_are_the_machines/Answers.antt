@@ -1,6 +1,6 @@
 -- By induction on the history.
-use Rattle.law_run.proofs.Running.{holds_after}
+use Rattle.law_run.proofs.Running.{held_after}
 use Rattle.law_run.proofs.contents_are_the_machines.Goals as goal
 
 pub returns : goal.returns
-returns c script records sound legal = holds_after script records sound legal
+returns c script records sound legal = held_after script records sound legal

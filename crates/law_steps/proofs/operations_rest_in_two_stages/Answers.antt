@@ -1,11 +1,13 @@
 -- By induction on the history.
-use Rattle.petal_rules.specs.World.{start, setting_of}
-use Rattle.petal_history.specs.Contents.{chosen_state}
-use Rattle.law_steps.proofs.Scripts.{script_steady, start_ready}
-use Rattle.law_steps.proofs.Stepping.{ready_after}
+use Rattle.law_steps.proofs.Firms.{always_firm}
+use Rattle.petal_rules.specs.World.{setting_of, start}
+use Rattle.law_steps.proofs.Histories.{ready_after, rests_after, start_rests}
 use Rattle.law_steps.proofs.operations_rest_in_two_stages.Goals as goal
 
-pub returns : goal.returns
-returns c script records sound legal =
-    let state = chosen_state (setting_of script) in
-    ready_after script.servers script.slots script.lines state (script_steady script sound) (start (setting_of script)) records (start_ready state script) legal
+pub returns-clause-chosen : goal.returns-clause-chosen
+returns-clause-chosen c script records sound legal = ready_after script records (always_firm script records sound legal) legal
+
+pub returns-clause-own : goal.returns-clause-own
+returns-clause-own c script records sound legal =
+    let setting = setting_of script in
+    rests_after setting (start setting) records (always_firm script records sound legal) (start_rests script) legal

@@ -1,9 +1,8 @@
-use Rattle.std.proofs.Common.{◌≡◌, ℕ, [], ap, length, ◌∙◌}
+use Rattle.std.proofs.Common.{◌≡◌, ℕ, [], length}
 use Rattle.std.proofs.lemmas.List.Elements.{All-append, All-cons, All-nil}
 use Rattle.petal_disk.specs.declared.memory_disk.MemDisk.{MemDisk}
 use Rattle.server_store.specs.Slots.{slot_start}
 use Rattle.memory_server.specs.Server.{Mounted, site_of}
-use Rattle.memory_server.specs.Members.{first_site}
 use Rattle.memory_server.proofs.Casting.{cast_more}
 use Rattle.memory_server.proofs.cast.started.Goals as goal
 
@@ -13,7 +12,6 @@ fits slots server = length server.store.disk.now.items ≡ slot_start slots
 pub loop-me-preserved : goal.loop-me-preserved
 loop-me-preserved c =
     rw c.in_ok-push.ensures.ok (
-      cast_more site_of c.args.state.now c.args.slots c.loop-me.me c.loop-me.members c.in_ok-start.field-0 c.loop-me.invariant.0
-          (c.in_ok-start.ensures.site ∙ ap (λ state. first_site state c.args.slots c.loop-me.me) c.in_ok-copy.ensures),
+      cast_more site_of c.args.servers c.args.slots c.loop-me.me c.loop-me.members c.in_ok-start.field-0 c.loop-me.invariant.0 c.in_ok-start.ensures.site,
       All-append (fits c.args.slots) c.loop-me.members _ c.loop-me.invariant.1 (All-cons (fits c.args.slots) c.in_ok-start.field-0 [] c.in_ok-start.ensures.device (All-nil (fits c.args.slots))),
     )

@@ -1,54 +1,68 @@
--- Nothing was stored, sent or called, and each block of the new disk reads zero on both sides.
-use Rattle.std.proofs.Common.{◌≡◌, ℕ, List, [], ◌∷◌, cond, Option, Some, None, inl, refl, sym, ap, ◌∙◌}
-use Rattle.std.specs.Prelude.{unwrap_or}
-use Rattle.std.specs.Cmp.Lexicographic.{nat_list_eq_equiv}
-use Rattle.petal_base.specs.Block.{zero_block}
+-- Nothing was voted for, so nothing is chosen, and there is no disk; nothing was stored, sent or called.
+use Rattle.std.proofs.Common.{◌≡◌, ℕ, zero, suc, ◌+◌, List, [], ◌∷◌, Some, None, inl, refl, sym, ap, subst, ◌∙◌}
+use Rattle.std.specs.List.{flat_map, range_with_len}
+use Rattle.std.specs.Prelude.{find, option_map}
+use Rattle.std.proofs.lemmas.List.{append-nil}
 use Rattle.petal_table.proofs.Rows.{at-empty}
-use Rattle.petal_machine.specs.Machine.{content, disk_of}
-use Rattle.petal_machine.specs.Run.{after}
-use Rattle.petal_machine.specs.declared.state.Disk.{Disk}
+use Rattle.petal_paxos.specs.Chosen.{votes_for, wins, chosen_at, chosen_from, before_first, last_place}
+use Rattle.petal_paxos.specs.declared.record.StateRecord.TheVariants.{Inc}
+use Rattle.petal_state.specs.Command.{state_after}
 use Rattle.petal_rules.specs.Lists.{In}
-use Rattle.petal_rules.specs.Store.{Chain, cell_cmp, chain_in, entry_at, bytes_of}
-use Rattle.petal_rules.specs.State.{authority}
-use Rattle.petal_rules.specs.World.{World, start, setting_of}
-use Rattle.petal_history.specs.Contents.{cell_of_block, chosen_state, disk_name, content_by}
+use Rattle.petal_rules.specs.Store.{cell_cmp}
+use Rattle.petal_rules.specs.World.{Setting, start, setting_of, devices, chosen_log, chosen_state}
+use Rattle.script_lines.specs.declared.script.Script.{Script}
+use Rattle.petal_history.specs.Claims.{Grows}
 use Rattle.petal_history.proofs.laws.the_start_keeps_the_rules.Goals as goal
 
-none_some : {A : Type 0} {x : A} → None ≡ Some x → ⊥
-none_some e = cc
+none_some : {A B : Type 0} {x : A} → None ≡ Some x → B
+none_some e = absurd cc
 
--- a block of which no server has an entry is zero
-zero : (w : World) → ((n : ℕ) → (w.servers n).own.store.chains ≡ []) → (o : Option ℕ) (block : ℕ) → content_by w (cell_of_block block) 0 o ≡ zero_block
-zero w empty None block = refl
-zero w empty (Some n) block =
-    ap (λ chains. bytes_of (entry_at (chain_in chains (cell_of_block block)) 0)) (empty n)
-    ∙ ap (λ (o : Option Chain). bytes_of (entry_at (unwrap_or o []) 0)) (at-empty cell_cmp (cell_of_block block))
+no_votes : (place : ℕ) (xs : List ℕ) → flat_map (λ (s : ℕ). votes_for (Inc 1 ∷ []) place) xs ≡ []
+no_votes place [] = refl
+no_votes place (x ∷ xs) = no_votes place xs
 
--- the new disk is found by its name
-new_disk : List ℕ → Disk
-new_disk name = record { name = name; now = []; snaps = [] }
+none_chosen : (setting : Setting) (place : ℕ) → chosen_at setting.servers (devices (start setting)) place ≡ None
+none_chosen setting place =
+    ap (λ votes. option_map (λ vote. vote.1) (find (wins setting.servers (devices (start setting)) place) votes)) (no_votes place (range_with_len 0 setting.servers))
 
-named : (name : List ℕ) → disk_of (new_disk name ∷ []) name ≡ Some (new_disk name)
-unfolding new_disk
-named name = ap (λ b. cond b (Some (new_disk name)) None) (nat_list_eq_equiv.refl name)
+empty_from : (setting : Setting) (place most : ℕ) → chosen_from setting.servers (devices (start setting)) place most ≡ []
+empty_from setting place zero = refl
+empty_from setting place (suc most) =
+    ap (λ found. before_first found (chosen_from setting.servers (devices (start setting)) (place + 1) most)) (none_chosen setting place)
 
-blank_block : (name : List ℕ) (block : ℕ) → content (new_disk name).now block ≡ zero_block
-unfolding content new_disk
-blank_block name block = ap (λ o. unwrap_or o zero_block) (at-empty _ block)
+nothing_chosen : (setting : Setting) → chosen_log setting (start setting) ≡ []
+nothing_chosen setting = empty_from setting 1 (last_place setting.servers (devices (start setting)))
+
+no_disks : (setting : Setting) → (chosen_state setting (start setting)).disks.rows ≡ []
+no_disks setting = ap (λ log. (state_after setting.servers log).disks.rows) (nothing_chosen setting)
+
+not_in : {A B : Type 0} (x : A) (xs : List A) → xs ≡ [] → In x xs → B
+unfolding In
+not_in x xs none h = let there : In x [] = subst (In x) none h in absurd there
+
+grows : (script : Script) → Grows script []
+grows script [] back e = record { later = []; is = sym (append-nil (chosen_log (setting_of script) (start (setting_of script)))) }
+grows script (own ∷ front) back e = absurd cc
 
 pub returns : goal.returns
-unfolding In after new_disk
+unfolding In
 returns c script = record {
-  copies = λ cell n m is_first is_second. inl refl;
-  requests = record {
-    pending = λ n cell op runs is over. none_some (sym (at-empty cell_cmp cell) ∙ is);
-    late = λ letter client seq epoch cell bytes h. absurd h;
+  world = record {
+    agrees = record {
+      known = λ n i command is. none_some is;
+      servers = λ n. record { later = chosen_log (setting_of script) (start (setting_of script)); is = refl };
+      clients = λ n. record { later = chosen_log (setting_of script) (start (setting_of script)); is = refl };
+    };
+    copies = λ cell n m is_first is_second. inl refl;
+    requests = record {
+      pending = λ n cell op runs is over. none_some (sym (at-empty cell_cmp cell) ∙ is);
+      late = λ letter client seq epoch cell bytes h. absurd h;
+    };
   };
-  run = (refl, tt);
+  grows = grows script;
+  run = tt;
   holds = record {
-    disk = new_disk (disk_name (setting_of script));
-    is = named (disk_name (setting_of script));
-    same = λ block. blank_block (disk_name (setting_of script)) block
-        ∙ sym (zero (start (setting_of script)) (λ n. refl) (authority (chosen_state (setting_of script)) (cell_of_block block)) block);
+    known = λ row there. not_in row _ (no_disks (setting_of script)) there;
+    unknown = λ name none. refl;
   };
 }

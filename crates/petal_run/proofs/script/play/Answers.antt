@@ -54,4 +54,4 @@ returns-in-Ok-clause-whole_phase g c = λ five.
 pub returns-in-Err-clause-by_phases : goal.returns-in-Err-clause-by_phases
 returns-in-Err-clause-by_phases g c = λ told three.
     let old = g.W.Sink.taken c.args.sink.now in
-    subst (λ (r : List Record). WrotePhases c.args.script r old old) (sym c.without_history-in-Err.ensures.history) (none_wrote c.args.script old)
+    subst (λ (r : List Record). WrotePhases c.args.script r old old) (sym c.without_history.ensures.history) (none_wrote c.args.script old)

@@ -8,5 +8,5 @@ use Rattle.memory_server.proofs.server.MemServer.start.Goals as goal
 
 pub invariant_of-result : goal.invariant_of-result
 invariant_of-result c = λ on.
-    blank c.start.result.side c.in-Ok-format.store (ap (λ (core : Core). core.side) c.start.ensures)
+    blank c.in_ok-core.core.side c.in-Ok-format.store (ap (λ (core : Core). core.side) c.in_ok-core.ensures)
     (ap (λ (store : Holdings MemDisk). store.tickets) c.in-Ok-format.ensures.ok)

@@ -1,16 +1,12 @@
 -- What is kept at the start is that of the world without steps.
 use Rattle.std.proofs.Common.{false, List, [], sym, ap, ◌∙◌, subst}
 use Rattle.script_lines.specs.declared.request.Line.{Line}
-use Rattle.petal_rules.specs.State.{State, servers_of}
 use Rattle.petal_history.specs.declared.record.Record.{Record}
 use Rattle.petal_world.specs.Play.{IsKept}
 use Rattle.petal_world.specs.Actors.{Actors}
 use Rattle.world_desks.specs.Waiting.{Await}
-use Rattle.petal_world.proofs.Starting.{state_servers, start_kept}
+use Rattle.petal_world.proofs.Starting.{start_kept}
 use Rattle.petal_world.proofs.world.World.start.Goals as goal
-
-pub start-requires-clause-servers : goal.start-requires-clause-servers
-start-requires-clause-servers g c = ap (λ (s : State). servers_of s) c.requires.state ∙ state_servers c.args.script.servers c.args.script.lines
 
 pub invariant_of-result : goal.invariant_of-result
 invariant_of-result g c =

@@ -1,11 +1,16 @@
-use Rattle.std.proofs.Common.{ap}
-use Rattle.server_core.specs.Core.{Core, acted, server_of}
-use Rattle.server_core.proofs.Steps.{of_each}
+use Rattle.std.proofs.Common.{◌≡◌, ◌+◌, ◌-◌, ◌%◌, ap, ◌∙◌}
+use Rattle.log_side.specs.Part.{Part}
+use Rattle.server_core.specs.Core.{Core}
+use Rattle.server_core.proofs.Ticks.{ticked}
 use Rattle.server_core.proofs.server.ServerCore.tick.Goals as goal
 
-pub returns : goal.returns
-returns c =
-    let it = c.self.inside in
-    let core : Core = record { me = it.me; inc = it.inc; state = it.state; side = it.side; queue = it.queue } in
-    rw (← c.self.view_is) (of_each _ _
-    (λ letters sent store. ap (acted core store) (sent (server_of core store).own)) c.letters_anew.result (rw c.new-here.ensures at c.letters_anew.ensures))
+pub returns-clause-ok : goal.returns-clause-ok
+returns-clause-ok c = λ store records.
+    let it = c.self-2.inside in
+    let asks = c.in_ok-asks.asks in
+    let new : Core = record { inc = it.inc; log = c.ask_at.new.self; side = it.side; queue = it.queue.items } in
+    ticked c.args.self.now new store records c.in_ok-letters.letters asks
+    (c.in_ok-letters.ensures store records)
+    (c.in_ok-asks.ensures ∙ ap (λ (core : Core). (core.log.asks + 1) % (core.log.voter.servers - 1)) c.self.view_is)
+    (ap (λ (log : Part). record { inc = it.inc; log = log; side = it.side; queue = it.queue.items }) c.ask_at.ensures
+    ∙ ap (λ (core : Core). record core { log = record core.log { asks = asks } }) (c.self-2.view_is ∙ c.in_ok-queue_start.ensures.ok))

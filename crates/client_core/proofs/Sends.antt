@@ -1,0 +1,83 @@
+-- What a call, and the entries of a letter, send and leave: the rule's outcome from the parts that the code computes.
+use Rattle.std.proofs.Common.{◌≡◌, ℕ, ◌+◌, List, length, Option, Some, None, refl, sym, ◌∙◌, ap, subst}
+use Rattle.petal_command.specs.declared.command.Command.{Command}
+use Rattle.petal_msg.specs.declared.letter.Actor.TheVariants as actor
+use Rattle.petal_msg.specs.declared.letter.Letter.{Letter}
+use Rattle.script_lines.specs.declared.request.Request.{Request}
+use Rattle.petal_rules.specs.State.{State}
+use Rattle.petal_rules.specs.Server.{letters_of}
+use Rattle.petal_rules.specs.Clients.{Client, Asked, called, goes_out, goes_out_where, then_goes_out}
+use Rattle.client_core.specs.Core.{Core, at_core, state_of}
+use Rattle.client_core.specs.Open.{with_send, with_witnesses}
+use Rattle.client_core.specs.Sending.{posts_of, asked_after, sent_by, sent_where}
+use Rattle.client_core.specs.Learning.{learnt}
+use Rattle.client_core.specs.declared.learning.Learning.{Learning as Here}
+use Rattle.client_core.specs.declared.judging.Fate.TheVariants.{Waits}
+use Rattle.client_core.specs.declared.reaction.Reaction.{Reaction}
+use Rattle.client_core.specs.declared.sending.Sent.{Sent}
+
+-- the request goes out as it stands
+pub as_it_stands : (state : State) (me asks : ℕ) (asked : Asked) (witnesses : ℕ) (sent : Sent) → witnesses ≡ asked.witnesses
+    → ((client : Client) → goes_out state me (record client { asks = asks }) (record asked { witnesses = witnesses })
+    ≡ sent_by client (record asked { witnesses = witnesses }) sent)
+    → (client : Client) → goes_out state me (record client { asks = asks }) asked ≡ sent_by client asked sent
+as_it_stands state me asks asked witnesses sent same is client =
+    let P : ℕ → Type 0 = λ n.
+    goes_out state me (record client { asks = asks }) (record asked { witnesses = n }) ≡ sent_by client (record asked { witnesses = n }) sent in
+    subst P same (is client)
+
+-- the open request goes out at the client's state
+pub open_sent : (core : Core) (state : State) (asked : Asked) (sent : Sent) → state ≡ state_of core → core.client.asked ≡ Some asked
+    → ((client : Client) → goes_out state core.me (record client { asks = core.client.asks }) asked ≡ sent_by client asked sent)
+    → goes_out_where (state_of core) core.me core.client core.client.asked ≡ sent_where core.client sent
+open_sent core state asked sent at_state is_open is = rw (← at_state) (rw is_open (is core.client))
+
+-- the open request goes out in another state, with more entries applied
+pub open_sent_in : (core : Core) (state : State) (log : List Command) (witnesses : ℕ) (asked : Asked) (sent : Sent) → core.client.asked ≡ Some asked
+    → ((client : Client) → goes_out state core.me (record client { asks = core.client.asks }) (record asked { witnesses = witnesses })
+    ≡ sent_by client (record asked { witnesses = witnesses }) sent)
+    → goes_out_where state core.me (record core.client { applied = log; asked = with_witnesses witnesses core.client.asked })
+    (with_witnesses witnesses core.client.asked)
+    ≡ sent_where (record core.client { applied = log; asked = with_witnesses witnesses core.client.asked }) sent
+open_sent_in core state log witnesses asked sent is_open is =
+    rw is_open (is (record core.client { applied = log; asked = Some (record asked { witnesses = witnesses }) }))
+
+called_goes_out : (core : Core) (line : ℕ) (request : Request) (fresh : Asked)
+    → fresh ≡ record { line = line; seq = core.client.seq + 1; request = request; turn = 0; rev = (state_of core).rev; witnesses = 0 }
+    → called (state_of core) core.me core.client line request ≡ goes_out (state_of core) core.me (record core.client { seq = fresh.seq }) fresh
+called_goes_out core line request fresh is = rw is refl
+
+-- a call
+pub called_is : (core new : Core) (line : ℕ) (request : Request) (fresh : Asked) (sent : Sent) (letters : List Letter)
+    → fresh ≡ record { line = line; seq = core.client.seq + 1; request = request; turn = 0; rev = (state_of core).rev; witnesses = 0 }
+    → ((client : Client) → goes_out (state_of core) core.me (record client { asks = core.client.asks }) fresh ≡ sent_by client fresh sent)
+    → letters ≡ letters_of (record { from = actor.Client core.me; inc = 0; rev = length core.client.applied }) 0 (posts_of sent.post)
+    → new ≡ record core { client = record core.client { seq = fresh.seq; asks = sent.asks; asked = Some (asked_after fresh sent) } }
+    → ◌≡◌ {A = Core × Reaction} (new, record { letters = letters; answer = None }) (at_core core (called (state_of core) core.me core.client line request))
+called_is core new line request fresh sent letters fresh_is sent_is letters_are new_is =
+    rw (new_is, letters_are) (ap (at_core core) (sym (called_goes_out core line request fresh fresh_is ∙ sent_is (record core.client { seq = fresh.seq }))))
+
+-- what is known where the request waits still
+learnt_waits : (client : Client) (asked : Option Asked) (now : Here) (witnesses : ℕ) → now.fate ≡ Waits witnesses
+    → learnt client asked now
+    ≡ record { state = now.state; client = record client { applied = now.applied.items; asked = with_witnesses witnesses asked }; answer = None }
+learnt_waits client None now witnesses is = refl
+learnt_waits client (Some asked) now witnesses is = rw is refl
+
+-- the entries of a letter, where the request waits still
+pub waited_is : (core new : Core) (now : Here) (witnesses : ℕ) (sent : Sent) (letters : List Letter) → now.fate ≡ Waits witnesses
+    → goes_out_where now.state core.me (record core.client { applied = now.applied.items; asked = with_witnesses witnesses core.client.asked })
+    (with_witnesses witnesses core.client.asked)
+    ≡ sent_where (record core.client { applied = now.applied.items; asked = with_witnesses witnesses core.client.asked }) sent
+    → letters ≡ letters_of (record { from = actor.Client core.me; inc = 0; rev = length now.applied.items }) 0 (posts_of sent.post)
+    → new ≡ record core {
+      client = record core.client {
+        applied = now.applied.items;
+        asks = sent.asks;
+        asked = with_send sent.turn sent.rev (with_witnesses witnesses core.client.asked);
+      };
+    }
+    → ◌≡◌ {A = Core × Reaction} (new, record { letters = letters; answer = None })
+    (at_core core (then_goes_out core.me (learnt core.client core.client.asked now)))
+waited_is core new now witnesses sent letters waits sent_is letters_are new_is =
+    rw (new_is, letters_are, learnt_waits core.client core.client.asked now witnesses waits, sent_is) refl

@@ -1,0 +1,31 @@
+-- What a send of the open request does.
+use Rattle.std.specs.Prelude.{List, [], ◌∷◌, Option, Some, None}
+use Rattle.petal_rules.specs.Server.{Post}
+use Rattle.petal_rules.specs.Clients.{Client, Asked, Reaction}
+use Rattle.client_core.specs.Open.{with_send}
+use Rattle.client_core.specs.declared.sending.Sent.{Sent}
+
+-- one post at most
+abbrev pub posts_of : Option Post → List Post
+posts_of None = []
+posts_of (Some post) = post ∷ []
+
+-- the request as it is after the send
+abbrev pub asked_after : Asked → Sent → Asked
+asked_after asked sent = record asked { turn = sent.turn; rev = sent.rev }
+
+-- what a client leaves and sends whose request goes out
+abbrev pub sent_by : Client → Asked → Sent → Reaction
+sent_by client asked sent = record {
+  client = record client { asks = sent.asks; asked = Some (asked_after asked sent) };
+  posts = posts_of sent.post;
+  answer = None;
+}
+
+-- the same of the open request, where there is one
+abbrev pub sent_where : Client → Sent → Reaction
+sent_where client sent = record {
+  client = record client { asks = sent.asks; asked = with_send sent.turn sent.rev client.asked };
+  posts = posts_of sent.post;
+  answer = None;
+}

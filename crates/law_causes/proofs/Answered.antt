@@ -1,0 +1,453 @@
+-- Each answer has its cause: by induction on the history, in view of the log at its end.
+use Rattle.std.proofs.Common.{◌≡◌, inl, inr, ◌<◌, ◌≤◌, ◌+◌, ◌++◌, ◌==◌, if◌then◌else◌, ℕ, zero, suc, Bool, true, false, List, [], ◌∷◌, length, take, Option, Some, None, is_some, refl, sym, ap, ◌∙◌, subst, arith, append_assoc, length-append}
+use Rattle.std.specs.Prelude.{slice_get, replicate, unwrap_or}
+use Rattle.global_tables.specs.Disk.{named}
+use Rattle.global_tables.specs.declared.disk.Latest.{Latest}
+use Rattle.global_tables.specs.declared.disk.Verdict.TheVariants as verdict
+use Rattle.petal_command.specs.declared.command.Command.{Command}
+use Rattle.petal_command.specs.declared.command.Command.TheVariants.{MakeDisk, Witness}
+use Rattle.petal_msg.specs.declared.body.Body.{Body}
+use Rattle.petal_msg.specs.declared.operation.Ending.{Ending}
+use Rattle.petal_msg.specs.declared.operation.Ending.TheVariants as ending
+use Rattle.script_lines.specs.declared.answer.Answer.{Answer}
+use Rattle.script_lines.specs.declared.answer.Answer.TheVariants as answer
+use Rattle.script_lines.specs.declared.request.Line.{Line}
+use Rattle.script_lines.specs.declared.request.Request.{Request}
+use Rattle.script_lines.specs.declared.request.Request.TheVariants as request
+use Rattle.petal_state.specs.State.{start as first_state, latest}
+use Rattle.petal_state.specs.Command.{state_after}
+use Rattle.petal_history.specs.Causes.{HasWitness, HasVerdict, CauseOf, AreCaused, named_by}
+use Rattle.petal_history.specs.Claims.{IsPrefix}
+use Rattle.petal_history.specs.Legal.{IsLegal, IsLegalFrom, stepped, world_after}
+use Rattle.petal_history.specs.Order.{AreRising}
+use Rattle.petal_history.specs.declared.record.Record.{Record}
+use Rattle.script_lines.specs.declared.script.Script.{Script}
+use Rattle.petal_rules.specs.Lists.{In}
+use Rattle.petal_rules.specs.State.{State}
+use Rattle.petal_rules.specs.Clients.{Client, Asked, Reaction, is_read, is_write, command_of, refusal, verdict_for, verdict_answer, is_witness}
+use Rattle.petal_rules.specs.World.{Setting, World, lines_of, chosen_log, chosen_state, state_at, with_answer, setting_of, start}
+use Rattle.petal_rules.proofs.Tests.{same_some, none_some, same_numbers, both_true, all_put}
+use Rattle.law_state.specs.Plain.{IsPlainLog}
+use Rattle.law_state.proofs.Places.{get_front, in_get}
+use Rattle.law_state.proofs.Entries.{log_plain}
+use Rattle.law_state.proofs.Steady.{front_plain, log_steady}
+use Rattle.law_steps.specs.Turned.{Turned, IsSame, StaysOpen, IsReason, By_verdict, By_witness, IsJudged, Goes_on, Begins, Reads, Ends, Judges, answer_of}
+use Rattle.law_steps.specs.Happens.{Happens, Serves, Turns}
+use Rattle.petal_rules.proofs.ListLemmas.{put_same}
+use Rattle.law_steps.specs.Ready.{AreFirm, Rests}
+use Rattle.law_steps.proofs.Fronts.{front_itself, front_on, below_itself}
+use Rattle.law_steps.proofs.Histories.{chosen_steady, rests_next, happens, firm_now, firm_after, start_rests}
+use Rattle.law_causes.specs.Asked.{AreAsked}
+use Rattle.law_answers.proofs.Places.{one_client, one_place}
+use Rattle.law_causes.proofs.Folds.{Outcome, Taken, Free}
+use Rattle.law_causes.proofs.Verdicts.{Found, found, first_place, plain_front}
+use Rattle.law_causes.proofs.Served.{never_unavailable}
+
+-- ### Fronts of a list
+
+take_all : {X : Type 0} (xs ys : List X) → take (length xs) (xs ++ ys) ≡ xs
+take_all [] ys = refl
+take_all (x ∷ xs) ys = ap (λ zs. x ∷ zs) (take_all xs ys)
+
+take_inside : {X : Type 0} (xs ys : List X) (k : ℕ) → k ≤ length xs → take k (xs ++ ys) ≡ take k xs
+take_inside xs ys zero low = refl
+take_inside [] ys (suc k) low = absurd (omega arith)
+take_inside (x ∷ xs) ys (suc k) low = ap (λ zs. x ∷ zs) (take_inside xs ys k (omega arith))
+
+get_inside : {X : Type 0} (xs ys : List X) (i : ℕ) (x : X) → i < length xs → slice_get (xs ++ ys) i ≡ Some x → slice_get xs i ≡ Some x
+get_inside [] ys i x low e = absurd (omega arith)
+get_inside (y ∷ xs) ys zero x low e = e
+get_inside (y ∷ xs) ys (suc i) x low e = get_inside xs ys i x (omega arith) e
+
+get_next : {X : Type 0} (xs : List X) (x : X) (ys : List X) → slice_get (xs ++ x ∷ ys) (length xs) ≡ Some x
+get_next [] x ys = refl
+get_next (y ∷ xs) x ys = get_next xs x ys
+
+below_length : {X : Type 0} (xs : List X) (i : ℕ) (x : X) → slice_get xs i ≡ Some x → i < length xs
+below_length [] i x e = absurd (cc)
+below_length (y ∷ xs) zero x e = omega arith
+below_length (y ∷ xs) (suc i) x e = let low = below_length xs i x e in omega arith
+
+-- ### The start
+
+nobody_told : (n c : ℕ) → unwrap_or (slice_get (replicate n (let none : Option Latest = None in none)) c) None ≡ None
+nobody_told zero c = refl
+nobody_told (suc n) zero = refl
+nobody_told (suc n) (suc c) = nobody_told n c
+
+pub no_verdict : (servers c seq : ℕ) (given : Answer) → verdict_for seq (latest (first_state servers) c) ≡ Some given → ⊥
+no_verdict servers c seq given h = none_some (ap (verdict_for seq) (nobody_told 9 c)) h
+
+-- ### Entries
+
+witness_is : (me seq : ℕ) (entry : Command) → is_witness me seq entry ≡ true → (turn : ℕ) × (entry ≡ Witness me seq turn)
+witness_is me seq (Witness client number turn) h =
+    let both = both_true (client == me) (number == seq) h in
+    let one : client ≡ me = same_numbers client me both.0 in
+    let two : number ≡ seq = same_numbers number seq both.1 in
+    (turn, cc)
+witness_is me seq _ h = absurd (cc)
+
+no_command_read : (c seq : ℕ) (asked : Request) → is_read asked ≡ true → command_of c seq asked ≡ None
+no_command_read c seq (request.Disk name tuple) h = absurd (cc)
+no_command_read c seq _ h = refl
+
+no_command_write : (c seq : ℕ) (asked : Request) → is_write asked ≡ true → command_of c seq asked ≡ None
+no_command_write c seq (request.Disk name tuple) h = absurd (cc)
+no_command_write c seq _ h = refl
+
+none_of : {X : Type 0} (o : Option X) → is_some o ≡ false → o ≡ None
+none_of None h = refl
+none_of (Some x) h = absurd (cc)
+
+-- what a verdict says of the name
+taken_before : (s : State) (name tuple : List ℕ) (v : Rattle.global_tables.specs.declared.disk.Verdict.Verdict) (given : Answer) → Outcome s name v
+    → verdict_answer v ≡ Some given
+    → given ≡ answer.Exists → is_some (named_by s (request.Disk name tuple)) ≡ true
+taken_before s name tuple _ given (Taken is) says e = is
+taken_before s name tuple _ given (Free is) says e = let ok : answer.Ok ≡ given = same_some says in absurd (cc)
+
+free_before : (s : State) (name tuple : List ℕ) (v : Rattle.global_tables.specs.declared.disk.Verdict.Verdict) (given : Answer) → Outcome s name v
+    → verdict_answer v ≡ Some given
+    → given ≡ answer.Ok → named_by s (request.Disk name tuple) ≡ None
+free_before s name tuple _ given (Taken is) says e = let exists : answer.Exists ≡ given = same_some says in absurd (cc)
+free_before s name tuple _ given (Free is) says e = none_of (named s.disks.rows name) is
+
+module _ (setting : Setting) (last : World) (plain : IsPlainLog setting.servers (chosen_log setting last))
+    (disks : AreAsked setting.lines (chosen_log setting last)) where
+  -- the answer of the line of this number has its cause
+  pub record HasCause (number : ℕ) (given : Answer) : Type 0 where
+    pub client : ℕ
+    pub before : ℕ
+    pub line : Line
+    pub is : slice_get (lines_of setting.lines client) before ≡ Some line
+    pub number_is : line.number ≡ number
+    pub cause : CauseOf setting last client (before + 1) line.request (command_of client (before + 1) line.request) given
+
+  -- the open request is that of a line
+  pub record IsOpenFor (c : ℕ) (asked : Asked) : Type 0 where
+    pub before : ℕ
+    pub line : Line
+    pub is : slice_get (lines_of setting.lines c) before ≡ Some line
+    pub line_is : asked.line ≡ line.number
+    pub seq_is : asked.seq ≡ before + 1
+    pub request_is : asked.request ≡ line.request
+
+  -- a cause in view of the open request
+  caused_by : (c : ℕ) (asked : Asked) (given : Answer) → IsOpenFor c asked
+      → CauseOf setting last c asked.seq asked.request (command_of c asked.seq asked.request) given → HasCause asked.line given
+  caused_by c asked given o cause = record {
+    client = c;
+    before = o.before;
+    line = o.line;
+    is = o.is;
+    number_is = sym o.line_is;
+    cause =
+        subst (λ r. CauseOf setting last c (o.before + 1) r (command_of c (o.before + 1) r) given) o.request_is
+        (subst (λ k. CauseOf setting last c k asked.request (command_of c k asked.request) given) o.seq_is cause);
+  }
+
+  witness_causes : (c seq : ℕ) (asked : Request) (given : Answer) → HasWitness setting last c seq asked given → CauseOf setting last c seq asked None given
+  witness_causes c seq asked answer.NoDisk h = h
+  witness_causes c seq asked answer.NoSnap h = h
+  witness_causes c seq asked answer.Unavailable h = h
+  witness_causes c seq asked _ h = tt
+
+  -- the log up to an entry
+  state_here : (front more : List Command) (k : ℕ) → chosen_log setting last ≡ front ++ more → k ≤ length front
+      → state_at setting last k ≡ state_after setting.servers (take k front)
+  state_here front more k is low = ap (state_after setting.servers) (ap (take k) is ∙ take_inside front more k low)
+
+  verdict_causes : (front more : List Command) (c seq : ℕ) (asked : Request) (given : Answer) → chosen_log setting last ≡ front ++ more
+      → ((name tuple : List ℕ) → In (MakeDisk c seq name tuple) (chosen_log setting last) → asked ≡ request.Disk name tuple)
+      → verdict_for seq (latest (state_after setting.servers front) c) ≡ Some given → HasVerdict setting last c seq asked given
+  verdict_causes front more c seq asked given is own so =
+      let part : IsPrefix front (chosen_log setting last) = record { later = more; is = is } in
+      let proper = front_plain setting.servers front (chosen_log setting last) plain part in
+      elim (found setting.servers front (first_state setting.servers) c seq given proper refl so) [
+        | inl early ↦ absurd (no_verdict setting.servers c seq given early)
+        | inr f ↦ by f proper
+      ]
+    where
+      by : (f : Found (first_state setting.servers) front c seq given) → IsPlainLog setting.servers front → HasVerdict setting last c seq asked given
+      by f proper =
+          let there : slice_get (chosen_log setting last) f.place ≡ Some (MakeDisk c seq f.name f.tuple) =
+          ap (λ log. slice_get log f.place) is ∙ get_front front more f.place (MakeDisk c seq f.name f.tuple) f.is in
+          let low : f.place < length front = below_length front f.place (MakeDisk c seq f.name f.tuple) f.is in
+          let at : asked ≡ request.Disk f.name f.tuple = own f.name f.tuple (in_get (chosen_log setting last) f.place (MakeDisk c seq f.name f.tuple) there) in
+          let now = state_here front more f.place is (omega arith) in
+          let next : state_at setting last (f.place + 1) ≡ state_after setting.servers (take (suc f.place) front) =
+          state_here front more (f.place + 1) is (omega arith)
+          ∙ ap (λ k. state_after setting.servers (take k front)) (let e : f.place + 1 ≡ suc f.place = omega arith in e) in
+          record {
+            place = f.place;
+            command = MakeDisk c seq f.name f.tuple;
+            own = ap (command_of c seq) at;
+            is = there;
+            first = λ i below e.
+                first_place setting.servers front (first_state setting.servers) c seq given f proper refl i f.name f.tuple below
+                (get_inside front more i (MakeDisk c seq f.name f.tuple) (omega arith) (ap (λ log. slice_get log i) (sym is) ∙ e));
+            so = ap (λ (s : State). verdict_for seq (latest s c)) next ∙ f.so;
+            taken = λ e.
+                ap is_some (ap (λ (s : State). named_by s asked) now ∙ ap (named_by (state_after setting.servers (take f.place front))) at)
+                ∙ taken_before (state_after setting.servers (take f.place front)) f.name f.tuple f.verdict given f.outcome f.says e;
+            free = λ e.
+                ap (λ (s : State). named_by s asked) now ∙ ap (named_by (state_after setting.servers (take f.place front))) at
+                ∙ free_before (state_after setting.servers (take f.place front)) f.name f.tuple f.verdict given f.outcome f.says e;
+          }
+
+  -- a disk of the open request's number is the one that it asks for
+  own_disk : (c : ℕ) (asked : Asked) → IsOpenFor c asked → (name tuple : List ℕ) → In (MakeDisk c asked.seq name tuple) (chosen_log setting last)
+      → asked.request ≡ request.Disk name tuple
+  own_disk c asked o name tuple there =
+      let a = disks c asked.seq name tuple there in
+      let same : a.before ≡ o.before = (let e = a.seq_is in let f = o.seq_is in omega arith) in
+      let line : o.line ≡ a.line = same_some (sym o.is ∙ ap (slice_get (lines_of setting.lines c)) (sym same) ∙ a.is) in
+      o.request_is ∙ ap (λ (l : Line). l.request) line ∙ a.request
+
+  judged_cause : (c : ℕ) (before after : List Command) (asked : Asked) (given : Answer) → IsOpenFor c asked → IsPrefix after (chosen_log setting last)
+      → IsJudged setting.servers c before after asked given → HasCause asked.line given
+  judged_cause c before after asked given o part judged = caused_by c asked given o (by judged.reason)
+    where
+      upto : List Command
+      upto = judged.front ++ judged.entry ∷ []
+
+      whole : chosen_log setting last ≡ upto ++ (judged.rest ++ part.later)
+      whole =
+          part.is ∙ ap (λ log. log ++ part.later) judged.lies ∙ append_assoc judged.front (judged.entry ∷ judged.rest) part.later
+          ∙ sym (append_assoc judged.front (judged.entry ∷ []) (judged.rest ++ part.later))
+
+      by : IsReason c asked given (state_after setting.servers upto) judged.entry
+          → CauseOf setting last c asked.seq asked.request (command_of c asked.seq asked.request) given
+      by (By_verdict command own so) =
+          subst (λ k. CauseOf setting last c asked.seq asked.request k given) (sym own)
+          (verdict_causes upto (judged.rest ++ part.later) c asked.seq asked.request given whole (own_disk c asked o) so)
+      by (By_witness none is so) =
+          let w = witness_is c asked.seq judged.entry is in
+          let many : length upto ≡ length judged.front + 1 = length-append judged.front (judged.entry ∷ []) in
+          let state : state_at setting last (length judged.front + 1) ≡ state_after setting.servers upto =
+          ap (state_at setting last) (sym many) ∙ ap (state_after setting.servers)
+          (ap (take (length upto)) whole ∙ take_all upto (judged.rest ++ part.later)) in
+          let there : slice_get (chosen_log setting last) (length judged.front) ≡ Some judged.entry =
+          ap (λ log. slice_get log (length judged.front)) (whole ∙ append_assoc judged.front (judged.entry ∷ []) (judged.rest ++ part.later))
+          ∙ get_next judged.front judged.entry (judged.rest ++ part.later) in
+          subst (λ k. CauseOf setting last c asked.seq asked.request k given) (sym none)
+          (witness_causes c asked.seq asked.request given (record {
+            place = length judged.front;
+            turn = w.0;
+            is = there ∙ ap Some w.1;
+            so = ap (λ (s : State). refusal s asked.request) state ∙ so;
+          }))
+
+  -- ### A step
+
+  pub record Kept (w : World) : Type 0 where
+    pub answers : (number : ℕ) (given : Answer) → In (number, given) w.answers → HasCause number given
+    pub open_for : (c : ℕ) (asked : Asked) → (w.clients c).asked ≡ Some asked → IsOpenFor c asked
+
+  -- what a client's step leaves and answers
+  record Reacted (c : ℕ) (reacted : Reaction) : Type 0 where
+    open_for : (asked : Asked) → reacted.client.asked ≡ Some asked → IsOpenFor c asked
+    answered : (number : ℕ) (given : Answer) → reacted.answer ≡ Some (number, given) → HasCause number given
+
+  open_same : (c : ℕ) (old new : Asked) → IsSame old new → IsOpenFor c old → IsOpenFor c new
+  open_same c old new same o = record {
+    before = o.before;
+    line = o.line;
+    is = o.is;
+    line_is = same.line ∙ o.line_is;
+    seq_is = same.seq ∙ o.seq_is;
+    request_is = same.request ∙ o.request_is;
+  }
+
+  stays_open : (c : ℕ) (old new : Option Asked) → StaysOpen old new → ((asked : Asked) → old ≡ Some asked → IsOpenFor c asked) → (asked : Asked)
+      → new ≡ Some asked → IsOpenFor c asked
+  stays_open c None None stays before asked e = none_some refl e
+  stays_open c None (Some new) stays before asked e = absurd stays
+  stays_open c (Some old) None stays before asked e = none_some refl e
+  stays_open c (Some old) (Some new) stays before asked e = subst (IsOpenFor c) (same_some e) (open_same c old new stays (before old refl))
+
+  answer_given : (number line : ℕ) (given told : Answer) → (let pair : Option (ℕ × Answer) = Some (line, told) in pair) ≡ Some (number, given)
+      → HasCause line told → HasCause number given
+  answer_given number line given told e h =
+      subst (λ (x : ℕ × Answer). HasCause x.0 x.1) (same_some e) h
+
+  read_cause : (c seq : ℕ) (asked : Request) (bytes : List ℕ) → is_read asked ≡ true
+      → CauseOf setting last c seq asked (command_of c seq asked) (answer.Data bytes)
+  read_cause c seq asked bytes is = subst (λ o. CauseOf setting last c seq asked o (answer.Data bytes)) (sym (no_command_read c seq asked is)) tt
+
+  write_cause : (c seq : ℕ) (asked : Request) (how : Ending) → is_write asked ≡ true → CauseOf setting last c seq asked (command_of c seq asked) (answer_of how)
+  write_cause c seq asked ending.Written is = subst (λ o. CauseOf setting last c seq asked o answer.Ok) (sym (no_command_write c seq asked is)) tt
+  write_cause c seq asked ending.Full is = subst (λ o. CauseOf setting last c seq asked o answer.NoSpace) (sym (no_command_write c seq asked is)) tt
+
+  reacted_kept : (heard : Body → Type 0) (c : ℕ) (client : Client) (in_call : Bool) (reacted : Reaction)
+      → ((asked : Asked) → client.asked ≡ Some asked → IsOpenFor c asked)
+      → IsPrefix reacted.client.applied (chosen_log setting last) → Turned heard setting.servers setting.lines c client in_call reacted → Reacted c reacted
+  reacted_kept heard c client _ _ before part (Goes_on reacted seq stays says) = record {
+    open_for = stays_open c client.asked reacted.client.asked stays before;
+    answered = λ number given e. none_some says.unanswered e;
+  }
+  reacted_kept heard c client _ _ before part (Begins reacted line asked next free seq now called says) = record {
+    open_for = λ other e. subst (IsOpenFor c) (same_some (sym now ∙ e))
+        (let o : IsOpenFor c asked = record {
+          before = client.seq;
+          line = line;
+          is = next;
+          line_is = called.line_is;
+          seq_is = called.seq_is;
+          request_is = called.request_is;
+        } in o);
+    answered = λ number given e. none_some says.unanswered e;
+  }
+  reacted_kept heard c client _ _ before part (Reads asked bytes told is read) = record {
+    open_for = λ other e. none_some refl e;
+    answered = λ number given e.
+        answer_given number asked.line given (answer.Data bytes) e
+        (caused_by c asked (answer.Data bytes) (before asked is) (read_cause c asked.seq asked.request bytes read));
+  }
+  reacted_kept heard c client _ _ before part (Ends asked how told is write) = record {
+    open_for = λ other e. none_some refl e;
+    answered = λ number given e.
+        answer_given number asked.line given (answer_of how) e
+        (caused_by c asked (answer_of how) (before asked is) (write_cause c asked.seq asked.request how write));
+  }
+  reacted_kept heard c client _ _ before part (Judges after asked told is gone seq judged) = record {
+    open_for = λ other e. none_some gone e;
+    answered = λ number given e. answer_given number asked.line given told e
+        (judged_cause c client.applied after.applied asked told (before asked is) part judged);
+  }
+
+  more_answers : (given : Option (ℕ × Answer)) (so_far : List (ℕ × Answer)) → ((number : ℕ) (told : Answer) → In (number, told) so_far → HasCause number told)
+      → ((number : ℕ) (told : Answer) → given ≡ Some (number, told) → HasCause number told) → (number : ℕ) (told : Answer)
+      → In (number, told) (with_answer given so_far) → HasCause number told
+  unfolding In
+  more_answers None so_far before now number told h = before number told h
+  more_answers (Some given) so_far before now number told (inl is) = now number told (ap Some (sym is))
+  more_answers (Some given) so_far before now number told (inr h) = before number told h
+
+  pub step_keeps : (state : State) (w v : World) → Kept w → ((c : ℕ) → IsPrefix (v.clients c).applied (chosen_log setting last)) → Happens setting state w v
+      → Kept v
+  step_keeps state w _ kept parts (Serves n stamp log done queue lt did queued) = record { answers = kept.answers; open_for = kept.open_for }
+  step_keeps state w _ kept parts (Turns c stamp in_call reacted lt small turned onward) =
+      let part : IsPrefix reacted.client.applied (chosen_log setting last) =
+      subst (λ (client : Client). IsPrefix client.applied (chosen_log setting last)) (put_same w.clients c reacted.client) (parts c) in
+      let r = reacted_kept _ c (w.clients c) in_call reacted (kept.open_for c) part turned in
+      record {
+        answers = more_answers reacted.answer w.answers kept.answers r.answered;
+        open_for = all_put w.clients c reacted.client
+            (λ k (client : Client). (asked : Asked) → client.asked ≡ Some asked → IsOpenFor k asked) kept.open_for r.open_for;
+      }
+
+-- ### Histories
+
+log_on : (setting : Setting) (w : World) (records : List Record) → AreFirm setting w records
+    → IsPrefix (chosen_log setting w) (chosen_log setting (world_after setting w records))
+log_on setting w [] firm = front_itself (chosen_log setting w)
+log_on setting w (own ∷ later) firm =
+    front_on (chosen_log setting w) (chosen_log setting (stepped setting w own).world) (chosen_log setting (world_after setting w (own ∷ later))) firm.1
+    (log_on setting (stepped setting w own).world later firm.2)
+
+clients_on : (setting : Setting) (w : World) (records : List Record) → AreFirm setting w records → (c : ℕ)
+    → IsPrefix (w.clients c).applied (chosen_log setting (world_after setting w records))
+clients_on setting w records firm c =
+    front_on (w.clients c).applied (chosen_log setting w) (chosen_log setting (world_after setting w records)) ((firm_now setting w records firm).clients c)
+    (log_on setting w records firm)
+
+kept_after : (setting : Setting) (last : World) (plain : IsPlainLog setting.servers (chosen_log setting last))
+    (disks : AreAsked setting.lines (chosen_log setting last))
+    (w : World) (records : List Record) → AreFirm setting w records → Rests setting w → IsLegalFrom setting w records
+    → IsPrefix (chosen_log setting (world_after setting w records)) (chosen_log setting last) → Kept setting last plain disks w
+    → Kept setting last plain disks (world_after setting w records)
+kept_after setting last plain disks w [] firm rests legal upto kept = kept
+kept_after setting last plain disks w (own ∷ later) firm rests legal upto kept =
+    let v = (stepped setting w own).world in
+    let next = firm_now setting v later firm.2 in
+    let state = chosen_state setting v in
+    let steady = chosen_steady setting v next in
+    kept_after setting last plain disks v later firm.2 (rests_next setting w own rests firm.0 legal.0 next) legal.1 upto
+    (step_keeps setting last plain disks state w v kept
+    (λ c. front_on (v.clients c).applied (chosen_log setting (world_after setting v later)) (chosen_log setting last)
+    (clients_on setting v later firm.2 c) upto)
+    (happens setting w own rests firm.0 legal.0 next firm.1 state steady (below_itself state)))
+
+pub causes_after : (script : Script) (records : List Record) → AreRising script.lines → AreFirm (setting_of script) (start (setting_of script)) records
+    → IsLegal script records
+    → AreAsked script.lines (chosen_log (setting_of script) (world_after (setting_of script) (start (setting_of script)) records))
+    → AreCaused (setting_of script) (world_after (setting_of script) (start (setting_of script)) records)
+unfolding In
+causes_after script records rise firm legal disks line before given there told = by (kept.answers line.number given told)
+  where
+    setting : Setting
+    setting = setting_of script
+
+    last : World
+    last = world_after setting (start setting) records
+
+    plain : IsPlainLog setting.servers (chosen_log setting last)
+    plain = (firm_after setting (start setting) records firm).plain
+
+    kept : Kept setting last plain disks last
+    kept =
+        kept_after setting last plain disks (start setting) records firm (start_rests script) legal (front_itself (chosen_log setting last))
+        (record { answers = λ number told h. absurd h; open_for = λ c asked e. none_some refl e })
+
+    by : HasCause setting last plain disks line.number given
+        → CauseOf setting last line.client (before + 1) line.request (command_of line.client (before + 1) line.request) given
+    by h =
+        let client : h.client ≡ line.client = one_client script.lines rise h.client line.client h.before before h.line line h.is there h.number_is in
+        let here : slice_get (lines_of script.lines line.client) h.before ≡ Some h.line = subst
+        (λ c. slice_get (lines_of script.lines c) h.before ≡ Some h.line) client h.is in
+        let place : h.before ≡ before = one_place script.lines rise line.client h.before before h.line line here there h.number_is in
+        let same : h.line ≡ line = same_some (sym here ∙ ap (slice_get (lines_of script.lines line.client)) place ∙ there) in
+        subst (λ c. CauseOf setting last c (before + 1) line.request (command_of c (before + 1) line.request) given) client
+        (subst (λ k. CauseOf setting last h.client (k + 1) line.request (command_of h.client (k + 1) line.request) given) place
+        (subst (λ (l : Line). CauseOf setting last h.client (h.before + 1) l.request (command_of h.client (h.before + 1) l.request) given) same h.cause))
+
+-- while nobody stops, no answer is `Unavailable`
+pub never_unavailable_after : (script : Script) (records : List Record) → AreFirm (setting_of script) (start (setting_of script)) records
+    → IsLegal script records
+    → AreAsked script.lines (chosen_log (setting_of script) (world_after (setting_of script) (start (setting_of script)) records))
+    → (number : ℕ) → In (number, answer.Unavailable) (world_after (setting_of script) (start (setting_of script)) records).answers → ⊥
+unfolding In
+never_unavailable_after script records firm legal disks number told = by (kept.answers number answer.Unavailable told)
+  where
+    setting : Setting
+    setting = setting_of script
+
+    last : World
+    last = world_after setting (start setting) records
+
+    plain : IsPlainLog setting.servers (chosen_log setting last)
+    plain = (firm_after setting (start setting) records firm).plain
+
+    kept : Kept setting last plain disks last
+    kept =
+        kept_after setting last plain disks (start setting) records firm (start_rests script) legal (front_itself (chosen_log setting last))
+        (record { answers = λ number told h. absurd h; open_for = λ c asked e. none_some refl e })
+
+    verdicts : (v : Rattle.global_tables.specs.declared.disk.Verdict.Verdict) → verdict_answer v ≡ Some answer.Unavailable → ⊥
+    verdicts verdict.Ok e = absurd (cc)
+    verdicts verdict.Waiting e = absurd (cc)
+    verdicts verdict.Exists e = absurd (cc)
+    verdicts verdict.NoDisk e = absurd (cc)
+    verdicts verdict.Moving e = absurd (cc)
+
+    verdict_never : (seq : ℕ) (o : Option Latest) → verdict_for seq o ≡ Some answer.Unavailable → ⊥
+    verdict_never seq None e = absurd (cc)
+    verdict_never seq (Some row) e = test (row.seq == seq) e
+      where
+        test : (b : Bool) → (if b then verdict_answer row.verdict else None) ≡ Some answer.Unavailable → ⊥
+        test true e = verdicts row.verdict e
+        test false e = absurd (cc)
+
+    cause_never : (c seq : ℕ) (asked : Request) (o : Option Command) → CauseOf setting last c seq asked o answer.Unavailable → ⊥
+    cause_never c seq asked (Some command) h = verdict_never seq (latest (state_at setting last (h.place + 1)) c) h.so
+    cause_never c seq asked None h =
+        let proper : IsPlainLog setting.servers (take (h.place + 1) (chosen_log setting last)) = plain_front setting.servers (chosen_log setting last)
+        (h.place + 1) plain in
+        never_unavailable setting.servers (state_at setting last (h.place + 1))
+        (log_plain setting.servers (take (h.place + 1) (chosen_log setting last)) proper)
+        (log_steady setting.servers (take (h.place + 1) (chosen_log setting last)) proper) asked h.so
+
+    by : HasCause setting last plain disks number answer.Unavailable → ⊥
+    by h = cause_never h.client (h.before + 1) h.line.request (command_of h.client (h.before + 1) h.line.request) h.cause

@@ -1,0 +1,36 @@
+//! Why each request is answered so: over every legal history of a sound script, each answer that says what is not there, and
+//! each answer of a `disk` line, comes by its own entry of the chosen log, with a state at its place that says so.
+//!
+//! To the layers above it promises this of answers, and of what clients are told of revisions. It speaks of definitions alone,
+//! and knows nothing of code.
+#![tactic(auto)]
+
+ghost use Rattle.std.specs.Prelude.{◌≡◌, ℕ, List};
+ghost use Rattle.petal_msg.specs.declared.body.Body.TheVariants.{WrongRev};
+ghost use Rattle.petal_msg.specs.declared.letter.Letter.{Letter};
+ghost use Rattle.script_lines.specs.declared.script.Script.{Script};
+ghost use Rattle.script_lines.specs.declared.answer.Answer.TheVariants.{Unavailable};
+ghost use Rattle.petal_rules.specs.Lists.{In};
+ghost use Rattle.petal_rules.specs.World.{setting_of, start};
+ghost use Rattle.petal_history.specs.Causes.{AreCaused};
+ghost use Rattle.petal_history.specs.Legal.{IsLegal, world_after};
+ghost use Rattle.petal_history.specs.Order.{AreRising};
+ghost use Rattle.petal_history.specs.Sound.{IsSound};
+ghost use Rattle.petal_history.specs.declared.record.Record.{Record};
+ghost use Rattle.law_causes.specs.Reasons.{HasReason};
+
+/// Each answer has its cause in the chosen log. The lines rise, so an answer's number names the place of one line.
+pub fn answers_are_caused()
+    ensures { (script : Script) (records : List Record) → IsSound script → AreRising script.lines → IsLegal script records → AreCaused (setting_of script) (world_after (setting_of script) (start (setting_of script)) records) }
+{}
+
+/// While nobody stops, each block of a known disk has its servers: no answer is that they are unavailable.
+pub fn no_answer_is_unavailable()
+    ensures { (script : Script) (records : List Record) → IsSound script → IsLegal script records → (number : ℕ) → In (number, Unavailable) (world_after (setting_of script) (start (setting_of script)) records).answers → ⊥ }
+{}
+
+/// A client is told of another revision only where a server that was In as itself handled its read or write, and had another
+/// revision than that letter.
+pub fn wrong_rev_has_a_reason()
+    ensures { (script : Script) (records : List Record) → IsSound script → IsLegal script records → (letter : Letter) (seq : ℕ) → In letter (world_after (setting_of script) (start (setting_of script)) records).sent → letter.body ≡ WrongRev seq → HasReason (setting_of script) (start (setting_of script)) records letter seq }
+{}

@@ -1,0 +1,108 @@
+-- The chosen log of a world whose steps are those of a schedule.
+use Rattle.std.proofs.Common.{◌≡◌, ◌<◌, ◌≤◌, ◌+◌, ◌⊎◌, inl, inr, ℕ, List, length, Some, None, sym, subst, arith}
+use Rattle.std.specs.Prelude.{slice_get}
+use Rattle.std.proofs.lemmas.Bool.Decides.{nat_tests}
+use Rattle.petal_command.specs.declared.command.Command.{Command}
+use Rattle.petal_paxos.specs.Chosen.{IsChosenBy, chosen_at}
+use Rattle.petal_paxos.specs.Schedule.{run, begin, IsChosen}
+use Rattle.petal_paxos.specs.Schedule as schedule
+use Rattle.law_chosen.specs.Single.{IsSingle}
+use Rattle.law_chosen.proofs.Places.{log_tells, log_ends, log_has, front_of_log}
+use Rattle.law_chosen.proofs.Votes.{told_is_chosen, chosen_is_told}
+use Rattle.petal_history.specs.Claims.{IsPrefix, Agrees}
+use Rattle.petal_msg.specs.declared.body.Body.TheVariants as body
+use Rattle.petal_msg.specs.declared.letter.Letter.{Letter}
+use Rattle.petal_rules.specs.Agreement.{IsTold, IsProposer, HasSchedule}
+use Rattle.petal_rules.specs.Lists.{In as Among}
+use Rattle.petal_rules.specs.World.{Setting, World, devices, chosen_log}
+use Rattle.petal_rules.proofs.Tests.{none_some}
+use Rattle.law_state.specs.Firm.{Firm}
+use Rattle.law_log.specs.Logged.{IsBacked, IsSaidBy, Logged}
+use Rattle.law_log.specs.Requested.{IsScripted}
+use Rattle.law_log.proofs.Facts.{IsFair, told_chosen, chosen_wanted, chosen_once, told_wanted, scripted_plain}
+use Rattle.law_log.proofs.Lists.{at_among}
+use Rattle.law_log.proofs.Worlds.{IsGrown}
+
+within_or_past : (i many : ℕ) → (i ≤ many) ⊎ (many < i)
+within_or_past i many = grind (arith, nat_tests)
+
+module _ (setting : Setting) (w : World) (fair : IsFair setting) (l : Logged setting w) where
+  abbrev P : schedule.World
+  P = run setting.servers l.events begin
+
+  by_schedule : (place : ℕ) (c : Command) → IsChosenBy setting.servers (devices w) place c → IsChosen setting.servers P place c
+  by_schedule place c k = (k.0, k.1, k.2, λ s is. ((l.is.servers s).votes place k.0 c).1 (k.3 s is))
+
+  by_records : (place : ℕ) (c : Command) → IsChosen setting.servers P place c → IsChosenBy setting.servers (devices w) place c
+  by_records place c k = (k.0, k.1, k.2, λ s is. ((l.is.servers s).votes place k.0 c).0 (k.3 s is))
+
+  pub single : IsSingle setting.servers (devices w)
+  single place a b i j = chosen_once setting w fair.small l place b a (by_schedule place b j) (by_schedule place a i)
+
+  told_at : (place : ℕ) (c : Command) → IsTold P place c → chosen_at setting.servers (devices w) place ≡ Some c
+  told_at place c t = chosen_is_told setting.servers (devices w) place c single (by_records place c (told_chosen setting w fair.small l place c t))
+
+  -- what is told for a place stands there in the chosen log, since all places before were told
+  pub told_stands : (i : ℕ) (c : Command) → IsTold P (i + 1) c → slice_get (chosen_log setting w) i ≡ Some c
+  told_stands i c t = log_has setting.servers (devices w) i c (none_between (length (chosen_log setting w)) (log_ends setting.servers (devices w)))
+      (told_at (i + 1) c t)
+    where
+      none_between : (many : ℕ) → chosen_at setting.servers (devices w) (many + 1) ≡ None → i ≤ many
+      none_between many none =
+          elim (within_or_past i many) [
+            | inl le ↦ le
+            | inr lt ↦ (let before = (told_wanted setting w fair.small l (i + 1) c t).1.told many (omega arith) in
+                none_some none (told_at (many + 1) before.0 before.1))
+          ]
+
+  pub agrees : Agrees setting w
+  agrees = record {
+    known = λ n i c e. told_stands i c ((l.is.servers n).told (i + 1) c e);
+    servers = λ n.
+        let front = front_of_log setting.servers (devices w) (w.servers n).log.applied
+        (λ i c e. told_at (i + 1) c ((l.is.servers n).told (i + 1) c ((l.is.servers n).applied i c e))) in
+        record { later = front.0; is = front.1 };
+    clients = λ d.
+        let front = front_of_log setting.servers (devices w) (w.clients d).applied (λ i c e. told_at (i + 1) c (l.is.applied d i c e)) in
+        record { later = front.0; is = front.1 };
+  }
+
+  pub scripted : (c : Command) → Among c (chosen_log setting w) → IsScripted setting w c
+  scripted c i =
+      let at = at_among c (chosen_log setting w) i in
+      (chosen_wanted setting w fair.small l (at.0 + 1) c
+      (by_schedule (at.0 + 1) c (told_is_chosen setting.servers (devices w) (at.0 + 1) c (log_tells setting.servers (devices w) at.0 c at.1)))).0
+
+  pub firm : Firm setting w
+  firm = record { servers = agrees.servers; clients = agrees.clients; plain = λ c i. scripted_plain setting w fair c (scripted c i) }
+
+  news_told : (letter : Letter) → Among letter w.sent → (after : ℕ) (commands : List Command) → letter.body ≡ body.News after commands
+      → (i : ℕ) (command : Command) → slice_get commands i ≡ Some command → IsTold P (after + i + 1) command
+  news_told letter there after commands is = subst (IsBacked P (IsScripted setting w) (IsSaidBy P letter.from)) is (l.is.sent letter there)
+
+  pub has_schedule : HasSchedule setting.servers w
+  has_schedule = record {
+    events = l.events;
+    is = record {
+      acceptors = λ s place. (l.is.servers s).acceptors place;
+      known = λ s place. (l.is.servers s).known place;
+      incs = λ s. (l.is.servers s).inc;
+      proposers = λ s lt. subst (λ b. IsProposer b (w.servers s).log.phase (P.proposers s)) (sym (l.is.running s lt)) (l.is.busy s lt).proposer;
+      asked = λ s lt. (l.is.busy s lt).asked;
+      votes = λ s place ballot command. (l.is.servers s).votes place ballot command;
+      letters = λ letter from said i who is.
+          let backed : IsSaidBy P letter.from said = subst (IsBacked P (IsScripted setting w) (IsSaidBy P letter.from)) is (l.is.sent letter i) in
+          subst (λ who. IsSaidBy P who said) who backed;
+      told = λ s place command e. (l.is.servers s).told place command e;
+      news = λ letter after i commands command there is e. news_told letter there after commands is i command e;
+    };
+  }
+
+-- the log at an earlier world is at the front of the log at a later one, in which each vote still stands
+pub grown_log : (setting : Setting) (w v : World) → IsFair setting → Logged setting v → IsGrown w v → IsPrefix (chosen_log setting w) (chosen_log setting v)
+grown_log setting w v fair l grown =
+    let front = front_of_log setting.servers (devices v) (chosen_log setting w)
+    (λ i c e.
+    let k = told_is_chosen setting.servers (devices w) (i + 1) c (log_tells setting.servers (devices w) i c e) in
+    chosen_is_told setting.servers (devices v) (i + 1) c (single setting v fair l) (k.0, k.1, k.2, λ s is. grown s (i + 1) k.0 c (k.3 s is))) in
+    record { later = front.0; is = front.1 }

@@ -1,0 +1,93 @@
+-- What follows from what is kept: one command a place is told, those that are told were asked for, and logs are plain.
+use Rattle.std.proofs.Common.{◌≡◌, ◌≤◌, ◌+◌, inl, inr, ℕ, Bool, true, false, cond, List, [], ◌∷◌, Some, refl, sym, subst}
+use Rattle.std.specs.Prelude.{slice_get, filter, ◌==◌}
+use Rattle.petal_base.specs.Tuple.{is_tuple}
+use Rattle.petal_command.specs.declared.command.Command.{Command}
+use Rattle.petal_command.specs.declared.pax.Pax.TheVariants.{Chosen}
+use Rattle.petal_paxos.specs.Schedule.{run, begin, IsChosen}
+use Rattle.law_agreement.proofs.Runs.{run_holds, begin_holds, one_chosen}
+use Rattle.law_agreement.proofs.Wants as wants
+use Rattle.petal_rules.specs.Agreement.{IsTold}
+use Rattle.petal_rules.specs.Clients.{command_of}
+use Rattle.petal_rules.specs.Lists.{In as Among}
+use Rattle.petal_rules.specs.State.{servers_of}
+use Rattle.petal_rules.specs.World.{Setting, World, lines_of, server_state}
+use Rattle.petal_rules.proofs.Tests.{same_some, none_some}
+use Rattle.script_lines.specs.declared.request.Line.{Line}
+use Rattle.script_lines.specs.declared.request.Request.{Request}
+use Rattle.script_lines.specs.declared.request.Request.TheVariants as request
+use Rattle.law_state.specs.Plain.{IsPlain, IsPlainLog}
+use Rattle.law_state.proofs.Disks.{log_in}
+use Rattle.law_log.specs.Logged.{Logged}
+use Rattle.law_log.specs.Requested.{IsScripted}
+use Rattle.law_log.proofs.Lists.{among_at, at_among}
+use Rattle.law_log.proofs.Worlds.{MayWant}
+
+-- what the laws need of a setting: ballots tell the servers apart, and each disk is made over a tuple of them
+pub record IsFair (setting : Setting) : Type 0 where
+  pub small : setting.servers ≤ 256
+  pub spread : (line : Line) (name tuple : List ℕ) → Among line setting.lines → line.request ≡ request.Disk name tuple → is_tuple setting.servers tuple ≡ true
+
+-- ### What is told
+
+module _ (setting : Setting) (w : World) (small : setting.servers ≤ 256) (l : Logged setting w) where
+  pub told_chosen : (place : ℕ) (c : Command) → IsTold (run setting.servers l.events begin) place c
+      → IsChosen setting.servers (run setting.servers l.events begin) place c
+  told_chosen place c t = (run_holds setting.servers begin small (begin_holds setting.servers) l.events).backed t.from (Chosen place c) t.is
+
+  pub chosen_wanted : (place : ℕ) (c : Command) → IsChosen setting.servers (run setting.servers l.events begin) place c
+      → MayWant setting w (run setting.servers l.events begin) place c
+  chosen_wanted place c k = l.is.wanted place c (wants.wanted setting.servers l.events place c small k)
+
+  pub chosen_once : (place : ℕ) (c d : Command) → IsChosen setting.servers (run setting.servers l.events begin) place c
+      → IsChosen setting.servers (run setting.servers l.events begin) place d → d ≡ c
+  chosen_once place c d k m =
+      one_chosen setting.servers (run setting.servers l.events begin)
+      (run_holds setting.servers begin small (begin_holds setting.servers) l.events) place d c m k
+
+  pub told_once : (place : ℕ) (c d : Command) → IsTold (run setting.servers l.events begin) place c
+      → IsTold (run setting.servers l.events begin) place d → d ≡ c
+  told_once place c d t u = chosen_once place c d (told_chosen place c t) (told_chosen place d u)
+
+  pub told_wanted : (place : ℕ) (c : Command) → IsTold (run setting.servers l.events begin) place c
+      → MayWant setting w (run setting.servers l.events begin) place c
+  told_wanted place c t = chosen_wanted place c (told_chosen place c t)
+
+-- ### Lines of a script
+
+kept_line : (test : Line → Bool) (lines : List Line) (line : Line) → Among line (filter test lines) → Among line lines
+unfolding Among
+kept_line test [] line h = absurd h
+kept_line test (first ∷ lines) line h =
+    elim (test first) as (λ b. Among line (cond b (first ∷ filter test lines) (filter test lines)) → Among line (first ∷ lines)) [
+      | true ↦ λ i. elim i [ inl e ↦ inl e | inr j ↦ inr (kept_line test lines line j) ]
+      | false ↦ λ i. inr (kept_line test lines line i)
+    ] h
+
+pub line_of : (lines : List Line) (c i : ℕ) (line : Line) → slice_get (lines_of lines c) i ≡ Some line → Among line lines
+line_of lines c i line e = kept_line (λ l. l.client == c) lines line (among_at (lines_of lines c) i line e)
+
+-- ### Plain logs
+
+made_plain : (servers client seq : ℕ) (asked : Request) (c : Command)
+    → ((name tuple : List ℕ) → asked ≡ request.Disk name tuple → is_tuple servers tuple ≡ true)
+    → command_of client seq asked ≡ Some c → IsPlain servers c
+made_plain servers client seq (request.Disk name tuple) c spread e = subst (IsPlain servers) (same_some e) (spread name tuple refl)
+made_plain servers client seq _ c spread e = none_some refl e
+
+pub scripted_plain : (setting : Setting) (w : World) → IsFair setting → (c : Command) → IsScripted setting w c → IsPlain setting.servers c
+scripted_plain setting w fair c s = elim s.so [
+  | inl e ↦ made_plain setting.servers s.client (s.before + 1) s.line.request c
+      (λ name tuple is. fair.spread s.line name tuple (line_of setting.lines s.client s.before s.line s.is) is) e
+  | inr e ↦ subst (IsPlain setting.servers) (sym e.1) tt
+]
+
+module _ (setting : Setting) (w : World) (fair : IsFair setting) (l : Logged setting w) where
+  pub applied_plain : (n : ℕ) → IsPlainLog setting.servers (w.servers n).log.applied
+  applied_plain n c i =
+      let at = at_among c (w.servers n).log.applied i in
+      let told = (l.is.servers n).told (at.0 + 1) c ((l.is.servers n).applied at.0 c at.1) in
+      scripted_plain setting w fair c (told_wanted setting w fair.small l (at.0 + 1) c told).0
+
+  pub as_many : (n : ℕ) → servers_of (server_state setting w n) ≡ setting.servers
+  as_many n = (log_in setting.servers (w.servers n).log.applied (applied_plain n)).many

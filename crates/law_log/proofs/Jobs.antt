@@ -1,0 +1,315 @@
+-- Each job of the log, as the schedule has it.
+use Rattle.std.proofs.Common.{◌≡◌, ◌<◌, ◌≤◌, ◌+◌, ◌⊎◌, inl, inr, ℕ, zero, suc, Bool, true, false, if◌then◌else◌, ◌||◌, List, [], ◌∷◌, ◌++◌, Option, Some, None, is_some, refl, sym, ap, ◌∙◌, subst, arith}
+use Rattle.std.specs.Prelude.{slice_get, nat_lt}
+use Rattle.petal_command.specs.Same.{has_command}
+use Rattle.petal_command.specs.declared.command.Command.{Command}
+use Rattle.petal_command.specs.declared.pax.Pax.{Pax}
+use Rattle.petal_command.specs.declared.pax.Pax.TheVariants as pax
+use Rattle.petal_msg.specs.declared.body.Body.{Body}
+use Rattle.petal_msg.specs.declared.body.Body.TheVariants as body
+use Rattle.petal_msg.specs.declared.letter.Actor.{Actor}
+use Rattle.petal_msg.specs.declared.letter.Actor.TheVariants as actor
+use Rattle.petal_msg.specs.declared.letter.Letter.{Letter}
+use Rattle.petal_paxos.specs.Acceptor.{is_open}
+use Rattle.petal_paxos.specs.Kept.{acceptor_of, known_at}
+use Rattle.petal_paxos.specs.Member.{In}
+use Rattle.petal_paxos.specs.Proposer.{Step, hear}
+use Rattle.petal_paxos.specs.Schedule.{sent, World}
+use Rattle.petal_paxos.specs.declared.phase.Heard.{Heard}
+use Rattle.petal_paxos.specs.declared.phase.Heard.TheVariants.{Nothing, Send, Refused}
+use Rattle.petal_paxos.specs.declared.phase.Heard.TheVariants.{Chosen as Decided}
+use Rattle.petal_paxos.specs.declared.phase.Phase.{Phase}
+use Rattle.petal_paxos.specs.declared.phase.Phase.TheVariants.{Idle, Collecting, Voting}
+use Rattle.petal_rules.specs.Agreement.{IsTold, IsProposer}
+use Rattle.petal_rules.specs.Ballots.{on_propose, on_pax, starts, starts_for, hears_of_ballot, proposes, greatest_place}
+use Rattle.petal_rules.specs.Entries.{learns, applies_then, unknown_from, learns_first, on_news, but, with_entry, applies, applies_known, before_known, known_run, on_ask}
+use Rattle.petal_rules.specs.Jobs.{log_does, hears_log}
+use Rattle.petal_rules.specs.Lists.{In as Among}
+use Rattle.petal_rules.specs.Log.{Log, LogDone, Voter, rev_of, next_place, known, keeps}
+use Rattle.petal_rules.specs.Server.{Post}
+use Rattle.petal_rules.specs.declared.job.Job.{Job}
+use Rattle.petal_rules.specs.declared.job.Job.TheVariants as job
+use Rattle.petal_rules.proofs.ListLemmas.{in-append}
+use Rattle.petal_rules.proofs.Tests.{only, by_test, none_some}
+use Rattle.law_log.specs.Logged.{IsSeenAt, AreLow, IsBusyAs, IsBacked, IsSaidBy}
+use Rattle.law_log.proofs.Lists.{at_last}
+use Rattle.law_log.proofs.Proposing.{pax_turn, start_turn}
+use Rattle.law_log.proofs.Taking.{learn_turn}
+use Rattle.law_log.proofs.Turns.{HasTurn, still, no_posts, proposer_there}
+
+-- ### Lists of entries
+
+-- an entry of a News that isn't known is one of its commands
+abbrev IsListed : ℕ → List Command → ℕ × Command → Type 0
+IsListed place commands first = (i : ℕ) × (first.0 ≡ place + i) × (slice_get commands i ≡ Some first.1)
+
+listed_by : (place : ℕ) (command : Command) (commands : List Command) (later : List (ℕ × Command)) (first : ℕ × Command) (rest : List (ℕ × Command))
+    → (later ≡ first ∷ rest → IsListed (place + 1) commands first) → (b : Bool) → (if b then later else (place, command) ∷ later) ≡ first ∷ rest
+    → IsListed place (command ∷ commands) first
+listed_by place command commands later first rest known true e = let h = known e in (suc h.0, (let f = h.1 in omega arith), h.2)
+listed_by place command commands later first rest known false e =
+    let f : (place, command) ≡ first = cc in (
+      0,
+      (let g : place ≡ first.0 = ap (λ (x : ℕ × Command). x.0) f in omega arith),
+      ap (λ (x : ℕ × Command). Some x.1) f,
+    )
+
+is_listed : (log : Log) (place : ℕ) (commands : List Command) (first : ℕ × Command) (rest : List (ℕ × Command)) → unknown_from log place commands ≡ first ∷ rest
+    → IsListed place commands first
+is_listed log place [] first rest e = absurd cc
+is_listed log place (command ∷ commands) first rest e =
+    listed_by place command commands (unknown_from log (place + 1) commands) first rest (is_listed log (place + 1) commands first rest)
+    (is_some (known log place)) e
+
+-- what is told of a run is known
+run_by : (log : Log) (place : ℕ) (command : Command) (later : List Command)
+    → ((i : ℕ) → slice_get later i ≡ Some command → known log (place + 1 + i) ≡ Some command)
+    → (o : Option Command) → known log place ≡ o → (i : ℕ) → slice_get (before_known o later) i ≡ Some command → known log (place + i) ≡ Some command
+run_by log place command later h None is i e = none_some refl e
+run_by log place command later h (Some first) is zero e = let at : place + 0 ≡ place = omega arith in ap (known log) at ∙ is ∙ e
+run_by log place command later h (Some first) is (suc i) e = let at : place + suc i ≡ place + 1 + i = omega arith in ap (known log) at ∙ h i e
+
+run_known : (log : Log) (most place i : ℕ) (command : Command) → slice_get (known_run log place most) i ≡ Some command → known log (place + i) ≡ Some command
+run_known log zero place i command e = none_some refl e
+run_known log (suc most) place i command e =
+    run_by log place command (known_run log (place + 1) most) (λ i. run_known log most (place + 1) i command) (known log place) refl i e
+
+kept_by : (c want : Command) (wants later : List Command) → (Among c later → Among c wants) → (b : Bool) → Among c (if b then want ∷ later else later)
+    → Among c (want ∷ wants)
+unfolding Among
+kept_by c want wants later f true (inl e) = inl e
+kept_by c want wants later f true (inr j) = inr (f j)
+kept_by c want wants later f false j = inr (f j)
+
+kept_want : (entry c : Command) (wants : List Command) → Among c (but entry wants) → Among c wants
+kept_want entry c [] h = h
+kept_want entry c (want ∷ wants) h = kept_by c want wants (but entry wants) (kept_want entry c wants) _ h
+
+-- ### What follows a job up, and what is wanted afterwards
+
+-- each letter that follows the job up is the job's own
+FollowsUp : Job → List Job → Type 0
+FollowsUp own jobs = (letter : Letter) → Among (job.Letter letter) jobs → own ≡ job.Letter letter
+
+no_follow : {A : Type 0} (letter : Letter) → Among (job.Letter letter) [] → A
+unfolding Among
+no_follow letter h = absurd h
+
+applies_follow : {A : Type 0} (letter : Letter) (before : Option Command) (next : Bool) → Among (job.Letter letter) (applies_then before next) → A
+unfolding Among
+applies_follow letter None true (inl e) = let f : job.Letter letter ≡ job.Apply = e in absurd cc
+applies_follow letter None true (inr h) = absurd h
+applies_follow letter None false h = absurd h
+applies_follow letter (Some c) next h = absurd h
+
+-- what a job of the log leaves: what is wanted then was wanted before, or may be
+pub record Leaves (servers n : ℕ) (log : Log) (own : Job) (p : World) (Good : ℕ → Command → Type 0) (Fine : Command → Type 0) (done : LogDone) : Type 0 where
+  pub turn : HasTurn servers n done.log done.posts p Good
+  pub wants : (command : Command) → Among command done.log.wants → Fine command
+  pub follows : (letter : Letter) → Among (job.Letter letter) done.jobs → own ≡ job.Letter letter
+
+-- ### Letters of a ballot
+
+out_wants : (voter : Voter) (log : Log) (step : Step) (said : Heard) (c : Command) → Among c (proposes voter log step said).log.wants → Among c log.wants
+out_wants voter log step Nothing c h = h
+out_wants voter log step (Send said) c h = h
+out_wants voter log step (Decided place command) c h = h
+out_wants voter log step (Refused promised) c h = h
+
+out_follows : {A : Type 0} (voter : Voter) (log : Log) (step : Step) (said : Heard) (letter : Letter)
+    → Among (job.Letter letter) (proposes voter log step said).jobs → A
+out_follows voter log step Nothing letter h = no_follow letter h
+out_follows voter log step (Send said) letter h = no_follow letter h
+out_follows voter log step (Decided place command) letter h = no_follow letter h
+out_follows voter log step (Refused promised) letter h = no_follow letter h
+
+learn_wants : (log : Log) (place : ℕ) (command c : Command) → Among c (learns log place command).log.wants → Among c log.wants
+unfolding learns
+learn_wants log place command c h = h
+
+learn_follows : {A : Type 0} (log : Log) (place : ℕ) (command : Command) (letter : Letter) → Among (job.Letter letter) (learns log place command).jobs → A
+unfolding learns
+learn_follows log place command letter h = applies_follow letter (known log place) _ h
+
+pax_wants : (voter : Voter) (log : Log) (from : ℕ) (said : Pax) (c : Command) → Among c (hears_of_ballot voter log from said).log.wants → Among c log.wants
+pax_wants voter log from (pax.Prepare place b) c h =
+    by_test (λ (l : Log). Among c l.wants → Among c log.wants) (is_open (acceptor_of log.records place) b) _ _ (λ e h. h) (λ e h. h) h
+pax_wants voter log from (pax.Accept place b command) c h =
+    by_test (λ (l : Log). Among c l.wants → Among c log.wants) (is_open (acceptor_of log.records place) b) _ _ (λ e h. h) (λ e h. h) h
+pax_wants voter log from (pax.Chosen place command) c h = learn_wants log place command c h
+pax_wants voter log from (pax.Promise place b best) c h = out_wants voter log (hear voter.servers log.phase from (pax.Promise place b best)) _ c h
+pax_wants voter log from (pax.Accepted place b) c h = out_wants voter log (hear voter.servers log.phase from (pax.Accepted place b)) _ c h
+pax_wants voter log from (pax.Refuse place b promised) c h = out_wants voter log (hear voter.servers log.phase from (pax.Refuse place b promised)) _ c h
+
+pax_follows : {A : Type 0} (voter : Voter) (log : Log) (from : ℕ) (said : Pax) (letter : Letter)
+    → Among (job.Letter letter) (hears_of_ballot voter log from said).jobs → A
+pax_follows voter log from (pax.Prepare place b) letter h = no_follow letter h
+pax_follows voter log from (pax.Accept place b command) letter h = no_follow letter h
+pax_follows voter log from (pax.Chosen place command) letter h = learn_follows log place command letter h
+pax_follows voter log from (pax.Promise place b best) letter h = out_follows voter log (hear voter.servers log.phase from (pax.Promise place b best)) _ letter h
+pax_follows voter log from (pax.Accepted place b) letter h = out_follows voter log (hear voter.servers log.phase from (pax.Accepted place b)) _ letter h
+pax_follows voter log from (pax.Refuse place b promised) letter h =
+    out_follows voter log (hear voter.servers log.phase from (pax.Refuse place b promised)) _ letter h
+
+-- ### Each job
+
+idle_too : (phase : Phase) (o : Option Phase) → IsProposer true phase o → IsProposer true Idle o
+idle_too phase None h = h
+idle_too phase (Some there) h = (refl, tt)
+
+start_wants : (voter : Voter) (log : Log) (phase : Phase) (wants : List Command) (c : Command) → Among c (starts_for voter log phase wants).log.wants
+    → Among c log.wants
+start_wants voter log Idle (want ∷ wants) c h =
+    by_test (λ (d : LogDone). Among c d.log.wants → Among c log.wants) (nat_lt (rev_of log) greatest_place) _ _ (λ e h. h) (λ e h. h) h
+start_wants voter log Idle [] c h = h
+start_wants voter log (Collecting place ballot want heard best) wants c h = h
+start_wants voter log (Voting place ballot command heard) wants c h = h
+
+start_follows : {A : Type 0} (voter : Voter) (log : Log) (phase : Phase) (wants : List Command) (letter : Letter)
+    → Among (job.Letter letter) (starts_for voter log phase wants).jobs → A
+start_follows {A = A} voter log Idle (want ∷ wants) letter h =
+    by_test (λ (d : LogDone). Among (job.Letter letter) d.jobs → A) (nat_lt (rev_of log) greatest_place) _ _ (λ e h. no_follow letter h)
+    (λ e h. no_follow letter h) h
+start_follows voter log Idle [] letter h = no_follow letter h
+start_follows voter log (Collecting place ballot want heard best) wants letter h = no_follow letter h
+start_follows voter log (Voting place ballot command heard) wants letter h = no_follow letter h
+
+one_more : (c command : Command) (wants : List Command) → Among c (wants ++ command ∷ []) → Among c wants ⊎ (c ≡ command)
+one_more c command wants h = elim (in-append c wants (command ∷ []) h) [
+  | inl i ↦ inl i
+  | inr i ↦ inr (only (λ x. x ≡ command) command c i refl)
+]
+
+module _ (servers n : ℕ) (small : servers ≤ 256) (member : n < servers) (log : Log) (p : World) (low : AreLow p) (seen : IsSeenAt n log.records log.applied p)
+    (busy : IsBusyAs servers n true log.phase p) (one : (place : ℕ) (c d : Command) → IsTold p place c → IsTold p place d → d ≡ c)
+    (Good : ℕ → Command → Type 0) (Fine : Command → Type 0) (fine : (c : Command) → Among c log.wants → Fine c)
+    (good : (c : Command) → Fine c → Good (next_place log) c) where
+  abbrev Left : Job → LogDone → Type 0
+  Left own done = Leaves servers n log own p Good Fine done
+
+  kept : (own : Job) → Left own (keeps log)
+  kept own = record { turn = still servers n log [] p Good low seen busy (λ post i. no_posts post i); wants = fine; follows = λ letter h. no_follow letter h }
+
+  proposed : (own : Job) (command : Command) → Fine command → Left own (on_propose log command)
+  unfolding on_propose
+  proposed own command f =
+      by_test (Left own) (has_command log.applied command || has_command log.wants command) _ _ (λ e. kept own)
+      (λ e. record {
+        turn = still servers n (record log { wants = log.wants ++ command ∷ [] }) [] p Good low seen busy (λ post i. no_posts post i);
+        wants = λ c h. elim (one_more c command log.wants h) [ inl old ↦ fine c old | inr is ↦ subst Fine (sym is) f ];
+        follows = λ letter h. no_follow letter h;
+      })
+
+  told : (own : Job) (who : Actor) (rev : ℕ) → Left own (on_ask log who rev)
+  unfolding on_ask
+  told own who rev = record {
+    turn = still servers n log _ p Good low seen busy
+        (λ post i. only (λ (x : Post). IsBacked p (λ command. ⊥) (λ said. In (sent n said) p.letters) x.body) _ post i
+        (λ i c e. let at : rev + 1 + i ≡ rev + i + 1 = omega arith in subst (λ place. IsTold p place c) at
+        (seen.told (rev + 1 + i) c (run_known log 64 (rev + 1) i c e))));
+    wants = fine;
+    follows = λ letter h. no_follow letter h;
+  }
+
+  learnt : (own : Job) (place : ℕ) (c : Command) → IsTold p place c → Left own (learns log place c)
+  unfolding learns
+  learnt own place c t =
+      let at = proposer_there log.phase (p.proposers n) busy.proposer in
+      let h = learn_turn servers n log p low seen busy Good at.0 at.1 place c t (λ d u. one place c d t u) in
+      record {
+        turn = record { event = h.event; wanted = h.wanted; turns = h.turns };
+        wants = λ d h. fine d (learn_wants log place c d h);
+        follows = λ letter h. learn_follows log place c letter h;
+      }
+
+  told_first : (letter : Letter) (after : ℕ) (commands : List Command) → ((i : ℕ) (c : Command) → slice_get commands i ≡ Some c → IsTold p (after + i + 1) c)
+      → (first : ℕ × Command) (rest : List (ℕ × Command)) → unknown_from log (after + 1) commands ≡ first ∷ rest → IsTold p first.0 first.1
+  told_first letter after commands told first rest e =
+      let at = is_listed log (after + 1) commands first rest e in
+      let f = at.1 in
+      let same : after + at.0 + 1 ≡ first.0 = omega arith in
+      subst (λ place. IsTold p place first.1) same (told at.0 first.1 at.2)
+
+  heard_news : (letter : Letter) (after : ℕ) (commands : List Command) → ((i : ℕ) (c : Command) → slice_get commands i ≡ Some c → IsTold p (after + i + 1) c)
+      → (listed : List (ℕ × Command)) → unknown_from log (after + 1) commands ≡ listed → Left (job.Letter letter) (learns_first log letter listed)
+  heard_news letter after commands told [] e = kept (job.Letter letter)
+  heard_news letter after commands told (first ∷ []) e = learnt (job.Letter letter) first.0 first.1 (told_first letter after commands told first [] e)
+  heard_news letter after commands told (first ∷ next ∷ more) e =
+      let h = learnt (job.Letter letter) first.0 first.1 (told_first letter after commands told first (next ∷ more) e) in
+      record {
+        turn = record { event = h.turn.event; wanted = h.turn.wanted; turns = h.turn.turns };
+        wants = h.wants;
+        follows = λ own i. elim (in-append (job.Letter own) (learns log first.0 first.1).jobs (job.Letter letter ∷ []) i) [
+          | inl j ↦ learn_follows log first.0 first.1 own j
+          | inr j ↦ only (λ x. job.Letter letter ≡ x) (job.Letter letter) (job.Letter own) j refl
+        ];
+      }
+
+  news : (letter : Letter) (after : ℕ) (commands : List Command) → ((i : ℕ) (c : Command) → slice_get commands i ≡ Some c → IsTold p (after + i + 1) c)
+      → Left (job.Letter letter) (on_news log letter after commands)
+  unfolding on_news
+  news letter after commands told = heard_news letter after commands told (unknown_from log (after + 1) commands) refl
+
+  ballots : (own : Job) (who : Actor) (said : Pax) → IsSaidBy p who said → Left own (on_pax (record { me = n; servers = servers }) log who said)
+  unfolding on_pax
+  ballots own (actor.Server from) said i =
+      let at = proposer_there log.phase (p.proposers n) busy.proposer in
+      record {
+        turn = pax_turn servers n small member log p low seen busy Good at.0 at.1 one at.2 from said i;
+        wants = λ c h. fine c (pax_wants (record { me = n; servers = servers }) log from said c h);
+        follows = λ letter h. pax_follows (record { me = n; servers = servers }) log from said letter h;
+      }
+  ballots own (actor.Client c) said i = kept own
+
+  applied_one : (own : Job) (o : Option Command) → known log (next_place log) ≡ o → Left own (applies_known log o)
+  applied_one own None e = kept own
+  applied_one own (Some entry) e = record {
+    turn = still servers n (with_entry log entry) [] p Good low
+        (record {
+          acceptors = seen.acceptors;
+          known = seen.known;
+          inc = seen.inc;
+          votes = seen.votes;
+          told = seen.told;
+          applied = λ i c is. elim (at_last log.applied entry i c is) [
+            | inl old ↦ seen.applied i c old
+            | inr last ↦ ap (λ k. known_at log.records (k + 1)) last.0 ∙ e ∙ ap Some (sym last.1)
+          ];
+        })
+        (record { proposer = idle_too log.phase (p.proposers n) busy.proposer; asked = tt }) (λ post i. no_posts post i);
+    wants = λ c h. fine c (kept_want entry c log.wants h);
+    follows = λ letter h. applies_follow letter None _ h;
+  }
+
+  started : (own : Job) → Left own (starts (record { me = n; servers = servers }) log)
+  unfolding starts
+  started own =
+      let at = proposer_there log.phase (p.proposers n) busy.proposer in
+      let turn = start_turn servers n small member log p low seen busy Good at.0 at.1 (λ want i. good want (fine want i)) in
+      record {
+        turn = record { event = turn.event; wanted = turn.wanted; turns = turn.turns };
+        wants = λ c h. fine c (start_wants (record { me = n; servers = servers }) log log.phase log.wants c h);
+        follows = λ letter h. start_follows (record { me = n; servers = servers }) log log.phase log.wants letter h;
+      }
+
+  applied_next : (own : Job) → Left own (applies log)
+  unfolding applies
+  applied_next own = applied_one own (known log (next_place log)) refl
+
+  letter_done : (letter : Letter) (what : Body) → IsBacked p Fine (IsSaidBy p letter.from) what
+      → Left (job.Letter letter) (hears_log (record { me = n; servers = servers }) log letter what)
+  unfolding hears_log
+  letter_done letter (body.Propose command) h = proposed (job.Letter letter) command h
+  letter_done letter (body.Pax said) h = ballots (job.Letter letter) letter.from said h
+  letter_done letter (body.Ask rev) h = told (job.Letter letter) letter.from rev
+  letter_done letter (body.News after commands) h = news letter after commands h
+  letter_done letter _ h = kept (job.Letter letter)
+
+  -- what a job's letter says stands there
+  pub job_done : (own : Job) → ((letter : Letter) → own ≡ job.Letter letter → IsBacked p Fine (IsSaidBy p letter.from) letter.body)
+      → Left own (log_does (record { me = n; servers = servers }) log own)
+  unfolding log_does
+  job_done (job.Letter letter) backed = letter_done letter letter.body (backed letter refl)
+  job_done (job.Stage cell) backed = kept (job.Stage cell)
+  job_done job.Apply backed = applied_next job.Apply
+  job_done job.Start backed = started job.Start

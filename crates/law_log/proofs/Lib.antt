@@ -1,0 +1,14 @@
+pub mod Lists
+pub mod Turns
+pub mod Kept
+pub mod Taking
+pub mod Proposing
+pub mod Jobs
+pub mod Pairs
+pub mod Worlds
+pub mod Facts
+pub mod Servers
+pub mod Clients
+pub mod Steps
+pub mod Chosen
+pub mod Histories

@@ -1,0 +1,68 @@
+-- Places in lists, and functions with one value given again.
+use Rattle.std.proofs.Common.{◌≡◌, ◌≢◌, ◌<◌, ◌⊎◌, inl, inr, ℕ, zero, suc, List, [], ◌∷◌, ◌++◌, length, Some, refl, sym, ap, ◌∙◌, arith}
+use Rattle.std.specs.Prelude.{slice_get}
+use Rattle.petal_paxos.specs.Member.{In, put, put_at}
+use Rattle.law_agreement.proofs.Members.{put_cases, put_at_cases}
+use Rattle.petal_rules.specs.Lists.{In as Among}
+use Rattle.petal_rules.proofs.Tests.{same_some, none_some}
+
+-- a member stands at some place
+pub placed : {X : Type 0} (x : X) (xs : List X) → In x xs → (i : ℕ) × (slice_get xs i ≡ Some x)
+unfolding In
+placed x [] h = absurd h
+placed x (y ∷ ys) (inl e) = (0, ap Some (sym e))
+placed x (y ∷ ys) (inr h) = let rest = placed x ys h in (suc rest.0, rest.1)
+
+pub among_at : {X : Type 0} (xs : List X) (i : ℕ) (x : X) → slice_get xs i ≡ Some x → Among x xs
+unfolding Among
+among_at [] i x e = none_some refl e
+among_at (y ∷ ys) zero x e = inl (sym (same_some e))
+among_at (y ∷ ys) (suc i) x e = inr (among_at ys i x e)
+
+pub at_among : {X : Type 0} (x : X) (xs : List X) → Among x xs → (i : ℕ) × (slice_get xs i ≡ Some x)
+unfolding Among
+at_among x [] h = absurd h
+at_among x (y ∷ ys) (inl e) = (0, ap Some (sym e))
+at_among x (y ∷ ys) (inr h) = let rest = at_among x ys h in (suc rest.0, rest.1)
+
+-- a place within the list has a member
+pub got : {X : Type 0} (xs : List X) (i : ℕ) → i < length xs → (x : X) × (slice_get xs i ≡ Some x)
+got [] i h = absurd (omega arith)
+got (y ∷ ys) zero h = (y, refl)
+got (y ∷ ys) (suc i) h = got ys i (omega arith)
+
+pub within : {X : Type 0} (xs : List X) (i : ℕ) (x : X) → slice_get xs i ≡ Some x → i < length xs
+within [] i x e = none_some refl e
+within (y ∷ ys) zero x e = omega arith
+within (y ∷ ys) (suc i) x e = let rest = within ys i x e in omega arith
+
+-- one member more stands last
+pub at_last : {X : Type 0} (xs : List X) (y : X) (i : ℕ) (x : X) → slice_get (xs ++ y ∷ []) i ≡ Some x
+    → (slice_get xs i ≡ Some x) ⊎ ((i ≡ length xs) × (x ≡ y))
+at_last [] y zero x e = inr (refl, sym (same_some e))
+at_last [] y (suc i) x e = none_some refl e
+at_last (z ∷ xs) y zero x e = inl e
+at_last (z ∷ xs) y (suc i) x e = elim (at_last xs y i x e) [
+  | inl before ↦ inl before
+  | inr last ↦ inr (omega (arith, last.0), last.1)
+]
+
+-- ### Functions with one value given again
+
+pub put_here : {A : Type 0} (f : ℕ → A) (k : ℕ) (x : A) → put f k x k ≡ x
+put_here f k x = elim (put_cases f k x k) [ inl c ↦ c.1 | inr c ↦ absurd (c.0 refl) ]
+
+pub put_away : {A : Type 0} (f : ℕ → A) (k : ℕ) (x : A) (j : ℕ) → j ≢ k → put f k x j ≡ f j
+put_away f k x j ne = elim (put_cases f k x j) [ inl c ↦ absurd (ne c.0) | inr c ↦ c.1 ]
+
+pub put_at_here : {A : Type 0} (f : ℕ → ℕ → A) (s p : ℕ) (x : A) → put_at f s p x s p ≡ x
+put_at_here f s p x = elim (put_at_cases f s p x s p) [ inl c ↦ c.2 | inr c ↦ elim c.0 [ inl ne ↦ absurd (ne refl) | inr ne ↦ absurd (ne refl) ] ]
+
+pub put_at_away : {A : Type 0} (f : ℕ → ℕ → A) (s p : ℕ) (x : A) (i j : ℕ) → i ≢ s → put_at f s p x i j ≡ f i j
+put_at_away f s p x i j ne = elim (put_at_cases f s p x i j) [ inl c ↦ absurd (ne c.0) | inr c ↦ c.1 ]
+
+pub put_at_beside : {A : Type 0} (f : ℕ → ℕ → A) (s p : ℕ) (x : A) (i j : ℕ) → j ≢ p → put_at f s p x i j ≡ f i j
+put_at_beside f s p x i j ne = elim (put_at_cases f s p x i j) [ inl c ↦ absurd (ne c.1) | inr c ↦ c.1 ]
+
+pub put_at_itself : {A : Type 0} (f : ℕ → ℕ → A) (s p j : ℕ) → put_at f s p (f s p) s j ≡ f s j
+put_at_itself f s p j = elim (put_at_cases f s p (f s p) s j) [ inl c ↦ c.2 ∙ ap (f s) (sym c.1) | inr c ↦ c.1 ]

@@ -1,0 +1,178 @@
+-- Each legal step keeps what is kept, from the start on.
+use Rattle.std.proofs.Common.{◌≡◌, ◌<◌, ◌≤◌, ◌+◌, inl, inr, ℕ, true, List, [], ◌∷◌, Some, refl, sym, ap, subst, arith}
+use Rattle.std.specs.Prelude.{slice_get, nat_lt}
+use Rattle.std.proofs.lemmas.Bool.Decides.{nat_tests}
+use Rattle.petal_command.specs.declared.ballot.Ballot.{Ballot}
+use Rattle.petal_command.specs.declared.command.Command.{Command}
+use Rattle.petal_command.specs.declared.pax.Pax.{Pax}
+use Rattle.petal_msg.specs.declared.body.Body.{Body}
+use Rattle.petal_msg.specs.declared.body.Body.TheVariants as body
+use Rattle.petal_msg.specs.declared.letter.Actor.{Actor}
+use Rattle.petal_msg.specs.declared.letter.Actor.TheVariants as actor
+use Rattle.petal_msg.specs.declared.letter.Letter.{Letter}
+use Rattle.petal_paxos.specs.Member.{In}
+use Rattle.petal_paxos.specs.Schedule.{run, begin}
+use Rattle.petal_paxos.specs.Schedule as schedule
+use Rattle.petal_paxos.specs.declared.record.StateRecord.TheVariants.{Inc, Accepted}
+use Rattle.script_lines.specs.declared.request.Line.{Line}
+use Rattle.petal_rules.specs.Agreement.{IsTold}
+use Rattle.petal_rules.specs.Clients.{Client, Asked, Reaction, client_sender}
+use Rattle.petal_rules.specs.Lists.{In as Among}
+use Rattle.petal_rules.specs.Server.{letters_of}
+use Rattle.petal_rules.specs.World.{Setting, World, start, stamped, reacts, step, MayActor, MayClient, client_step, client_state, calls, next_line}
+use Rattle.petal_rules.specs.declared.step.Step.{Step}
+use Rattle.petal_rules.specs.declared.step.Step.TheVariants.{Call, Deliver, Tick, Work}
+use Rattle.petal_rules.proofs.ListLemmas.{in-append, in_later, put_same}
+use Rattle.petal_rules.proofs.Tests.{all_put_apart, none_some}
+use Rattle.petal_history.specs.Legal.{IsLegalFrom, stepped, world_after}
+use Rattle.petal_history.specs.declared.record.Record.{Record}
+use Rattle.law_log.specs.Logged.{IsBacked, IsSaidBy, IsOpen, Logged}
+use Rattle.law_log.specs.Requested.{IsRequested, IsScripted, calls_in}
+use Rattle.law_log.proofs.Clients.{IsFine, Reacts, IsOf, IsClients, calls_so, hears_so, ticks_so}
+use Rattle.law_log.proofs.Facts.{IsFair}
+use Rattle.law_log.proofs.Servers.{server_steps}
+use Rattle.law_log.proofs.Turns.{backed_more}
+use Rattle.law_log.proofs.Worlds.{Goes, posted_by}
+
+-- ### A client's step
+
+requested_more : (lines : List Line) (a b : ℕ → ℕ) → ((c : ℕ) → a c ≤ b c) → (command : Command) → IsRequested lines a command → IsRequested lines b command
+requested_more lines a b le command r = record {
+  client = r.client;
+  before = r.before;
+  line = r.line;
+  is = r.is;
+  so = r.so;
+  past = (let f = le r.client in let g = r.past in omega arith);
+}
+
+clients_backed : (p : schedule.World) (Own Good : Command → Type 0) (Said : Pax → Type 0) → ((c : Command) → Own c → Good c) → (what : Body)
+    → IsClients Own what → IsBacked p Good Said what
+clients_backed p Own Good Said good (body.Propose command) h = good command h
+clients_backed p Own Good Said good (body.Pax said) h = absurd h
+clients_backed p Own Good Said good (body.News after commands) h = absurd h
+clients_backed p Own Good Said good _ h = tt
+
+module _ (setting : Setting) (w : World) (l : Logged setting w) (c stamp : ℕ) where
+  abbrev P : schedule.World
+  P = run setting.servers l.events begin
+
+  abbrev Told : ℕ → Command → Type 0
+  Told place command = IsTold P place command
+
+  abbrev After : Reaction → World
+  After reacted = (reacts w c stamp reacted).world
+
+  client_goes : (reacted : Reaction) → Reacts Told setting.lines c (w.clients c).seq reacted → Goes setting w (After reacted)
+  client_goes reacted r =
+      let called : (d : ℕ) → calls_in w d ≤ calls_in (After reacted) d =
+      all_put_apart w.clients c reacted.client (λ d (x : Client). (w.clients d).seq ≤ x.seq) (λ d ne. omega arith) r.later in
+      let more : (command : Command) → IsScripted setting w command → IsScripted setting (After reacted) command =
+      requested_more setting.lines (calls_in w) (calls_in (After reacted)) called in
+      let now : calls_in (After reacted) c ≡ reacted.client.seq = ap (λ (x : Client). x.seq) (put_same w.clients c reacted.client) in
+      record {
+        grown = λ s place ballot command i. i;
+        logged = record {
+          events = l.events;
+          is = record {
+            servers = l.is.servers;
+            running = l.is.running;
+            busy = l.is.busy;
+            low = l.is.low;
+            sent = λ letter i. elim (in-append letter (stamped stamp (letters_of (client_sender c reacted.client) 0 reacted.posts)) w.sent i) [
+              | inl new ↦ (
+                  let post = posted_by (client_sender c reacted.client) stamp 0 reacted.posts letter new in
+                  let backed = clients_backed P (IsOf setting.lines c reacted.client.seq) (IsScripted setting (After reacted)) (IsSaidBy P letter.from)
+                  (λ command o. record {
+                    client = c;
+                    before = o.before;
+                    line = o.line;
+                    is = o.is;
+                    so = o.so;
+                    past =
+                        subst (λ k. o.before < k) (sym now) o.past;
+                  })
+                  post.0.body (r.posts post.0 post.1) in
+                  subst (IsBacked P (IsScripted setting (After reacted)) (IsSaidBy P letter.from)) (sym post.2) backed)
+              | inr old ↦ backed_more P P _ _ (IsSaidBy P letter.from) (IsSaidBy P letter.from) (λ x i. i) more (λ said h. h) letter.body (l.is.sent letter old)
+            ];
+            wanted = λ place command h. let good = l.is.wanted place command h in (more command good.0, good.1);
+            wants = λ s command i. more command (l.is.wants s command i);
+            queued = λ s letter i. in_later letter _ w.sent (l.is.queued s letter i);
+            applied = all_put_apart w.clients c reacted.client (λ d (x : Client). (i : ℕ) (command : Command) → slice_get x.applied i ≡ Some command
+                → IsTold P (i + 1) command)
+                (λ d ne. l.is.applied d) r.fine.applied;
+            asked = all_put_apart w.clients c reacted.client (λ d (x : Client). (asked : Asked) → x.asked ≡ Some asked → IsOpen setting.lines d x.seq asked)
+                (λ d ne. l.is.asked d) r.fine.asked;
+          };
+        };
+      }
+
+  fine_now : IsFine Told setting.lines c (w.clients c)
+  fine_now = record { applied = l.is.applied c; asked = l.is.asked c }
+
+  news_told : (letter : Letter) → Among letter w.sent → (after : ℕ) (commands : List Command) → letter.body ≡ body.News after commands
+      → (i : ℕ) (command : Command) → slice_get commands i ≡ Some command → Told (after + i + 1) command
+  news_told letter i after commands e = subst (IsBacked P (IsScripted setting w) (IsSaidBy P letter.from)) e (l.is.sent letter i)
+
+  client_steps : (what : Step) → MayClient what setting w c
+      → Goes setting w (After (client_step what (client_state setting w c) c (w.clients c) (next_line setting.lines c (w.clients c))))
+  client_steps (Call number) may =
+      client_goes _
+      (subst (λ line. Reacts Told setting.lines c (w.clients c).seq (calls (client_state setting w c) c (w.clients c) line)) (sym may.next)
+      (calls_so Told setting.lines c (client_state setting w c) (w.clients c) fine_now may.line may.next))
+  client_steps (Deliver letter) may =
+      client_goes _ (hears_so Told setting.lines c (client_state setting w c) (w.clients c) fine_now letter (news_told letter may.sent))
+  client_steps Tick may = client_goes _ (ticks_so Told setting.lines c (client_state setting w c) (w.clients c) fine_now)
+  client_steps (Work end) may = absurd may
+
+-- ### A step, and a history
+
+pub step_goes : (setting : Setting) → IsFair setting → (w : World) → Logged setting w → (who : Actor) (what : Step) (stamp : ℕ) → MayActor who what setting w
+    → Goes setting w (step who what setting w stamp).world
+unfolding step
+step_goes setting fair w l (actor.Server n) what stamp may = server_steps setting fair w l n stamp may.0 what may.1
+step_goes setting fair w l (actor.Client c) what stamp may = client_steps setting w l c stamp what may.1
+
+pub history_goes : (setting : Setting) → IsFair setting → (records : List Record) (w : World) → Logged setting w → IsLegalFrom setting w records
+    → Goes setting w (world_after setting w records)
+history_goes setting fair [] w l legal = record { logged = l; grown = λ s place ballot command i. i }
+history_goes setting fair (own ∷ later) w l legal =
+    let first = step_goes setting fair w l own.actor own.step own.stamp legal.0.may.may in
+    let rest = history_goes setting fair later (stepped setting w own).world first.logged legal.1 in
+    record { logged = rest.logged; grown = λ s place ballot command i. rest.grown s place ballot command (first.grown s place ballot command i) }
+
+-- ### The start
+
+below : (s n : ℕ) → s < n → nat_lt s n ≡ true
+below s n h = grind (arith, nat_tests)
+
+no_vote : {B : Type 0} (place : ℕ) (ballot : Ballot) (command : Command) → In (Accepted place ballot command) (Inc 1 ∷ []) → B
+unfolding In
+no_vote place ballot command (inl e) = let f : Accepted place ballot command ≡ Inc 1 = e in absurd cc
+no_vote place ballot command (inr h) = absurd h
+
+pub start_logged : (setting : Setting) → Logged setting (start setting)
+unfolding In Among
+start_logged setting = record {
+  events = [];
+  is = record {
+    servers = λ s. record {
+      acceptors = λ place. refl;
+      known = λ place. refl;
+      inc = refl;
+      votes = λ place ballot command. (λ h. absurd h, λ h. no_vote place ballot command h);
+      told = λ place command e. none_some refl e;
+      applied = λ i command e. none_some refl e;
+    };
+    running = λ s lt. below s setting.servers lt;
+    busy = λ s lt. record { proposer = (refl, tt); asked = tt };
+    low = record { acceptors = λ s place ballot e. none_some refl e; letters = λ from said h. absurd h };
+    sent = λ letter h. absurd h;
+    wanted = λ place command h. absurd h;
+    wants = λ s command h. absurd h;
+    queued = λ s letter h. absurd h;
+    applied = λ c i command e. none_some refl e;
+    asked = λ c asked e. none_some refl e;
+  };
+}

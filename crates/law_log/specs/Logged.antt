@@ -1,0 +1,102 @@
+-- What is kept of the agreed log from step to step: a schedule of agreement that the world is seen as, and what goes with it.
+use Rattle.std.specs.Prelude.{ℕ, ◌+◌, ◌≡◌, ◌↔◌, ◌<◌, ⊤, Bool, true, List, slice_get, Some}
+use Rattle.petal_command.specs.declared.ballot.Ballot.{Ballot}
+use Rattle.petal_command.specs.declared.command.Command.{Command}
+use Rattle.petal_command.specs.declared.pax.Pax.{Pax}
+use Rattle.petal_command.specs.declared.pax.Pax.TheVariants.{Prepare, Accept}
+use Rattle.petal_msg.specs.declared.body.Body.{Body}
+use Rattle.petal_msg.specs.declared.body.Body.TheVariants as body
+use Rattle.petal_msg.specs.declared.letter.Actor.{Actor}
+use Rattle.petal_msg.specs.declared.letter.Actor.TheVariants as actor
+use Rattle.petal_msg.specs.declared.letter.Letter.{Letter}
+use Rattle.script_lines.specs.declared.request.Line.{Line}
+use Rattle.petal_paxos.specs.Kept.{acceptor_of, known_at, inc_of}
+use Rattle.petal_paxos.specs.Member.{In}
+use Rattle.petal_paxos.specs.Schedule as schedule
+use Rattle.petal_paxos.specs.declared.phase.Phase.{Phase}
+use Rattle.petal_paxos.specs.declared.record.StateRecord.{StateRecord}
+use Rattle.petal_paxos.specs.declared.record.StateRecord.TheVariants.{Accepted}
+use Rattle.petal_rules.specs.Agreement.{IsTold, IsProposer, IsAskedFor}
+use Rattle.petal_rules.specs.Clients.{Asked}
+use Rattle.petal_rules.specs.Lists.{In as Among}
+use Rattle.petal_rules.specs.World.{Setting, World, lines_of}
+use Rattle.petal_rules.specs.declared.job.Job.TheVariants as job
+use Rattle.law_log.specs.Requested.{IsScripted}
+
+-- ### A schedule
+
+-- for each place from 1 up to before this one, some server told which command is chosen
+pub record IsReached (p : schedule.World) (place : ℕ) : Type 0 where
+  pub starts : 0 < place
+  pub told : (i : ℕ) → i + 1 < place → (command : Command) × IsTold p (i + 1) command
+
+-- a ballot that is asked for is of a server whose number is a byte
+abbrev pub IsLow : Pax → Type 0
+IsLow (Prepare place ballot) = ballot.server < 256
+IsLow (Accept place ballot command) = ballot.server < 256
+IsLow _ = ⊤
+
+-- and so is each ballot that was promised
+pub record AreLow (p : schedule.World) : Type 0 where
+  pub acceptors : (s place : ℕ) (ballot : Ballot) → (p.acceptors s place).promised ≡ Some ballot → ballot.server < 256
+  pub letters : (from : ℕ) (said : Pax) → In (schedule.sent from said) p.letters → IsLow said
+
+-- ### One server
+
+-- the schedule has what the server's state device has; what it knows was told; what it has applied, it knows
+pub record IsSeenAt (s : ℕ) (records : List StateRecord) (entries : List Command) (p : schedule.World) : Type 0 where
+  pub acceptors : (place : ℕ) → p.acceptors s place ≡ acceptor_of records place
+  pub known : (place : ℕ) → p.known s place ≡ known_at records place
+  pub inc : p.incs s ≡ inc_of records
+  pub votes : (place : ℕ) (ballot : Ballot) (command : Command) → In (schedule.vote s place ballot command) p.votes ↔ In (Accepted place ballot command) records
+  pub told : (place : ℕ) (command : Command) → known_at records place ≡ Some command → IsTold p place command
+  pub applied : (i : ℕ) (command : Command) → slice_get entries i ≡ Some command → known_at records (i + 1) ≡ Some command
+
+-- what its proposer is about was asked for there
+pub record IsBusyAs (servers s : ℕ) (running : Bool) (phase : Phase) (p : schedule.World) : Type 0 where
+  pub proposer : IsProposer running phase (p.proposers s)
+  pub asked : IsAskedFor p s servers phase
+
+-- ### Letters
+
+-- what a letter says of the log was said there: a Propose has a command that may be proposed, a ballot's letter was sent in
+-- the schedule, and each command of a News was told for its place
+abbrev pub IsBacked : schedule.World → (Command → Type 0) → (Pax → Type 0) → Body → Type 0
+IsBacked p Good Said (body.Propose command) = Good command
+IsBacked p Good Said (body.Pax said) = Said said
+IsBacked p Good Said (body.News after commands) = (i : ℕ) (command : Command) → slice_get commands i ≡ Some command → IsTold p (after + i + 1) command
+IsBacked p Good Said _ = ⊤
+
+-- a server's letter of a ballot was sent there
+abbrev pub IsSaidBy : schedule.World → Actor → Pax → Type 0
+IsSaidBy p (actor.Server n) said = In (schedule.sent n said) p.letters
+IsSaidBy p (actor.Client c) said = ⊤
+
+-- ### One client
+
+-- the request that is open is that of a line which the client has called
+pub record IsOpen (lines : List Line) (c called : ℕ) (asked : Asked) : Type 0 where
+  pub before : ℕ
+  pub line : Line
+  pub is : slice_get (lines_of lines c) before ≡ Some line
+  pub seq : asked.seq ≡ before + 1
+  pub request : asked.request ≡ line.request
+  pub past : before < called
+
+-- ### A world
+
+pub record IsLogged (setting : Setting) (w : World) (events : List schedule.Event) (p : schedule.World) : Type 0 where
+  pub servers : (s : ℕ) → IsSeenAt s (w.servers s).log.records (w.servers s).log.applied p
+  pub running : (s : ℕ) → s < setting.servers → (w.servers s).life.running ≡ true
+  pub busy : (s : ℕ) → s < setting.servers → IsBusyAs setting.servers s true (w.servers s).log.phase p
+  pub low : AreLow p
+  pub sent : (letter : Letter) → Among letter w.sent → IsBacked p (IsScripted setting w) (IsSaidBy p letter.from) letter.body
+  pub wanted : (place : ℕ) (command : Command) → schedule.IsWanted events place command → IsScripted setting w command × IsReached p place
+  pub wants : (s : ℕ) (command : Command) → Among command (w.servers s).log.wants → IsScripted setting w command
+  pub queued : (s : ℕ) (letter : Letter) → Among (job.Letter letter) (w.servers s).queue → Among letter w.sent
+  pub applied : (c i : ℕ) (command : Command) → slice_get (w.clients c).applied i ≡ Some command → IsTold p (i + 1) command
+  pub asked : (c : ℕ) (asked : Asked) → (w.clients c).asked ≡ Some asked → IsOpen setting.lines c (w.clients c).seq asked
+
+pub record Logged (setting : Setting) (w : World) : Type 0 where
+  pub events : List schedule.Event
+  pub is : IsLogged setting w events (schedule.run setting.servers events schedule.begin)

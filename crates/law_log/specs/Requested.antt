@@ -1,0 +1,25 @@
+-- Which commands a run proposes: those of requests that clients have called.
+use Rattle.std.specs.Prelude.{◌≡◌, ◌⊎◌, ◌+◌, ◌<◌, ℕ, List, slice_get, Some}
+use Rattle.petal_command.specs.declared.command.Command.{Command}
+use Rattle.petal_command.specs.declared.command.Command.TheVariants.{Witness}
+use Rattle.script_lines.specs.declared.request.Line.{Line}
+use Rattle.petal_rules.specs.Clients.{command_of}
+use Rattle.petal_rules.specs.World.{Setting, World, lines_of}
+
+-- of how many of its lines each client has called: the command is that of one of them, or a Witness of it. The lines of a
+-- client are its requests, counted from 1
+pub record IsRequested (lines : List Line) (called : ℕ → ℕ) (command : Command) : Type 0 where
+  pub client : ℕ
+  pub before : ℕ
+  pub line : Line
+  pub is : slice_get (lines_of lines client) before ≡ Some line
+  pub past : before < called client
+  pub so : (command_of client (before + 1) line.request ≡ Some command) ⊎ ((turn : ℕ) × (command ≡ Witness client (before + 1) turn))
+
+-- how many lines each client has called
+abbrev pub calls_in : World → ℕ → ℕ
+calls_in w c = (w.clients c).seq
+
+-- the command is that of a line that its client has called, or a Witness of it
+abbrev pub IsScripted : Setting → World → Command → Type 0
+IsScripted setting w command = IsRequested setting.lines (calls_in w) command

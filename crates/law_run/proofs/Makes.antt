@@ -1,0 +1,86 @@
+-- Disks that are made: the machine makes those that a step chose, each with zeros.
+use Rattle.std.proofs.Common.{◌≡◌, ◌≢◌, ◌++◌, ℕ, List, [], ◌∷◌, length, cond, Some, None, refl, sym, ap, ◌∙◌, subst, inl, inr, append_assoc}
+use Rattle.std.specs.Prelude.{drop, map, unwrap_or}
+use Rattle.std.specs.Ordering.{nat_cmp}
+use Rattle.std.proofs.lemmas.List.{append-nil}
+use Rattle.petal_base.specs.Block.{zero_block}
+use Rattle.petal_table.proofs.Rows.{at-empty}
+use Rattle.global_tables.specs.Disk.{named, same_name}
+use Rattle.global_tables.specs.declared.disk.DiskRow.{DiskRow}
+use Rattle.petal_machine.specs.declared.event.Event.{Event}
+use Rattle.petal_machine.specs.declared.event.Event.TheVariants.{Make}
+use Rattle.petal_machine.specs.Machine.{Plain, content}
+use Rattle.petal_machine.specs.Run.{Obeys, after, replay}
+use Rattle.petal_rules.specs.Lists.{In}
+use Rattle.petal_rules.specs.State.{State}
+use Rattle.petal_rules.specs.World.{World}
+use Rattle.petal_rules.proofs.ListLemmas.{in-append}
+use Rattle.petal_rules.proofs.Tests.{none_some, some_or_none, true_false}
+use Rattle.petal_history.specs.Claims.{Holds}
+use Rattle.petal_history.specs.Events.{make_of}
+use Rattle.law_state.proofs.Rows.{AreFresh}
+use Rattle.law_state.proofs.Places.{find_front, find_behind, get_in, none_find, text_itself}
+use Rattle.law_run.specs.Onward.{Onward}
+use Rattle.law_run.specs.Follow.{Stores, kept_at}
+use Rattle.law_run.proofs.Machine.{after_mindful, make_same, make_others, make_onward, new_disk, onward_itself, onward_joined}
+
+pub drop_front : {A : Type 0} (xs ys : List A) → drop (length xs) (xs ++ ys) ≡ ys
+drop_front [] ys = refl
+drop_front (x ∷ xs) ys = drop_front xs ys
+
+empty_content : (b : ℕ) → content [] b ≡ zero_block
+unfolding content
+empty_content b = ap (λ o. unwrap_or o zero_block) (at-empty nat_cmp b)
+
+unlike_named : (rows : List DiskRow) (name : List ℕ) (row : DiskRow) → named rows name ≡ None → In row rows → row.name ≢ name
+unlike_named rows name row none h e =
+    let at = get_in rows row h in
+    true_false (ap (λ n. same_name n name) e ∙ text_itself name) (none_find (λ row. same_name row.name name) rows at.0 row none at.1)
+
+-- the machine after the disks were made
+pub record Made (state : State) (rows : List DiskRow) (v : World) (m : Plain) (es : List Event) : Type 0 where
+  pub may : Obeys m es
+  pub stores : Stores state rows v (replay m es)
+  pub onward : Onward m (replay m es)
+
+module _ (state : State) (v : World) where
+  made_stores : (rows : List DiskRow) (row : DiskRow) (m : Plain) → named rows row.name ≡ None → Stores state rows v m
+      → ((b : ℕ) → kept_at state v row b ≡ zero_block) → Stores state (rows ++ row ∷ []) v (after m (Make row.name))
+  unfolding In
+  made_stores rows row m fresh stores zeros = record {
+    known = λ other h. elim (in-append other rows (row ∷ []) h) [
+      | inl old ↦
+          let k = stores.known other old in
+          record { disk = k.disk; is = make_others m row.name other.name (unlike_named rows row.name other fresh old) ∙ k.is; same = k.same }
+      | inr new ↦ elim new [
+        | inl e ↦ subst (λ (r : DiskRow). Holds (after m (Make row.name)).disks r.name (kept_at state v r)) (sym e) (record {
+          disk = new_disk row.name;
+          is = make_same m row.name (stores.unknown row.name fresh);
+          same = λ b. empty_content b ∙ sym (zeros b);
+        })
+        | inr none ↦ absurd none
+      ]
+    ];
+    unknown = λ name none. elim (some_or_none (named rows name)) [
+      | inl h ↦ none_some none (find_front (λ row. same_name row.name name) rows (row ∷ []) h.0 h.1)
+      | inr gone ↦
+          make_others m row.name name (λ e. none_some none (find_behind (λ row. same_name row.name name) rows (row ∷ []) gone
+          ∙ ap (λ b. cond b (Some row) None) (ap (same_name row.name) e ∙ text_itself row.name))) ∙ stores.unknown name gone
+    ];
+    mindful = after_mindful m (Make row.name);
+  }
+
+  pub made_all : (rows more : List DiskRow) (m : Plain) → AreFresh rows more → Stores state rows v m
+      → ((row : DiskRow) → In row more → (b : ℕ) → kept_at state v row b ≡ zero_block) → Made state (rows ++ more) v m (map make_of more)
+  unfolding In
+  made_all rows [] m fresh stores zeros =
+      record { may = tt; stores = subst (λ rs. Stores state rs v m) (sym (append-nil rows)) stores; onward = onward_itself m }
+  made_all rows (row ∷ more) m fresh stores zeros =
+      let k = after m (Make row.name) in
+      let now = made_stores rows row m fresh.0 stores (zeros row (inl refl)) in
+      let rest = made_all (rows ++ row ∷ []) more k fresh.1 now (λ other h. zeros other (inr h)) in
+      record {
+        may = (stores.unknown row.name fresh.0, rest.may);
+        stores = subst (λ rs. Stores state rs v (replay k (map make_of more))) (append_assoc rows (row ∷ []) more) rest.stores;
+        onward = onward_joined m k (replay k (map make_of more)) (make_onward m row.name) rest.onward;
+      }

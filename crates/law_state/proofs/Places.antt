@@ -1,0 +1,86 @@
+-- What stands at a place of a list, and what is found first.
+use Rattle.std.proofs.Common.{◌≡◌, ℕ, zero, suc, ◌<◌, ◌&&◌, Bool, true, false, cond, List, [], ◌∷◌, ◌++◌, length, Some, None, refl, sym, ap, ◌∙◌, subst, ◌⊎◌, inl, inr, arith}
+use Rattle.std.specs.Prelude.{find, slice_get, replicate, nat_eq}
+use Rattle.std.specs.Cmp.Lexicographic.{pointwise}
+use Rattle.petal_rules.specs.Lists.{In}
+use Rattle.petal_rules.proofs.Tests.{by_bool, none_some, same_some, number_itself}
+
+pub get_front : {A : Type 0} (xs ys : List A) (i : ℕ) (x : A) → slice_get xs i ≡ Some x → slice_get (xs ++ ys) i ≡ Some x
+get_front [] ys i x e = none_some refl e
+get_front (y ∷ xs) ys zero x e = e
+get_front (y ∷ xs) ys (suc i) x e = get_front xs ys i x e
+
+pub get_last : {A : Type 0} (xs : List A) (y : A) (i : ℕ) (x : A) → slice_get (xs ++ y ∷ []) i ≡ Some x
+    → (slice_get xs i ≡ Some x) ⊎ ((i ≡ length xs) × (x ≡ y))
+get_last [] y zero x e = inr (refl, sym (same_some e))
+get_last [] y (suc i) x e = none_some refl e
+get_last (z ∷ xs) y zero x e = inl e
+get_last (z ∷ xs) y (suc i) x e = elim (get_last xs y i x e) [ inl h ↦ inl h | inr h ↦ inr (ap suc h.0, h.1) ]
+
+pub get_within : {A : Type 0} (xs : List A) (i : ℕ) → i < length xs → (x : A) × (slice_get xs i ≡ Some x)
+get_within [] i lt = absurd (omega arith)
+get_within (x ∷ xs) zero lt = (x, refl)
+get_within (x ∷ xs) (suc i) lt = get_within xs i (omega arith)
+
+pub get_in : {A : Type 0} (xs : List A) (x : A) → In x xs → (i : ℕ) × (slice_get xs i ≡ Some x)
+unfolding In
+get_in [] x h = absurd h
+get_in (y ∷ xs) x (inl e) = (zero, ap Some (sym e))
+get_in (y ∷ xs) x (inr h) = let found = get_in xs x h in (suc found.0, found.1)
+
+pub in_get : {A : Type 0} (xs : List A) (i : ℕ) (x : A) → slice_get xs i ≡ Some x → In x xs
+unfolding In
+in_get [] i x e = none_some refl e
+in_get (y ∷ xs) zero x e = inl (sym (same_some e))
+in_get (y ∷ xs) (suc i) x e = inr (in_get xs i x e)
+
+pub find_here : {A : Type 0} (p : A → Bool) (xs : List A) (i : ℕ) (x : A) → slice_get xs i ≡ Some x → p x ≡ true
+    → ((j : ℕ) (y : A) → slice_get xs j ≡ Some y → p y ≡ true → j ≡ i) → find p xs ≡ Some x
+find_here p [] i x e t only = none_some refl e
+find_here p (y ∷ xs) zero x e t only =
+    let same : y ≡ x = same_some e in
+    (λ k. cond (p (same k)) (Some (same k)) (find p xs)) ∙ ap (λ b. cond b (Some x) (find p xs)) t
+find_here p (y ∷ xs) (suc i) x e t only =
+    by_bool (p y) (λ is. let z : 0 ≡ suc i = only 0 y refl is in absurd (omega arith))
+    (λ no. ap (λ b. cond b (Some y) (find p xs)) no
+    ∙ find_here p xs i x e t (λ j z g h. let s : suc j ≡ suc i = only (suc j) z g h in omega arith))
+
+pub find_none : {A : Type 0} (p : A → Bool) (xs : List A) → ((j : ℕ) (y : A) → slice_get xs j ≡ Some y → p y ≡ false) → find p xs ≡ None
+find_none p [] none = refl
+find_none p (y ∷ xs) none = ap (λ b. cond b (Some y) (find p xs)) (none 0 y refl) ∙ find_none p xs (λ j. none (suc j))
+
+pub none_find : {A : Type 0} (p : A → Bool) (xs : List A) (i : ℕ) (x : A) → find p xs ≡ None → slice_get xs i ≡ Some x → p x ≡ false
+none_find p [] i x none e = none_some refl e
+none_find p (y ∷ xs) zero x none e = by_bool (p y)
+    (λ is. none_some none (ap (λ b. cond b (Some y) (find p xs)) is))
+    (λ no. subst (λ z. p z ≡ false) (same_some e) no)
+none_find p (y ∷ xs) (suc i) x none e = by_bool (p y)
+    (λ is. none_some none (ap (λ b. cond b (Some y) (find p xs)) is))
+    (λ no. none_find p xs i x (sym (ap (λ b. cond b (Some y) (find p xs)) no) ∙ none) e)
+
+pub found_at : {A : Type 0} (p : A → Bool) (xs : List A) (x : A) → find p xs ≡ Some x → (i : ℕ) × (slice_get xs i ≡ Some x) × (p x ≡ true)
+found_at p [] x e = none_some refl e
+found_at {A} p (y ∷ ys) x e = by_bool (p y)
+    (λ is. let same : y ≡ x = same_some (sym (ap (λ b. cond b (Some y) (find p ys)) is) ∙ e) in (zero, ap Some same, subst (λ z. p z ≡ true) same is))
+    (λ no. let l = found_at p ys x (sym (ap (λ b. cond b (Some y) (find p ys)) no) ∙ e) in (suc l.0, l.1, l.2))
+
+pub find_front : {A : Type 0} (p : A → Bool) (xs ys : List A) (x : A) → find p xs ≡ Some x → find p (xs ++ ys) ≡ Some x
+find_front p [] ys x e = none_some refl e
+find_front p (y ∷ xs) ys x e = by_bool (p y)
+    (λ is. ap (λ b. cond b (Some y) (find p (xs ++ ys))) is ∙ sym (ap (λ b. cond b (Some y) (find p xs)) is) ∙ e)
+    (λ no. ap (λ b. cond b (Some y) (find p (xs ++ ys))) no ∙ find_front p xs ys x (sym (ap (λ b. cond b (Some y) (find p xs)) no) ∙ e))
+
+pub find_behind : {A : Type 0} (p : A → Bool) (xs ys : List A) → find p xs ≡ None → find p (xs ++ ys) ≡ find p ys
+find_behind p [] ys e = refl
+find_behind p (y ∷ xs) ys e = by_bool (p y)
+    (λ is. none_some e (ap (λ b. cond b (Some y) (find p xs)) is))
+    (λ no. ap (λ b. cond b (Some y) (find p (xs ++ ys))) no ∙ find_behind p xs ys (sym (ap (λ b. cond b (Some y) (find p xs)) no) ∙ e))
+
+pub get_replicate : {A : Type 0} (n i : ℕ) (x : A) → i < n → slice_get (replicate n x) i ≡ Some x
+get_replicate zero i x lt = absurd (omega arith)
+get_replicate (suc n) zero x lt = refl
+get_replicate (suc n) (suc i) x lt = get_replicate n i x (omega arith)
+
+pub text_itself : (xs : List ℕ) → pointwise nat_eq xs xs ≡ true
+text_itself [] = refl
+text_itself (x ∷ xs) = ap (λ b. b && pointwise nat_eq xs xs) (number_itself x) ∙ text_itself xs

@@ -1,0 +1,6 @@
+pub mod Steady
+pub mod Below
+pub mod Plain
+pub mod Firm
+pub mod Tables
+pub mod Disks

@@ -1,0 +1,182 @@
+-- What a job of the agreed log leaves as it is: it speaks of the log alone, takes back no entry, and its own letter alone follows
+-- it up.
+use Rattle.std.proofs.Common.{◌≡◌, ℕ, List, [], ◌∷◌, Bool, true, false, Option, Some, None, refl, sym, ◌∙◌, subst, inl, inr}
+use Rattle.std.specs.Prelude.{map, if◌then◌else◌, ◌==◌, ◌||◌, nat_lt, ◌+◌}
+use Rattle.petal_command.specs.Same.{has_command}
+use Rattle.petal_command.specs.declared.command.Command.{Command}
+use Rattle.petal_command.specs.declared.pax.Pax.{Pax}
+use Rattle.petal_command.specs.declared.pax.Pax.TheVariants.{Prepare, Accept, Chosen}
+use Rattle.petal_msg.specs.Kinds.{is_logged, subject_of}
+use Rattle.petal_msg.specs.declared.body.Body.{Body}
+use Rattle.petal_msg.specs.declared.body.Body.TheVariants as body
+use Rattle.petal_msg.specs.declared.letter.Actor.{Actor}
+use Rattle.petal_msg.specs.declared.letter.Actor.TheVariants as actor
+use Rattle.petal_msg.specs.declared.letter.Letter.{Letter}
+use Rattle.petal_paxos.specs.Acceptor.{is_open}
+use Rattle.petal_paxos.specs.Proposer.{Step, hear, has_majority}
+use Rattle.petal_paxos.specs.declared.phase.Heard.{Heard}
+use Rattle.petal_paxos.specs.declared.phase.Heard.TheVariants.{Nothing, Send, Refused}
+use Rattle.petal_paxos.specs.declared.phase.Heard.TheVariants.{Chosen as Decided}
+use Rattle.petal_paxos.specs.declared.phase.Phase.{Phase}
+use Rattle.petal_paxos.specs.declared.phase.Phase.TheVariants.{Idle, Collecting, Voting}
+use Rattle.petal_history.specs.Claims.{IsPrefix}
+use Rattle.petal_rules.specs.Ballots.{on_propose, on_pax, hears_of_ballot, comes_out, proposes, to_all, to_unheard, post_of, starts, starts_for, ballot_posts, ask_posts, wanted, greatest_place}
+use Rattle.petal_rules.specs.Entries.{on_ask, on_news, learns, learns_first, applies, applies_known, applies_then, unknown_from}
+use Rattle.petal_rules.specs.Jobs.{log_does, hears_log}
+use Rattle.petal_rules.specs.Lists.{In}
+use Rattle.petal_rules.specs.Log.{Log, LogDone, Voter, known, next_place, acceptor, rev_of, keeps}
+use Rattle.petal_rules.specs.Server.{Post}
+use Rattle.petal_rules.specs.declared.job.Job.{Job}
+use Rattle.petal_rules.specs.declared.job.Job.TheVariants as job
+use Rattle.petal_rules.proofs.ListLemmas.{in-append}
+use Rattle.petal_rules.proofs.Tests.{by_test, only}
+use Rattle.law_steps.proofs.Fronts.{front_itself, front_same, front_more}
+
+-- the letter speaks of the agreed log
+abbrev pub IsLogged : Post → Type 0
+IsLogged post = is_logged (subject_of post.body) ≡ true
+
+pub record LogFrame (log : Log) (what : Job) (done : LogDone) : Type 0 where
+  pub says : (post : Post) → In post done.posts → IsLogged post
+  pub grows : IsPrefix log.applied done.log.applied
+  pub jobs : (letter : Letter) → In (job.Letter letter) done.jobs → what ≡ job.Letter letter
+
+all_map : {A : Type 0} (f : A → Post) (xs : List A) → ((x : A) → IsLogged (f x)) → (post : Post) → In post (map f xs) → IsLogged post
+unfolding In
+all_map f [] all post h = absurd h
+all_map f (x ∷ xs) all post (inl e) = subst IsLogged (sym e) (all x)
+all_map f (x ∷ xs) all post (inr h) = all_map f xs all post h
+
+pub all_logged : (voter : Voter) (said : Pax) (post : Post) → In post (to_all voter said) → IsLogged post
+all_logged voter said post h = all_map (post_of (body.Pax said)) _ (λ n. refl) post h
+
+pub unheard_logged : (voter : Voter) (heard : List Bool) (said : Pax) (post : Post) → In post (to_unheard voter heard said) → IsLogged post
+unheard_logged voter heard said post h = all_map (post_of (body.Pax said)) _ (λ n. refl) post h
+
+-- what a tick sends for a ballot
+pub ballot_logged : (voter : Voter) (phase : Phase) (post : Post) → In post (ballot_posts voter phase) → IsLogged post
+unfolding In
+ballot_logged voter Idle post h = absurd h
+ballot_logged voter (Collecting place ballot want heard best) post h = unheard_logged voter heard (Prepare place ballot) post h
+ballot_logged voter (Voting place ballot command heard) post h =
+    by_test (λ posts. In post posts → IsLogged post) (has_majority voter.servers heard) (to_all voter (Chosen place command))
+    (to_unheard voter heard (Accept place ballot command))
+    (λ t i. all_logged voter (Chosen place command) post i) (λ t i. unheard_logged voter heard (Accept place ballot command) post i) h
+
+pub ask_logged : (voter : Voter) (log : Log) (post : Post) → In post (ask_posts voter log) → IsLogged post
+ask_logged voter log post h = only IsLogged _ post h refl
+
+module _ (voter : Voter) (log : Log) (what : Job) where
+  abbrev F : LogDone → Type 0
+  F done = LogFrame log what done
+
+  -- the entries applied stay, nothing is sent and no letter follows
+  quiet : (later : Log) → later.applied ≡ log.applied → F (keeps later)
+  unfolding In
+  quiet later e = record { says = λ post i. absurd i; grows = front_same log.applied later.applied e; jobs = λ letter i. absurd i }
+
+  speaks : (later : Log) (posts : List Post) → later.applied ≡ log.applied → ((post : Post) → In post posts → IsLogged post)
+      → F (record { log = later; posts = posts; jobs = [] })
+  unfolding In
+  speaks later posts e says = record { says = says; grows = front_same log.applied later.applied e; jobs = λ letter i. absurd i }
+
+  no_letter : (o : Option Command) (b : Bool) (letter : Letter) → In (job.Letter letter) (applies_then o b) → what ≡ job.Letter letter
+  unfolding In
+  no_letter None true letter (inl e) = absurd (let f : job.Letter letter ≡ job.Apply = e in cc)
+  no_letter None true letter (inr h) = absurd h
+  no_letter None false letter h = absurd h
+  no_letter (Some c) b letter h = absurd h
+
+  learns_frame : (place : ℕ) (command : Command) → F (learns log place command)
+  unfolding In learns
+  learns_frame place command = record {
+    says = λ post i. absurd i;
+    grows = front_itself log.applied;
+    jobs = λ letter i. no_letter (known log place) (place == next_place log) letter i;
+  }
+
+  if_applied : (b : Bool) (one other : Log) → one.applied ≡ log.applied → other.applied ≡ log.applied → (if b then one else other).applied ≡ log.applied
+  if_applied true one other e f = e
+  if_applied false one other e f = f
+
+  heard_frame : (from : ℕ) (said : Pax) → F (hears_of_ballot voter log from said)
+  heard_frame from (Prepare place ballot) = speaks _ _ (if_applied (is_open (acceptor log place) ballot) _ _ refl refl) (λ post i. only IsLogged _ post i refl)
+  heard_frame from (Accept place ballot command) =
+      speaks _ _ (if_applied (is_open (acceptor log place) ballot) _ _ refl refl) (λ post i. only IsLogged _ post i refl)
+  heard_frame from (Chosen place command) = learns_frame place command
+  heard_frame from said = out_frame (hear voter.servers log.phase from said) _ refl
+    where
+      out_frame : (step : Step) (heard : Heard) → step.heard ≡ heard → F (comes_out voter log step)
+      out_frame step Nothing e = subst (λ h. F (proposes voter log step h)) (sym e) (quiet _ refl)
+      out_frame step (Send body) e = subst (λ h. F (proposes voter log step h)) (sym e) (speaks _ _ refl (all_logged voter body))
+      out_frame step (Decided place command) e =
+          subst (λ h. F (proposes voter log step h)) (sym e) (speaks _ _ refl (all_logged voter (Chosen place command)))
+      out_frame step (Refused ballot) e = subst (λ h. F (proposes voter log step h)) (sym e) (quiet _ refl)
+
+  pax_frame : (from : Actor) (said : Pax) → F (on_pax voter log from said)
+  unfolding on_pax
+  pax_frame (actor.Server n) said = heard_frame n said
+  pax_frame (actor.Client c) said = quiet log refl
+
+  propose_frame : (command : Command) → F (on_propose log command)
+  unfolding on_propose
+  propose_frame command =
+      by_test F (has_command log.applied command || has_command log.wants command) _ _ (λ t. quiet log refl) (λ t. quiet _ refl)
+
+  ask_frame : (from : Actor) (rev : ℕ) → F (on_ask log from rev)
+  unfolding on_ask
+  ask_frame from rev = speaks log _ refl (λ post i. only IsLogged _ post i refl)
+
+  learns_first_frame : (letter : Letter) → what ≡ job.Letter letter → (entries : List (ℕ × Command)) → F (learns_first log letter entries)
+  unfolding In
+  learns_first_frame letter is [] = quiet log refl
+  learns_first_frame letter is (first ∷ []) = learns_frame first.0 first.1
+  learns_first_frame letter is (first ∷ next ∷ more) =
+      let f = learns_frame first.0 first.1 in
+      record {
+        says = f.says;
+        grows = f.grows;
+        jobs = λ other i. elim (in-append (job.Letter other) (learns log first.0 first.1).jobs (job.Letter letter ∷ []) i) [
+          | inl old ↦ f.jobs other old
+          | inr new ↦ elim new [ inl e ↦ is ∙ sym e | inr none ↦ absurd none ]
+        ];
+      }
+
+  letter_frame : (letter : Letter) → what ≡ job.Letter letter → (said : Body) → F (hears_log voter log letter said)
+  unfolding hears_log on_news
+  letter_frame letter is (body.Propose command) = propose_frame command
+  letter_frame letter is (body.Pax said) = pax_frame letter.from said
+  letter_frame letter is (body.Ask rev) = ask_frame letter.from rev
+  letter_frame letter is (body.News after commands) = learns_first_frame letter is (unknown_from log (after + 1) commands)
+  letter_frame letter is _ = quiet log refl
+
+  applies_frame : F (applies log)
+  unfolding In applies
+  applies_frame = by (known log (next_place log))
+    where
+      by : (o : Option Command) → F (applies_known log o)
+      by None = quiet log refl
+      by (Some entry) = record {
+        says = λ post i. absurd i;
+        grows = front_more log.applied entry;
+        jobs = λ letter i. no_letter None _ letter i;
+      }
+
+  starts_frame : F (starts voter log)
+  unfolding starts
+  starts_frame = by log.phase (wanted log)
+    where
+      by : (phase : Phase) (wants : List Command) → F (starts_for voter log phase wants)
+      by Idle [] = quiet log refl
+      by Idle (want ∷ wants) =
+          by_test F (nat_lt (rev_of log) greatest_place) _ _ (λ t. speaks _ _ refl (all_logged voter _)) (λ t. quiet log refl)
+      by (Collecting place ballot want heard best) wants = quiet log refl
+      by (Voting place ballot command heard) wants = quiet log refl
+
+-- each job of the log
+pub log_frame : (voter : Voter) (log : Log) (what : Job) → LogFrame log what (log_does voter log what)
+unfolding log_does
+log_frame voter log (job.Letter letter) = letter_frame voter log (job.Letter letter) letter refl letter.body
+log_frame voter log (job.Stage cell) = quiet voter log (job.Stage cell) log refl
+log_frame voter log job.Apply = applies_frame voter log job.Apply
+log_frame voter log job.Start = starts_frame voter log job.Start

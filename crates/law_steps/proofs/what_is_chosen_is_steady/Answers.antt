@@ -1,0 +1,10 @@
+-- The chosen log is plain.
+use Rattle.law_steps.proofs.Firms.{always_firm}
+use Rattle.petal_rules.specs.World.{setting_of, start}
+use Rattle.law_steps.proofs.Histories.{chosen_steady, firm_after}
+use Rattle.law_steps.proofs.what_is_chosen_is_steady.Goals as goal
+
+pub returns : goal.returns
+returns c script records sound legal =
+    let setting = setting_of script in
+    chosen_steady setting _ (firm_after setting (start setting) records (always_firm script records sound legal))

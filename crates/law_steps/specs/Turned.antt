@@ -1,0 +1,106 @@
+-- What a client may have done: a relation above its step, with what the laws need to know of it.
+use Rattle.std.specs.Prelude.{◌≡◌, ◌+◌, ◌-◌, ℕ, Bool, true, false, List, [], ◌∷◌, ◌++◌, Option, Some, None, slice_get}
+use Rattle.petal_command.specs.declared.command.Command.{Command}
+use Rattle.petal_msg.specs.Kinds.{is_logged, subject_of}
+use Rattle.petal_msg.specs.declared.body.Body.{Body}
+use Rattle.petal_msg.specs.declared.body.Body.TheVariants as body
+use Rattle.petal_msg.specs.declared.letter.Actor.TheVariants as actor
+use Rattle.petal_msg.specs.declared.operation.Ending.{Ending}
+use Rattle.petal_msg.specs.declared.operation.Ending.TheVariants as ending
+use Rattle.script_lines.specs.Pattern.{pattern_block}
+use Rattle.script_lines.specs.declared.answer.Answer.{Answer}
+use Rattle.script_lines.specs.declared.answer.Answer.TheVariants as answer
+use Rattle.script_lines.specs.declared.request.Line.{Line}
+use Rattle.script_lines.specs.declared.request.Pattern.{Pattern}
+use Rattle.script_lines.specs.declared.request.Request.TheVariants as request
+use Rattle.petal_state.specs.State.{latest}
+use Rattle.petal_state.specs.Command.{state_after}
+use Rattle.petal_state.specs.declared.answer.DiskView.{DiskView}
+use Rattle.petal_history.specs.Claims.{IsPrefix}
+use Rattle.petal_rules.specs.Lists.{In}
+use Rattle.petal_rules.specs.State.{State, find}
+use Rattle.petal_rules.specs.Server.{Post}
+use Rattle.petal_rules.specs.Writes.{ended}
+use Rattle.petal_rules.specs.Clients.{Client, Asked, Reaction, answers, is_read, is_write, cell_on, epoch_for, command_of, refusal, verdict_for, is_witness}
+use Rattle.petal_rules.specs.World.{lines_of, next_line}
+
+-- the line of a client's request of this number. The first has number 1
+abbrev pub line_by : List Line → (client seq : ℕ) → Option Line
+line_by lines client seq = slice_get (lines_of lines client) (seq - 1)
+
+-- what a client answers where its write has ended so
+abbrev pub answer_of : Ending → Answer
+answer_of ending.Written = answer.Ok
+answer_of ending.Full = answer.NoSpace
+
+-- ### What it sends
+
+-- what a client may send that has this request open, at this state: words of the agreed log, or its request
+pub data Says (state : State) (c : ℕ) (open_now : Option Asked) : Post → Type 0 where
+  Of_the_log : (post : Post) → is_logged (subject_of post.body) ≡ true → Says state c open_now post
+  A_write : (asked : Asked) (name : List ℕ) (block : ℕ) (pattern : Pattern) (disk : DiskView) (to : ℕ) → open_now ≡ Some asked
+      → asked.request ≡ request.Write name block pattern → find state name ≡ Some disk
+      → Says state c open_now (record { to = actor.Server to; body = body.Write c asked.seq (cell_on disk block) disk.epoch (pattern_block pattern) })
+  A_read : (asked : Asked) (name : List ℕ) (snap : Option (List ℕ)) (block : ℕ) (disk : DiskView) (epoch to : ℕ) → open_now ≡ Some asked
+      → asked.request ≡ request.Read name snap block → find state name ≡ Some disk → epoch_for state disk snap ≡ Some epoch
+      → Says state c open_now (record { to = actor.Server to; body = body.Read c asked.seq (cell_on disk block) epoch })
+
+-- it sends nothing else, at the state that the step leaves, and answers nothing
+pub record OnlySays (servers c : ℕ) (reacted : Reaction) : Type 0 where
+  pub says : (post : Post) → In post reacted.posts → Says (state_after servers reacted.client.applied) c reacted.client.asked post
+  pub unanswered : reacted.answer ≡ None
+
+-- ### What stays open
+
+-- a request that stays open may have been sent once more, or had a Witness more
+pub record IsSame (old new : Asked) : Type 0 where
+  pub line : new.line ≡ old.line
+  pub seq : new.seq ≡ old.seq
+  pub request : new.request ≡ old.request
+
+abbrev pub StaysOpen : Option Asked → Option Asked → Type 0
+StaysOpen None None = Unit {0}
+StaysOpen (Some old) (Some new) = IsSame old new
+StaysOpen _ _ = ⊥
+
+-- the request of this line is open under this number
+pub record IsCalled (line : Line) (seq : ℕ) (asked : Asked) : Type 0 where
+  pub line_is : asked.line ≡ line.number
+  pub seq_is : asked.seq ≡ seq
+  pub request_is : asked.request ≡ line.request
+
+-- ### Answers by an entry
+
+-- why an entry answers the open request, in the state at its place: the verdict of the request's own command, or its own
+-- Witness where this state can't serve it
+pub data IsReason (c : ℕ) (asked : Asked) (given : Answer) (state : State) (entry : Command) : Type 0 where
+  By_verdict : (command : Command) → command_of c asked.seq asked.request ≡ Some command → verdict_for asked.seq (latest state c) ≡ Some given
+      → IsReason c asked given state entry
+  By_witness : command_of c asked.seq asked.request ≡ None → is_witness c asked.seq entry ≡ true → refusal state asked.request ≡ Some given
+      → IsReason c asked given state entry
+
+-- an entry that the client applied in this step answers its request
+pub record IsJudged (servers c : ℕ) (before after : List Command) (asked : Asked) (given : Answer) : Type 0 where
+  pub front : List Command
+  pub entry : Command
+  pub rest : List Command
+  pub lies : after ≡ front ++ entry ∷ rest
+  pub new : IsPrefix before front
+  pub reason : IsReason c asked given (state_after servers (front ++ entry ∷ [])) entry
+
+-- ### What it does
+
+-- what a client may have done, in a call or else having heard only what `heard` knows
+pub data Turned (heard : Body → Type 0) (servers : ℕ) (lines : List Line) (c : ℕ) (client : Client) : (in_call : Bool) → Reaction → Type 0 where
+  Goes_on : (reacted : Reaction) → reacted.client.seq ≡ client.seq → StaysOpen client.asked reacted.client.asked → OnlySays servers c reacted
+      → Turned heard servers lines c client false reacted
+  Begins : (reacted : Reaction) (line : Line) (asked : Asked) → next_line lines c client ≡ Some line → client.asked ≡ None
+      → reacted.client.seq ≡ client.seq + 1 → reacted.client.asked ≡ Some asked → IsCalled line (client.seq + 1) asked → OnlySays servers c reacted
+      → Turned heard servers lines c client true reacted
+  Reads : (asked : Asked) (bytes : List ℕ) → heard (body.Data asked.seq bytes) → client.asked ≡ Some asked → is_read asked.request ≡ true
+      → Turned heard servers lines c client false (answers client asked (answer.Data bytes))
+  Ends : (asked : Asked) (how : Ending) → heard (ended asked.seq how) → client.asked ≡ Some asked → is_write asked.request ≡ true
+      → Turned heard servers lines c client false (answers client asked (answer_of how))
+  Judges : (after : Client) (asked : Asked) (given : Answer) → client.asked ≡ Some asked → after.asked ≡ None → after.seq ≡ client.seq
+      → IsJudged servers c client.applied after.applied asked given
+      → Turned heard servers lines c client false (record { client = after; posts = []; answer = Some (asked.line, given) })

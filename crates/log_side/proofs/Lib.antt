@@ -1,0 +1,6 @@
+pub mod States
+pub mod Letters
+pub mod FollowUps
+pub mod Runs
+pub mod Said
+pub mod Starts

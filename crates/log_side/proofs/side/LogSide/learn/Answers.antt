@@ -1,0 +1,32 @@
+use Rattle.std.proofs.Common.{refl, ap, rules}
+use Rattle.petal_paxos.proofs.Committed.{commits_is}
+use Rattle.petal_paxos.specs.Kept.{known_at}
+use Rattle.petal_paxos.specs.declared.record.StateRecord.TheVariants as kind
+use Rattle.petal_rules.specs.Entries.{learns}
+use Rattle.log_side.specs.Part.{log_of}
+use Rattle.log_side.proofs.FollowUps.{learnt_jobs}
+use Rattle.log_side.proofs.Said.{one_more}
+use Rattle.log_side.proofs.side.LogSide.learn.Goals as goal
+
+pub returns-clause-done : goal.returns-clause-done
+unfolding learns
+returns-clause-done g c =
+    let old = c.args.state.now in
+    let new = c.choose.new.self in
+    record {
+      done = record {
+        log = ap (log_of c.args.self.now) (commits_is old.records new.records (kind.Chosen c.args.place c.args.command.now) c.in_ok-choose.ensures.ok);
+        letters = search rules;
+        jobs = rw c.is_next-apply.ensures (learnt_jobs (known_at old.records c.args.place) _);
+      };
+      voter = refl;
+      holds = search rules;
+      moments = λ told holds. one_more g.D.Disk old.disk new.disk old.records (kind.Chosen c.args.place c.args.command.now) (c.in_ok-choose.ensures.any_moment told holds);
+      kept = tt;
+      same = λ no. absurd (cc);
+      only = tt;
+      full = λ no. absurd (cc);
+      later = search rules;
+      failed = λ no. absurd (cc);
+      run = search rules;
+    }

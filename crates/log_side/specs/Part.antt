@@ -1,0 +1,43 @@
+-- A server's part of the agreed log in memory, and the log of the rules that it is with the records of its state store.
+use Rattle.std.specs.Prelude.{ℕ, List, []}
+use Rattle.petal_command.specs.declared.command.Command.{Command}
+use Rattle.petal_msg.specs.declared.letter.Actor.TheVariants as actor
+use Rattle.petal_paxos.specs.declared.phase.Phase.{Phase}
+use Rattle.petal_paxos.specs.declared.phase.Phase.TheVariants.{Idle}
+use Rattle.petal_paxos.specs.declared.record.StateRecord.{StateRecord}
+use Rattle.petal_rules.specs.Log.{Log, LogDone, Voter, next_place}
+use Rattle.petal_rules.specs.Ballots.{starts_ballot, next_round}
+use Rattle.petal_rules.specs.Server.{Sender}
+use Rattle.petal_state.specs.Command.{state_after}
+use Rattle.petal_state.specs.State.{State}
+
+-- which of the servers of the run it is; what its proposer is about; the greatest round that it was refused with for the next
+-- place; the entries that it has applied; the commands that it wants chosen; and which of the other servers it asks next
+pub record Part : Type 0 where
+  pub voter : Voter
+  pub phase : Phase
+  pub refused : ℕ
+  pub applied : List Command
+  pub wants : List Command
+  pub asks : ℕ
+
+-- that of a server that has applied nothing
+abbrev pub new_part : Voter → Part
+new_part voter = record { voter = voter; phase = Idle; refused = 0; applied = []; wants = []; asks = 0 }
+
+-- the log, with these records on the state device
+abbrev pub log_of : Part → List StateRecord → Log
+log_of part records =
+    record { records = records; phase = part.phase; refused = part.refused; applied = part.applied; wants = part.wants; asks = part.asks }
+
+-- the global state, as the applied entries make it
+abbrev pub state_of : Part → State
+state_of part = state_after part.voter.servers part.applied
+
+-- its letters carry this incarnation and its revision
+abbrev pub sender_of : Part → (inc : ℕ) → Sender
+sender_of part inc = record { from = actor.Server part.voter.me; inc = inc; rev = (state_of part).rev }
+
+-- an idle proposer starts a ballot for this command, at the next place
+abbrev pub starts_want : Voter → Log → Command → LogDone
+starts_want voter log want = starts_ballot voter log (next_place log) (record { round = next_round log; server = voter.me }) want

@@ -1,0 +1,153 @@
+//! Entries of the log: they are learnt, applied, and told to those who ask.
+
+ghost use Rattle.std.specs.Prelude.{◌≡◌, ◌<◌, ◌+◌, ◌-◌, ◌^◌, ◌++◌, ◌∷◌, ◌==◌, ◌&&◌, [], is_none, None, if◌then◌else◌, IfOk, OnOk, OnErr};
+ghost use Rattle.petal_paxos.specs.Kept.{known_at};
+ghost use Rattle.petal_rules.specs.Entries as rules;
+ghost use Rattle.petal_rules.specs.Log.{Log, next_place};
+ghost use Rattle.petal_state.specs.Command.{after};
+ghost use Rattle.log_side.specs.Done.{IsLogDone, IsLogSaid};
+ghost use Rattle.log_side.specs.Part.{log_of};
+
+use crate::done::{LogDone, only};
+use crate::envelope::room_for;
+use crate::side::LogSide;
+use crate::wants::but;
+use global_state::GlobalState;
+use petal_base::{Inc, NoMemory, Rev, Sequence};
+use petal_command::Command;
+use petal_disk::Disk;
+use petal_msg::{Actor, Body};
+use petal_paxos::Phase;
+use state_store::{StateError, StateStore};
+use std::alloc::Global;
+
+/// The most entries that one letter tells.
+const MOST: u32 = 64;
+
+/// One entry more: the state with it, and it among those applied.
+fn enter(
+    alloc: Global,
+    state: &mut GlobalState,
+    applied: &mut Sequence<Command>,
+    entry: &Command,
+) -> Result<(), NoMemory>
+    ensures state { OnOk result (state.new ≡ after state.old entry.now) }
+    ensures applied { OnOk result (applied.new ≡ applied.old ++ entry.now ∷ []) }
+    ensures err { OnErr result ((state.new ≡ state.old) × (applied.new ≡ applied.old)) }
+{
+    if state.rev() == Rev::MAX {
+        return Err(NoMemory);
+    }
+    applied.push(entry.again())?;
+    match state.apply(alloc, entry) {
+        Ok(()) => Ok(()),
+        Err(NoMemory) => {
+            let _ = applied.pop();
+            Err(NoMemory)
+        },
+    }
+}
+
+/// The commands known for this place and those after it, up to the first that is not known, and so many at most.
+fn known_run<D: Disk>(
+    alloc: Global,
+    state: &StateStore<D>,
+    from: u32,
+    most: u32,
+) -> Result<Sequence<Command>, NoMemory>
+    ensures { (log : Log) → log.records ≡ state.now.records → IfOk result (λ run. run ≡ rules.known_run log from most) }
+{
+    let mut run = Sequence::new(alloc);
+    let mut place = from;
+    for _told in 0..most {
+        let Some(command) = state.chosen(place) else {
+            return Ok(run);
+        };
+        run.push(command)?;
+        place = place.checked_add(1).ok_or(NoMemory)?;
+    }
+    Ok(run)
+}
+
+impl LogSide {
+    /// The command is chosen for the place.
+    #[tactic(auto, unfolding(petal_rules::specs::Entries::learns))]
+    pub(crate) fn learn<D: Disk>(
+        &self,
+        alloc: Global,
+        inc: Inc,
+        state: &mut StateStore<D>,
+        place: u32,
+        command: &Command,
+    ) -> Result<LogDone, StateError>
+        ensures alone { IfOk result (λ done. done.again ≡ None) }
+        ensures done { IsLogDone D.Disk inc self.now self.now state.old state.new result (rules.learns (log_of self.now state.old.records) place command.now) }
+    {
+        let apply = self.is_next(state, place);
+        state.choose(place, command)?;
+        Ok(LogDone {
+            letters: Sequence::new(alloc),
+            apply,
+            again: None,
+        })
+    }
+
+    /// Whether the place is the next one, and not known.
+    fn is_next<D: Disk>(&self, state: &StateStore<D>, place: u32) -> bool
+        ensures { result ≡ (is_none (known_at state.now.records place) && (place == next_place (log_of self.now state.now.records))) }
+    {
+        state.chosen(place).is_none() && u64::from(place) == u64::from(self.rev()) + 1
+    }
+
+    /// The next entry is applied, where it is known.
+    ///
+    /// # Errors
+    /// `NoMemory` alone. Nothing changed.
+    #[tactic(auto, using(crate::proofs::FollowUps::later_jobs), unfolding(petal_rules::specs::Entries::applies))]
+    pub(crate) fn apply<D: Disk>(
+        &mut self,
+        alloc: Global,
+        inc: Inc,
+        state: &StateStore<D>,
+    ) -> Result<LogDone, StateError>
+        ensures { IsLogSaid inc self.old self.new state.now.records result (rules.applies (log_of self.old state.now.records)) }
+    {
+        let place = self.next_place()?;
+        let Some(entry) = state.chosen(place) else {
+            return Ok(only(Sequence::new(alloc)));
+        };
+        let next = place.checked_add(1).ok_or(NoMemory)?;
+        enter(alloc, &mut self.state, &mut self.applied, &entry)?;
+        self.proposer.phase = Phase::Idle;
+        self.refused = 0;
+        let wants = std::mem::replace(&mut self.wants, Sequence::new(alloc));
+        self.wants = but(&entry, wants);
+        Ok(LogDone {
+            letters: Sequence::new(alloc),
+            apply: state.chosen(next).is_some(),
+            again: None,
+        })
+    }
+
+    /// What follows the revision asked is told, perhaps nothing.
+    #[tactic(auto, unfolding(petal_rules::specs::Entries::on_ask))]
+    pub(crate) fn on_ask<D: Disk>(
+        &self,
+        alloc: Global,
+        inc: Inc,
+        state: &StateStore<D>,
+        from: Actor,
+        rev: Rev,
+    ) -> Result<LogDone, StateError>
+        ensures { IsLogSaid inc self.now self.now state.now.records result (rules.on_ask (log_of self.now state.now.records) from rev) }
+    {
+        let first = rev.checked_add(1).ok_or(NoMemory)?;
+        let commands = known_run(alloc, state, first, MOST)?;
+        let room = room_for(alloc, 1)?;
+        let news = Body::News {
+            after: rev,
+            commands,
+        };
+        Ok(only(self.envelope(inc).one(room, from, news)))
+    }
+}

@@ -1,0 +1,141 @@
+-- Ballots at a server: what it wants chosen, the ballots that it starts, and those that it takes part in ("Paxos Made
+-- Simple", 2001).
+use Rattle.std.specs.Prelude.{ℕ, ◌+◌, ◌-◌, ◌%◌, ◌||◌, not, max, Bool, nat_lt, List, [], ◌∷◌, ◌++◌, map, filter, if◌then◌else◌, Option, Some, None}
+use Rattle.std.specs.List.{range_with_len}
+use Rattle.petal_command.specs.Same.{has_command}
+use Rattle.petal_command.specs.declared.ballot.Ballot.{Ballot}
+use Rattle.petal_command.specs.declared.command.Command.{Command}
+use Rattle.petal_command.specs.declared.pax.Pax.{Pax}
+use Rattle.petal_command.specs.declared.pax.Pax.TheVariants.{Prepare, Accept, Chosen}
+use Rattle.petal_msg.specs.declared.body.Body.{Body}
+use Rattle.petal_msg.specs.declared.body.Body.TheVariants as body
+use Rattle.petal_msg.specs.declared.letter.Actor.{Actor}
+use Rattle.petal_msg.specs.declared.letter.Actor.TheVariants as actor
+use Rattle.petal_paxos.specs.Acceptor.{is_open, prepare_reply, accept_reply}
+use Rattle.petal_paxos.specs.Proposer.{Step, collecting, hear, has_majority, is_in}
+use Rattle.petal_paxos.specs.declared.phase.Heard.{Heard}
+use Rattle.petal_paxos.specs.declared.phase.Heard.TheVariants.{Nothing, Send, Refused}
+use Rattle.petal_paxos.specs.declared.phase.Heard.TheVariants.{Chosen as Decided}
+use Rattle.petal_paxos.specs.declared.phase.Phase.{Phase}
+use Rattle.petal_paxos.specs.declared.phase.Phase.TheVariants.{Idle, Collecting, Voting}
+use Rattle.petal_paxos.specs.declared.record.StateRecord.TheVariants.{Promise, Accepted}
+use Rattle.petal_rules.specs.Entries.{learns}
+use Rattle.petal_rules.specs.Log.{Log, LogDone, Voter, rev_of, next_place, acceptor, commits, with_phase, keeps, posts_all, posts_one}
+use Rattle.petal_rules.specs.Posts.{Post}
+use Rattle.petal_rules.specs.declared.job.Job.{Job}
+use Rattle.petal_rules.specs.declared.job.Job.TheVariants as job
+
+-- the log has so many places
+abbrev pub greatest_place : ℕ
+greatest_place = 16384
+
+-- ### What is wanted
+
+-- what a server wants chosen, the most urgent first: at this stage what clients asked it to propose
+abbrev pub wanted : Log → List Command
+wanted log = log.wants
+
+-- a client's command is wanted where it is neither applied nor wanted already
+unfoldable pub on_propose : Log → Command → LogDone
+on_propose log command =
+    if has_command log.applied command || has_command log.wants command then keeps log
+    else keeps (record log { wants = log.wants ++ command ∷ [] })
+
+-- ### Letters of a ballot
+
+abbrev pub post_of : Body → ℕ → Post
+post_of said n = record { to = actor.Server n; body = said }
+
+-- to each server, the sender too
+abbrev pub to_all : Voter → Pax → List Post
+to_all voter said = map (post_of (body.Pax said)) (range_with_len 0 voter.servers)
+
+-- to each server that was not heard yet
+abbrev pub to_unheard : Voter → List Bool → Pax → List Post
+to_unheard voter heard said =
+    map (post_of (body.Pax said)) (filter (λ n. not (is_in heard n)) (range_with_len 0 voter.servers))
+
+-- ### Starting a ballot
+
+abbrev pub round_of : Option Ballot → ℕ
+round_of None = 0
+round_of (Some ballot) = ballot.round
+
+-- one above each round that its acceptor promised at the next place, or that it was refused with there
+abbrev pub next_round : Log → ℕ
+next_round log = max (round_of (acceptor log (next_place log)).promised) log.refused + 1
+
+-- its own acceptor commits the promise before it asks for others
+abbrev pub starts_ballot : Voter → Log → ℕ → Ballot → Command → LogDone
+starts_ballot voter log place ballot want =
+    posts_all (with_phase (commits log (Promise place ballot)) (collecting place ballot want)) (to_all voter (Prepare place ballot))
+
+abbrev pub starts_for : Voter → Log → Phase → List Command → LogDone
+starts_for voter log Idle (want ∷ wants) =
+    if nat_lt (rev_of log) greatest_place
+    then starts_ballot voter log (next_place log) (record { round = next_round log; server = voter.me }) want
+    else keeps log
+starts_for voter log _ _ = keeps log
+
+-- a proposer that is idle starts a ballot for the first command that is wanted, at the next place
+unfoldable pub starts : Voter → Log → LogDone
+starts voter log = starts_for voter log log.phase (wanted log)
+
+-- ### Taking part
+
+abbrev pub on_prepare : Log → (from place : ℕ) → Ballot → LogDone
+on_prepare log from place ballot =
+    posts_one (if is_open (acceptor log place) ballot then commits log (Promise place ballot) else log)
+    (actor.Server from) (body.Pax (prepare_reply place (acceptor log place) ballot))
+
+abbrev pub on_accept : Log → (from place : ℕ) → Ballot → Command → LogDone
+on_accept log from place ballot command =
+    posts_one (if is_open (acceptor log place) ballot then commits log (Accepted place ballot command) else log)
+    (actor.Server from) (body.Pax (accept_reply place (acceptor log place) ballot))
+
+-- a proposer that is refused is idle, and remembers the round
+abbrev pub gives_way : Log → Ballot → Log
+gives_way log promised = record log { phase = Idle; refused = max log.refused promised.round }
+
+-- what a proposer says of a letter goes to each server
+abbrev pub proposes : Voter → Log → Step → Heard → LogDone
+proposes voter log step Nothing = keeps (with_phase log step.phase)
+proposes voter log step (Send said) = posts_all (with_phase log step.phase) (to_all voter said)
+proposes voter log step (Decided place command) = posts_all (with_phase log step.phase) (to_all voter (Chosen place command))
+proposes voter log step (Refused promised) = keeps (gives_way log promised)
+
+abbrev pub comes_out : Voter → Log → Step → LogDone
+comes_out voter log step = proposes voter log step step.heard
+
+abbrev pub hears_of_ballot : Voter → Log → ℕ → Pax → LogDone
+hears_of_ballot voter log from (Prepare place ballot) = on_prepare log from place ballot
+hears_of_ballot voter log from (Accept place ballot command) = on_accept log from place ballot command
+hears_of_ballot voter log from (Chosen place command) = learns log place command
+hears_of_ballot voter log from said = comes_out voter log (hear voter.servers log.phase from said)
+
+-- only servers speak of ballots
+unfoldable pub on_pax : Voter → Log → Actor → Pax → LogDone
+on_pax voter log (actor.Server n) said = hears_of_ballot voter log n said
+on_pax voter log (actor.Client c) said = keeps log
+
+-- ### A tick
+
+-- what of the ballot is not yet answered; once a majority has accepted, that its command is chosen
+abbrev pub ballot_posts : Voter → Phase → List Post
+ballot_posts voter Idle = []
+ballot_posts voter (Collecting place ballot want heard best) = to_unheard voter heard (Prepare place ballot)
+ballot_posts voter (Voting place ballot command heard) =
+    if has_majority voter.servers heard then to_all voter (Chosen place command)
+    else to_unheard voter heard (Accept place ballot command)
+
+-- one of the other servers, in turn, is asked what follows
+abbrev pub ask_posts : Voter → Log → List Post
+ask_posts voter log = post_of (body.Ask (rev_of log)) ((voter.me + 1 + log.asks) % voter.servers) ∷ []
+
+-- the next one is asked at the next tick
+abbrev pub asks_next : Voter → Log → Log
+asks_next voter log = record log { asks = (log.asks + 1) % (voter.servers - 1) }
+
+abbrev pub start_jobs : Phase → List Command → List Job
+start_jobs Idle (want ∷ wants) = job.Start ∷ []
+start_jobs _ _ = []
