@@ -1,12 +1,13 @@
 /* Answers the scripts of bench/script.py from a plain map of blocks in memory: what petal's speed is measured against.
-   It checks nothing. */
+   It checks nothing. A name has at most 32 bytes. */
 #include <stdio.h>
 #include <stdlib.h>
 #include <string.h>
 
-enum { BLOCK = 65536, BUCKETS = 4096 };
+enum { BLOCK = 65536, BUCKETS = 4096, NAME = 33 };
 
 struct entry {
+    char disk[NAME];
     unsigned long long block;
     struct entry *next;
     unsigned char bytes[BLOCK];
@@ -14,19 +15,20 @@ struct entry {
 
 static struct entry *map[BUCKETS];
 
-static struct entry *find(unsigned long long block) {
+static struct entry *find(const char *disk, unsigned long long block) {
     struct entry *e = map[block % BUCKETS];
-    while (e && e->block != block)
+    while (e && (e->block != block || strcmp(e->disk, disk)))
         e = e->next;
     return e;
 }
 
-static struct entry *put(unsigned long long block) {
-    struct entry *e = find(block);
+static struct entry *put(const char *disk, unsigned long long block) {
+    struct entry *e = find(disk, block);
     if (!e) {
         e = malloc(sizeof *e);
         if (!e)
             exit(3);
+        strcpy(e->disk, disk);
         e->block = block;
         e->next = map[block % BUCKETS];
         map[block % BUCKETS] = e;
@@ -48,17 +50,17 @@ static void print_runs(const unsigned char *bytes) {
 
 int main(void) {
     static const unsigned char zeros[BLOCK];
-    char line[300];
+    char line[300], disk[NAME];
     int number = 0;
     while (fgets(line, sizeof line, stdin)) {
         unsigned long long block;
         int fill;
         number++;
-        if (sscanf(line, "%*c write vol %llu fill %d", &block, &fill) == 2) {
-            memset(put(block)->bytes, fill, BLOCK);
+        if (sscanf(line, "%*c write %32s %llu fill %d", disk, &block, &fill) == 3) {
+            memset(put(disk, block)->bytes, fill, BLOCK);
             printf("%d: ok\n", number);
-        } else if (sscanf(line, "%*c read vol %llu", &block) == 1) {
-            struct entry *e = find(block);
+        } else if (sscanf(line, "%*c read %32s %llu", disk, &block) == 2) {
+            struct entry *e = find(disk, block);
             printf("%d: ", number);
             print_runs(e ? e->bytes : zeros);
         } else if (!strncmp(line, "a disk", 6)) {

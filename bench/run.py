@@ -1,7 +1,7 @@
 #!/usr/bin/env python3
 """Times petal and the plain C program on one script, in one run: wall time, requests a second, peak memory, ratio.
 
-usage: bench/run.py [REQUESTS [BLOCKS [SEED [CLIENTS]]]]   (petal must be built: ./petal prove)
+usage: bench/run.py [REQUESTS [BLOCKS [SEED [CLIENTS [DISKS]]]]]   (petal must be built: ./petal prove)
 """
 import os, resource, subprocess, sys, tempfile, time
 
@@ -30,7 +30,7 @@ def measure(command, text):
 def main():
     script = subprocess.run([sys.executable, f"{TOP}/bench/script.py", *sys.argv[1:]], capture_output=True, check=True).stdout
     empty = b"servers 5 slots 1024\na disk vol on 0 1 2 3 4\n"
-    requests = script.count(b"\n") - 1
+    requests = script.count(b"\n") - 2
     with tempfile.TemporaryDirectory() as folder:
         plain = f"{folder}/plain"
         subprocess.run(["cc", "-O2", "-o", plain, f"{TOP}/bench/plain.c"], check=True)
