@@ -59,7 +59,9 @@ impl Open {
             )),
             Body::BlockBusy { seq } | Body::Held { seq } => Ok(again_if(self.counts(rev, *seq))),
             Body::WrongRev { seq } => Ok(again_if(*seq == self.seq)),
-            Body::Propose { .. }
+            Body::Down { .. }
+            | Body::Seen { .. }
+            | Body::Propose { .. }
             | Body::Pax(_)
             | Body::Ask { .. }
             | Body::News { .. }
@@ -70,7 +72,17 @@ impl Open {
             | Body::Reserved { .. }
             | Body::PairFull { .. }
             | Body::Replicate { .. }
-            | Body::Replicated { .. } => Ok(Heard::Nothing),
+            | Body::Replicated { .. }
+            | Body::HelloAsk { .. }
+            | Body::Hello { .. }
+            | Body::Trim { .. }
+            | Body::Trimmed { .. }
+            | Body::Sync { .. }
+            | Body::Synced { .. }
+            | Body::SyncFull { .. }
+            | Body::Fill { .. }
+            | Body::Filled { .. }
+            | Body::FillFull { .. } => Ok(Heard::Nothing),
         }
     }
 }

@@ -1,7 +1,7 @@
 //! What a server is to a cell.
 
 ghost use Rattle.std.specs.Prelude.{◌≡◌, option_copied};
-ghost use Rattle.petal_state.specs.Role.{is_the, is_lead, leads_link, row_in_both, both, first, second, is_second};
+ghost use Rattle.petal_state.specs.Role.{is_the, is_lead, leads_link, row_in_both, both, in_both, first, second, is_second};
 
 use crate::state::GlobalState;
 use global_tables::{LinkRow, LinkState};
@@ -16,7 +16,7 @@ fn is_the(found: Option<ServerId>, server: ServerId) -> bool
     }
 }
 
-fn in_both(row: &LinkRow) -> Option<&LinkRow>
+fn row_in_both(row: &LinkRow) -> Option<&LinkRow>
     ensures { option_copied result ≡ row_in_both row.now row.now.state }
 {
     match row.state {
@@ -40,6 +40,16 @@ impl GlobalState {
         is_the(self.cell_lead(cell), server)
     }
 
+    /// Whether the cell's link has both of its servers, whatever the cell's region.
+    pub fn in_both(&self, cell: Cell) -> bool
+        ensures { result ≡ in_both self.now cell }
+    {
+        match self.row_of(cell) {
+            Some(row) => row_in_both(row).is_some(),
+            None => false,
+        }
+    }
+
     fn both(&self, cell: Cell) -> Option<&LinkRow>
         ensures { option_copied result ≡ both self.now cell }
     {
@@ -47,7 +57,7 @@ impl GlobalState {
             return None;
         }
         match self.row_of(cell) {
-            Some(row) => in_both(row),
+            Some(row) => row_in_both(row),
             None => None,
         }
     }

@@ -1,3 +1,4 @@
 pub mod Chains
 pub mod Kept
+pub mod Marking
 pub mod Reading

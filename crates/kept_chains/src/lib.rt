@@ -10,4 +10,4 @@ mod store;
 
 pub use error::ReadError;
 pub use laws::{a_put_is_an_entry_more, a_read_finds_the_chains_entry, versions_and_counts_agree};
-pub use store::{next_version, read_at, set_apart};
+pub use store::{mark, next_version, read_at, set_apart, unmark};

@@ -3,14 +3,16 @@
 ghost use Rattle.std.specs.Prelude.{◌≡◌, ◌+◌, ◌-◌, ◌^◌, ◌<◌, ◌++◌, ◌∷◌, [], length, nat_lt, Contains, IfOk, IfErr, IfSome, IfNone, OnOk, OnErr, is_some};
 ghost use Rattle.petal_disk.specs.Faults.{HasCause};
 ghost use Rattle.petal_disk.specs.Keeping.{KeepsDevice};
-ghost use Rattle.petal_rules.specs.Store.{bytes_of, chain_in, entry_at, free_of, version_of, top_of};
+ghost use Rattle.petal_rules.specs.Store.{bytes_of, chain_in, entry_at, free_of, version_of, top_of, with_mark_on, without_mark_on};
 ghost use Rattle.physical_map.specs.Entries as map;
 ghost use Rattle.server_store.specs.Holdings.{listed};
 ghost use Rattle.server_store.specs.Shown.{Holds};
 ghost use Rattle.kept_chains.specs.Kept.{chains_of, store_of};
+ghost use Rattle.kept_chains.specs.Marking.{IsCommit};
 ghost use Rattle.kept_chains.specs.Reading.{IsReadFault};
 
 use crate::ReadError;
+use busy_marks::MarkKind;
 use petal_base::{BLOCK_BYTES, Block, Cell, Epoch, NoMemory, SharedBlock, Version};
 use petal_disk::{Disk, Failed};
 use server_store::{Store, StoreError, Ticket};
@@ -75,4 +77,25 @@ pub fn read_at<D: Disk>(
     let _ = store.free();
     let _ = store.read(cell.map, cell.block, epoch, &mut bytes)?;
     Ok(SharedBlock::new(alloc, Block::of(bytes))?)
+}
+
+/// Marks a cell. Where it has the mark nothing changes.
+///
+/// # Errors
+/// Out of memory, before any call of the device; `JournalFull` only where the journal has all its records; `Failed`, where the
+/// device failed. The store keeps what it has.
+pub fn mark<D: Disk>(store: &mut Store<D>, kind: MarkKind, cell: Cell) -> Result<(), StoreError>
+    ensures { IsCommit D.Disk store.old store.new result (with_mark_on (store_of store.old) kind cell) }
+{
+    store.mark(kind, cell)
+}
+
+/// Takes a cell's mark away. Where it has none nothing changes. It takes no memory.
+///
+/// # Errors
+/// As of [`mark`], but for memory.
+pub fn unmark<D: Disk>(store: &mut Store<D>, kind: MarkKind, cell: Cell) -> Result<(), StoreError>
+    ensures { IsCommit D.Disk store.old store.new result (without_mark_on (store_of store.old) kind cell) }
+{
+    store.unmark(kind, cell)
 }

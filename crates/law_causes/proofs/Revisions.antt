@@ -1,5 +1,5 @@
 -- A client is told of another revision in one place alone: where its letter has one.
-use Rattle.std.proofs.Common.{◌≡◌, ◌≢◌, ◌⊎◌, inl, inr, ◌++◌, ◌==◌, ℕ, Bool, true, false, not, List, [], ◌∷◌, Option, Some, None, refl, sym, ap, ◌∙◌, subst, arith}
+use Rattle.std.proofs.Common.{◌≡◌, ◌≢◌, ◌⊎◌, inl, inr, ◌++◌, ◌==◌, ◌&&◌, ℕ, Bool, true, false, not, List, [], ◌∷◌, Option, Some, None, refl, sym, ap, ◌∙◌, subst, arith}
 use Rattle.std.proofs.lemmas.Bool.Decides.{nat_tests}
 use Rattle.std.specs.Prelude.{nat_lt}
 use Rattle.petal_rules.specs.Store.{free_of}
@@ -94,8 +94,10 @@ ended_mute seq ending.Full k e = absurd (cc)
 module _ (here : Here) where
   acts_mute : (own : Own) (op : Pending) (what : Action) → M (acts here own op what)
   acts_mute own op action.Reserve = to_mute (second here.state op.cell) (body.Reserve op.op op.cell) (λ k e. absurd (cc))
+  acts_mute own op (action.Mark kind) = none_mute
   acts_mute own op action.Put = none_mute
   acts_mute own op action.Replicate = to_mute (second here.state op.cell) (body.Replicate op.op op.key op.version op.bytes) (λ k e. absurd (cc))
+  acts_mute own op (action.Unmark kind) = none_mute
   acts_mute own op action.Answer = one_mute (actor.Client op.client) (body.Written op.seq) (λ k e. absurd (cc))
   acts_mute own op action.Drop = none_mute
 
@@ -143,7 +145,8 @@ module _ (here : Here) where
 
   full_mute : (own : Own) (number : ℕ) (o : Option Pending) → M (hears_pair_full own number o)
   full_mute own number None = none_mute
-  full_mute own number (Some op) = by_test M (is_reserving op number) _ _ (λ t. one_mute (actor.Client op.client) (body.Full op.seq) (λ k e. absurd (cc)))
+  full_mute own number (Some op) =
+      by_test M (is_reserving op number && not op.stage.put) _ _ (λ t. one_mute (actor.Client op.client) (body.Full op.seq) (λ k e. absurd (cc)))
       (λ t. none_mute)
 
   replicated_mute : (own : Own) (number : ℕ) (o : Option Pending) → M (hears_replicated here own number o)
@@ -188,8 +191,10 @@ module _ (here : Here) where
 
   awaited_mute : (own : Own) (op : Pending) (what : Action) → AreMute (awaited here own op what)
   awaited_mute own op action.Reserve = acts_mute own op action.Reserve
+  awaited_mute own op (action.Mark kind) = none_mute
   awaited_mute own op action.Put = none_mute
   awaited_mute own op action.Replicate = acts_mute own op action.Replicate
+  awaited_mute own op (action.Unmark kind) = none_mute
   awaited_mute own op action.Answer = none_mute
   awaited_mute own op action.Drop = none_mute
 

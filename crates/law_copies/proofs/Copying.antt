@@ -1,13 +1,17 @@
 -- Every step keeps the pairs, and so does every legal history.
-use Rattle.std.proofs.Common.{◌≡◌, ◌||◌, ℕ, true, false, List, [], refl, ap, sym, subst, inl, inr, arith}
+use Rattle.std.proofs.Common.{◌≡◌, ◌||◌, ◌+◌, ℕ, Bool, true, false, List, [], Option, Some, None, refl, ap, sym, subst, inl, inr, arith}
+use Rattle.std.proofs.lemmas.Bool.{cases_lt}
+use Rattle.busy_marks.specs.declared.marks.MarkKind.TheVariants.{Busy}
 use Rattle.petal_base.specs.declared.cell.Cell.{Cell}
 use Rattle.petal_table.specs.Table.{at}
 use Rattle.petal_table.proofs.Rows.{at-empty}
+use Rattle.petal_msg.specs.declared.operation.Pending.{Pending}
+use Rattle.petal_msg.specs.declared.operation.Stage.{Stage}
 use Rattle.petal_msg.specs.Kinds.{Subject, Paired, is_asked, is_logged, is_paired, subject_of}
 use Rattle.script_lines.specs.declared.script.Script.{Script}
 use Rattle.petal_rules.specs.Lists.{In}
 use Rattle.petal_rules.specs.State.{State}
-use Rattle.petal_rules.specs.Store.{cell_cmp, chain_in}
+use Rattle.petal_rules.specs.Store.{cell_cmp, chain_in, is_marked}
 use Rattle.petal_rules.specs.Server.{Own, Server, sender}
 use Rattle.petal_rules.specs.Clients.{client_sender}
 use Rattle.petal_rules.specs.World.{Setting, World, start, setting_of, chosen_state}
@@ -17,15 +21,17 @@ use Rattle.petal_history.specs.Legal.{IsLegal, world_after}
 use Rattle.petal_history.specs.declared.record.Record.{Record}
 use Rattle.law_state.specs.Steady.{IsSteady}
 use Rattle.law_steps.specs.Happens.{Happens, Serves, Turns, server_moves, served, own_place}
+use Rattle.law_steps.specs.Operations.{AtRest}
 use Rattle.law_steps.specs.Ready.{Ready}
+use Rattle.law_steps.proofs.InvertLead.{is_copying}
 use Rattle.law_steps.proofs.Letters.{said}
 use Rattle.law_steps.proofs.Sending.{turned_asks}
-use Rattle.petal_rules.proofs.Tests.{true_false}
+use Rattle.petal_rules.proofs.Tests.{by_bool, true_false}
 use Rattle.law_state.specs.Below.{IsBelow}
 use Rattle.law_steps.specs.Ready.{AreFirm}
 use Rattle.law_steps.proofs.Fronts.{below_itself}
-use Rattle.law_steps.proofs.Histories.{kept_above, firm_after, chosen_steady, start_rests}
-use Rattle.law_copies.specs.Pair.{Pair, pair_of, IsPair, PairOk, Keeps, SaidOk, owns_of, Good}
+use Rattle.law_steps.proofs.Histories.{kept_above, ready_after, firm_after, chosen_steady, start_rests}
+use Rattle.law_copies.specs.Pair.{Pair, pair_of, far, IsPair, Working, AreCopies, HasMark, PairOk, Keeps, SaidOk, owns_of, Good}
 use Rattle.law_copies.proofs.Frames.{Changes, known_later, no_cell, pairs_kept, unpaired}
 use Rattle.law_copies.proofs.Jobs.{job_keeps}
 use Rattle.law_copies.proofs.Moves.{stays}
@@ -82,6 +88,7 @@ empty_ok one two cell first second pending next last =
       second = chain_in (sym second i) cell;
       pending = at cell_cmp (sym pending i) cell;
       next = sym next i;
+      busy = is_marked one.store Busy cell;
       last = at cell_cmp (sym last i) cell;
     })
     (subst PairOk (λ i. record {
@@ -89,12 +96,31 @@ empty_ok one two cell first second pending next last =
       second = chain_in [] cell;
       pending = sym (at-empty cell_cmp cell) i;
       next = 1;
+      busy = is_marked one.store Busy cell;
       last = sym (at-empty cell_cmp cell) i;
     })
-    (record { copies = refl; below = omega arith; fresh = omega arith }))
+    (record { copies = refl; marked = tt; below = omega arith; fresh = omega arith }))
 
-pub pair_copies : (pair : Pair) → PairOk pair → Copies pair.first pair.second pair.pending
-pair_copies pair ok = grind arith
+-- where the first server is one put ahead, its operation rests in the stage that is marked busy
+copied : (pair : Pair) (o : Option Pending) → AreCopies pair.first pair.second (far pair) o → HasMark o pair.busy
+    → ((op : Pending) → o ≡ Some op → AtRest op.stage) → Copies pair.first pair.second o pair.busy
+copied pair None same marked rests = inl same
+copied pair (Some op) copies marked rests = by op.stage.put refl copies
+  where
+    by : (put : Bool) → op.stage.put ≡ put → Working pair.first pair.second (far pair) op put → Copies pair.first pair.second (Some op) pair.busy
+    by false e even = inl even.even
+    by true e ahead = elim (cases_lt (far pair) (op.op + op.op + 1)) [
+      | inl before ↦
+          let unpaired : op.stage.paired ≡ false = by_bool op.stage.paired (λ p. let past = ahead.paired p in absurd (omega arith)) (λ p. p) in
+          let stage = is_copying op.stage (rests op refl) e unpaired in
+          let begun = ahead.begun in
+          inr (op, refl, ahead.ahead (omega arith), marked (ap (λ (s : Stage). s.busy) stage))
+      | inr past ↦ inl (ahead.even past)
+    ]
+
+pub pair_copies : (pair : Pair) → PairOk pair → ((op : Pending) → pair.pending ≡ Some op → AtRest op.stage)
+    → Copies pair.first pair.second pair.pending pair.busy
+pair_copies pair ok rests = copied pair pair.pending ok.copies ok.marked rests
 
 pub start_good : (state : State) (script : Script) → Good state (start (setting_of script))
 unfolding In
@@ -127,3 +153,4 @@ pub copies_after : (script : Script) (records : List Record) → AreFirm (settin
     (world_after (setting_of script) (start (setting_of script)) records) cell
 copies_after script records firm legal cell n m leads follows =
     pair_copies _ ((good_after script records firm legal).pairs cell n m (record { leads = leads; follows = follows }))
+    (λ op is. (((ready_after script records firm legal).pending n).staged cell op is).stage)

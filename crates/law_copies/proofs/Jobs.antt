@@ -2,6 +2,8 @@
 use Rattle.std.proofs.Common.{◌≡◌, ◌≢◌, ℕ, ◌+◌, ◌≤◌, List, [], true, false, Some, None, refl, ap, sym, ◌∙◌, subst, ◌⊎◌, inl, inr, arith}
 use Rattle.std.specs.Prelude.{unwrap_or}
 use Rattle.std.specs.Ordering.{nat_cmp}
+use Rattle.busy_marks.specs.Marks.{has_mark}
+use Rattle.busy_marks.specs.declared.marks.MarkKind.TheVariants.{Busy}
 use Rattle.petal_base.specs.declared.cell.Cell.{Cell}
 use Rattle.petal_base.specs.declared.cell.Key.{Key}
 use Rattle.petal_base.specs.Cells.{cell_of}
@@ -18,25 +20,26 @@ use Rattle.petal_msg.specs.declared.operation.Pending.{Pending}
 use Rattle.petal_msg.specs.declared.operation.Stage.{Stage}
 use Rattle.petal_rules.specs.Lists.{In}
 use Rattle.petal_rules.specs.State.{State, first, second, is_lead, is_second}
-use Rattle.petal_rules.specs.Store.{Store, Chain, cell_cmp, chain_in, version_of}
+use Rattle.petal_rules.specs.Store.{Chain, cell_cmp, chain_in, version_of, is_marked, mark_on}
 use Rattle.petal_rules.specs.Server.{Own, Here, Post, Done, post_to}
-use Rattle.petal_rules.specs.Writes.{Wanted, operation, opened, with_reserved, with_paired, ended, tells, puts, with_pending, follows}
+use Rattle.petal_rules.specs.Writes.{Wanted, operation, opened, with_reserved, with_paired, with_mark_at, ended, with_last, tells, marks, puts, unmarks, with_pending, follows}
 use Rattle.petal_rules.specs.World.{Setting, World}
 use Rattle.petal_rules.proofs.CellTables.{cell_same, cell_apart, cell_gone, cell_gone_apart}
 use Rattle.law_state.specs.Steady.{IsSteady}
-use Rattle.law_steps.specs.Operations.{waiting, copying, progress}
+use Rattle.law_steps.specs.Operations.{waiting, putting, copying, progress}
 use Rattle.law_steps.specs.DidRead.{DidRead}
-use Rattle.law_steps.specs.DidLead.{DidLead, Asks_for, Repeats, Is_full, Opens, Puts, Gives_up, Closes, Asks, A_slot, A_copy, Of_the_log}
-use Rattle.law_steps.specs.DidSecond.{DidSecond, Sets_apart, Promises, Declines, Follows}
+use Rattle.law_steps.specs.DidLead.{DidLead, Asks_for, Repeats, Is_full, Opens, Marks, Puts, Gives_up, Unmarks, Closes, Asks, A_slot, A_copy, Of_the_log}
+use Rattle.law_steps.specs.DidSecond.{DidSecond, with_tickets, Sets_apart, Promises, Declines, Follows}
 use Rattle.law_steps.specs.Did.{Did, Ignores, Refuses, By_read, By_lead, By_second}
 use Rattle.law_steps.specs.Happens.{Handled, own_place}
 use Rattle.law_steps.specs.Ready.{Ready}
 use Rattle.petal_rules.proofs.Tests.{same_some, is_the_one, true_false}
 use Rattle.law_steps.proofs.Letters.{one_post, posted}
-use Rattle.law_steps.proofs.Staged.{same_cell_or_apart}
+use Rattle.law_steps.proofs.Staged.{same_cell_or_apart, put_put}
 use Rattle.law_steps.proofs.Subjects.{of_read, told_own}
 use Rattle.law_copies.specs.Pair.{Pair, pair_of, IsPair, far, ceiling_of, PairOk, IsPutting, Keeps, Known, SaidOk, owns_of, Good}
 use Rattle.law_copies.proofs.Frames.{Changes, JobKeeps, apart, known_first, known_second, unpaired, no_cell}
+use Rattle.law_copies.proofs.Marks.{mark_there, mark_apart, unmark_apart}
 use Rattle.law_copies.proofs.Moves as moves
 
 -- what speaks of the agreed log says nothing of pairs
@@ -93,14 +96,16 @@ module _ (setting : Setting) (state : State) (steady : IsSteady state) (w : Worl
 
   -- a cell that the job of its first server does not touch, and one that the job of its second does not
   off_first : (new other : Own) (cell : Cell) → PairOk (pair_of own other cell) → chain_in new.store.chains cell ≡ chain_in own.store.chains cell
-      → at cell_cmp new.pairs.pending cell ≡ at cell_cmp own.pairs.pending cell → own.pairs.next ≤ new.pairs.next
+      → at cell_cmp new.pairs.pending cell ≡ at cell_cmp own.pairs.pending cell → is_marked new.store Busy cell ≡ is_marked own.store Busy cell
+      → own.pairs.next ≤ new.pairs.next
       → Keeps (pair_of own other cell) (pair_of new other cell)
-  off_first new other cell ok chain pending next =
+  off_first new other cell ok chain pending busy next =
       subst (Keeps (pair_of own other cell)) (λ i. record {
         first = sym chain i;
         second = chain_in other.store.chains cell;
         pending = sym pending i;
         next = new.pairs.next;
+        busy = sym busy i;
         last = at cell_cmp other.pairs.last cell;
       })
       (moves.stays (pair_of own other cell) new.pairs.next ok next)
@@ -114,25 +119,27 @@ module _ (setting : Setting) (state : State) (steady : IsSteady state) (w : Worl
         second = sym chain i;
         pending = at cell_cmp other.pairs.pending cell;
         next = other.pairs.next;
+        busy = is_marked other.store Busy cell;
         last = sym last i;
       })
       (moves.stays (pair_of other own cell) other.pairs.next ok (omega arith))
 
-  -- a job of the first server of a cell, that changes the copy and the operation of that cell
+  -- a job of the first server of a cell, that changes the copy, the operation and the mark of that cell
   first_job : (new : Own) (posts : List Post) (cell : Cell) (m : ℕ) → IsPair state cell k m
       → ((q : Cell) → q ≢ cell → chain_in new.store.chains q ≡ chain_in own.store.chains q)
       → ((q : Cell) → q ≢ cell → at cell_cmp new.pairs.pending q ≡ at cell_cmp own.pairs.pending q)
+      → ((q : Cell) → q ≢ cell → is_marked new.store Busy q ≡ is_marked own.store Busy q)
       → ((q : Cell) → at cell_cmp new.pairs.last q ≡ at cell_cmp own.pairs.last q) → own.pairs.next ≤ new.pairs.next
       → Keeps (pair_of own (halves m) cell) (pair_of new (halves m) cell)
       → ((later : ℕ → Own) → Changes halves later k new → (post : Post) → In post posts → SaidOk state later post.body)
       → J new posts
-  first_job new posts cell m pair chains pending last next keeps says = record {
+  first_job new posts cell m pair chains pending busy last next keeps says = record {
     as_first = λ q j mine. elim (same_cell_or_apart q cell) [
       | inl e ↦
           let same : m ≡ j = same_some (sym pair.follows ∙ ap (second state) (sym e) ∙ mine.follows) in
           subst (λ (c : Cell). Keeps (pair_of own (halves j) c) (pair_of new (halves j) c)) (sym e)
           (subst (λ i. Keeps (pair_of own (halves i) cell) (pair_of new (halves i) cell)) same keeps)
-      | inr ne ↦ off_first new (halves j) q (ok_first q j mine) (chains q ne) (pending q ne) next
+      | inr ne ↦ off_first new (halves j) q (ok_first q j mine) (chains q ne) (pending q ne) (busy q ne) next
     ];
     as_second = λ q n mine. off_second new (halves n) q (ok_second q n mine)
         (chains q (λ e. apart state steady q n k mine (same_some (sym mine.leads ∙ ap (first state) e ∙ pair.leads)))) (last q);
@@ -143,13 +150,15 @@ module _ (setting : Setting) (state : State) (steady : IsSteady state) (w : Worl
   second_job : (new : Own) (posts : List Post) (cell : Cell) (n : ℕ) → IsPair state cell n k
       → ((q : Cell) → q ≢ cell → chain_in new.store.chains q ≡ chain_in own.store.chains q)
       → ((q : Cell) → at cell_cmp new.pairs.pending q ≡ at cell_cmp own.pairs.pending q)
+      → ((q : Cell) → is_marked new.store Busy q ≡ is_marked own.store Busy q)
       → ((q : Cell) → q ≢ cell → at cell_cmp new.pairs.last q ≡ at cell_cmp own.pairs.last q) → own.pairs.next ≤ new.pairs.next
       → Keeps (pair_of (halves n) own cell) (pair_of (halves n) new cell)
       → ((later : ℕ → Own) → Changes halves later k new → (post : Post) → In post posts → SaidOk state later post.body)
       → J new posts
-  second_job new posts cell n pair chains pending last next keeps says = record {
+  second_job new posts cell n pair chains pending busy last next keeps says = record {
     as_first = λ q j mine. off_first new (halves j) q (ok_first q j mine)
-        (chains q (λ e. apart state steady q k j mine (same_some (sym pair.follows ∙ ap (second state) (sym e) ∙ mine.follows)))) (pending q) next;
+        (chains q (λ e. apart state steady q k j mine (same_some (sym pair.follows ∙ ap (second state) (sym e) ∙ mine.follows)))) (pending q)
+        (busy q) next;
     as_second = λ q i mine. elim (same_cell_or_apart q cell) [
       | inl e ↦
           let same : n ≡ i = same_some (sym pair.leads ∙ ap (first state) (sym e) ∙ mine.leads) in
@@ -228,103 +237,113 @@ module _ (setting : Setting) (state : State) (steady : IsSteady state) (w : Worl
       let op = operation here own.pairs.next want in
       let new = opened here own want in
       let there : at cell_cmp new.pairs.pending want.cell ≡ Some op = cell_same own.pairs.pending want.cell op in
-      first_job new _ want.cell pair.0 pair.1 (λ q ne. refl) (λ q ne. cell_apart own.pairs.pending want.cell op q ne) (λ q. refl) (omega arith)
+      first_job new _ want.cell pair.0 pair.1 (λ q ne. refl) (λ q ne. cell_apart own.pairs.pending want.cell op q ne) (λ q ne. refl) (λ q. refl)
+      (omega arith)
       (subst (λ o. Keeps (pair_of own (halves pair.0) want.cell)
       (record (pair_of own (halves pair.0) want.cell) { pending = o; next = own.pairs.next + 1 })) (sym there)
-      (moves.opens (pair_of own (halves pair.0) want.cell) op (ok_first want.cell pair.0 pair.1) none refl refl))
+      (moves.opens (pair_of own (halves pair.0) want.cell) op (ok_first want.cell pair.0 pair.1) none refl refl refl refl))
       (λ later changes post i. says_so later _ post (posted _ _ post i)
       (known_first state steady halves later k new changes (body.Reserve own.pairs.next want.cell) want.cell pair.0 pair.1 refl
       (subst (λ o. Known (record (pair_of new (halves pair.0) want.cell) { pending = o }) (body.Reserve own.pairs.next want.cell)) (sym there) (omega arith))))
 
-  puts_keeps : (op : Pending) → hears (body.Reserved op.op op.cell) → at cell_cmp own.pairs.pending op.cell ≡ Some op → op.stage ≡ waiting
-      → J (puts (with_pending own (with_reserved op)) (with_reserved op)).own []
+  marks_keeps : (op : Pending) → hears (body.Reserved op.op op.cell) → at cell_cmp own.pairs.pending op.cell ≡ Some op → op.stage ≡ waiting
+      → J (marks (with_pending own (with_reserved op)) (with_reserved op) Busy).own []
   unfolding In
-  puts_keeps op h is stage =
+  marks_keeps op h is stage =
       let pair = staged_pair op is in
       let t = own.pairs.pending in
+      let one = with_reserved op in
+      let two = with_mark_at one Busy true in
+      let new = (marks (with_pending own one) one Busy).own in
+      let begun : op.op + op.op ≤ progress (at cell_cmp (halves pair.0).pairs.last op.cell) = heard_known _ h op.cell k pair.0 refl pair.1 in
+      let at_put = ap (λ (s : Stage). s.put) stage in
+      let there : at cell_cmp new.pairs.pending op.cell ≡ Some two = cell_same (put cell_cmp t op.cell one) op.cell two in
+      let marked : is_marked new.store Busy op.cell ≡ true = mark_there own.store Busy op.cell in
+      first_job new _ op.cell pair.0 pair.1 (λ q ne. refl) (λ q ne. put_put t op.cell one two q ne) (λ q ne. mark_apart own.store Busy op.cell q ne)
+      (λ q. refl) (omega arith)
+      (subst (Keeps (pair_of own (halves pair.0) op.cell))
+      (λ i. record (pair_of new (halves pair.0) op.cell) { pending = sym there i; busy = sym marked i })
+      (moves.marks (pair_of own (halves pair.0) op.cell) op two (ok_first op.cell pair.0 pair.1) is at_put begun refl at_put))
+      (λ later changes post i. absurd i)
+
+  puts_keeps : (op : Pending) → at cell_cmp own.pairs.pending op.cell ≡ Some op → op.stage ≡ putting → J (puts own op).own []
+  unfolding In
+  puts_keeps op is stage =
+      let pair = staged_pair op is in
       let chains = own.store.chains in
       let keyed = ((ready.pending k).staged op.cell op is).keyed in
-      let one = with_reserved op in
       let version = version_of (chain_in chains op.cell) + 1 in
-      let two : Pending = record one { version = version; stage = record one.stage { put = true } } in
-      let new = (puts (with_pending own one) one).own in
+      let two : Pending = record op { version = version; stage = record op.stage { put = true } } in
+      let new = (puts own op).own in
       let chain : Chain = put nat_cmp (chain_in chains (cell_of op.key)) op.key.epoch (record { version = version; bytes = op.bytes }) in
-      let begun : op.op + op.op ≤ progress (at cell_cmp (halves pair.0).pairs.last op.cell) = heard_known _ h op.cell k pair.0 refl pair.1 in
-      let there : at cell_cmp new.pairs.pending op.cell ≡ Some two = cell_same (put cell_cmp t op.cell one) op.cell two in
+      let there : at cell_cmp new.pairs.pending op.cell ≡ Some two = cell_same own.pairs.pending op.cell two in
       let copied : put nat_cmp (chain_in chains op.cell) op.key.epoch (record { version = version; bytes = op.bytes }) ≡ chain_in new.store.chains op.cell =
       ap (λ (c : Cell). put nat_cmp (chain_in chains c) op.key.epoch (record { version = version; bytes = op.bytes })) (sym keyed)
       ∙ sym (chain_put chains (cell_of op.key) chain) ∙ ap (chain_in new.store.chains) keyed in
       first_job new _ op.cell pair.0 pair.1
       (λ q ne. chain_apart chains (cell_of op.key) chain q (λ e. ne (e ∙ keyed)))
-      (λ q ne. cell_apart (put cell_cmp t op.cell one) op.cell two q ne ∙ cell_apart t op.cell one q ne) (λ q. refl) (omega arith)
+      (λ q ne. cell_apart own.pairs.pending op.cell two q ne) (λ q ne. refl) (λ q. refl) (omega arith)
       (subst (Keeps (pair_of own (halves pair.0) op.cell)) (λ i. record (pair_of new (halves pair.0) op.cell) { first = copied i; pending = sym there i })
-      (moves.puts (pair_of own (halves pair.0) op.cell) op two (ok_first op.cell pair.0 pair.1) is (ap (λ (s : Stage). s.put) stage) begun refl refl refl refl))
+      (moves.puts (pair_of own (halves pair.0) op.cell) op two (ok_first op.cell pair.0 pair.1) is (ap (λ (s : Stage). s.reserved) stage)
+      (ap (λ (s : Stage). s.busy) stage) (ap (λ (s : Stage). s.put) stage) refl refl refl refl (ap (λ (s : Stage). s.paired) stage)))
+      (λ later changes post i. absurd i)
+
+  unmarks_keeps : (op : Pending) → hears (body.Replicated op.op op.cell) → at cell_cmp own.pairs.pending op.cell ≡ Some op → op.stage ≡ copying
+      → J (unmarks (with_pending own (with_paired op)) (with_paired op) Busy).own []
+  unfolding In
+  unmarks_keeps op h is stage =
+      let pair = staged_pair op is in
+      let t = own.pairs.pending in
+      let one = with_paired op in
+      let two = with_mark_at one Busy false in
+      let new = (unmarks (with_pending own one) one Busy).own in
+      let past : op.op + op.op + 1 ≤ progress (at cell_cmp (halves pair.0).pairs.last op.cell) = heard_known _ h op.cell k pair.0 refl pair.1 in
+      let at_put = ap (λ (s : Stage). s.put) stage in
+      let there : at cell_cmp new.pairs.pending op.cell ≡ Some two = cell_same (put cell_cmp t op.cell one) op.cell two in
+      first_job new _ op.cell pair.0 pair.1 (λ q ne. refl) (λ q ne. put_put t op.cell one two q ne) (λ q ne. unmark_apart own.store Busy op.cell q ne)
+      (λ q. refl) (omega arith)
+      (subst (Keeps (pair_of own (halves pair.0) op.cell)) (λ i. record (pair_of new (halves pair.0) op.cell) { pending = sym there i })
+      (moves.unmarks (pair_of own (halves pair.0) op.cell) op two (is_marked new.store Busy op.cell) (ok_first op.cell pair.0 pair.1) is at_put past refl
+      at_put refl))
       (λ later changes post i. absurd i)
 
   -- an operation is done with
   done_keeps : (op : Pending) (new : Own) (posts : List Post) → at cell_cmp own.pairs.pending op.cell ≡ Some op → new.store.chains ≡ own.store.chains
-      → new.pairs.last ≡ own.pairs.last → new.pairs.next ≡ own.pairs.next
-      → at cell_cmp new.pairs.pending op.cell ≡ None → ((q : Cell) → q ≢ op.cell → at cell_cmp new.pairs.pending q ≡ at cell_cmp own.pairs.pending q)
+      → new.store.marks ≡ own.store.marks → new.pairs.last ≡ own.pairs.last → new.pairs.next ≡ own.pairs.next
+      → new.pairs.pending ≡ without cell_cmp own.pairs.pending op.cell
       → ((m : ℕ) → IsPair state op.cell k m → Keeps (pair_of own (halves m) op.cell) (record (pair_of own (halves m) op.cell) { pending = None }))
       → ((later : ℕ → Own) → Changes halves later k new → (post : Post) → In post posts → SaidOk state later post.body)
       → J new posts
-  done_keeps op new posts is chains last next gone others keeps says =
+  done_keeps op new posts is chains marks last next pending keeps says =
       let pair = staged_pair op is in
-      first_job new posts op.cell pair.0 pair.1 (λ q ne. ap (λ c. chain_in c q) chains) others (λ q. ap (λ t. at cell_cmp t q) last) (omega arith)
+      let gone : at cell_cmp new.pairs.pending op.cell ≡ None = ap (λ t. at cell_cmp t op.cell) pending ∙ cell_gone own.pairs.pending op.cell in
+      first_job new posts op.cell pair.0 pair.1 (λ q ne. ap (λ c. chain_in c q) chains)
+      (λ q ne. ap (λ t. at cell_cmp t q) pending ∙ cell_gone_apart own.pairs.pending op.cell q ne)
+      (λ q ne. ap (λ ms. has_mark (mark_on Busy q) ms) marks) (λ q. ap (λ t. at cell_cmp t q) last) (omega arith)
       (subst (Keeps (pair_of own (halves pair.0) op.cell))
       (λ i. record {
         first = chain_in (sym chains i) op.cell;
         second = chain_in (halves pair.0).store.chains op.cell;
         pending = sym gone i;
         next = sym next i;
+        busy = has_mark (mark_on Busy op.cell) (sym marks i);
         last = at cell_cmp (halves pair.0).pairs.last op.cell;
       }) (keeps pair.0 pair.1))
       says
 
-  gives_up_keeps : (op : Pending) (new : Own) (posts : List Post) → at cell_cmp own.pairs.pending op.cell ≡ Some op → op.stage ≡ waiting
-      → new.store.chains ≡ own.store.chains → new.pairs.last ≡ own.pairs.last → new.pairs.next ≡ own.pairs.next → new.pairs.pending
-      ≡ without cell_cmp own.pairs.pending op.cell
-      → ((later : ℕ → Own) → Changes halves later k new → (post : Post) → In post posts → SaidOk state later post.body) → J new posts
-  gives_up_keeps op new posts is stage chains last next pending says =
-      done_keeps op new posts is chains last next (ap (λ t. at cell_cmp t op.cell) pending ∙ cell_gone own.pairs.pending op.cell)
-      (λ q ne. ap (λ t. at cell_cmp t q) pending ∙ cell_gone_apart own.pairs.pending op.cell q ne)
-      (λ m pair. moves.refuses (pair_of own (halves m) op.cell) op (ok_first op.cell m pair) is (ap (λ (s : Stage). s.put) stage)) says
-
-  closes_keeps : (op : Pending) (new : Own) (posts : List Post) → hears (body.Replicated op.op op.cell)
-      → at cell_cmp own.pairs.pending op.cell ≡ Some op → op.stage ≡ copying → new.store.chains ≡ own.store.chains → new.pairs.last ≡ own.pairs.last
-      → new.pairs.next ≡ own.pairs.next
-      → new.pairs.pending ≡ without cell_cmp (put cell_cmp own.pairs.pending op.cell (with_paired op)) op.cell
-      → ((later : ℕ → Own) → Changes halves later k new → (post : Post) → In post posts → SaidOk state later post.body) → J new posts
-  closes_keeps op new posts h is stage chains last next pending says =
-      let t = own.pairs.pending in
-      let u = put cell_cmp t op.cell (with_paired op) in
-      done_keeps op new posts is chains last next (ap (λ t. at cell_cmp t op.cell) pending ∙ cell_gone u op.cell)
-      (λ q ne. ap (λ t. at cell_cmp t q) pending ∙ cell_gone_apart u op.cell q ne ∙ cell_apart t op.cell (with_paired op) q ne)
-      (λ m pair. moves.closes (pair_of own (halves m) op.cell) op (ok_first op.cell m pair) is (ap (λ (s : Stage). s.put) stage)
-      (heard_known _ h op.cell k m refl pair)) says
-
   -- ### The second server's jobs
 
-  reserves_keeps : (number : ℕ) (cell : Cell) (store : Store) → hears (body.Reserve number cell) → is_second state k cell ≡ true
-      → store.chains ≡ own.store.chains → progress (at cell_cmp own.pairs.last cell) ≤ number + number
-      → (new : Own) → new.store ≡ store → new.pairs.pending ≡ own.pairs.pending → new.pairs.next ≡ own.pairs.next → new.pairs.last
-      ≡ put cell_cmp own.pairs.last cell (record { op = number; far = far_is.Reserved })
-      → J new (tells here new cell number far_is.Reserved).posts
-  reserves_keeps number cell store h s same le new store_is pending next last =
+  reserves_keeps : (number : ℕ) (cell : Cell) (tickets : ℕ) → hears (body.Reserve number cell) → is_second state k cell ≡ true
+      → progress (at cell_cmp own.pairs.last cell) ≤ number + number
+      → J (with_last (with_tickets own tickets) cell number far_is.Reserved)
+      (tells here (with_last (with_tickets own tickets) cell number far_is.Reserved) cell number far_is.Reserved).posts
+  reserves_keeps number cell tickets h s le =
       let pair = second_pair cell s in
       let now : LastOp = record { op = number; far = far_is.Reserved } in
-      let there : at cell_cmp new.pairs.last cell ≡ Some now = ap (λ t. at cell_cmp t cell) last ∙ cell_same own.pairs.last cell now in
-      let chains : new.store.chains ≡ own.store.chains = ap (λ (x : Store). x.chains) store_is ∙ same in
-      second_job new _ cell pair.0 pair.1 (λ q ne. ap (λ c. chain_in c q) chains) (λ q. ap (λ t. at cell_cmp t q) pending)
-      (λ q ne. ap (λ t. at cell_cmp t q) last ∙ cell_apart own.pairs.last cell now q ne) (omega arith)
-      (subst (Keeps (pair_of (halves pair.0) own cell))
-      (λ i. record {
-        first = chain_in (halves pair.0).store.chains cell;
-        second = chain_in (sym chains i) cell;
-        pending = at cell_cmp (halves pair.0).pairs.pending cell;
-        next = (halves pair.0).pairs.next;
-        last = sym there i;
-      })
+      let new = with_last (with_tickets own tickets) cell number far_is.Reserved in
+      let there : at cell_cmp new.pairs.last cell ≡ Some now = cell_same own.pairs.last cell now in
+      second_job new _ cell pair.0 pair.1 (λ q ne. refl) (λ q. refl) (λ q. refl) (λ q ne. cell_apart own.pairs.last cell now q ne) (omega arith)
+      (subst (Keeps (pair_of (halves pair.0) own cell)) (λ i. record (pair_of (halves pair.0) new cell) { last = sym there i })
       (moves.reserves (pair_of (halves pair.0) own cell) number (ok_second cell pair.0 pair.1) le (heard_known _ h cell pair.0 k refl pair.1)))
       (λ later changes post i. tells_known later new changes cell number far_is.Reserved pair.0 pair.1 there post i)
 
@@ -346,7 +365,7 @@ module _ (setting : Setting) (state : State) (steady : IsSteady state) (w : Worl
       let there : at cell_cmp new.pairs.last cell ≡ Some now = cell_same own.pairs.last cell now in
       let chain : Chain = put nat_cmp (chain_in chains cell) key.epoch (record { version = version_of (chain_in chains cell) + 1; bytes = bytes }) in
       let putting = asked number key bytes (pair_of (halves pair.0) own cell) is (heard_known _ h cell pair.0 k refl pair.1) in
-      second_job new _ cell pair.0 pair.1 (λ q ne. chain_apart chains cell chain q ne) (λ q. refl) (λ q ne. cell_apart own.pairs.last cell now q ne)
+      second_job new _ cell pair.0 pair.1 (λ q ne. chain_apart chains cell chain q ne) (λ q. refl) (λ q. refl) (λ q ne. cell_apart own.pairs.last cell now q ne)
       (omega arith)
       (subst (Keeps (pair_of (halves pair.0) own cell))
       (λ i. record {
@@ -354,6 +373,7 @@ module _ (setting : Setting) (state : State) (steady : IsSteady state) (w : Worl
         second = sym (chain_put chains cell chain) i;
         pending = at cell_cmp (halves pair.0).pairs.pending cell;
         next = (halves pair.0).pairs.next;
+        busy = is_marked (halves pair.0).store Busy cell;
         last = sym there i;
       })
       (moves.follows (pair_of (halves pair.0) own cell) number key bytes (ok_second cell pair.0 pair.1) is putting))
@@ -378,14 +398,21 @@ module _ (setting : Setting) (state : State) (steady : IsSteady state) (w : Worl
   lead_keeps _ (Is_full want h lead new none no_room) =
       talks _ _ (λ other q. refl) (λ other q. refl) (λ later changes post i. says_any later _ post (one_post _ _ post i).1 (λ pair. tt))
   lead_keeps _ (Opens want h lead new none) = opens_keeps want lead none
-  lead_keeps _ (Puts op h is stage) = puts_keeps op h is stage
+  lead_keeps _ (Marks op h is stage) = marks_keeps op h is stage
+  lead_keeps _ (Puts op is stage) = puts_keeps op is stage
   lead_keeps _ (Gives_up op h is stage) =
-      gives_up_keeps op _ _ is stage refl refl refl refl (λ later changes post i. says_any later _ post (one_post _ _ post i).1 (λ pair. tt))
-  lead_keeps _ (Closes op h is stage) =
-      closes_keeps op _ _ h is stage refl refl refl refl (λ later changes post i. says_any later _ post (one_post _ _ post i).1 (λ pair. tt))
+      done_keeps op _ _ is refl refl refl refl refl
+      (λ m pair. moves.refuses (pair_of own (halves m) op.cell) op (ok_first op.cell m pair) is (ap (λ (s : Stage). s.put) stage))
+      (λ later changes post i. says_any later _ post (one_post _ _ post i).1 (λ pair. tt))
+  lead_keeps _ (Unmarks op h is stage) = unmarks_keeps op h is stage
+  lead_keeps _ (Closes op is stage) =
+      done_keeps op _ _ is refl refl refl refl refl
+      (λ m pair. moves.closes (pair_of own (halves m) op.cell) op (ok_first op.cell m pair) is (ap (λ (s : Stage). s.put) stage)
+      (ap (λ (s : Stage). s.paired) stage))
+      (λ later changes post i. says_any later _ post (one_post _ _ post i).1 (λ pair. tt))
 
   second_keeps : (done : Done) → DidSecond hears here state own done → J done.own done.posts
-  second_keeps _ (Sets_apart number cell store h s e le) = reserves_keeps number cell store h s e le _ refl refl refl refl
+  second_keeps _ (Sets_apart number cell tickets h s le) = reserves_keeps number cell tickets h s le
   second_keeps _ (Promises number cell how s is) = promises_keeps number cell how s is
   second_keeps _ (Declines number cell h s no_room) = speaks _ (λ later changes post i. says_any later _ post (posted _ _ post i) (λ pair. tt))
   second_keeps _ (Follows number key version bytes h s is) = follows_keeps number key version bytes h s is

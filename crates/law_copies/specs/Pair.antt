@@ -1,5 +1,6 @@
 -- One cell as its two servers have it, and what is kept of it.
 use Rattle.std.specs.Prelude.{◌≡◌, ℕ, ◌+◌, ◌≤◌, ◌<◌, ◌⊎◌, Bool, true, false, List, Option, Some, None}
+use Rattle.busy_marks.specs.declared.marks.MarkKind.TheVariants.{Busy}
 use Rattle.petal_base.specs.declared.cell.Cell.{Cell}
 use Rattle.petal_base.specs.declared.cell.Key.{Key}
 use Rattle.petal_table.specs.Table.{at}
@@ -11,19 +12,20 @@ use Rattle.petal_msg.specs.declared.operation.LastOp.{LastOp}
 use Rattle.petal_msg.specs.declared.operation.Pending.{Pending}
 use Rattle.petal_rules.specs.Lists.{In}
 use Rattle.petal_rules.specs.State.{State, first, second}
-use Rattle.petal_rules.specs.Store.{Chain, cell_cmp, chain_in}
+use Rattle.petal_rules.specs.Store.{Chain, cell_cmp, chain_in, is_marked}
 use Rattle.petal_rules.specs.Server.{Own}
 use Rattle.petal_rules.specs.World.{World}
 use Rattle.petal_history.specs.Claims.{one_put_ahead}
 use Rattle.law_steps.specs.Operations.{progress}
 
--- the two copies, the operation that is pending at the first server and the number of its next one, and the last operation
--- that the second one took part in
+-- the two copies, the operation that is pending at the first server and the number of its next one, whether the block is
+-- marked busy there, and the last operation that the second one took part in
 pub record Pair : Type 0 where
   pub first : Chain
   pub second : Chain
   pub pending : Option Pending
   pub next : ℕ
+  pub busy : Bool
   pub last : Option LastOp
 
 abbrev pub pair_of : Own → Own → Cell → Pair
@@ -32,6 +34,7 @@ pair_of lead other cell = record {
   second = chain_in other.store.chains cell;
   pending = at cell_cmp lead.pairs.pending cell;
   next = lead.pairs.next;
+  busy = is_marked lead.store Busy cell;
   last = at cell_cmp other.pairs.last cell;
 }
 
@@ -51,15 +54,27 @@ ceiling pair = ceiling_of pair.pending pair.next
 abbrev pub far : Pair → ℕ
 far pair = progress pair.last
 
--- the first server has put: it is one put ahead, or the second one has followed
+-- the first server has not put: the copies are equal, and where the operation has its slot the second one set it apart
+pub record IsEven (first second : Chain) (at : ℕ) (op : Pending) : Type 0 where
+  pub even : first ≡ second
+  pub not_past : at < op.op + op.op + 1
+  pub begun : op.stage.reserved ≡ true → op.op + op.op ≤ at
+
+-- the first server has put: it is one put ahead, or the second one has followed, as it has where it said so
 pub record IsAhead (first second : Chain) (at : ℕ) (op : Pending) : Type 0 where
   pub begun : op.op + op.op ≤ at
   pub ahead : at ≡ op.op + op.op → first ≡ one_put_ahead second op
   pub even : op.op + op.op + 1 ≤ at → first ≡ second
+  pub paired : op.stage.paired ≡ true → op.op + op.op + 1 ≤ at
 
 abbrev pub Working : Chain → Chain → ℕ → Pending → (put : Bool) → Type 0
-Working first second at op false = (first ≡ second) × (at < op.op + op.op + 1)
+Working first second at op false = IsEven first second at op
 Working first second at op true = IsAhead first second at op
+
+-- an operation whose stage says that the block is marked finds it so
+abbrev pub HasMark : Option Pending → (busy : Bool) → Type 0
+HasMark None busy = Unit {0}
+HasMark (Some op) busy = op.stage.busy ≡ true → busy ≡ true
 
 -- the two copies, where the second server is so far
 abbrev pub AreCopies : Chain → Chain → ℕ → Option Pending → Type 0
@@ -68,6 +83,7 @@ AreCopies first second at (Some op) = Working first second at op op.stage.put
 
 pub record PairOk (pair : Pair) : Type 0 where
   pub copies : AreCopies pair.first pair.second (far pair) pair.pending
+  pub marked : HasMark pair.pending pair.busy
   pub below : far pair < ceiling pair + ceiling pair
   pub fresh : ceiling pair ≤ pair.next
 

@@ -1,15 +1,15 @@
 //! The two-copy rule: after every legal history, the two chains of a cell in Both are equal, or the first is one put ahead, by
-//! the operation that is pending on it ("Petal: Distributed Virtual Disks", 1996, 3.2).
+//! the operation that is pending on it, and the block is marked busy ("Petal: Distributed Virtual Disks", 1996, 3.2).
 //!
-//! To the laws above it promises this and what goes with it: how far the second server is, and what a letter between the two
-//! servers tells of that. It knows nothing of clients or of the plain machine.
+//! To the laws above it promises this and what goes with it: that a block is marked before its lead puts, how far the second
+//! server is, and what a letter between the two servers tells of that. It knows nothing of clients or of the plain machine.
 #![tactic(auto)]
 
 ghost use Rattle.std.specs.Prelude.{List};
 ghost use Rattle.petal_base.specs.declared.cell.Cell.{Cell};
 ghost use Rattle.script_lines.specs.declared.script.Script.{Script};
 ghost use Rattle.petal_rules.specs.World.{chosen_state, setting_of, start};
-ghost use Rattle.petal_history.specs.Claims.{TwoCopies};
+ghost use Rattle.petal_history.specs.Claims.{TwoCopies, MarksFirst};
 ghost use Rattle.petal_history.specs.Legal.{IsLegal, world_after};
 ghost use Rattle.petal_history.specs.Sound.{IsSound};
 ghost use Rattle.petal_history.specs.declared.record.Record.{Record};
@@ -24,4 +24,9 @@ pub fn two_copies()
 /// sent between the two tells what is so, or what is past.
 pub fn letters_between_two_servers()
     ensures { (script : Script) (records : List Record) → IsSound script → IsLegal script records → Good (chosen_state (setting_of script) (world_after (setting_of script) (start (setting_of script)) records)) (world_after (setting_of script) (start (setting_of script)) records) }
+{}
+
+/// In every legal history of a sound script, each put of a lead fell on a block that was marked on its device.
+pub fn leads_put_on_marked_blocks()
+    ensures { (script : Script) (records : List Record) → IsSound script → IsLegal script records → MarksFirst script records }
 {}

@@ -1,5 +1,5 @@
 -- Jobs of the pairs say nothing of the log, and put no letter into the queue; neither does what a tick sends for them.
-use Rattle.std.proofs.Common.{◌≡◌, ℕ, Bool, true, false, ◌==◌, not, List, [], ◌∷◌, Option, Some, None, inl, inr}
+use Rattle.std.proofs.Common.{◌≡◌, ℕ, Bool, true, false, ◌==◌, ◌&&◌, not, List, [], ◌∷◌, Option, Some, None, inl, inr}
 use Rattle.std.specs.Prelude.{⊤, nat_lt}
 use Rattle.std.specs.List.{flat_map}
 use Rattle.petal_base.specs.declared.cell.Cell.{Cell}
@@ -65,6 +65,9 @@ only_stage letter cell (inr h) = h
 quiet_silent : (own : Own) → IsQuiet (silent own)
 quiet_silent own = record { posts = λ post i. no_posts post i; jobs = no_letter }
 
+quiet_stage : (own : Own) (cell : Cell) → IsQuiet (record { own = own; posts = []; jobs = job.Stage cell ∷ [] })
+quiet_stage own cell = record { posts = λ post i. no_posts post i; jobs = λ letter i. only_stage letter cell i }
+
 quiet_says : (own : Own) (to : Actor) (what : Body) → IsOther what → IsQuiet (says own to what)
 quiet_says own to what h = record { posts = λ post i. only (λ (x : Post). IsOther x.body) _ post i h; jobs = no_letter }
 
@@ -85,8 +88,10 @@ other_ending seq ending.Full = tt
 
 quiet_act : (here : Here) (own : Own) (op : Pending) (what : Action) → IsQuiet (acts here own op what)
 quiet_act here own op action.Reserve = quiet_says_to own _ _ tt
-quiet_act here own op action.Put = record { posts = λ post i. no_posts post i; jobs = λ letter i. only_stage letter op.cell i }
+quiet_act here own op (action.Mark kind) = quiet_stage _ op.cell
+quiet_act here own op action.Put = quiet_stage _ op.cell
 quiet_act here own op action.Replicate = quiet_says_to own _ _ tt
+quiet_act here own op (action.Unmark kind) = quiet_stage _ op.cell
 quiet_act here own op action.Answer = quiet_ending _ op.client op.seq ending.Written
 quiet_act here own op action.Drop = quiet_silent _
 
@@ -140,7 +145,7 @@ quiet_reserved here own number cell = quiet_hears_reserved here own number (pend
 
 quiet_hears_full : (own : Own) (number : ℕ) (o : Option Pending) → IsQuiet (hears_pair_full own number o)
 quiet_hears_full own number None = quiet_silent own
-quiet_hears_full own number (Some op) = by_test IsQuiet (is_reserving op number) _ _ (λ e. quiet_ending _ op.client op.seq ending.Full) (λ e. quiet_silent own)
+quiet_hears_full own number (Some op) = by_test IsQuiet (is_reserving op number && not op.stage.put) _ _ (λ e. quiet_ending _ op.client op.seq ending.Full) (λ e. quiet_silent own)
 
 quiet_pair_full : (own : Own) (number : ℕ) (cell : Cell) → IsQuiet (on_pair_full own number cell)
 unfolding on_pair_full
@@ -226,10 +231,8 @@ quiet_job here own job.Start = quiet_silent own
 
 other_awaited : (here : Here) (own : Own) (op : Pending) (what : Action) (post : Post) → Among post (awaited here own op what) → IsOther post.body
 other_awaited here own op action.Reserve post i = (quiet_act here own op action.Reserve).posts post i
-other_awaited here own op action.Put post i = no_posts post i
 other_awaited here own op action.Replicate post i = (quiet_act here own op action.Replicate).posts post i
-other_awaited here own op action.Answer post i = no_posts post i
-other_awaited here own op action.Drop post i = no_posts post i
+other_awaited here own op _ post i = no_posts post i
 
 pub other_anew : (here : Here) (own : Own) (rows : List (Cell × Pending)) (post : Post) → Among post (flat_map (λ row. sent_anew here own row.1) rows)
     → IsOther post.body

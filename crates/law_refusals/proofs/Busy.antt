@@ -8,7 +8,7 @@ use Rattle.petal_rules.specs.Lists.{In}
 use Rattle.petal_rules.specs.State.{State}
 use Rattle.petal_rules.specs.Server.{Own, Here, Post, Done}
 use Rattle.petal_rules.specs.Writes.{ended}
-use Rattle.law_steps.specs.DidLead.{DidLead, Asks_for, Repeats, Is_full, Opens, Puts, Gives_up, Closes, Asks, A_slot, A_copy, Of_the_log}
+use Rattle.law_steps.specs.DidLead.{DidLead, Asks_for, Repeats, Is_full, Opens, Marks, Puts, Gives_up, Unmarks, Closes, Asks, A_slot, A_copy, Of_the_log}
 use Rattle.law_steps.specs.Did.{Did, Ignores, Refuses, IsBusy, By_read, By_lead, By_second}
 use Rattle.law_steps.proofs.Letters.{one_post, posted}
 use Rattle.petal_rules.proofs.Tests.{true_false}
@@ -47,9 +47,11 @@ lead_quiet heard here state own _ (Asks_for posts h) post i = asks_quiet here st
 lead_quiet heard here state own _ (Repeats want last h lead is f) post i = ap is_busy (one_post _ _ post i).1 ∙ ended_quiet want.seq last.ending
 lead_quiet heard here state own _ (Is_full want h lead new none no_room) post i = ap is_busy (one_post _ _ post i).1
 lead_quiet heard here state own _ (Opens want h lead new none) post i = ap is_busy (posted _ _ post i)
-lead_quiet heard here state own _ (Puts op h is stage) post i = absurd i
+lead_quiet heard here state own _ (Marks op h is stage) post i = absurd i
+lead_quiet heard here state own _ (Puts op is stage) post i = absurd i
 lead_quiet heard here state own _ (Gives_up op h is stage) post i = ap is_busy (one_post _ _ post i).1
-lead_quiet heard here state own _ (Closes op h is stage) post i = ap is_busy (one_post _ _ post i).1
+lead_quiet heard here state own _ (Unmarks op h is stage) post i = absurd i
+lead_quiet heard here state own _ (Closes op is stage) post i = ap is_busy (one_post _ _ post i).1
 
 pub did_busy : (heard : Body → Type 0) (here : Here) (state : State) (own : Own) (done : Done) → Did heard here state own done
     → (post : Post) (seq : ℕ) → In post done.posts → post.body ≡ body.BlockBusy seq → IsBusy heard here state own seq

@@ -22,17 +22,10 @@ use Rattle.law_state.specs.Steady.{IsSteady}
 use Rattle.law_steps.specs.Happens.{server_moves, served, own_place}
 use Rattle.law_steps.specs.Ready.{Ready}
 use Rattle.law_steps.proofs.Letters.{said}
+use Rattle.law_steps.proofs.Restages.{Was}
 use Rattle.petal_rules.proofs.Tests.{same_or_apart}
 use Rattle.law_copies.specs.Pair.{owns_of, Good}
 use Rattle.law_refusals.specs.Reasons.{Refusals}
-
--- the operation was pending, under this number and for this request
-pub record Was (own : Own) (cell : Cell) (op : Pending) : Type 0 where
-  pub was : Pending
-  pub is : at cell_cmp own.pairs.pending cell ≡ Some was
-  pub number : was.op ≡ op.op
-  pub client : was.client ≡ op.client
-  pub seq : was.seq ≡ op.seq
 
 -- What a job has to show: of what it remembers, of what is pending, and of what it sends.
 pub record JobRefuses (R : ℕ → ℕ → Type 0) (state : State) (w : World) (n : ℕ) (new : Own) (posts : List Post) : Type 0 where
@@ -112,8 +105,8 @@ module _ (R S : ℕ → ℕ → Type 0) (scene : Scene R S) (stamp : ℕ) (log :
   old_declined letter number p cell op h says leads is same = elim (same_or_apart p n) [
     | inl e ↦ elim (job.pending cell op (sym (ap (λ h. at cell_cmp h.pairs.pending cell) (ap (owns_of later) e ∙ own_now)) ∙ is)) [
       | inl was ↦
-          subst (S op.client) was.seq (subst (λ c. S c was.was.seq) was.client
-          (more was.was.client was.was.seq (refusals.declined letter number n cell was.was h says (leads ∙ ap Some e) was.is (was.number ∙ same))))
+          subst (S op.client) was.same.seq (subst (λ c. S c was.was.seq) was.same.client
+          (more was.was.client was.was.seq (refusals.declined letter number n cell was.was h says (leads ∙ ap Some e) was.is (was.same.number ∙ same))))
       | inr fresh ↦ let lt = refusals.numbers letter number n cell h says (leads ∙ ap Some e) in absurd (omega arith)
     ]
     | inr ne ↦ more op.client op.seq (refusals.declined letter number p cell op h says leads

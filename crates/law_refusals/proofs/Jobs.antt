@@ -1,9 +1,9 @@
 -- Each kind of job refuses for a reason.
-use Rattle.std.proofs.Common.{◌≡◌, ◌≢◌, ◌≤◌, ◌<◌, ◌+◌, ℕ, List, [], ◌∷◌, Bool, true, false, Some, None, refl, sym, ap, ◌∙◌, subst, ◌⊎◌, inl, inr, arith}
+use Rattle.std.proofs.Common.{◌≡◌, ◌≤◌, ◌<◌, ℕ, List, [], ◌∷◌, Bool, true, false, Some, refl, sym, ap, ◌∙◌, subst, ◌⊎◌, inl, inr, arith}
 use Rattle.std.specs.Ordering.{nat_cmp}
 use Rattle.petal_base.specs.declared.cell.Cell.{Cell}
 use Rattle.petal_base.specs.Cells.{cell_of}
-use Rattle.petal_table.specs.Table.{Table, at, put, without}
+use Rattle.petal_table.specs.Table.{Table, at, put}
 use Rattle.petal_table.proofs.Rows.{at_same, at_apart}
 use Rattle.petal_msg.specs.Kinds.{Answered, Paired, Refused, is_logged, subject_of}
 use Rattle.petal_msg.specs.declared.body.Body.{Body}
@@ -17,22 +17,23 @@ use Rattle.petal_msg.specs.declared.operation.Finished.{Finished}
 use Rattle.petal_msg.specs.declared.operation.Pending.{Pending}
 use Rattle.petal_rules.specs.Lists.{In}
 use Rattle.petal_rules.specs.State.{State, first, second, is_second}
-use Rattle.petal_rules.specs.Store.{cell_cmp, chain_in, version_of}
+use Rattle.petal_rules.specs.Store.{cell_cmp}
 use Rattle.petal_rules.specs.Server.{Own, Here, Post, Done, post_to}
-use Rattle.petal_rules.specs.Writes.{operation, opened, with_reserved, with_paired, ended, tells}
+use Rattle.petal_rules.specs.Writes.{operation, opened, ended, tells}
 use Rattle.petal_rules.specs.World.{Setting, World}
 use Rattle.petal_rules.specs.declared.step.Step.TheVariants.{Work}
 use Rattle.petal_rules.specs.declared.step.WorkEnd.TheVariants as work_end
-use Rattle.petal_rules.proofs.CellTables.{cell_same, cell_apart, cell_gone, cell_gone_apart}
+use Rattle.petal_rules.proofs.CellTables.{cell_same, cell_apart}
 use Rattle.law_state.specs.Steady.{IsSteady}
 use Rattle.law_steps.specs.DidRead.{DidRead}
-use Rattle.law_steps.specs.DidLead.{DidLead, Asks_for, Repeats, Is_full, Opens, Puts, Gives_up, Closes, Asks, A_slot, A_copy, Of_the_log}
+use Rattle.law_steps.specs.DidLead.{DidLead, Asks_for, Repeats, Is_full, Opens, Marks, Puts, Gives_up, Unmarks, Closes, Asks, A_slot, A_copy, Of_the_log}
 use Rattle.law_steps.specs.DidSecond.{DidSecond, Sets_apart, Promises, Declines, Follows, FoundNoSlot}
 use Rattle.law_steps.specs.Did.{Did, Ignores, Refuses, IsRefusal, By_read, By_lead, By_second}
 use Rattle.law_steps.specs.Happens.{IsIdle, Handled, own_place}
 use Rattle.law_steps.specs.Ready.{Ready}
 use Rattle.law_steps.proofs.Letters.{one_post, posted}
-use Rattle.petal_rules.proofs.Tests.{same_or_apart, same_some, none_some, true_false, is_the_one}
+use Rattle.law_steps.proofs.Restages.{Restages, Was, was_same, stood, marked, has_put, unmarked}
+use Rattle.petal_rules.proofs.Tests.{same_or_apart, same_some, true_false, is_the_one}
 use Rattle.law_steps.proofs.Lifting.{second_up}
 use Rattle.law_steps.proofs.Staged.{same_cell_or_apart}
 use Rattle.law_copies.specs.Pair.{IsPair, ceiling_of, owns_of, Good}
@@ -40,7 +41,7 @@ use Rattle.law_copies.proofs.Frames.{apart}
 use Rattle.law_copies.proofs.Jobs.{heard_known, lead_pair, second_pair}
 use Rattle.law_refusals.specs.Reasons.{HadNoSlot, At_the_lead, At_the_second, Refusals}
 use Rattle.law_steps.proofs.Subjects.{of_read, told_own}
-use Rattle.law_refusals.proofs.Frames.{JobRefuses, Scene, Was}
+use Rattle.law_refusals.proofs.Frames.{JobRefuses, Scene}
 
 abbrev is_full : Body → Bool
 is_full (body.Full seq) = true
@@ -116,9 +117,6 @@ module _ (R S : ℕ → ℕ → Type 0) (scene : Scene R S)
   abbrev hears : Body → Type 0
   hears = Handled w n
 
-  was_same : (cell : Cell) (op : Pending) → at cell_cmp own.pairs.pending cell ≡ Some op → Was own cell op
-  was_same cell op is = record { was = op; is = is; number = refl; client = refl; seq = refl }
-
   abbrev Says : List Post → Type 0
   Says posts = (post : Post) (c seq : ℕ) → In post posts → post.to ≡ actor.Client c → post.body ≡ body.Full seq → S c seq
 
@@ -142,7 +140,7 @@ module _ (R S : ℕ → ℕ → Type 0) (scene : Scene R S)
       → new.pairs.next ≡ own.pairs.next → ((post : Post) → In post posts → is_full post.body ≡ false) → J new posts
   still posts new finished pending next unsaid = quiet new posts
       (λ c last is how. inl (ap (λ t. at nat_cmp t c) (sym finished) ∙ is))
-      (λ cell op is. inl (was_same cell op (ap (λ t. at cell_cmp t cell) (sym pending) ∙ is))) (omega arith) unsaid
+      (λ cell op is. inl (was_same own cell op (ap (λ t. at cell_cmp t cell) (sym pending) ∙ is))) (omega arith) unsaid
 
   -- a reply that tells a client of it
   one_full : (c seq : ℕ) → S c seq → Says (record { to = actor.Client c; body = body.Full seq } ∷ [])
@@ -180,14 +178,6 @@ module _ (R S : ℕ → ℕ → Type 0) (scene : Scene R S)
       not_pair : {B : Type 0} {what : Body} {seq number : ℕ} {cell : Cell} → what ≡ body.Full seq → what ≡ body.PairFull number cell → B
       not_pair e f = absurd (let g : body.Full _ ≡ body.PairFull _ _ = sym e ∙ f in cc)
 
-  gone : (op : Pending) (t : Table Cell Pending) → at cell_cmp t op.cell ≡ None
-      → ((q : Cell) → q ≢ op.cell → at cell_cmp t q ≡ at cell_cmp own.pairs.pending q) → (cell : Cell) (o : Pending) → at cell_cmp t cell ≡ Some o
-      → Was own cell o ⊎ (o.op ≡ own.pairs.next)
-  gone op t none others cell o is = elim (same_cell_or_apart cell op.cell) [
-    | inl e ↦ none_some none (subst (λ (x : Cell). at cell_cmp t x ≡ Some o) e is)
-    | inr ne ↦ inl (was_same cell o (sym (others cell ne) ∙ is))
-  ]
-
   -- an operation that the second server has no slot for
   declined_op : (op : Pending) → hears (body.PairFull op.op op.cell) → at cell_cmp own.pairs.pending op.cell ≡ Some op → S op.client op.seq
   declined_op op h is =
@@ -202,7 +192,7 @@ module _ (R S : ℕ → ℕ → Type 0) (scene : Scene R S)
       let one_told = scene.told_steady.followed cell n follows in
       record {
         finished = λ c last is how. inl is;
-        pending = λ q op is. inl (was_same q op is);
+        pending = λ q op is. inl (was_same own q op is);
         next = omega arith;
         letters = λ post c seq i to says. absurd (let e : body.PairFull number cell ≡ body.Full seq = sym (posted _ _ post i) ∙ says in cc);
         numbers = λ post k p q i says leads.
@@ -235,6 +225,11 @@ module _ (R S : ℕ → ℕ → Type 0) (scene : Scene R S)
   talked done same unsaid =
       still done.posts done.own (ap (λ (o : Own). o.pairs.finished) same) (ap (λ (o : Own). o.pairs.pending) same) (ap (λ (o : Own). o.pairs.next) same) unsaid
 
+  -- a pending operation goes on to its next stage
+  restages_refuses : (done : Done) → Restages own done → J done.own done.posts
+  restages_refuses done r = quiet done.own done.posts (λ c last is how. inl (ap (λ t. at nat_cmp t c) (sym r.finished) ∙ is))
+      (λ cell op is. inl (r.was cell op is)) (let e = r.next in omega arith) (λ post i. absurd (r.silent post i))
+
   lead_refuses : (done : Done) → DidLead hears here told own done → J done.own done.posts
   unfolding In
   lead_refuses _ (Asks_for posts h) = speaks _ (λ post i. asks_not_full here told own post (h post i))
@@ -246,7 +241,7 @@ module _ (R S : ℕ → ℕ → Type 0) (scene : Scene R S)
           (λ post i. ap is_full (one_post (actor.Client want.client) (body.Written want.seq) post i).1)
       repeats ending.Full f = record {
         finished = λ c l there how. inl there;
-        pending = λ cell op there. inl (was_same cell op there);
+        pending = λ cell op there. inl (was_same own cell op there);
         next = omega arith;
         letters = one_full want.client want.seq (subst (S want.client) (sym e) (more want.client last.seq (refusals.finished n want.client last is f)));
         numbers = λ post number p cell i says leads. absurd (let g : body.Full want.seq ≡ body.PairFull number cell = sym (one_post _ _ post i).1 ∙ says in cc);
@@ -255,7 +250,7 @@ module _ (R S : ℕ → ℕ → Type 0) (scene : Scene R S)
       }
   lead_refuses _ (Is_full want h lead new none no_room) =
       fills want.client want.seq _ (now want.client want.seq (At_the_lead n want.cell want.epoch want.bytes refl refl lead h new none no_room)) refl
-      (omega arith) (λ cell op is. inl (was_same cell op is))
+      (omega arith) (λ cell op is. inl (was_same own cell op is))
   lead_refuses _ (Opens want h lead new none) =
       let op = operation here own.pairs.next want in
       quiet (opened here own want) (post_to (second here.state want.cell) (body.Reserve own.pairs.next want.cell)) (λ c last is how. inl is)
@@ -263,32 +258,14 @@ module _ (R S : ℕ → ℕ → Type 0) (scene : Scene R S)
         | inl e ↦ inr (ap (λ (x : Pending). x.op)
             (sym (same_some {x = op} (sym (cell_same own.pairs.pending want.cell op)
             ∙ subst (λ (q : Cell). at cell_cmp (put cell_cmp own.pairs.pending want.cell op) q ≡ Some o) e is))))
-        | inr ne ↦ inl (was_same cell o (sym (cell_apart own.pairs.pending want.cell op cell ne) ∙ is))
+        | inr ne ↦ inl (was_same own cell o (sym (cell_apart own.pairs.pending want.cell op cell ne) ∙ is))
       ]) (omega arith) (λ post i. ap is_full (posted (second here.state want.cell) (body.Reserve own.pairs.next want.cell) post i))
-  lead_refuses _ (Puts op h is stage) =
-      let t = own.pairs.pending in
-      let one = with_reserved op in
-      let two : Pending = record one { version = version_of (chain_in own.store.chains op.cell) + 1; stage = record one.stage { put = true } } in
-      quiet _ [] (λ c last is how. inl is)
-      (λ cell o there. elim (same_cell_or_apart cell op.cell) [
-        | inl e ↦
-            let same : two ≡ o =
-            same_some (sym (cell_same (put cell_cmp t op.cell one) op.cell two)
-            ∙ subst (λ (x : Cell). at cell_cmp (put cell_cmp (put cell_cmp t op.cell one) op.cell two) x ≡ Some o) e there) in
-            inl (record {
-              was = op;
-              is = subst (λ (x : Cell). at cell_cmp t x ≡ Some op) (sym e) is;
-              number = ap (λ (x : Pending). x.op) same;
-              client = ap (λ (x : Pending). x.client) same;
-              seq = ap (λ (x : Pending). x.seq) same;
-            })
-        | inr ne ↦ inl (was_same cell o (sym (cell_apart (put cell_cmp t op.cell one) op.cell two cell ne ∙ cell_apart t op.cell one cell ne) ∙ there))
-      ]) (omega arith) (λ post i. absurd i)
+  lead_refuses _ (Marks op h is stage) = restages_refuses _ (marked own op is)
+  lead_refuses _ (Puts op is stage) = restages_refuses _ (has_put own op is)
   lead_refuses _ (Gives_up op h is stage) =
-      fills op.client op.seq _ (declined_op op h is) refl (omega arith)
-      (gone op (without cell_cmp own.pairs.pending op.cell) (cell_gone own.pairs.pending op.cell) (λ q ne. cell_gone_apart own.pairs.pending op.cell q ne))
-  lead_refuses _ (Closes op h is stage) =
-      let u = put cell_cmp own.pairs.pending op.cell (with_paired op) in
+      fills op.client op.seq _ (declined_op op h is) refl (omega arith) (λ cell o there. inl (was_same own cell o (stood own.pairs.pending op.cell cell o there)))
+  lead_refuses _ (Unmarks op h is stage) = restages_refuses _ (unmarked own op is)
+  lead_refuses _ (Closes op is stage) =
       quiet _ (record { to = actor.Client op.client; body = body.Written op.seq } ∷ [])
       (λ c last there how. elim (same_or_apart c op.client) [
         | inl e ↦
@@ -299,12 +276,11 @@ module _ (R S : ℕ → ℕ → Type 0) (scene : Scene R S)
             absurd (let f : ending.Written ≡ ending.Full = ap (λ (x : Finished). x.ending) same ∙ how in cc)
         | inr ne ↦ inl (sym (at_apart own.pairs.finished op.client _ c ne) ∙ there)
       ])
-      (gone op (without cell_cmp u op.cell) (cell_gone u op.cell)
-      (λ q ne. cell_gone_apart u op.cell q ne ∙ cell_apart own.pairs.pending op.cell (with_paired op) q ne)) (omega arith)
+      (λ cell o there. inl (was_same own cell o (stood own.pairs.pending op.cell cell o there))) (omega arith)
       (λ post i. ap is_full (one_post (actor.Client op.client) (body.Written op.seq) post i).1)
 
   second_refuses : (done : Done) → DidSecond hears here told own done → J done.own done.posts
-  second_refuses _ (Sets_apart number cell store h s e le) = still _ _ refl refl refl (λ post i. tells_not_full here own cell number far.Reserved post i)
+  second_refuses _ (Sets_apart number cell tickets h s le) = still _ _ refl refl refl (λ post i. tells_not_full here own cell number far.Reserved post i)
   second_refuses _ (Promises number cell how s is) =
       talked (tells here own cell number how) (told_own here own cell number how) (λ post i. tells_not_full here own cell number how post i)
   second_refuses _ (Declines number cell h s no_room) = declines number cell h s no_room
@@ -328,7 +304,7 @@ pub idle_refuses : (S : ℕ → ℕ → Type 0) (setting : Setting) (told state 
     → JobRefuses S state w n done.own done.posts
 idle_refuses S setting told state w n done idle = subst (λ (h : Own). JobRefuses S state w n h done.posts) (sym idle.same) (record {
   finished = λ c last is how. inl is;
-  pending = λ cell op is. inl (record { was = op; is = is; number = refl; client = refl; seq = refl });
+  pending = λ cell op is. inl (was_same (owns_of w n) cell op is);
   next = omega arith;
   letters = λ post c seq i to says. true_false (ap is_full says) (asks_not_full (own_place setting w n) told (owns_of w n) post (idle.asks post i));
   numbers = λ post number p cell i says leads. true_false (ap is_full says)

@@ -25,6 +25,7 @@ use Rattle.law_steps.proofs.Fronts.{below_itself}
 use Rattle.petal_state.specs.Command.{state_after}
 use Rattle.law_steps.specs.Ready.{Ready}
 use Rattle.law_steps.proofs.Letters.{said}
+use Rattle.law_steps.proofs.Restages.{Was}
 use Rattle.petal_rules.proofs.Tests.{same_or_apart, all_put, is_the_one, none_some, same_some}
 use Rattle.law_requests.specs.Asked.{IsWrite, IsAsked, IsOpen}
 use Rattle.law_requests.specs.Known.{Seen, seen, done_by, IsPast, EndKnownAt, Known, PendingFor, Asking}
@@ -43,15 +44,6 @@ pub record Ends (state : State) (lines : List Line) (w : World) (n : ℕ) (new :
   pub before : done_by (w.servers n).own c ≤ seq
   pub after : done_by new c ≡ seq + 1
   pub gone : at cell_cmp new.pairs.pending cell ≡ None
-
--- the operation was pending
-pub record Stays (state : State) (w : World) (n : ℕ) (cell : Cell) (op : Pending) : Type 0 where
-  pub was : Pending
-  pub is : at cell_cmp (w.servers n).own.pairs.pending cell ≡ Some was
-  pub client : was.client ≡ op.client
-  pub seq : was.seq ≡ op.seq
-  pub key : was.key ≡ op.key
-  pub bytes : was.bytes ≡ op.bytes
 
 -- a reply that ends a write tells of one that this server is past
 pub record Tells (state : State) (lines : List Line) (w : World) (n : ℕ) (new : Own) (client seq : ℕ) : Type 0 where
@@ -77,7 +69,7 @@ SaysOk state lines w n new to _ = Unit {0}
 pub record JobTells (setting : Setting) (state : State) (w : World) (n : ℕ) (new : Own) (posts : List Post) : Type 0 where
   pub finished : (c : ℕ) → (done_by new c ≡ done_by (w.servers n).own c) ⊎ Ends state setting.lines w n new c
   pub pending : (cell : Cell) (op : Pending) → at cell_cmp new.pairs.pending cell ≡ Some op
-      → Stays state w n cell op
+      → Was (w.servers n).own cell op
       ⊎ PendingFor state (client_state setting w op.client) setting.lines (w.clients op.client) (done_by (w.servers n).own op.client) cell op
   pub says : (post : Post) → In post posts → SaysOk state setting.lines w n new post.to post.body
 
@@ -127,16 +119,17 @@ module _ (setting : Setting) (state : State) (w : World) (asking : Asking settin
   ]
 
   -- the operation was pending, or is its client's open write
-  was_pending : (cell : Cell) (op : Pending) → Stays state w n cell op ⊎ P op.client (done_by old op.client) cell op
+  was_pending : (cell : Cell) (op : Pending) → Was old cell op ⊎ P op.client (done_by old op.client) cell op
       → P op.client (done_by old op.client) cell op
   was_pending cell op (inr p) = p
   was_pending cell op (inl s) =
       let p = asking.pending n cell s.was s.is in
+      let e = s.same in
       record {
-        write = rw (← s.client, ← s.seq, ← s.key, ← s.bytes) p.write;
-        served = rw (← s.client, ← s.seq, ← s.key, ← s.bytes) p.served;
-        still = rw (← s.client, ← s.seq) p.still;
-        unfinished = rw (← s.client, ← s.seq) p.unfinished;
+        write = rw (← e.client, ← e.seq, ← e.key, ← e.bytes) p.write;
+        served = rw (← e.client, ← e.seq, ← e.key, ← e.bytes) p.served;
+        still = rw (← e.client, ← e.seq) p.still;
+        unfinished = rw (← e.client, ← e.seq) p.unfinished;
       }
 
   -- and no other that was just finished

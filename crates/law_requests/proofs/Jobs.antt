@@ -1,8 +1,8 @@
 -- Each kind of job keeps what is known of requests.
-use Rattle.std.proofs.Common.{◌≡◌, ◌≢◌, ◌≤◌, ◌+◌, ℕ, List, [], ◌∷◌, true, Some, None, refl, ap, sym, ◌∙◌, subst, inl, inr, arith, Bool, false}
+use Rattle.std.proofs.Common.{◌≡◌, ◌≤◌, ◌+◌, ℕ, List, [], ◌∷◌, true, Some, None, refl, ap, sym, ◌∙◌, subst, inl, inr, arith, Bool, false}
 use Rattle.std.specs.Ordering.{nat_cmp}
 use Rattle.petal_base.specs.declared.cell.Cell.{Cell}
-use Rattle.petal_table.specs.Table.{at, put}
+use Rattle.petal_table.specs.Table.{at, put, without}
 use Rattle.petal_table.proofs.Rows.{at_same, at_apart}
 use Rattle.petal_msg.specs.Kinds.{Subject, Answered, Logged, Read_asked, Write_asked, is_logged, subject_of}
 use Rattle.petal_msg.specs.declared.body.Body.{Body}
@@ -16,25 +16,26 @@ use Rattle.petal_msg.specs.declared.operation.Pending.{Pending}
 use Rattle.script_lines.specs.declared.request.Line.{Line}
 use Rattle.petal_rules.specs.Lists.{In}
 use Rattle.petal_rules.specs.State.{State, first, second, is_lead}
-use Rattle.petal_rules.specs.Store.{cell_cmp, chain_in, version_of}
+use Rattle.petal_rules.specs.Store.{cell_cmp}
 use Rattle.petal_rules.specs.Server.{Own, Here, Post, Done, post_to}
-use Rattle.petal_rules.specs.Writes.{Wanted, operation, opened, puts, with_pending, with_reserved, with_paired, ended}
+use Rattle.petal_rules.specs.Writes.{Wanted, operation, opened, ended}
 use Rattle.petal_rules.specs.World.{Setting, World, client_state}
-use Rattle.petal_rules.proofs.CellTables.{cell_same, cell_apart, cell_gone, cell_gone_apart}
+use Rattle.petal_rules.proofs.CellTables.{cell_same, cell_apart, cell_gone}
 use Rattle.law_state.specs.Steady.{IsSteady}
 use Rattle.law_steps.specs.Operations.{done_to}
 use Rattle.law_steps.specs.DidRead.{DidRead}
-use Rattle.law_steps.specs.DidLead.{DidLead, Asks_for, Repeats, Is_full, Opens, Puts, Gives_up, Closes, Asks, A_slot, A_copy, Of_the_log}
+use Rattle.law_steps.specs.DidLead.{DidLead, Asks_for, Repeats, Is_full, Opens, Marks, Puts, Gives_up, Unmarks, Closes, Asks, A_slot, A_copy, Of_the_log}
 use Rattle.law_steps.specs.DidSecond.{DidSecond}
 use Rattle.law_steps.specs.Did.{Did, Ignores, Refuses, By_read, By_lead, By_second}
 use Rattle.law_steps.specs.Happens.{Handled, own_place}
 use Rattle.law_steps.specs.Ready.{Ready}
-use Rattle.petal_rules.proofs.Tests.{same_or_apart, same_some, none_some, is_the_one, true_false}
+use Rattle.petal_rules.proofs.Tests.{same_or_apart, same_some, is_the_one, true_false}
 use Rattle.law_steps.proofs.Staged.{same_cell_or_apart}
 use Rattle.law_requests.specs.Asked.{IsWrite, IsOpen}
 use Rattle.law_requests.specs.Known.{seen, done_by, Known, PendingFor, Asking}
-use Rattle.law_requests.proofs.Frames.{Ends, Stays, Tells, SaysOk, JobTells}
+use Rattle.law_requests.proofs.Frames.{Ends, Tells, SaysOk, JobTells}
 use Rattle.law_steps.proofs.Letters.{one_post, posted}
+use Rattle.law_steps.proofs.Restages.{Restages, Was, was_same, stood, marked, has_put, unmarked}
 use Rattle.law_steps.proofs.Subjects.{of_read, of_second}
 
 -- the actor is this one, and the letter says this
@@ -76,9 +77,6 @@ module _ (setting : Setting) (state : State) (steady : IsSteady state) (w : Worl
       subst (λ (b : Body). Known state lines (seen setting w) (actor.Server n) b) h.is
       (subst (λ (a : Actor). Known state lines (seen setting w) a h.letter.body) h.own (asking.letters h.letter h.sent))
 
-  stays : (cell : Cell) (op : Pending) → at cell_cmp own.pairs.pending cell ≡ Some op → Stays state w n cell op
-  stays cell op is = record { was = op; is = is; client = refl; seq = refl; key = refl; bytes = refl }
-
   says_as : (new : Own) (to : Actor) (said : Body) (post : Post) → Says to said post → SaysOk state lines w n new to said
       → SaysOk state lines w n new post.to post.body
   says_as new to said post e h =
@@ -90,7 +88,7 @@ module _ (setting : Setting) (state : State) (steady : IsSteady state) (w : Worl
 
   -- a job that ends no request and opens none
   calm : (new : Own) (posts : List Post) → ((c : ℕ) → done_by new c ≡ done_by own c)
-      → ((cell : Cell) (op : Pending) → at cell_cmp new.pairs.pending cell ≡ Some op → Stays state w n cell op)
+      → ((cell : Cell) (op : Pending) → at cell_cmp new.pairs.pending cell ≡ Some op → Was own cell op)
       → ((post : Post) → In post posts → SaysOk state lines w n new post.to post.body) → J new posts
   calm new posts same pending says = record { finished = λ c. inl (same c); pending = λ cell op is. inl (pending cell op is); says = says }
 
@@ -104,11 +102,11 @@ module _ (setting : Setting) (state : State) (steady : IsSteady state) (w : Worl
 
   -- a job that leaves the server's own part
   speaks : (posts : List Post) → ((post : Post) → In post posts → SaysOk state lines w n own post.to post.body) → J own posts
-  speaks posts says = calm own posts (λ c. refl) stays says
+  speaks posts says = calm own posts (λ c. refl) (was_same own) says
 
   talked : (done : Done) → done.own ≡ own → ((post : Post) → In post done.posts → SaysOk state lines w n done.own post.to post.body) → J done.own done.posts
   talked done same says = calm done.own done.posts (λ c. ap (λ (o : Own). done_by o c) same)
-      (λ cell op is. stays cell op (ap (λ (o : Own). at cell_cmp o.pairs.pending cell) (sym same) ∙ is)) says
+      (λ cell op is. was_same own cell op (ap (λ (o : Own). at cell_cmp o.pairs.pending cell) (sym same) ∙ is)) says
 
   asks_says : (post : Post) → Asks here state own post → SaysOk state lines w n own post.to post.body
   asks_says _ (A_slot op to is stage e) = tt
@@ -143,7 +141,7 @@ module _ (setting : Setting) (state : State) (steady : IsSteady state) (w : Worl
               (record { seq = seq; cell = cell; epoch = epoch; bytes = bytes; write = write; still = still; before = before; after = after; gone = gone }))
           | inr ne ↦ inl (ap (λ t. done_to (at nat_cmp t j)) finished ∙ ap done_to (at_apart own.pairs.finished c last j ne))
         ];
-        pending = λ q op is. inl (stays q op (pending q op is));
+        pending = λ q op is. inl (was_same own q op (pending q op is));
         says = λ post i. says_as new _ _ post (one_post _ _ post i)
             (ended_says new c seq how (record {
               cell = cell;
@@ -171,42 +169,26 @@ module _ (setting : Setting) (state : State) (steady : IsSteady state) (w : Worl
               inr (subst (λ (q : Cell). PendingFor state (client_state setting w o.client) lines (w.clients o.client) (done_by own o.client) q o) (sym e)
               (subst (λ (x : Pending). PendingFor state (client_state setting w x.client) lines (w.clients x.client) (done_by own x.client) want.cell x) same
               (record { write = k.write; served = k.served; still = still_open want h lead new; unfinished = new })))
-          | inr ne ↦ inl (stays cell o (sym (cell_apart t want.cell op cell ne) ∙ is))
+          | inr ne ↦ inl (was_same own cell o (sym (cell_apart t want.cell op cell ne) ∙ is))
         ];
         says = λ post i. says_any _ _ post (posted _ _ post i) (λ to. tt);
       }
 
-  puts_tells : (op : Pending) → at cell_cmp own.pairs.pending op.cell ≡ Some op → J (puts (with_pending own (with_reserved op)) (with_reserved op)).own []
-  unfolding In
-  puts_tells op is =
-      let t = own.pairs.pending in
-      let one = with_reserved op in
-      let two : Pending = record one { version = version_of (chain_in own.store.chains op.cell) + 1; stage = record one.stage { put = true } } in
-      calm _ [] (λ c. refl)
-      (λ cell o there. elim (same_cell_or_apart cell op.cell) [
-        | inl e ↦
-            let same : two ≡ o =
-            same_some (sym (cell_same (put cell_cmp t op.cell one) op.cell two)
-            ∙ subst (λ (q : Cell). at cell_cmp (put cell_cmp (put cell_cmp t op.cell one) op.cell two) q ≡ Some o) e there) in
-            subst (λ (q : Cell). Stays state w n q o) (sym e)
-            (subst (Stays state w n op.cell) same (record { was = op; is = is; client = refl; seq = refl; key = refl; bytes = refl }))
-        | inr ne ↦ stays cell o (sym (cell_apart (put cell_cmp t op.cell one) op.cell two cell ne ∙ cell_apart t op.cell one cell ne) ∙ there)
-      ])
-      (λ post i. absurd i)
+  -- a pending operation goes on to its next stage
+  restages_tells : (done : Done) → Restages own done → J done.own done.posts
+  restages_tells done r =
+      calm done.own done.posts (λ c. ap (λ t. done_to (at nat_cmp t c)) r.finished) r.was (λ post i. absurd (r.silent post i))
 
   -- the operation is done with
   done_tells : (op : Pending) (new : Own) (how : Ending) → at cell_cmp own.pairs.pending op.cell ≡ Some op
-      → new.pairs.finished ≡ put nat_cmp own.pairs.finished op.client (record { seq = op.seq; ending = how }) → at cell_cmp new.pairs.pending op.cell ≡ None
-      → ((q : Cell) → q ≢ op.cell → at cell_cmp new.pairs.pending q ≡ at cell_cmp own.pairs.pending q)
-      → J new (record { to = actor.Client op.client; body = ended op.seq how } ∷ [])
-  done_tells op new how is finished gone others =
+      → new.pairs.finished ≡ put nat_cmp own.pairs.finished op.client (record { seq = op.seq; ending = how })
+      → new.pairs.pending ≡ without cell_cmp own.pairs.pending op.cell → J new (record { to = actor.Client op.client; body = ended op.seq how } ∷ [])
+  done_tells op new how is finished pending =
       let p = asking.pending n op.cell op is in
       let lead = ((ready.pending n).staged op.cell op is).lead in
-      finish_tells new op.client op.seq op.cell op.key.epoch op.bytes how finished (first_of op.cell lead) p.write p.still p.unfinished gone
-      (λ q o there. elim (same_cell_or_apart q op.cell) [
-        | inl e ↦ none_some gone (subst (λ (x : Cell). at cell_cmp new.pairs.pending x ≡ Some o) e there)
-        | inr ne ↦ sym (others q ne) ∙ there
-      ])
+      finish_tells new op.client op.seq op.cell op.key.epoch op.bytes how finished (first_of op.cell lead) p.write p.still p.unfinished
+      (ap (λ t. at cell_cmp t op.cell) pending ∙ cell_gone own.pairs.pending op.cell)
+      (λ q o there. stood own.pairs.pending op.cell q o (ap (λ t. at cell_cmp t q) (sym pending) ∙ there))
 
   -- each kind of job
   lead_tells : (done : Done) → DidLead hears here state own done → J done.own done.posts
@@ -230,13 +212,11 @@ module _ (setting : Setting) (state : State) (steady : IsSteady state) (w : Worl
       (still_open want h lead new) new none
       (λ q op is. is)
   lead_tells _ (Opens want h lead new none) = opens_tells want h lead new
-  lead_tells _ (Puts op h is stage) = puts_tells op is
-  lead_tells _ (Gives_up op h is stage) =
-      done_tells op _ ending.Full is refl (cell_gone own.pairs.pending op.cell) (λ q ne. cell_gone_apart own.pairs.pending op.cell q ne)
-  lead_tells _ (Closes op h is stage) =
-      let u = put cell_cmp own.pairs.pending op.cell (with_paired op) in
-      done_tells op _ ending.Written is refl (cell_gone u op.cell)
-      (λ q ne. cell_gone_apart u op.cell q ne ∙ cell_apart own.pairs.pending op.cell (with_paired op) q ne)
+  lead_tells _ (Marks op h is stage) = restages_tells _ (marked own op is)
+  lead_tells _ (Puts op is stage) = restages_tells _ (has_put own op is)
+  lead_tells _ (Gives_up op h is stage) = done_tells op _ ending.Full is refl refl
+  lead_tells _ (Unmarks op h is stage) = restages_tells _ (unmarked own op is)
+  lead_tells _ (Closes op is stage) = done_tells op _ ending.Written is refl refl
 
   read_tells : (done : Done) → DidRead hears here state own done → J done.own done.posts
   read_tells done d =
@@ -247,7 +227,7 @@ module _ (setting : Setting) (state : State) (steady : IsSteady state) (w : Worl
   second_tells done d =
       let frame = of_second hears here state own done d in
       calm done.own done.posts (λ c. ap (λ t. done_to (at nat_cmp t c)) frame.finished)
-      (λ cell op is. stays cell op (ap (λ t. at cell_cmp t cell) (sym frame.pending) ∙ is))
+      (λ cell op is. was_same own cell op (ap (λ t. at cell_cmp t cell) (sym frame.pending) ∙ is))
       (λ post i. nothing_said done.own post.to post.body (ap tells_request (frame.says post i)))
 
   pub job_tells : (done : Done) → Did hears here state own done → J done.own done.posts

@@ -15,7 +15,7 @@ use Rattle.petal_rules.specs.declared.job.Job.TheVariants as job
 use Rattle.petal_rules.proofs.Tests.{is_the_one, none_some, true_false}
 use Rattle.law_state.specs.Steady.{IsSteady}
 use Rattle.law_steps.specs.DidRead.{Shows}
-use Rattle.law_steps.specs.DidLead.{DidLead, Asks_for, Repeats, Is_full, Opens, Puts, Gives_up, Closes}
+use Rattle.law_steps.specs.DidLead.{DidLead, Asks_for, Repeats, Is_full, Opens, Marks, Puts, Gives_up, Unmarks, Closes}
 use Rattle.law_steps.specs.DidSecond.{DidSecond, Sets_apart, Promises, Declines, Follows}
 use Rattle.law_steps.specs.Did.{Did, Ignores, Refuses, By_read, By_lead, By_second}
 use Rattle.law_steps.specs.Happens.{Handled}
@@ -28,7 +28,7 @@ use Rattle.law_run.proofs.Quiet.{quiet_data}
 module _ (hears : Body → Type 0) (here : Here) (state : State) (steady : IsSteady state) (own : Own) (ready : IsReady state here.me own.pairs.pending) where
   lead_born : (done : Done) → DidLead hears here state own done → (cell : Cell) → first state cell ≡ None
       → chain_in done.own.store.chains cell ≡ chain_in own.store.chains cell
-  lead_born _ (Puts op h is stage) cell none =
+  lead_born _ (Puts op is stage) cell none =
       let s = ready.staged op.cell op is in
       let leads : first state op.cell ≡ Some here.me = sym (steady.leads op.cell) ∙ is_the_one _ here.me s.lead in
       chain_apart own.store.chains (cell_of op.key) _ cell
@@ -37,12 +37,14 @@ module _ (hears : Body → Type 0) (here : Here) (state : State) (steady : IsSte
   lead_born _ (Repeats want last h lead is e) cell none = refl
   lead_born _ (Is_full want h lead new free no_room) cell none = refl
   lead_born _ (Opens want h lead new free) cell none = refl
+  lead_born _ (Marks op h is stage) cell none = refl
   lead_born _ (Gives_up op h is stage) cell none = refl
-  lead_born _ (Closes op h is stage) cell none = refl
+  lead_born _ (Unmarks op h is stage) cell none = refl
+  lead_born _ (Closes op is stage) cell none = refl
 
   second_born : (done : Done) → DidSecond hears here state own done → (cell : Cell) → first state cell ≡ None
       → chain_in done.own.store.chains cell ≡ chain_in own.store.chains cell
-  second_born _ (Sets_apart number c store h s e le) cell none = ap (λ t. chain_in t cell) e
+  second_born _ (Sets_apart number c tickets h s le) cell none = refl
   second_born _ (Promises number c how s is) cell none = ap (λ (o : Own). chain_in o.store.chains cell) (told_own here own c number how)
   second_born _ (Declines number c h s no_room) cell none = refl
   second_born _ (Follows number key version bytes h s is) cell none =

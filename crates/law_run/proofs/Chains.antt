@@ -8,7 +8,7 @@ use Rattle.petal_rules.specs.Store.{chain_in}
 use Rattle.petal_rules.specs.Server.{Own, Here, Done}
 use Rattle.petal_rules.specs.World.{Setting, World}
 use Rattle.law_state.specs.Steady.{IsSteady}
-use Rattle.law_steps.specs.DidLead.{DidLead, Asks_for, Repeats, Is_full, Opens, Puts, Gives_up, Closes}
+use Rattle.law_steps.specs.DidLead.{DidLead, Asks_for, Repeats, Is_full, Opens, Marks, Puts, Gives_up, Unmarks, Closes}
 use Rattle.law_steps.specs.DidSecond.{DidSecond, Sets_apart, Promises, Declines, Follows}
 use Rattle.law_steps.specs.Did.{Did, Ignores, Refuses, By_read, By_lead, By_second}
 use Rattle.law_steps.specs.Happens.{Handled, own_place}
@@ -53,7 +53,7 @@ module _ (scene : Scene) where
 
   lead_chains : (done : Done) → DidLead hears here state own done → (cell : Cell) → second state cell ≡ Some n
       → chain_in done.own.store.chains cell ≡ chain_in own.store.chains cell
-  lead_chains _ (Puts op h is stage) cell follows =
+  lead_chains _ (Puts op is stage) cell follows =
       let s = (ready.pending n).staged op.cell op is in
       let pair = lead_pair setting state steady w ready good n op.cell s.lead in
       chain_apart own.store.chains (cell_of op.key) _ cell
@@ -65,12 +65,14 @@ module _ (scene : Scene) where
   lead_chains _ (Repeats want last h lead is e) cell follows = refl
   lead_chains _ (Is_full want h lead new none no_room) cell follows = refl
   lead_chains _ (Opens want h lead new none) cell follows = refl
+  lead_chains _ (Marks op h is stage) cell follows = refl
   lead_chains _ (Gives_up op h is stage) cell follows = refl
-  lead_chains _ (Closes op h is stage) cell follows = refl
+  lead_chains _ (Unmarks op h is stage) cell follows = refl
+  lead_chains _ (Closes op is stage) cell follows = refl
 
   second_chains : (done : Done) (d : DidSecond hears here state own done) → IsCalmSecond d → (cell : Cell)
       → chain_in done.own.store.chains cell ≡ chain_in own.store.chains cell
-  second_chains _ (Sets_apart number c store h s e le) calm cell = ap (λ t. chain_in t cell) e
+  second_chains _ (Sets_apart number c tickets h s le) calm cell = refl
   second_chains _ (Promises number c how s is) calm cell = ap (λ (o : Own). chain_in o.store.chains cell) (told_own here own c number how)
   second_chains _ (Declines number c h s no_room) calm cell = refl
   second_chains _ (Follows number key version bytes h s is) calm cell = absurd calm

@@ -17,7 +17,7 @@ use Rattle.petal_rules.specs.Store.{Chain, Stored, cell_cmp, chain_in}
 use Rattle.petal_rules.specs.Server.{Own, Here, Done}
 use Rattle.petal_rules.specs.World.{Setting, World, start, setting_of}
 use Rattle.law_state.specs.Steady.{IsSteady}
-use Rattle.law_steps.specs.DidLead.{DidLead, Asks_for, Repeats, Is_full, Opens, Puts, Gives_up, Closes}
+use Rattle.law_steps.specs.DidLead.{DidLead, Asks_for, Repeats, Is_full, Opens, Marks, Puts, Gives_up, Unmarks, Closes}
 use Rattle.law_steps.specs.DidSecond.{DidSecond, Sets_apart, Promises, Declines, Follows}
 use Rattle.law_steps.specs.Did.{Did, Ignores, Refuses, By_read, By_lead, By_second}
 use Rattle.law_steps.specs.Happens.{Handled, Happens, Serves, Turns, served, own_place}
@@ -91,7 +91,7 @@ module _ (setting : Setting) (state : State) (steady : IsSteady state) where
 
     lead_short : ((cell : Cell) → IsShort (chain_in own.store.chains cell)) → (done : Done) → DidLead hears here state own done
         → (cell : Cell) → IsShort (chain_in done.own.store.chains cell)
-    lead_short short _ (Puts op h is stage) cell =
+    lead_short short _ (Puts op is stage) cell =
         let p = asking.pending n op.cell op is in
         short_at own.store.chains (cell_of op.key) cell _
         (short_put (chain_in own.store.chains (cell_of op.key)) op.key.epoch _
@@ -100,12 +100,14 @@ module _ (setting : Setting) (state : State) (steady : IsSteady state) where
     lead_short short _ (Repeats want last h lead is e) cell = short cell
     lead_short short _ (Is_full want h lead new none no_room) cell = short cell
     lead_short short _ (Opens want h lead new none) cell = short cell
+    lead_short short _ (Marks op h is stage) cell = short cell
     lead_short short _ (Gives_up op h is stage) cell = short cell
-    lead_short short _ (Closes op h is stage) cell = short cell
+    lead_short short _ (Unmarks op h is stage) cell = short cell
+    lead_short short _ (Closes op is stage) cell = short cell
 
     second_short : ((cell : Cell) → IsShort (chain_in own.store.chains cell)) → (done : Done) → DidSecond hears here state own done
         → (cell : Cell) → IsShort (chain_in done.own.store.chains cell)
-    second_short short _ (Sets_apart number c store h s e le) cell = subst (λ t. IsShort (chain_in t cell)) (sym e) (short cell)
+    second_short short _ (Sets_apart number c tickets h s le) cell = short cell
     second_short short _ (Promises number c how s is) cell =
         subst (λ (o : Own). IsShort (chain_in o.store.chains cell)) (sym (told_own here own c number how)) (short cell)
     second_short short _ (Declines number c h s no_room) cell = short cell

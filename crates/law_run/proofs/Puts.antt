@@ -31,6 +31,7 @@ use Rattle.law_steps.specs.DidSecond.{Follows}
 use Rattle.law_steps.specs.Did.{Did, By_second}
 use Rattle.law_steps.specs.Happens.{Handled, own_place, served, served_so}
 use Rattle.petal_rules.proofs.Tests.{by_bool, same_or_apart, same_some, none_some, nat_lists_same}
+use Rattle.law_steps.proofs.Restages.{was_same}
 use Rattle.law_steps.proofs.Staged.{same_cell_or_apart}
 use Rattle.law_copies.specs.Pair.{IsPair, owns_of}
 use Rattle.law_copies.proofs.Frames.{same_first}
@@ -41,7 +42,7 @@ use Rattle.law_run.proofs.Along.{rows_in, disks_now, same_row, before_is, after_
 use Rattle.law_run.proofs.Grounds.{Followed, followed, key_epoch}
 use Rattle.law_run.proofs.Machine.{onward_itself, seat_onward, stands_held, Taken, takes_taken}
 use Rattle.law_run.proofs.ServerFrames.{JobFollow, job_follow}
-use Rattle.law_run.proofs.ServerJobs.{says_far, was_same}
+use Rattle.law_run.proofs.ServerJobs.{says_far}
 use Rattle.law_run.proofs.Takes.{OneTaker, block_there, one_take}
 use Rattle.law_run.proofs.Quiet.{quiet_data}
 use Rattle.law_run.proofs.Calm.{ServerStep, ServerTold, Next, TakesTold, moves, scene, same_content, still_stores, still_takes, quiet_looks, assembled}
@@ -96,7 +97,7 @@ module _ (this : ServerStep) (a : Asked this) where
       → JobFollow this.state this.w k this.n put_done.own put_done.posts
   put_job k onward f held = record {
     finished = λ c last is how still. inl is;
-    as_first = λ cell q op pair is. inl (was_same (scene this k onward) cell op is);
+    as_first = λ cell q op pair is. inl (was_same own cell op is);
     as_second = λ cell p op pair is past. elim (same_cell_or_apart cell (cell_of a.key)) [
       | inl e ↦
           let pair' : IsPair this.state (cell_of a.key) p this.n = subst (λ (c : Cell). IsPair this.state c p this.n) e pair in

@@ -7,7 +7,7 @@ use Rattle.petal_msg.specs.declared.operation.Ending.TheVariants as ending
 use Rattle.petal_rules.specs.Lists.{In}
 use Rattle.petal_rules.specs.Server.{Own, Here, Post, Done}
 use Rattle.petal_rules.specs.Writes.{ended}
-use Rattle.law_steps.specs.DidLead.{DidLead, Asks_for, Repeats, Is_full, Opens, Puts, Gives_up, Closes, Asks, A_slot, A_copy, Of_the_log}
+use Rattle.law_steps.specs.DidLead.{DidLead, Asks_for, Repeats, Is_full, Opens, Marks, Puts, Gives_up, Unmarks, Closes, Asks, A_slot, A_copy, Of_the_log}
 use Rattle.law_steps.specs.Did.{Did, Ignores, Refuses, By_read, By_lead, By_second}
 use Rattle.law_steps.proofs.Letters.{said, one_post, posted}
 use Rattle.petal_rules.proofs.Tests.{true_false}
@@ -45,9 +45,11 @@ lead_data heard here state own _ (Asks_for posts h) post i = asks_data here stat
 lead_data heard here state own _ (Repeats want last h lead is e) post i = ap is_data (one_post _ _ post i).1 ∙ ended_data want.seq last.ending
 lead_data heard here state own _ (Is_full want h lead new none no_room) post i = ap is_data (one_post _ _ post i).1
 lead_data heard here state own _ (Opens want h lead new none) post i = ap is_data (posted _ _ post i)
-lead_data heard here state own _ (Puts op h is stage) post i = absurd i
+lead_data heard here state own _ (Marks op h is stage) post i = absurd i
+lead_data heard here state own _ (Puts op is stage) post i = absurd i
 lead_data heard here state own _ (Gives_up op h is stage) post i = ap is_data (one_post _ _ post i).1
-lead_data heard here state own _ (Closes op h is stage) post i = ap is_data (one_post _ _ post i).1
+lead_data heard here state own _ (Unmarks op h is stage) post i = absurd i
+lead_data heard here state own _ (Closes op is stage) post i = ap is_data (one_post _ _ post i).1
 
 pub quiet_data : (heard : Body → Type 0) (here : Here) (state : State) (own : Own) (done : Done) (d : Did heard here state own done) → IsQuiet d
     → (post : Post) → In post done.posts → is_data post.body ≡ false

@@ -48,6 +48,7 @@ use Rattle.law_steps.proofs.Serving.{server_serves}
 use Rattle.law_steps.proofs.Turning.{is_call, client_turns}
 use Rattle.law_copies.specs.Pair.{owns_of}
 use Rattle.law_copies.proofs.Copying.{copies_after, happens_good}
+use Rattle.law_copies.proofs.Marking.{marks_first}
 use Rattle.law_requests.proofs.Histories.{requests_after, happens_asking}
 use Rattle.law_log.proofs.Histories.{history_agrees, history_is_firm, history_grows}
 use Rattle.law_run.specs.Follow.{Ground, Follow}
@@ -373,6 +374,7 @@ law script records sound legal =
         requests = requests_after script records firm legal;
       };
       grows = history_grows script records sound legal;
+      marks = marks_first script records firm legal;
       run = run_after script records sound legal;
       holds = held_after script records sound legal;
     }

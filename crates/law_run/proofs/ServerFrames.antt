@@ -23,6 +23,7 @@ use Rattle.law_state.specs.Steady.{IsSteady}
 use Rattle.law_steps.specs.Operations.{progress}
 use Rattle.law_steps.specs.Happens.{server_moves, served, own_place}
 use Rattle.law_steps.proofs.Letters.{said}
+use Rattle.law_steps.proofs.Restages.{Was}
 use Rattle.petal_rules.proofs.Tests.{same_or_apart}
 use Rattle.law_copies.specs.Pair.{IsPair, owns_of, Good}
 use Rattle.law_copies.proofs.Frames.{apart}
@@ -31,13 +32,6 @@ use Rattle.law_run.specs.Onward.{is_held, Onward}
 use Rattle.law_run.specs.Follow.{Follow, Stores}
 use Rattle.law_run.proofs.Machine.{seat_onward, held_onward}
 use Rattle.law_steps.specs.Ready.{Ready}
-
--- the operation was pending, under this number and for this client
-pub record Was (own : Own) (cell : Cell) (op : Pending) : Type 0 where
-  pub was : Pending
-  pub is : at cell_cmp own.pairs.pending cell ≡ Some was
-  pub number : was.op ≡ op.op
-  pub client : was.client ≡ op.client
 
 -- what a job of this server shows, where the machine goes on to k
 pub record JobFollow (state : State) (w : World) (k : Plain) (n : ℕ) (new : Own) (posts : List Post) : Type 0 where
@@ -120,8 +114,8 @@ module _ (scene : Scene) (stamp : ℕ) (log : Log) (done : Done) (queue : List J
       → op.op + op.op + 1 ≤ progress (at cell_cmp (owns_of w q).pairs.last cell) → is_held k op.client ≡ true
   first_held cell q op pair is past = elim (job.as_first cell q op pair is) [
     | inl was ↦
-        let number = was.number in
-        subst (λ c. is_held k c ≡ true) was.client (held_onward m k was.was.client onward (follow.pending cell n q was.was pair was.is (omega arith)))
+        let number = was.same.number in
+        subst (λ c. is_held k c ≡ true) was.same.client (held_onward m k was.was.client onward (follow.pending cell n q was.was pair was.is (omega arith)))
     | inr early ↦ absurd (omega arith)
   ]
 

@@ -1,8 +1,8 @@
 -- Each kind of job but a second server's put leaves contents as they are, and shows what a job has to.
-use Rattle.std.proofs.Common.{◌≡◌, ◌≢◌, ◌≤◌, ◌<◌, ◌+◌, ℕ, List, [], ◌∷◌, Bool, true, false, Option, Some, None, refl, sym, ap, ◌∙◌, subst, ◌⊎◌, inl, inr, arith}
+use Rattle.std.proofs.Common.{◌≡◌, ◌≤◌, ◌<◌, ◌+◌, ℕ, List, [], ◌∷◌, Bool, true, false, Option, Some, None, refl, sym, ap, ◌∙◌, subst, ◌⊎◌, inl, inr, arith}
 use Rattle.std.specs.Ordering.{nat_cmp}
 use Rattle.petal_base.specs.declared.cell.Cell.{Cell}
-use Rattle.petal_table.specs.Table.{Table, at, put, without}
+use Rattle.petal_table.specs.Table.{Table, at, put}
 use Rattle.global_tables.specs.declared.disk.DiskRow.{DiskRow}
 use Rattle.petal_table.proofs.Rows.{at_same, at_apart}
 use Rattle.petal_machine.specs.Machine.{Plain}
@@ -17,32 +17,41 @@ use Rattle.petal_msg.specs.declared.operation.Far.{Far}
 use Rattle.petal_msg.specs.declared.operation.Far.TheVariants as far
 use Rattle.petal_msg.specs.declared.operation.Finished.{Finished}
 use Rattle.petal_msg.specs.declared.operation.Pending.{Pending}
+use Rattle.petal_msg.specs.declared.operation.Stage.{Stage}
 use Rattle.petal_rules.specs.Lists.{In}
 use Rattle.petal_rules.specs.State.{State, first, second}
-use Rattle.petal_rules.specs.Store.{cell_cmp, chain_in, version_of}
+use Rattle.petal_rules.specs.Store.{cell_cmp}
 use Rattle.petal_rules.specs.Server.{Own, Here, Post, Done, post_to}
-use Rattle.petal_rules.specs.Writes.{Wanted, operation, opened, puts, with_pending, with_reserved, with_paired, ended, tells}
+use Rattle.petal_rules.specs.Writes.{Wanted, operation, opened, ended, tells}
 use Rattle.petal_rules.specs.World.{Setting, World}
-use Rattle.petal_rules.proofs.CellTables.{cell_same, cell_apart, cell_gone, cell_gone_apart}
+use Rattle.petal_rules.proofs.CellTables.{cell_same, cell_apart}
 use Rattle.law_state.specs.Steady.{IsSteady}
-use Rattle.law_steps.specs.Operations.{progress}
+use Rattle.law_steps.specs.Operations.{answering, progress}
 use Rattle.law_steps.specs.DidRead.{DidRead}
-use Rattle.law_steps.specs.DidLead.{DidLead, Asks_for, Repeats, Is_full, Opens, Puts, Gives_up, Closes, Asks, A_slot, A_copy, Of_the_log}
+use Rattle.law_steps.specs.DidLead.{DidLead, Asks_for, Repeats, Is_full, Opens, Marks, Puts, Gives_up, Unmarks, Closes, Asks, A_slot, A_copy, Of_the_log}
 use Rattle.law_steps.specs.DidSecond.{DidSecond, Sets_apart, Promises, Declines, Follows}
 use Rattle.law_steps.specs.Did.{Did, Ignores, Refuses, IsRefusal, By_read, By_lead, By_second}
 use Rattle.law_steps.specs.Happens.{Handled, own_place}
 use Rattle.law_steps.specs.Ready.{Ready}
-use Rattle.petal_rules.proofs.Tests.{same_or_apart, same_some, none_some, true_false}
+use Rattle.petal_rules.proofs.Tests.{same_or_apart, same_some, true_false}
 use Rattle.law_steps.proofs.Staged.{same_cell_or_apart}
-use Rattle.law_copies.specs.Pair.{IsPair, ceiling_of, owns_of, Good}
+use Rattle.law_copies.specs.Pair.{Pair, pair_of, IsPair, PairOk, AreCopies, Working, IsAhead, far as far_of, ceiling_of, owns_of, Good}
 use Rattle.law_copies.proofs.Jobs.{heard_known, lead_pair}
 use Rattle.law_requests.specs.Asked.{IsOpen}
 use Rattle.law_run.specs.Onward.{is_held, Onward}
 use Rattle.law_run.specs.Follow.{Follow}
 use Rattle.law_run.proofs.Machine.{held_onward}
-use Rattle.law_run.proofs.ServerFrames.{JobFollow, Was, Scene}
+use Rattle.law_run.proofs.ServerFrames.{JobFollow, Scene}
 use Rattle.law_steps.proofs.Letters.{one_post, posted}
+use Rattle.law_steps.proofs.Restages.{Restages, was_same, stood, marked, has_put, unmarked}
 use Rattle.law_steps.proofs.Subjects.{of_read, told_own}
+
+-- an operation whose second server said that it followed is past by what is kept of its pair
+paired_past : (pair : Pair) (op : Pending) → PairOk pair → pair.pending ≡ Some op → op.stage.put ≡ true → op.stage.paired ≡ true → op.op + op.op + 1 ≤ far_of pair
+paired_past pair op ok is put paired =
+    let copies : AreCopies pair.first pair.second (far_of pair) (Some op) = subst (AreCopies pair.first pair.second (far_of pair)) is ok.copies in
+    let ahead : IsAhead pair.first pair.second (far_of pair) op = subst (Working pair.first pair.second (far_of pair) op) put copies in
+    ahead.paired paired
 
 -- all kinds of job but one: a second server puts
 abbrev pub IsCalmSecond : {heard : Body → Type 0} {here : Here} {state : State} {own : Own} {done : Done} → DidSecond heard here state own done → Type 0
@@ -147,13 +156,10 @@ module _ (scene : Scene) where
       → ((cell : Cell) → at cell_cmp new.pairs.last cell ≡ at cell_cmp own.pairs.last cell) → SaysOk posts → J new posts
   same new posts finished pending last says = record {
     finished = λ c l is how still. inl (sym (finished c) ∙ is);
-    as_first = λ cell q op pair is. inl (record { was = op; is = sym (pending cell) ∙ is; number = refl; client = refl });
+    as_first = λ cell q op pair is. inl (was_same own cell op (sym (pending cell) ∙ is));
     as_second = λ cell p op pair is past. inl (subst (λ o. op.op + op.op + 1 ≤ progress o) (last cell) past);
     says = says;
   }
-
-  pub was_same : (cell : Cell) (op : Pending) → at cell_cmp own.pairs.pending cell ≡ Some op → Was own cell op
-  was_same cell op is = record { was = op; is = is; number = refl; client = refl }
 
   ended_full : (c seq : ℕ) → SaysOk (record { to = actor.Client c; body = ended seq ending.Full } ∷ [])
   ended_full c seq = says_one (actor.Client c) (ended seq ending.Full) refl
@@ -180,7 +186,7 @@ module _ (scene : Scene) where
       }) (record { to = actor.Client want.client; body = ended want.seq ending.Full } ∷ [])
   full_job want = record {
     finished = λ c last is how still. finish_full own.pairs.finished want.client want.seq c last is how;
-    as_first = λ cell q op pair is. inl (was_same cell op is);
+    as_first = λ cell q op pair is. inl (was_same own cell op is);
     as_second = λ cell p op pair is past. inl past;
     says = ended_full want.client want.seq;
   }
@@ -201,52 +207,28 @@ module _ (scene : Scene) where
               let below = ok.below in
               let number : own.pairs.next ≡ o.op = ap (λ (x : Pending). x.op) same in
               inr (omega arith)
-          | inr ne ↦ inl (was_same cell o (sym (cell_apart t want.cell op cell ne) ∙ is))
+          | inr ne ↦ inl (was_same own cell o (sym (cell_apart t want.cell op cell ne) ∙ is))
         ];
         as_second = λ cell p o pair is past. inl past;
         says = says_to (second here.state want.cell) (body.Reserve own.pairs.next want.cell) refl;
       }
 
-  puts_job : (op : Pending) → at cell_cmp own.pairs.pending op.cell ≡ Some op → J (puts (with_pending own (with_reserved op)) (with_reserved op)).own []
-  unfolding In
-  puts_job op is =
-      let t = own.pairs.pending in
-      let one = with_reserved op in
-      let two : Pending = record one { version = version_of (chain_in own.store.chains op.cell) + 1; stage = record one.stage { put = true } } in
-      record {
-        finished = λ c last is how still. inl is;
-        as_first = λ cell q o pair there. elim (same_cell_or_apart cell op.cell) [
-          | inl e ↦
-              let same : two ≡ o =
-              same_some (sym (cell_same (put cell_cmp t op.cell one) op.cell two)
-              ∙ subst (λ (x : Cell). at cell_cmp (put cell_cmp (put cell_cmp t op.cell one) op.cell two) x ≡ Some o) e there) in
-              inl (record {
-                was = op;
-                is = subst (λ (x : Cell). at cell_cmp t x ≡ Some op) (sym e) is;
-                number = ap (λ (x : Pending). x.op) same;
-                client = ap (λ (x : Pending). x.client) same;
-              })
-          | inr ne ↦ inl (was_same cell o (sym (cell_apart (put cell_cmp t op.cell one) op.cell two cell ne ∙ cell_apart t op.cell one cell ne) ∙ there))
-        ];
-        as_second = λ cell p o pair is past. inl past;
-        says = λ post c seq i to says still. absurd i;
-      }
+  -- a pending operation goes on to its next stage
+  restages_job : (done : Done) → Restages own done → J done.own done.posts
+  restages_job done r = record {
+    finished = λ c last is how still. inl (ap (λ t. at nat_cmp t c) (sym r.finished) ∙ is);
+    as_first = λ cell q op pair is. inl (r.was cell op is);
+    as_second = λ cell p op pair is past. inl (subst (λ t. op.op + op.op + 1 ≤ progress (at cell_cmp t cell)) r.last past);
+    says = λ post c seq i to says still. absurd (r.silent post i);
+  }
 
-  -- an operation is pending no more
-  gone_first : (op : Pending) (t : Table Cell Pending) → at cell_cmp t op.cell ≡ None
-      → ((q : Cell) → q ≢ op.cell → at cell_cmp t q ≡ at cell_cmp own.pairs.pending q) → (cell : Cell) (o : Pending) → at cell_cmp t cell ≡ Some o
-      → Was own cell o
-  gone_first op t gone others cell o is = elim (same_cell_or_apart cell op.cell) [
-    | inl e ↦ none_some gone (subst (λ (x : Cell). at cell_cmp t x ≡ Some o) e is)
-    | inr ne ↦ was_same cell o (sym (others cell ne) ∙ is)
-  ]
-
-  -- an operation that the second server has put
-  closes_held : (op : Pending) → hears (body.Replicated op.op op.cell) → at cell_cmp own.pairs.pending op.cell ≡ Some op → is_held k op.client ≡ true
-  closes_held op h is =
+  -- an operation that is to answer was put by the second server
+  answers_held : (op : Pending) → at cell_cmp own.pairs.pending op.cell ≡ Some op → op.stage ≡ answering → is_held k op.client ≡ true
+  answers_held op is stage =
       let pair = lead_pair setting state steady w ready good n op.cell ((ready.pending n).staged op.cell op is).lead in
       held_onward m k op.client onward (follow.pending op.cell n pair.0 op pair.1 is
-      (heard_known setting state steady w ready good n _ h op.cell n pair.0 refl pair.1))
+      (paired_past (pair_of own (owns_of w pair.0) op.cell) op (good.pairs op.cell n pair.0 pair.1) is
+      (ap (λ (s : Stage). s.put) stage) (ap (λ (s : Stage). s.paired) stage)))
 
   one_client : {c d : ℕ} → actor.Client c ≡ actor.Client d → c ≡ d
   one_client e = cc
@@ -256,7 +238,7 @@ module _ (scene : Scene) where
       → J new (tells here new cell number far.Reserved).posts
   reserves_job number cell new h finished pending last = record {
     finished = λ c l is how still. inl (ap (λ t. at nat_cmp t c) (sym finished) ∙ is);
-    as_first = λ q j op pair is. inl (was_same q op (ap (λ t. at cell_cmp t q) (sym pending) ∙ is));
+    as_first = λ q j op pair is. inl (was_same own q op (ap (λ t. at cell_cmp t q) (sym pending) ∙ is));
     as_second = λ q p op pair is past. elim (same_cell_or_apart q cell) [
       | inl e ↦
           let there : progress (at cell_cmp new.pairs.last q) ≡ number + number =
@@ -305,30 +287,29 @@ module _ (scene : Scene) where
       (subst (IsOpen (w.clients c)) number still)))
   lead_job _ (Is_full want h lead new none no_room) = full_job want
   lead_job _ (Opens want h lead new none) = opens_job want none
-  lead_job _ (Puts op h is stage) = puts_job op is
+  lead_job _ (Marks op h is stage) = restages_job _ (marked own op is)
+  lead_job _ (Puts op is stage) = restages_job _ (has_put own op is)
   lead_job _ (Gives_up op h is stage) = record {
     finished = λ c last is how still. finish_full own.pairs.finished op.client op.seq c last is how;
-    as_first = λ cell q o pair there. inl (gone_first op (without cell_cmp own.pairs.pending op.cell) (cell_gone own.pairs.pending op.cell)
-        (λ q ne. cell_gone_apart own.pairs.pending op.cell q ne) cell o there);
+    as_first = λ cell q o pair there. inl (was_same own cell o (stood own.pairs.pending op.cell cell o there));
     as_second = λ cell p o pair is past. inl past;
     says = ended_full op.client op.seq;
   }
-  lead_job _ (Closes op h is stage) =
-      let u = put cell_cmp own.pairs.pending op.cell (with_paired op) in
-      let held = closes_held op h is in
+  lead_job _ (Unmarks op h is stage) = restages_job _ (unmarked own op is)
+  lead_job _ (Closes op is stage) =
+      let held = answers_held op is stage in
       record {
         finished = λ c last there how still. elim (same_or_apart c op.client) [
           | inl e ↦ inr (subst (λ i. is_held k i ≡ true) (sym e) held)
           | inr ne ↦ inl (sym (at_apart own.pairs.finished op.client _ c ne) ∙ there)
         ];
-        as_first = λ cell q o pair there. inl (gone_first op (without cell_cmp u op.cell) (cell_gone u op.cell)
-            (λ q ne. cell_gone_apart u op.cell q ne ∙ cell_apart own.pairs.pending op.cell (with_paired op) q ne) cell o there);
+        as_first = λ cell q o pair there. inl (was_same own cell o (stood own.pairs.pending op.cell cell o there));
         as_second = λ cell p o pair is past. inl past;
         says = λ post c seq i to says still. subst (λ i. is_held k i ≡ true) (one_client (sym (one_post _ _ post i).0 ∙ to)) held;
       }
 
   second_job : (done : Done) (d : DidSecond hears here state own done) → IsCalmSecond d → J done.own done.posts
-  second_job _ (Sets_apart number cell store h s e le) calm = reserves_job number cell _ h refl refl refl
+  second_job _ (Sets_apart number cell tickets h s le) calm = reserves_job number cell _ h refl refl refl
   second_job _ (Promises number cell how s is) calm =
       talked (tells here own cell number how) (told_own here own cell number how) (says_far own cell number how)
   second_job _ (Declines number cell h s no_room) calm = speaks _ (says_to (first here.state cell) (body.PairFull number cell) refl)

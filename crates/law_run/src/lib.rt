@@ -1,8 +1,8 @@
 //! The law of lock step: the events of every legal history of a sound script are a run of the plain machine, and the contents
 //! are its disks'.
 //!
-//! To the layer above it promises the whole law: agreement, the two-copy rule, the rule of requests, the run and the contents.
-//! It speaks of definitions alone and knows nothing of code.
+//! To the layer above it promises the whole law: agreement, the two-copy rule, marks before puts, the rule of requests, the run
+//! and the contents. It speaks of definitions alone and knows nothing of code.
 #![tactic(auto)]
 
 ghost use Rattle.std.specs.Prelude.{◌≡◌, ℕ, List, Ok};
@@ -25,8 +25,8 @@ pub fn contents_are_the_machines()
     ensures { (script : Script) (records : List Record) → IsSound script → IsLegal script records → AreHeld (setting_of script) (world_after (setting_of script) (start (setting_of script)) records) (machine_after (events_of script records)).disks }
 {}
 
-/// The whole law: every legal history of a sound script keeps agreement, the two-copy rule and the rule of requests, is a run
-/// of the plain machine, and has the machine's contents.
+/// The whole law: every legal history of a sound script keeps agreement, the two-copy rule and the rule of requests, has leads
+/// put only on marked blocks, is a run of the plain machine, and has the machine's contents.
 pub fn every_history_keeps_the_law()
     ensures { Law }
 {}

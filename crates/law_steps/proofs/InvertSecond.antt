@@ -11,7 +11,7 @@ use Rattle.petal_msg.specs.declared.operation.Far.{Far}
 use Rattle.petal_msg.specs.declared.operation.Far.TheVariants as far
 use Rattle.petal_msg.specs.declared.operation.LastOp.{LastOp}
 use Rattle.petal_rules.specs.State.{is_second}
-use Rattle.petal_rules.specs.Store.{free_of, with_ticket}
+use Rattle.petal_rules.specs.Store.{free_of}
 use Rattle.petal_rules.specs.Server.{Own, Here, Done}
 use Rattle.petal_rules.specs.Writes.{hears_reserve, hears_replicate, reserves, follows_once, has_slot, last_on}
 use Rattle.law_steps.specs.Operations.{progress}
@@ -55,8 +55,8 @@ module _ (heard : Body → Type 0) (here : Here) (own : Own) where
   did_reserves : (number : ℕ) (cell : Cell) (has room : Bool) → heard (body.Reserve number cell) → is_second here.state here.me cell ≡ true
       → IsPast own cell number has → progress (last_on own cell) ≤ number + number → nat_lt 0 (free_of own.store) ≡ room
       → D (reserves here own cell number has room)
-  did_reserves number cell true room h s past le e = By_second _ (Sets_apart number cell own.store h s refl le)
-  did_reserves number cell false true h s past le e = By_second _ (Sets_apart number cell (with_ticket own.store) h s refl le)
+  did_reserves number cell true room h s past le e = By_second _ (Sets_apart number cell own.store.tickets h s le)
+  did_reserves number cell false true h s past le e = By_second _ (Sets_apart number cell (own.store.tickets + 1) h s le)
   did_reserves number cell false false h s past le e =
       By_second _ (Declines number cell h s (record {
         none_free = no_free (free_of own.store) e;

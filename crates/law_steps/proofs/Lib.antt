@@ -7,6 +7,7 @@ pub mod Inversion
 pub mod Letters
 pub mod Subjects
 pub mod Staged
+pub mod Restages
 pub mod Lifting
 pub mod Sending
 pub mod Fronts

@@ -11,7 +11,7 @@ use Rattle.law_state.specs.Below.{IsBelow}
 use Rattle.law_state.specs.Steady.{IsSteady}
 use Rattle.law_steps.specs.Operations.{IsStaged}
 use Rattle.law_steps.specs.DidRead.{DidRead, Shows}
-use Rattle.law_steps.specs.DidLead.{DidLead, Asks_for, Repeats, Is_full, Opens, Puts, Gives_up, Closes, Asks, A_slot, A_copy, Of_the_log}
+use Rattle.law_steps.specs.DidLead.{DidLead, Asks_for, Repeats, Is_full, Opens, Marks, Puts, Gives_up, Unmarks, Closes, Asks, A_slot, A_copy, Of_the_log}
 use Rattle.law_steps.specs.DidSecond.{DidSecond, Sets_apart, Promises, Declines, Follows}
 use Rattle.law_steps.specs.Did.{Did, Ignores, Refuses, IsBusy, For_a_write, For_a_read, By_read, By_lead, By_second}
 use Rattle.law_steps.specs.Ready.{IsReady}
@@ -62,12 +62,14 @@ module _ (earlier later : State) (old : IsSteady earlier) (steady : IsSteady lat
     lead_did_up _ (Repeats want last h lead is e) = Repeats want last h (lead_up here.me want.cell lead) is e
     lead_did_up _ (Is_full want h lead new none no_room) = Is_full want h (lead_up here.me want.cell lead) new none no_room
     lead_did_up _ (Opens want h lead new none) = Opens want h (lead_up here.me want.cell lead) new none
-    lead_did_up _ (Puts op h is stage) = Puts op h is stage
+    lead_did_up _ (Marks op h is stage) = Marks op h is stage
+    lead_did_up _ (Puts op is stage) = Puts op is stage
     lead_did_up _ (Gives_up op h is stage) = Gives_up op h is stage
-    lead_did_up _ (Closes op h is stage) = Closes op h is stage
+    lead_did_up _ (Unmarks op h is stage) = Unmarks op h is stage
+    lead_did_up _ (Closes op is stage) = Closes op is stage
 
     second_did_up : (done : Done) → DidSecond heard here earlier own done → DidSecond heard here later own done
-    second_did_up _ (Sets_apart number cell store h s e le) = Sets_apart number cell store h (second_up here.me cell s) e le
+    second_did_up _ (Sets_apart number cell tickets h s le) = Sets_apart number cell tickets h (second_up here.me cell s) le
     second_did_up _ (Promises number cell how s is) = Promises number cell how (second_up here.me cell s) is
     second_did_up _ (Declines number cell h s no_room) = Declines number cell h (second_up here.me cell s) no_room
     second_did_up _ (Follows number key version bytes h s is) =

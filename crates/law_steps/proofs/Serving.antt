@@ -25,7 +25,7 @@ use Rattle.petal_rules.proofs.ListLemmas.{in-append}
 use Rattle.petal_rules.proofs.CellTables.{cell_cmp_total}
 use Rattle.petal_rules.proofs.Tests.{by_test}
 use Rattle.law_state.specs.Steady.{IsSteady}
-use Rattle.law_steps.specs.Operations.{IsStaged, waiting, copying}
+use Rattle.law_steps.specs.Operations.{IsStaged, Waiting, Putting, Copying, Answering, waiting, putting, copying, answering}
 use Rattle.law_steps.specs.DidLead.{Asks, Asks_for, Of_the_log}
 use Rattle.law_steps.specs.Did.{Ignores, By_lead}
 use Rattle.law_steps.specs.Happens.{IsIdle, Handled, AreQueued, Serving, own_place}
@@ -75,13 +75,18 @@ module _ (setting : Setting) (w : World) (rests : Rests setting w) (n : ℕ) (st
   staged = (rests.pending n).staged
 
   asked_again : (op : Pending) → pending_on own op.cell ≡ Some op → (post : Post) → In post (sent_anew here own op) → A post
+  unfolding In
   asked_again op is post h =
       let s = staged op.cell op is in
       elim s.stage [
-        | inl stage ↦ asks_slot hears_server here own steady staged op is stage post
+        | Waiting stage ↦ asks_slot hears_server here own steady staged op is stage post
             (subst (λ a. In post (awaited here own op a)) (action_is hears_server here own steady staged op waiting s.lead stage) h)
-        | inr stage ↦ asks_copy hears_server here own steady staged op is stage post
+        | Copying stage ↦ asks_copy hears_server here own steady staged op is stage post
             (subst (λ a. In post (awaited here own op a)) (action_is hears_server here own steady staged op copying s.lead stage) h)
+        | Putting stage ↦
+            absurd (subst (λ a. In post (awaited here own op a)) (action_is hears_server here own steady staged op putting s.lead stage) h)
+        | Answering stage ↦
+            absurd (subst (λ a. In post (awaited here own op a)) (action_is hears_server here own steady staged op answering s.lead stage) h)
       ]
 
   pending_asks : (post : Post) → In post (flat_map (λ (row : Cell × Pending). sent_anew here own row.1) own.pairs.pending) → A post

@@ -14,7 +14,7 @@ use Rattle.petal_rules.specs.Writes.{tells}
 use Rattle.petal_rules.specs.declared.job.Job.{Job}
 use Rattle.petal_rules.specs.declared.job.Job.TheVariants as job
 use Rattle.law_steps.specs.DidRead.{DidRead, Shows}
-use Rattle.law_steps.specs.DidLead.{DidLead, Asks_for, Repeats, Is_full, Opens, Puts, Gives_up, Closes}
+use Rattle.law_steps.specs.DidLead.{DidLead, Asks_for, Repeats, Is_full, Opens, Marks, Puts, Gives_up, Unmarks, Closes}
 use Rattle.law_steps.specs.DidSecond.{DidSecond, Sets_apart, Promises, Declines, Follows}
 use Rattle.law_steps.specs.Did.{Did, Ignores, Refuses, By_read, By_lead, By_second}
 use Rattle.law_steps.proofs.Letters.{one_post, posted}
@@ -63,9 +63,11 @@ module _ (heard : Body → Type 0) (here : Here) (state : State) (own : Own) whe
   of_lead _ (Repeats want last h lead is e) = record { last = refl; no_letters = λ letter i. i }
   of_lead _ (Is_full want h lead new none no_room) = record { last = refl; no_letters = λ letter i. i }
   of_lead _ (Opens want h lead new none) = record { last = refl; no_letters = λ letter i. i }
-  of_lead _ (Puts op h is stage) = record { last = refl; no_letters = λ letter i. elim i [ inl e ↦ cc | inr none ↦ none ] }
+  of_lead _ (Marks op h is stage) = record { last = refl; no_letters = λ letter i. elim i [ inl e ↦ cc | inr none ↦ none ] }
+  of_lead _ (Puts op is stage) = record { last = refl; no_letters = λ letter i. elim i [ inl e ↦ cc | inr none ↦ none ] }
   of_lead _ (Gives_up op h is stage) = record { last = refl; no_letters = λ letter i. i }
-  of_lead _ (Closes op h is stage) = record { last = refl; no_letters = λ letter i. i }
+  of_lead _ (Unmarks op h is stage) = record { last = refl; no_letters = λ letter i. elim i [ inl e ↦ cc | inr none ↦ none ] }
+  of_lead _ (Closes op is stage) = record { last = refl; no_letters = λ letter i. i }
 
   -- what a second server tells the lead
   told : (new : Own) (cell : Cell) (number : ℕ) (how : Far) → new.pairs.pending ≡ own.pairs.pending → new.pairs.next ≡ own.pairs.next
@@ -77,7 +79,7 @@ module _ (heard : Body → Type 0) (here : Here) (state : State) (own : Own) whe
       record { pending = pending; next = next; finished = finished; no_jobs = refl; says = λ post i. ap subject_of (posted _ _ post i) }
 
   pub of_second : (done : Done) → DidSecond heard here state own done → SecondFrame own done
-  of_second _ (Sets_apart number cell store h s e le) = told _ cell number far.Reserved refl refl refl
+  of_second _ (Sets_apart number cell tickets h s le) = told _ cell number far.Reserved refl refl refl
   of_second _ (Promises number cell how s is) = told own cell number how refl refl refl
   of_second _ (Declines number cell h s no_room) =
       record { pending = refl; next = refl; finished = refl; no_jobs = refl; says = λ post i. ap subject_of (posted _ _ post i) }

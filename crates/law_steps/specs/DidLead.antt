@@ -2,6 +2,7 @@
 -- is by its own state, and the facts are of a later one.
 use Rattle.std.specs.Prelude.{◌≡◌, ◌≤◌, ℕ, true, List, [], Some, None}
 use Rattle.std.specs.Ordering.{nat_cmp}
+use Rattle.busy_marks.specs.declared.marks.MarkKind.TheVariants.{Busy}
 use Rattle.petal_table.specs.Table.{at}
 use Rattle.petal_msg.specs.Kinds.{is_logged, subject_of}
 use Rattle.petal_msg.specs.declared.body.Body.{Body}
@@ -14,8 +15,8 @@ use Rattle.petal_rules.specs.Lists.{In}
 use Rattle.petal_rules.specs.State.{State, second, is_lead}
 use Rattle.petal_rules.specs.Store.{free_of}
 use Rattle.petal_rules.specs.Server.{Own, Here, Post, Done, says, says_to}
-use Rattle.petal_rules.specs.Writes.{Wanted, pending_on, with_pending, without_pending, gives_back, with_reserved, with_paired, opened, puts, finishes, ended}
-use Rattle.law_steps.specs.Operations.{waiting, copying, done_to}
+use Rattle.petal_rules.specs.Writes.{Wanted, pending_on, with_pending, without_pending, gives_back, with_reserved, with_paired, opened, marks, puts, unmarks, finishes, ended}
+use Rattle.law_steps.specs.Operations.{waiting, putting, copying, answering, done_to}
 
 -- what a pending operation asks of the second server, or what speaks of the agreed log
 pub data Asks (here : Here) (state : State) (own : Own) : Post → Type 0 where
@@ -39,9 +40,13 @@ pub data DidLead (heard : Body → Type 0) (here : Here) (state : State) (own : 
   Opens : (want : Wanted) → heard (body.Write want.client want.seq want.cell want.epoch want.bytes)
       → is_lead state here.me want.cell ≡ true → done_to (at nat_cmp own.pairs.finished want.client) ≤ want.seq → pending_on own want.cell ≡ None
       → DidLead heard here state own (says_to (opened here own want) (second here.state want.cell) (body.Reserve own.pairs.next want.cell))
-  Puts : (op : Pending) → heard (body.Reserved op.op op.cell) → pending_on own op.cell ≡ Some op → op.stage ≡ waiting
-      → DidLead heard here state own (puts (with_pending own (with_reserved op)) (with_reserved op))
+  Marks : (op : Pending) → heard (body.Reserved op.op op.cell) → pending_on own op.cell ≡ Some op → op.stage ≡ waiting
+      → DidLead heard here state own (marks (with_pending own (with_reserved op)) (with_reserved op) Busy)
+  Puts : (op : Pending) → pending_on own op.cell ≡ Some op → op.stage ≡ putting
+      → DidLead heard here state own (puts own op)
   Gives_up : (op : Pending) → heard (body.PairFull op.op op.cell) → pending_on own op.cell ≡ Some op → op.stage ≡ waiting
       → DidLead heard here state own (finishes (gives_back (without_pending own op.cell)) op.client op.seq ending.Full)
-  Closes : (op : Pending) → heard (body.Replicated op.op op.cell) → pending_on own op.cell ≡ Some op → op.stage ≡ copying
-      → DidLead heard here state own (finishes (without_pending (with_pending own (with_paired op)) op.cell) op.client op.seq ending.Written)
+  Unmarks : (op : Pending) → heard (body.Replicated op.op op.cell) → pending_on own op.cell ≡ Some op → op.stage ≡ copying
+      → DidLead heard here state own (unmarks (with_pending own (with_paired op)) (with_paired op) Busy)
+  Closes : (op : Pending) → pending_on own op.cell ≡ Some op → op.stage ≡ answering
+      → DidLead heard here state own (finishes (without_pending own op.cell) op.client op.seq ending.Written)

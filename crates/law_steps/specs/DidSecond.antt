@@ -9,7 +9,7 @@ use Rattle.petal_msg.specs.declared.operation.Far.{Far}
 use Rattle.petal_msg.specs.declared.operation.Far.TheVariants as far
 use Rattle.petal_msg.specs.declared.operation.LastOp.{LastOp}
 use Rattle.petal_rules.specs.State.{State, first, is_second}
-use Rattle.petal_rules.specs.Store.{Store, free_of}
+use Rattle.petal_rules.specs.Store.{free_of}
 use Rattle.petal_rules.specs.Server.{Own, Here, Done, says_to}
 use Rattle.petal_rules.specs.Writes.{last_on, with_last, tells, follows}
 use Rattle.law_steps.specs.Operations.{progress}
@@ -21,11 +21,15 @@ pub record FoundNoSlot (own : Own) (cell : Cell) (number : ℕ) : Type 0 where
   pub newer : (last : LastOp) → last_on own cell ≡ Some last → last.op < number
   pub none_left : (last : LastOp) → last_on own cell ≡ Some last → last.far ≡ far.Replicated
 
+-- so many slots are set apart
+abbrev pub with_tickets : Own → ℕ → Own
+with_tickets own tickets = record own { store = record own.store { tickets = tickets } }
+
 -- what the second server may have done that handled only such letters as `heard` knows
 pub data DidSecond (heard : Body → Type 0) (here : Here) (state : State) (own : Own) : Done → Type 0 where
-  Sets_apart : (number : ℕ) (cell : Cell) (store : Store) → heard (body.Reserve number cell) → is_second state here.me cell ≡ true
-      → store.chains ≡ own.store.chains → progress (last_on own cell) ≤ number + number
-      → DidSecond heard here state own (tells here (with_last (record own { store = store }) cell number far.Reserved) cell number far.Reserved)
+  Sets_apart : (number : ℕ) (cell : Cell) (tickets : ℕ) → heard (body.Reserve number cell) → is_second state here.me cell ≡ true
+      → progress (last_on own cell) ≤ number + number
+      → DidSecond heard here state own (tells here (with_last (with_tickets own tickets) cell number far.Reserved) cell number far.Reserved)
   Promises : (number : ℕ) (cell : Cell) (how : Far) → is_second state here.me cell ≡ true → last_on own cell ≡ Some (record { op = number; far = how })
       → DidSecond heard here state own (tells here own cell number how)
   Declines : (number : ℕ) (cell : Cell) → heard (body.Reserve number cell) → is_second state here.me cell ≡ true → FoundNoSlot own cell number

@@ -1,5 +1,5 @@
 -- How far an operation is, at its lead and at its second server.
-use Rattle.std.specs.Prelude.{◌≡◌, ◌⊎◌, ℕ, ◌+◌, true, Option, Some, None}
+use Rattle.std.specs.Prelude.{◌≡◌, ℕ, ◌+◌, true, Option, Some, None}
 use Rattle.petal_base.specs.declared.cell.Cell.{Cell}
 use Rattle.petal_base.specs.Cells.{cell_of}
 use Rattle.petal_msg.specs.declared.operation.Far.{Far}
@@ -11,19 +11,32 @@ use Rattle.petal_msg.specs.declared.operation.Stage.{Stage}
 use Rattle.petal_rules.specs.State.{State, is_lead}
 use Rattle.petal_rules.specs.Writes.{first_stage}
 
--- the stages that an operation rests in: it waits for its slot at the second server, or for the second server's copy
+-- the stages that an operation rests in: it waits for its slot at the second server; its block is marked, and it is to put;
+-- it has put, and waits for the second server's copy; the mark is gone, and it is to answer
 abbrev pub waiting : Stage
 waiting = first_stage
 
+abbrev pub putting : Stage
+putting = record first_stage { reserved = true; busy = true }
+
 abbrev pub copying : Stage
-copying = record first_stage { reserved = true; put = true }
+copying = record first_stage { reserved = true; busy = true; put = true }
+
+abbrev pub answering : Stage
+answering = record first_stage { reserved = true; put = true; paired = true }
+
+pub data AtRest (stage : Stage) : Type 0 where
+  Waiting : stage ≡ waiting → AtRest stage
+  Putting : stage ≡ putting → AtRest stage
+  Copying : stage ≡ copying → AtRest stage
+  Answering : stage ≡ answering → AtRest stage
 
 -- an operation that is pending on a cell at a server
 pub record IsStaged (state : State) (me : ℕ) (cell : Cell) (op : Pending) : Type 0 where
   pub own : op.cell ≡ cell
   pub keyed : cell_of op.key ≡ cell
   pub lead : is_lead state me cell ≡ true
-  pub stage : (op.stage ≡ waiting) ⊎ (op.stage ≡ copying)
+  pub stage : AtRest op.stage
 
 -- above the number of each request that is finished
 abbrev pub done_to : Option Finished → ℕ

@@ -21,7 +21,7 @@ abbrev pub IsRising : {K X : Type 0} → (K → K → Ordering) → Table K X �
 IsRising R [] = Unit {0}
 IsRising {K} {X} R (row ∷ rows) = ((other : K × X) → In other rows → R row.0 other.0 ≡ Less) × IsRising R rows
 
--- the operations that are pending at a server rest in one of two stages, each on its own cell, which the server leads
+-- the operations that are pending at a server rest in one of four stages, each on its own cell, which the server leads
 pub record IsReady (state : State) (me : ℕ) (pending : Table Cell Pending) : Type 0 where
   pub staged : (cell : Cell) (op : Pending) → at cell_cmp pending cell ≡ Some op → IsStaged state me cell op
   pub rising : IsRising cell_cmp pending

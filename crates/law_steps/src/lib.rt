@@ -22,9 +22,9 @@ pub fn what_is_chosen_is_steady()
     ensures { (script : Script) (records : List Record) → IsSound script → IsLegal script records → IsSteady (chosen_state (setting_of script) (world_after (setting_of script) (start (setting_of script)) records)) }
 {}
 
-/// After every legal history, what waits in a queue was sent to its server, and a pending operation rests in one of two
+/// After every legal history, what waits in a queue was sent to its server, and a pending operation rests in one of four
 /// stages, on a cell that its server leads: by what is chosen, and by the server's own state.
-pub fn operations_rest_in_two_stages()
+pub fn operations_rest_in_four_stages()
     ensures chosen { (script : Script) (records : List Record) → IsSound script → IsLegal script records → Ready (chosen_state (setting_of script) (world_after (setting_of script) (start (setting_of script)) records)) (world_after (setting_of script) (start (setting_of script)) records) }
     ensures own { (script : Script) (records : List Record) → IsSound script → IsLegal script records → Rests (setting_of script) (world_after (setting_of script) (start (setting_of script)) records) }
 {}

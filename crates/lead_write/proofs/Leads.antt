@@ -1,5 +1,5 @@
 -- What the lead does with the letters of its second server.
-use Rattle.std.proofs.Common.{◌≡◌, ℕ, Bool, true, false, not, ◌||◌, Some, Ok, refl, sym, ap, ◌∙◌, arith}
+use Rattle.std.proofs.Common.{◌≡◌, ℕ, Bool, true, false, not, Some, Ok, refl, sym, ap, ◌∙◌, arith}
 use Rattle.std.proofs.lemmas.Bool.Decides.{nat_tests}
 use Rattle.std.specs.Prelude.{if◌then◌else◌}
 use Rattle.std.specs.List.Sorted.{IsStrictlySortedBy}
@@ -18,7 +18,7 @@ use Rattle.server_store.specs.Holdings.{Holdings}
 use Rattle.server_store.specs.Tickets as lists
 use Rattle.kept_chains.specs.Kept.{store_of}
 use Rattle.pair_side.specs.declared.done.Done.{Done}
-use Rattle.pair_side.specs.Side.{Side, HasTicketsAt, needs_own, in_stages, own_of}
+use Rattle.pair_side.specs.Side.{Side, HasTicketsAt, needs_own, own_of}
 use Rattle.pair_side.specs.Done.{IsSaid}
 use Rattle.pair_side.proofs.Tickets as tickets
 
@@ -46,15 +46,10 @@ replicated_is here own number cell op is waits =
     ∙ ap (λ (b : Bool). if b then goes_on here (with_pending own (with_paired op)) op.cell else silent own) waits
     ∙ ap (goes_on_with here (with_pending own (with_paired op))) (cell_same own.pairs.pending op.cell (with_paired op)))
 
-not_put : (put reserved : Bool) → (not put || reserved) ≡ true → reserved ≡ false → put ≡ false
-not_put true reserved is waits = absurd (cc)
-not_put false reserved is waits = refl
-
--- an operation that waits for its slot at the second server has its own
+-- an operation whose copy is not put has its slot
 pub full_slot : {D : Type 0} (side : Side) (store : Holdings D) (op : Pending) → HasTicketsAt side store → at cell_cmp side.pending op.cell ≡ Some op
-    → op.stage.reserved ≡ false → (slot : ℕ) × (at cell_cmp side.own op.cell ≡ Some slot)
-full_slot side store op h there waits =
-    let unused = not_put op.stage.put op.stage.reserved (sym (ap in_stages there) ∙ h.stages op.cell) waits in
+    → op.stage.put ≡ false → (slot : ℕ) × (at cell_cmp side.own op.cell ≡ Some slot)
+full_slot side store op h there unused =
     tickets.own_slot side.pending side.last side.own side.apart store.tickets h op.cell (ap needs_own there ∙ ap not unused)
 
 -- the own part with nothing pending on a cell, and with this store

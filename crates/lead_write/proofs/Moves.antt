@@ -1,25 +1,32 @@
 -- What each stage of an operation leaves is what the rules say.
-use Rattle.std.proofs.Common.{◌≡◌, ℕ, ◌+◌, Bool, true, false, not, List, [], ◌∷◌, Option, Some, None, Ok, refl, sym, ap, ◌∙◌}
+use Rattle.std.proofs.Common.{◌≡◌, ℕ, ◌+◌, Bool, true, false, not, List, [], ◌∷◌, Option, Some, None, Ok, refl, sym, subst, ap, ◌∙◌}
 use Rattle.std.specs.Prelude.{if◌then◌else◌, IfSome}
 use Rattle.std.specs.List.Sorted.{IsStrictlySortedBy}
 use Rattle.std.specs.Map.{keys_of}
+use Rattle.busy_marks.specs.declared.marks.MarkKind.{MarkKind}
+use Rattle.busy_marks.specs.declared.marks.MarkKind.TheVariants.{Busy, Stale}
 use Rattle.petal_base.specs.declared.cell.Cell.{Cell}
+use Rattle.petal_disk.specs.declared.disk.Disk.{Ghosts}
 use Rattle.petal_table.specs.Table.{Table, at, put, without}
 use Rattle.petal_msg.specs.declared.operation.Action.TheVariants as action
 use Rattle.petal_msg.specs.declared.operation.Ending.TheVariants.{Written}
 use Rattle.petal_msg.specs.declared.operation.Pending.{Pending}
+use Rattle.petal_msg.specs.declared.operation.Stage.{Stage}
+use Rattle.petal_rules.specs.declared.job.Job.TheVariants as job
 use Rattle.petal_rules.specs.Server.{Own, Here, Post, silent, sender, letters_of}
+use Rattle.petal_rules.specs.Server.{Done as Rule}
 use Rattle.petal_rules.specs.Store.{Store, cell_cmp, chain_in, version_of, with_entry}
-use Rattle.petal_rules.specs.Writes.{acts, finishes, gives_back, goes_on, goes_on_with, next_stage, with_pending, without_pending}
+use Rattle.petal_rules.specs.Writes.{acts, finishes, gives_back, goes_on, goes_on_with, next_stage, with_flag, with_mark_at, with_pending, without_pending}
 use Rattle.petal_rules.proofs.CellTables.{cell_cmp_total}
-use Rattle.pair_lock.specs.Pairs.{staged, at_version, versioned}
+use Rattle.pair_lock.specs.Pairs.{staged, at_stage, at_version, versioned}
 use Rattle.server_store.specs.Holdings.{Holdings}
 use Rattle.server_store.specs.Tickets as lists
 use Rattle.kept_chains.specs.Kept.{chains_of, store_of}
+use Rattle.kept_chains.specs.Marking.{IsCommit}
 use Rattle.kept_chains.proofs.Puts.{put_over, put_same, without_put}
 use Rattle.pair_side.specs.declared.done.Done.{Done}
-use Rattle.pair_side.specs.Side.{Side, HasTickets, HasTicketsAt, needs_own, in_stages, own_of}
-use Rattle.pair_side.specs.Done.{IsBy, IsSaid, only}
+use Rattle.pair_side.specs.Side.{Side, HasTickets, HasTicketsAt, needs_own, own_of}
+use Rattle.pair_side.specs.Done.{IsBy, IsDone, IsSaid, only}
 use Rattle.pair_side.proofs.Tickets as tickets
 use Rattle.lead_write.specs.Moved.{IsMoved}
 
@@ -47,7 +54,7 @@ module _ {D : Type 0} (here : Here) (side : Side) (store : Holdings D) (op : Pen
       → IsSaid here side (record side { pending = new }) store store (Ok done) (record { own = with_pending (own_of side store) op; posts = posts; jobs = [] })
   waits_is new posts done table is = rw (table ∙ staged_is, is) (record {
     done = record { own = refl; letters = refl; jobs = refl };
-    keeps = tickets.kept_moved side.pending side.last side.own side.apart store.tickets h op.cell op m.order needs;
+    keeps = tickets.kept_moved side.pending side.last side.own side.apart store.tickets h op.cell op needs;
     err = tt;
     store = refl;
   })
@@ -141,16 +148,56 @@ module _ {D : Type 0} (here : Here) (side : Side) (store : Holdings D) (op : Pen
   pub puts_keeps : (new : Table Cell Pending) (own : Table Cell ℕ) (slot version : ℕ) (left : List ℕ)
       → new ≡ versioned side.pending op.cell version (record op.stage { put = true }) (at cell_cmp side.pending op.cell)
       → IsStrictlySortedBy cell_cmp (keys_of side.own) → at cell_cmp side.own op.cell ≡ Some slot → own ≡ without cell_cmp side.own op.cell
-      → left ≡ lists.without store.tickets slot → op.stage.reserved ≡ true → HasTickets new side.last own side.apart left
-  puts_keeps new own slot version left table sorted has gone less ready =
+      → left ≡ lists.without store.tickets slot → HasTickets new side.last own side.apart left
+  puts_keeps new own slot version left table sorted has gone less =
       rw (table ∙ put_is version, gone, less)
-      (tickets.kept_put side.pending side.last side.own side.apart store.tickets h op.cell (put_at version) slot sorted has refl ready)
+      (tickets.kept_put side.pending side.last side.own side.apart store.tickets h op.cell (put_at version) slot sorted has refl)
+
+  -- an operation whose mark is set or taken away has its copy put or not as before
+  flag_put : (stage : Stage) (kind : MarkKind) (is : Bool) → (with_flag stage kind is).put ≡ stage.put
+  flag_put stage Busy is = refl
+  flag_put stage Stale is = refl
+
+  flagged_is : (kind : MarkKind) (is : Bool)
+      → staged side.pending op.cell (with_flag op.stage kind is) (at cell_cmp side.pending op.cell) ≡ put cell_cmp side.pending op.cell (with_mark_at op kind is)
+  flagged_is kind is =
+      ap (staged side.pending op.cell (with_flag op.stage kind is)) m.there
+      ∙ ap (λ (o : Pending). put cell_cmp side.pending op.cell (at_stage o (with_flag op.stage kind is))) m.moved
+
+  -- the own part with the operation's mark set or taken away, and with this store
+  abbrev pub flagged : MarkKind → Bool → Store → Rule
+  flagged kind is kept = record {
+    own = with_pending (record (with_pending (own_of side store) op) { store = kept }) (with_mark_at op kind is);
+    posts = [];
+    jobs = job.Stage op.cell ∷ [];
+  }
+
+  pub flags_done : {T : Type 0} (device : Ghosts D) (kind : MarkKind) (is : Bool) (new : Table Cell Pending) (after : Holdings D) (kept : Store) (t : T) (done : Done)
+      → new ≡ staged side.pending op.cell (with_flag op.stage kind is) (at cell_cmp side.pending op.cell)
+      → IsCommit device store after (Ok t) kept → done ≡ record { letters = []; follow = Some op.cell }
+      → IsDone device here side (record side { pending = new }) store after (Ok done) (flagged kind is kept)
+  flags_done device kind is new after kept t done table commit said = rw (table ∙ flagged_is kind is, said) (record {
+    done = λ told. record {
+      own = ap (put_own (put cell_cmp side.pending op.cell (with_mark_at op kind is))) (commit.done told)
+          ∙ ap (λ (t : Table Cell Pending). put_own t kept) (sym (put_over cell_cmp cell_cmp_total side.pending op.cell op (with_mark_at op kind is)));
+      letters = refl;
+      jobs = refl;
+    };
+    keeps = subst (HasTickets (put cell_cmp side.pending op.cell (with_mark_at op kind is)) side.last side.own side.apart) (sym commit.tickets)
+        (tickets.kept_moved side.pending side.last side.own side.apart store.tickets h op.cell (with_mark_at op kind is) (needs ∙ ap not (sym (flag_put op.stage kind is))));
+    holds = commit.holds;
+    still = λ no. absurd (cc);
+    same = λ no. absurd (cc);
+    kept = tt;
+    full = λ no. absurd (cc);
+    cause = record { later = commit.cause.later; failed = λ no. absurd (cc) };
+    run = commit.run;
+  })
 
 -- an operation that no letter has moved on
 pub not_moved : (pending : Table Cell Pending) (cell : Cell) (op : Pending) → at cell_cmp pending cell ≡ Some op → op.cell ≡ cell
-    → in_stages (at cell_cmp pending cell) ≡ true → IsMoved pending op
-not_moved pending cell op is at_cell order =
-    record { was = op; there = ap (at cell_cmp pending) at_cell ∙ is; moved = refl; put = refl; order = sym (ap in_stages is) ∙ order }
+    → IsMoved pending op
+not_moved pending cell op is at_cell = record { was = op; there = ap (at cell_cmp pending) at_cell ∙ is; moved = refl; put = refl }
 
 pub goes_some : (here : Here) (own : Own) (cell : Cell) (op : Pending) → IsStrictlySortedBy cell_cmp (keys_of own.pairs.pending)
     → at cell_cmp own.pairs.pending cell ≡ Some op → op.cell ≡ cell

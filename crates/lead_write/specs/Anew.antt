@@ -1,5 +1,5 @@
 -- What a tick sends again.
-use Rattle.std.specs.Prelude.{ℕ, List, [], ◌∷◌, Option, None, Some}
+use Rattle.std.specs.Prelude.{ℕ, List, [], Option, None, Some}
 use Rattle.petal_msg.specs.declared.body.Body.{Body}
 use Rattle.petal_rules.specs.Server.{Post, post_to}
 

@@ -1,3 +1,4 @@
 pub mod Moved
+pub mod Opened
 pub mod Wanted
 pub mod Anew

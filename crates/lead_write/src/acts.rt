@@ -9,7 +9,7 @@ ghost use Rattle.pair_side.specs.Done.{HasVersions, IsDone, IsSaid};
 ghost use Rattle.lead_write.specs.Moved.{IsMoved};
 
 use crate::stage::next_stage;
-use crate::stages::{answers, drops, puts, waits};
+use crate::stages::{answers, drops, marks, puts, unmarks, waits};
 use pair_side::{Done, Here, Side, WorkError, silent};
 use petal_base::Cell;
 use petal_disk::Disk;
@@ -59,14 +59,16 @@ pub fn acts<D: Disk>(
             };
             waits(here, side, store, op, body)
         }
+        Action::Mark(kind) => marks(here, side, store, op, kind),
         Action::Put => puts(here, side, store, op),
         Action::Replicate => replicates(here, side, store, op),
+        Action::Unmark(kind) => unmarks(here, side, store, op, kind),
         Action::Answer => answers(here, side, store, op),
         Action::Drop => Ok(drops(here, side, store, op)),
     }
 }
 
-/// The operation that is pending on the cell does its next stage, with at most one put.
+/// The operation that is pending on the cell does its next stage, with at most one commit to the store.
 ///
 /// # Errors
 /// `NoMemory`, and then nothing changed; `Failed` where the device failed, and `JournalFull` only where the store's journal had

@@ -34,7 +34,8 @@ fn awaited(here: &Here, op: &Pending) -> Result<Option<(ServerId, Body)>, NoMemo
             Ok(Some((to, body)))
         }
         (Action::Reserve | Action::Replicate, None)
-        | (Action::Put | Action::Answer | Action::Drop, _) => Ok(None),
+        | (Action::Mark(_) | Action::Put | Action::Unmark(_) | Action::Answer | Action::Drop, _) =>
+            Ok(None),
     }
 }
 

@@ -30,7 +30,7 @@ fn with_paired(mut op: Pending) -> Pending
     op
 }
 
-/// The second server has set its slot apart.
+/// The second server has set its slot apart: the block is marked next.
 ///
 /// # Errors
 /// As of [`goes_on`](crate::goes_on).
@@ -64,7 +64,7 @@ fn ends_full<D: Disk>(
 ) -> Result<Done, WorkError>
     requires tickets { HasTicketsAt side.old store.old }
     requires there { at cell_cmp side.old.pending op.now.cell ≡ Some op.now }
-    requires waits { op.now.stage.reserved ≡ false }
+    requires unused { op.now.stage.put ≡ false }
     ensures { IsSaid here.now side.old side.new store.old store.new result
         (writes.finishes (writes.gives_back (writes.without_pending (own_of side.old store.old) op.now.cell)) op.now.client op.now.seq ending.Full) }
 {
@@ -74,7 +74,7 @@ fn ends_full<D: Disk>(
     Ok(done)
 }
 
-/// Only an operation that still waits for its reservation is refused.
+/// Only an operation that still waits for its reservation is refused; one whose copy is put goes on.
 ///
 /// # Errors
 /// Out of memory, which changed nothing.
@@ -90,14 +90,14 @@ pub fn on_pair_full<D: Disk>(
     ensures { IsSaid here.now side.old side.new store.old store.new result (writes.on_pair_full (own_of side.old store.old) op cell) }
 {
     match side.pending_on(cell)? {
-        Some(pending) if pending.op == op && !pending.stage.reserved => {
+        Some(pending) if pending.op == op && !pending.stage.reserved && !pending.stage.put => {
             ends_full(here, side, store, &pending)
         }
         _ => silent(here, side, store),
     }
 }
 
-/// The second server has put its copy.
+/// The second server has put its copy: the block's mark is taken away next.
 ///
 /// # Errors
 /// As of [`goes_on`](crate::goes_on).

@@ -1,6 +1,6 @@
 //! The stages of an operation at its lead.
 
-ghost use Rattle.std.specs.Prelude.{◌≡◌, true, false, Ok, Err};
+ghost use Rattle.std.specs.Prelude.{◌≡◌, [], true, false, Some, Ok, Err};
 ghost use Rattle.petal_rules.specs.Server as rules;
 ghost use Rattle.petal_rules.specs.State.{second};
 ghost use Rattle.petal_rules.specs.Writes as writes;
@@ -10,9 +10,10 @@ ghost use Rattle.pair_side.specs.Side.{own_of, HasTicketsAt};
 ghost use Rattle.pair_side.specs.Done.{HasVersions, IsDone, IsSaid};
 ghost use Rattle.lead_write.specs.Moved.{IsMoved};
 
-use kept_chains::next_version;
+use busy_marks::MarkKind;
+use kept_chains::{mark, next_version, unmark};
 use pair_side::{Done, Here, Side, WorkError, finishes, give_back, only, spend};
-use petal_base::Sequence;
+use petal_base::{Cell, Sequence};
 use petal_disk::Disk;
 use petal_msg::{Body, Ending, Pending, Stage};
 use server_store::Store;
@@ -68,6 +69,68 @@ pub fn drops<D: Disk>(here: &Here, side: &mut Side, store: &mut Store<D>, op: &P
     only(Sequence::new(here.alloc()))
 }
 
+/// No letter is sent, and the next stage is a job of its own.
+fn follows_up(here: &Here, cell: Cell) -> Done
+    ensures { result ≡ record { letters = []; follow = Some cell } }
+{
+    Done {
+        letters: Sequence::new(here.alloc()),
+        follow: Some(cell),
+    }
+}
+
+fn with_flag(stage: &Stage, kind: MarkKind, is: bool) -> Stage
+    ensures { result ≡ writes.with_flag stage.now kind is }
+{
+    match kind {
+        MarkKind::Busy => Stage { busy: is, ..*stage },
+        MarkKind::Stale => Stage {
+            stale: is,
+            ..*stage
+        },
+    }
+}
+
+/// The block is marked.
+pub fn marks<D: Disk>(
+    here: &Here,
+    side: &mut Side,
+    store: &mut Store<D>,
+    op: &Pending,
+    kind: MarkKind,
+) -> Result<Done, WorkError>
+    requires tickets { HasTicketsAt side.old store.old }
+    requires moved { IsMoved side.old.pending op.now }
+    ensures job { IsDone D.Disk here.now side.old side.new store.old store.new result
+        (writes.acts here.now (writes.with_pending (own_of side.old store.old) op.now) op.now (action.Mark kind)) }
+    ensures same { result ≡ Err error.NoMemory → store.new ≡ store.old }
+{
+    mark(store, kind, op.cell)?;
+    side.locks
+        .set_stage(op.cell, with_flag(&op.stage, kind, true));
+    Ok(follows_up(here, op.cell))
+}
+
+/// The block's mark is taken away.
+pub fn unmarks<D: Disk>(
+    here: &Here,
+    side: &mut Side,
+    store: &mut Store<D>,
+    op: &Pending,
+    kind: MarkKind,
+) -> Result<Done, WorkError>
+    requires tickets { HasTicketsAt side.old store.old }
+    requires moved { IsMoved side.old.pending op.now }
+    ensures job { IsDone D.Disk here.now side.old side.new store.old store.new result
+        (writes.acts here.now (writes.with_pending (own_of side.old store.old) op.now) op.now (action.Unmark kind)) }
+    ensures same { result ≡ Err error.NoMemory → store.new ≡ store.old }
+{
+    unmark(store, kind, op.cell)?;
+    side.locks
+        .set_stage(op.cell, with_flag(&op.stage, kind, false));
+    Ok(follows_up(here, op.cell))
+}
+
 fn put_stage(stage: &Stage) -> Stage
     ensures { result ≡ record stage.now { put = true } }
 {
@@ -77,7 +140,7 @@ fn put_stage(stage: &Stage) -> Stage
     }
 }
 
-/// The lead puts its own copy, with the version after that of its chain; the next stage is a job of its own.
+/// The lead puts its own copy, with the version after that of its chain.
 pub fn puts<D: Disk>(
     here: &Here,
     side: &mut Side,
@@ -88,7 +151,6 @@ pub fn puts<D: Disk>(
     requires versions { HasVersions store.old }
     requires moved { IsMoved side.old.pending op.now }
     requires put { op.now.stage.put ≡ false }
-    requires reserved { op.now.stage.reserved ≡ true }
     ensures job { IsDone D.Disk here.now side.old side.new store.old store.new result
         (writes.acts here.now (writes.with_pending (own_of side.old store.old) op.now) op.now action.Put) }
     ensures same { result ≡ Err error.NoMemory → store.new ≡ store.old }
@@ -96,8 +158,5 @@ pub fn puts<D: Disk>(
     let version = next_version(store, op.cell);
     spend(&mut side.own, store, op.cell, op.key, version, &op.bytes)?;
     side.locks.set_put(op.cell, version, put_stage(&op.stage));
-    Ok(Done {
-        letters: Sequence::new(here.alloc()),
-        follow: Some(op.cell),
-    })
+    Ok(follows_up(here, op.cell))
 }

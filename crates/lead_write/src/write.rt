@@ -1,25 +1,25 @@
 //! A client's write at the lead.
 
-ghost use Rattle.std.specs.Prelude.{◌≡◌, ◌+◌, nat_lt, true, None, IfOk, OnErr, OnOk};
-ghost use Rattle.petal_table.specs.Table.{at, put};
-ghost use Rattle.petal_rules.specs.Server.{letters_of, post_to, sender};
-ghost use Rattle.petal_rules.specs.State.{is_lead, second};
+ghost use Rattle.std.specs.Prelude.{◌≡◌, ◌+◌, ℕ, nat_lt, true, false, Some, None, Err, IsSome, IfOk, OnErr, OnOk};
+ghost use Rattle.petal_table.specs.Table.{at, put, without};
 ghost use Rattle.petal_rules.specs.Store.{cell_cmp, free_of};
 ghost use Rattle.petal_rules.specs.Writes as writes;
-ghost use Rattle.petal_msg.specs.declared.body.Body.TheVariants as body;
+ghost use Rattle.server_store.specs.Tickets as lists;
 ghost use Rattle.kept_chains.specs.Kept.{store_of};
+ghost use Rattle.pair_side.specs.declared.error.WorkError.TheVariants as error;
 ghost use Rattle.pair_side.specs.Side.{own_of, HasTicketsAt};
-ghost use Rattle.pair_side.specs.Done.{IsSaid};
+ghost use Rattle.pair_side.specs.Done.{HasVersions, IsDone};
+ghost use Rattle.pair_side.specs.Slots.{IsOutAt};
+ghost use Rattle.lead_write.specs.Opened.{IsOpened};
 ghost use Rattle.lead_write.specs.Wanted.{wanted};
 
+use crate::acts::goes_on;
 use global_state::Hold;
 use pair_lock::{OpKind, PairLock, Pending, Stage};
-use pair_side::{
-    Done, Here, Side, WorkError, ended, finishes, give_back, keep, only, says, silent,
-};
-use petal_base::{Cell, ClientId, Epoch, Key, NoMemory, Op, Seq, Sequence, SharedBlock};
+use pair_side::{Done, Here, Side, WorkError, ended, finishes, give_back, keep, says, silent};
+use petal_base::{Cell, ClientId, Epoch, Key, NoMemory, Op, Seq, SharedBlock};
 use petal_disk::Disk;
-use petal_msg::{Actor, Body, Ending, Letter};
+use petal_msg::{Actor, Body, Ending};
 use server_store::Store;
 
 /// A client's write, as its letter has it.
@@ -82,7 +82,7 @@ fn is_pending_for(side: &Side, want: &Wanted) -> bool
 }
 
 /// The write's operation is pending from now on, and the next one has the number after its own.
-fn begins(here: &Here, next: &mut Op, locks: &mut PairLock, want: &Wanted) -> Result<(), NoMemory>
+fn pends(here: &Here, next: &mut Op, locks: &mut PairLock, want: &Wanted) -> Result<(), NoMemory>
     requires { at cell_cmp locks.old want.now.cell ≡ None }
     ensures ok { OnOk result (locks.new ≡ put cell_cmp locks.old want.now.cell (writes.operation here.now next.old (wanted want.now))) }
     ensures next { OnOk result (next.new ≡ next.old + 1) }
@@ -99,32 +99,46 @@ fn begins(here: &Here, next: &mut Op, locks: &mut PairLock, want: &Wanted) -> Re
     }
 }
 
-/// The write's operation is opened, and the second server is asked for a slot.
-fn asks(
+/// The write's operation is opened, with a slot of its own; false where no slot is free.
+fn begins<D: Disk>(
     here: &Here,
-    next: &mut Op,
-    locks: &mut PairLock,
+    side: &mut Side,
+    store: &mut Store<D>,
     want: &Wanted,
-) -> Result<Sequence<Letter>, NoMemory>
-    requires { at cell_cmp locks.old want.now.cell ≡ None }
-    ensures letters { IfOk result (λ letters. letters
-        ≡ letters_of (sender here.now) 0 (post_to (second here.now.state want.now.cell) (body.Reserve next.old want.now.cell))) }
-    ensures ok { OnOk result (locks.new ≡ put cell_cmp locks.old want.now.cell (writes.operation here.now next.old (wanted want.now))) }
-    ensures next { OnOk result (next.new ≡ next.old + 1) }
-    ensures err { OnErr result ((locks.new ≡ locks.old) × (next.new ≡ next.old)) }
+) -> Result<bool, NoMemory>
+    requires tickets { HasTicketsAt side.old store.old }
+    requires none { at cell_cmp side.old.pending want.now.cell ≡ None }
+    ensures room { IfOk result (λ begun. begun ≡ nat_lt 0 (free_of (store_of store.old))) }
+    ensures yes { IfOk result (λ begun. begun ≡ true → IsOpened here.now (wanted want.now) side.old side.new store.old store.new) }
+    ensures no { IfOk result (λ begun. begun ≡ false → (side.new ≡ side.old) × (store.new ≡ store.old)) }
+    ensures err { OnErr result ((side.new ≡ side.old) × (store.new ≡ store.old)) }
 {
-    let body = Body::Reserve {
-        op: *next,
-        cell: want.cell,
-    };
-    let letters = here.says_to(here.second(want.cell), body)?;
-    match begins(here, next, locks, want) {
-        Ok(()) => Ok(letters),
-        Err(NoMemory) => Err(NoMemory),
+    if !keep(&mut side.own, store, want.cell)? {
+        return Ok(false);
+    }
+    match pends(here, &mut side.next, &mut side.locks, want) {
+        Ok(()) => Ok(true),
+        Err(NoMemory) => {
+            give_back(&mut side.own, store, want.cell);
+            Err(NoMemory)
+        }
     }
 }
 
-/// A write that is neither finished nor pending gets a slot, and its operation is opened; where no slot is free it ends.
+/// An operation that was just opened is not: its number is free again, and so is its slot.
+fn takes_back<D: Disk>(side: &mut Side, store: &mut Store<D>, cell: Cell, number: Op)
+    requires some { IsSome (at cell_cmp side.old.own cell) }
+    requires out { IsOutAt side.old.own cell store.old.tickets }
+    ensures side { side.new ≡ record side.old { next = number; pending = without cell_cmp side.old.pending cell; own = without cell_cmp side.old.own cell } }
+    ensures store { (slot : ℕ) → at cell_cmp side.old.own cell ≡ Some slot → store.new ≡ record store.old { tickets = lists.without store.old.tickets slot } }
+{
+    side.next = number;
+    side.locks.close(cell);
+    give_back(&mut side.own, store, cell);
+}
+
+/// A write that is neither finished nor pending gets a slot, and its operation is opened and does its first stage; where no slot
+/// is free it ends.
 fn opens<D: Disk>(
     here: &Here,
     side: &mut Side,
@@ -132,20 +146,22 @@ fn opens<D: Disk>(
     want: &Wanted,
 ) -> Result<Done, WorkError>
     requires tickets { HasTicketsAt side.old store.old }
-    requires lead { is_lead here.now.state here.now.me want.now.cell ≡ true }
+    requires versions { HasVersions store.old }
     requires none { at cell_cmp side.old.pending want.now.cell ≡ None }
-    ensures { IsSaid here.now side.old side.new store.old store.new result
+    ensures job { IsDone D.Disk here.now side.old side.new store.old store.new result
         (writes.opens here.now (own_of side.old store.old) (wanted want.now) (nat_lt 0 (free_of (store_of store.old)))) }
+    ensures same { result ≡ Err error.NoMemory → store.new ≡ store.old }
 {
-    if !keep(&mut side.own, store, want.cell)? {
+    let number = side.next;
+    if !begins(here, side, store, want)? {
         return finishes(here, side, store, want.client, want.seq, Ending::Full);
     }
-    match asks(here, &mut side.next, &mut side.locks, want) {
-        Ok(letters) => Ok(only(letters)),
-        Err(NoMemory) => {
-            give_back(&mut side.own, store, want.cell);
+    match goes_on(here, side, store, want.cell) {
+        Err(WorkError::NoMemory) => {
+            takes_back(side, store, want.cell, number);
             Err(WorkError::NoMemory)
         }
+        done => done,
     }
 }
 
@@ -157,9 +173,10 @@ fn takes_newer<D: Disk>(
     want: &Wanted,
 ) -> Result<Done, WorkError>
     requires tickets { HasTicketsAt side.old store.old }
-    requires lead { is_lead here.now.state here.now.me want.now.cell ≡ true }
-    ensures { IsSaid here.now side.old side.new store.old store.new result
+    requires versions { HasVersions store.old }
+    ensures job { IsDone D.Disk here.now side.old side.new store.old store.new result
         (writes.takes here.now (own_of side.old store.old) (wanted want.now) writes.Newer) }
+    ensures same { result ≡ Err error.NoMemory → store.new ≡ store.old }
 {
     if is_pending_for(side, want) {
         return silent(here, side, store);
@@ -177,7 +194,7 @@ fn takes_newer<D: Disk>(
 /// A write is taken by the cell's lead, once.
 ///
 /// # Errors
-/// Out of memory, which changed nothing.
+/// As of [`goes_on`](crate::goes_on).
 #[tactic(auto, unfolding(petal_rules::specs::Writes::on_write))]
 pub fn on_write<D: Disk>(
     here: &Here,
@@ -186,7 +203,10 @@ pub fn on_write<D: Disk>(
     want: &Wanted,
 ) -> Result<Done, WorkError>
     requires tickets { HasTicketsAt side.old store.old }
-    ensures { IsSaid here.now side.old side.new store.old store.new result (writes.on_write here.now (own_of side.old store.old) (wanted want.now)) }
+    requires versions { HasVersions store.old }
+    ensures job { IsDone D.Disk here.now side.old side.new store.old store.new result
+        (writes.on_write here.now (own_of side.old store.old) (wanted want.now)) }
+    ensures same { result ≡ Err error.NoMemory → store.new ≡ store.old }
 {
     if !here.is_lead(want.cell) {
         return silent(here, side, store);

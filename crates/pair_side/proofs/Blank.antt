@@ -6,7 +6,7 @@ use Rattle.pair_side.specs.Side.{Side, HasTickets, HasTicketsAt, new_side}
 
 no_tickets : HasTickets [] [] [] [] []
 unfolding at
-no_tickets = record { out = λ slot. refl; owned = λ cell. refl; stages = λ cell. refl; kept = λ cell. refl }
+no_tickets = record { out = λ slot. refl; owned = λ cell. refl; kept = λ cell. refl }
 
 pub blank : {D : Type 0} (side : Side) (store : Holdings D) → side ≡ new_side → store.tickets ≡ [] → HasTicketsAt side store
 blank side store new out =

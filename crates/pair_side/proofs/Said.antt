@@ -1,11 +1,11 @@
 -- A job without a call of the device is one that may have made one.
-use Rattle.std.proofs.Common.{◌≡◌, ℕ, List, Result, Ok, Err, refl, sym, subst, ap, ◌∙◌, arith}
+use Rattle.std.proofs.Common.{◌≡◌, Result, Ok, Err, refl, sym, subst, ap, ◌∙◌, arith}
 use Rattle.petal_disk.specs.declared.disk.Disk.{Ghosts}
 use Rattle.petal_rules.specs.Server.{Here}
 use Rattle.petal_rules.specs.Server as rules
 use Rattle.server_store.specs.Holdings.{Holdings}
 use Rattle.pair_side.specs.declared.error.WorkError.{WorkError}
-use Rattle.pair_side.specs.declared.error.WorkError.TheVariants.{Failed, JournalFull, NoMemory}
+use Rattle.pair_side.specs.declared.error.WorkError.TheVariants.{NoMemory}
 use Rattle.pair_side.specs.declared.done.Done.{Done}
 use Rattle.pair_side.specs.Side.{Side}
 use Rattle.pair_side.specs.Done.{HoldsAt, IsSaid, IsDone}

@@ -1,9 +1,8 @@
 -- What changes of the tables do to the tickets.
-use Rattle.std.proofs.Common.{◌≡◌, ◌≢◌, ◌⊎◌, inl, inr, ℕ, zero, suc, length-append, ◌==◌, ◌||◌, ◌+◌, ◌-◌, ◌≤◌, ◌<◌, Bool, true, false, not, cond, List, [], ◌∷◌, ◌++◌, length, Option, Some, None, is_some, refl, sym, subst, ap, ◌∙◌, arith}
-use Rattle.std.proofs.lemmas.Bool.{cases_Bool, cases_eq}
+use Rattle.std.proofs.Common.{◌≡◌, inl, inr, ℕ, zero, suc, length-append, ◌==◌, ◌+◌, ◌-◌, ◌≤◌, Bool, true, false, not, cond, List, [], ◌∷◌, ◌++◌, length, Option, Some, None, is_some, refl, sym, subst, ap, ◌∙◌, arith}
+use Rattle.std.proofs.lemmas.Bool.{cases_Bool}
 use Rattle.std.proofs.lemmas.Bool.Decides.{nat_tests}
 use Rattle.std.specs.List.{Contains}
-use Rattle.std.specs.declared.cmp.Ordering.{Ordering}
 use Rattle.std.specs.declared.cmp.Ordering.TheVariants.{Less, Equal, Greater}
 use Rattle.std.specs.Ordering.{is_eq, match_ordering}
 use Rattle.std.specs.List.Sorted.{IsStrictlySortedBy}
@@ -26,7 +25,7 @@ use Rattle.kept_chains.specs.Kept.{chains_of, store_of}
 use Rattle.kept_chains.proofs.Kept.{placed_is}
 use Rattle.server_store.specs.Tickets as store
 use Rattle.kept_chains.proofs.Chains.{cell_cases}
-use Rattle.pair_side.specs.Side.{HasTickets, times, needs_own, needs_apart, in_stages}
+use Rattle.pair_side.specs.Side.{HasTickets, times, needs_own, needs_apart}
 
 -- 1 where the numbers are the same
 abbrev pub one_at : ℕ → ℕ → ℕ
@@ -168,25 +167,11 @@ module _ (pending : Table Cell Pending) (last : Table Cell LastOp) (own apart : 
   pub apart_none : (cell : Cell) → needs_apart (at cell_cmp last cell) ≡ false → at cell_cmp apart cell ≡ None
   apart_none cell needs = none_by (at cell_cmp apart cell) (h.kept cell ∙ needs)
 
-  stages_put : (cell : Cell) (op : Pending) → in_stages (Some op) ≡ true → (q : Cell) → in_stages (at cell_cmp (put cell_cmp pending cell op) q) ≡ true
-  stages_put cell op order q = elim (cell_cases q cell) [
-    | inl is ↦ subst (λ (c : Cell). in_stages (at cell_cmp (put cell_cmp pending cell op) c) ≡ true) (sym is)
-        (ap in_stages (cell_same pending cell op) ∙ order)
-    | inr ne ↦ ap in_stages (cell_apart pending cell op q ne) ∙ h.stages q
-  ]
-
-  stages_gone : (cell : Cell) → (q : Cell) → in_stages (at cell_cmp (without cell_cmp pending cell) q) ≡ true
-  stages_gone cell q = elim (cell_cases q cell) [
-    | inl is ↦ subst (λ (c : Cell). in_stages (at cell_cmp (without cell_cmp pending cell) c) ≡ true) (sym is) (ap in_stages (cell_gone pending cell))
-    | inr ne ↦ ap in_stages (cell_gone_apart pending cell q ne) ∙ h.stages q
-  ]
-
   -- what is pending on a cell is another operation, whose copy is put or not as it was
-  pub kept_moved : (cell : Cell) (op : Pending) → in_stages (Some op) ≡ true → needs_own (at cell_cmp pending cell) ≡ not op.stage.put
+  pub kept_moved : (cell : Cell) (op : Pending) → needs_own (at cell_cmp pending cell) ≡ not op.stage.put
       → HasTickets (put cell_cmp pending cell op) last own apart tickets
-  kept_moved cell op order same = record {
+  kept_moved cell op same = record {
     out = h.out;
-    stages = stages_put cell op order;
     owned = λ q. elim (cell_cases q cell) [
       | inl is ↦ subst (λ (c : Cell). is_some (at cell_cmp own c) ≡ needs_own (at cell_cmp (put cell_cmp pending cell op) c)) (sym is)
           (h.owned cell ∙ same ∙ sym (ap needs_own (cell_same pending cell op)))
@@ -199,7 +184,6 @@ module _ (pending : Table Cell Pending) (last : Table Cell LastOp) (own apart : 
   pub kept_opened : (cell : Cell) (op : Pending) (slot : ℕ) → at cell_cmp own cell ≡ None → op.stage.put ≡ false
       → HasTickets (put cell_cmp pending cell op) last (put cell_cmp own cell slot) apart (tickets ++ slot ∷ [])
   kept_opened cell op slot none new = record {
-    stages = stages_put cell op (ap (λ (b : Bool). not b || op.stage.reserved) new);
     out = λ n.
         let all = h.out n in
         let more = times_append n slot tickets in
@@ -223,10 +207,9 @@ module _ (pending : Table Cell Pending) (last : Table Cell LastOp) (own apart : 
 
   -- the operation's copy is put in its slot
   pub kept_put : (cell : Cell) (op : Pending) (slot : ℕ) → IsStrictlySortedBy cell_cmp (keys_of own) → at cell_cmp own cell ≡ Some slot
-      → op.stage.put ≡ true → op.stage.reserved ≡ true
+      → op.stage.put ≡ true
       → HasTickets (put cell_cmp pending cell op) last (without cell_cmp own cell) apart (store.without tickets slot)
-  kept_put cell op slot sorted is done reserved = record {
-    stages = stages_put cell op (ap (λ (b : Bool). not b || op.stage.reserved) done ∙ reserved);
+  kept_put cell op slot sorted is done = record {
     out = out_spent cell slot sorted is;
     owned = λ q. elim (cell_cases q cell) [
       | inl same ↦ subst (λ (c : Cell). is_some (at cell_cmp (without cell_cmp own cell) c) ≡ needs_own (at cell_cmp (put cell_cmp pending cell op) c)) (sym same)
@@ -239,7 +222,6 @@ module _ (pending : Table Cell Pending) (last : Table Cell LastOp) (own apart : 
   -- an operation ends whose slot is used
   pub kept_closed : (cell : Cell) → needs_own (at cell_cmp pending cell) ≡ false → HasTickets (without cell_cmp pending cell) last own apart tickets
   kept_closed cell done = record {
-    stages = stages_gone cell;
     out = h.out;
     owned = λ q. elim (cell_cases q cell) [
       | inl same ↦ subst (λ (c : Cell). is_some (at cell_cmp own c) ≡ needs_own (at cell_cmp (without cell_cmp pending cell) c)) (sym same)
@@ -253,7 +235,6 @@ module _ (pending : Table Cell Pending) (last : Table Cell LastOp) (own apart : 
   pub kept_dropped : (cell : Cell) (slot : ℕ) → IsStrictlySortedBy cell_cmp (keys_of own) → at cell_cmp own cell ≡ Some slot
       → HasTickets (without cell_cmp pending cell) last (without cell_cmp own cell) apart (store.without tickets slot)
   kept_dropped cell slot sorted is = record {
-    stages = stages_gone cell;
     out = out_spent cell slot sorted is;
     owned = λ q. elim (cell_cases q cell) [
       | inl same ↦ subst (λ (c : Cell). is_some (at cell_cmp (without cell_cmp own cell) c) ≡ needs_own (at cell_cmp (without cell_cmp pending cell) c)) (sym same)
@@ -267,7 +248,6 @@ module _ (pending : Table Cell Pending) (last : Table Cell LastOp) (own apart : 
   pub kept_last : (cell : Cell) (op : LastOp) → needs_apart (at cell_cmp last cell) ≡ has_slot op.far
       → HasTickets pending (put cell_cmp last cell op) own apart tickets
   kept_last cell op same = record {
-    stages = h.stages;
     out = h.out;
     owned = h.owned;
     kept = λ q. elim (cell_cases q cell) [
@@ -281,7 +261,6 @@ module _ (pending : Table Cell Pending) (last : Table Cell LastOp) (own apart : 
   pub kept_apart : (cell : Cell) (op : LastOp) (slot : ℕ) → at cell_cmp apart cell ≡ None → has_slot op.far ≡ true
       → HasTickets pending (put cell_cmp last cell op) own (put cell_cmp apart cell slot) (tickets ++ slot ∷ [])
   kept_apart cell op slot none new = record {
-    stages = h.stages;
     out = λ n.
         let all = h.out n in
         let more = times_append n slot tickets in
@@ -299,7 +278,6 @@ module _ (pending : Table Cell Pending) (last : Table Cell LastOp) (own apart : 
   pub kept_followed : (cell : Cell) (op : LastOp) (slot : ℕ) → IsStrictlySortedBy cell_cmp (keys_of apart) → at cell_cmp apart cell ≡ Some slot
       → has_slot op.far ≡ false → HasTickets pending (put cell_cmp last cell op) own (without cell_cmp apart cell) (store.without tickets slot)
   kept_followed cell op slot sorted is used = record {
-    stages = h.stages;
     out = λ n.
         let all = h.out n in
         let less = times_less n slot tickets (apart_counted cell slot is) in

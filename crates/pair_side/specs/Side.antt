@@ -1,5 +1,5 @@
 -- One server's side of its pairs, and the tickets that are out for it.
-use Rattle.std.specs.Prelude.{◌≡◌, ℕ, ◌+◌, ◌==◌, ◌||◌, not, Bool, true, false, List, [], ◌∷◌, if◌then◌else◌, is_some, Option, None, Some}
+use Rattle.std.specs.Prelude.{◌≡◌, ℕ, ◌+◌, ◌==◌, not, Bool, false, List, [], ◌∷◌, if◌then◌else◌, is_some, Option, None, Some}
 use Rattle.std.specs.Map.{values_of}
 use Rattle.petal_base.specs.declared.cell.Cell.{Cell}
 use Rattle.petal_table.specs.Table.{Table, at}
@@ -49,16 +49,10 @@ abbrev pub needs_apart : Option LastOp → Bool
 needs_apart None = false
 needs_apart (Some last) = has_slot last.far
 
--- a copy is put only after a slot was set apart at the second server
-abbrev pub in_stages : Option Pending → Bool
-in_stages None = true
-in_stages (Some op) = not op.stage.put || op.stage.reserved
-
--- the tickets that are out are those of the two tables, each stands where it is needed, and stages are done in their order
+-- the tickets that are out are those of the two tables, and each stands where it is needed
 pub record HasTickets (pending : Table Cell Pending) (last : Table Cell LastOp) (own apart : Table Cell ℕ) (tickets : List ℕ) : Type 0 where
   pub out : (slot : ℕ) → times slot tickets ≡ times slot (values_of own) + times slot (values_of apart)
   pub owned : (cell : Cell) → is_some (at cell_cmp own cell) ≡ needs_own (at cell_cmp pending cell)
-  pub stages : (cell : Cell) → in_stages (at cell_cmp pending cell) ≡ true
   pub kept : (cell : Cell) → is_some (at cell_cmp apart cell) ≡ needs_apart (at cell_cmp last cell)
 
 -- so it is of this side and this store

@@ -1,6 +1,7 @@
 //! Why a job was not done.
 
 use petal_base::NoMemory;
+use server_store::StoreError;
 use thiserror::Error;
 
 /// Why a job was not done.
@@ -25,5 +26,22 @@ impl From<NoMemory> for WorkError {
 
     fn from(_error: NoMemory) -> WorkError {
         WorkError::NoMemory
+    }
+}
+
+impl From<StoreError> for WorkError {
+    ghost use Rattle.std.specs.Prelude.{◌≡◌};
+    ghost use Rattle.pair_side.specs.Refusals.{work_error};
+
+    ghost from_gives = { λ refusal e. e ≡ work_error refusal };
+
+    fn from(refusal: StoreError) -> WorkError {
+        match refusal {
+            StoreError::JournalFull => WorkError::JournalFull,
+            StoreError::NoMemory => WorkError::NoMemory,
+            StoreError::Failed | StoreError::NoSpace | StoreError::BadRecord { .. } => {
+                WorkError::Failed
+            }
+        }
     }
 }

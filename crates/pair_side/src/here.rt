@@ -87,6 +87,13 @@ impl<'a> Here<'a> {
         self.state.leads_link(self.me, cell)
     }
 
+    /// Whether the cell's link has both of its servers, whatever the cell's region.
+    pub fn in_both(&self, cell: Cell) -> bool
+        ensures { result ≡ rules.in_both self.now.state cell }
+    {
+        self.state.in_both(cell)
+    }
+
     /// Whether the server follows on the cell.
     pub fn is_second(&self, cell: Cell) -> bool
         ensures { result ≡ rules.is_second self.now.state self.now.me cell }

@@ -1,6 +1,7 @@
 -- What every legal history keeps. These are statements; `law_run` shows them.
-use Rattle.std.specs.Prelude.{◌≡◌, ◌≢◌, ◌⊎◌, ◌+◌, ◌++◌, ◌≤◌, ℕ, List, slice_get, Option, Some, None, true, false}
+use Rattle.std.specs.Prelude.{◌≡◌, ◌≢◌, ◌⊎◌, ◌+◌, ◌++◌, ◌∷◌, ◌≤◌, ℕ, Bool, List, slice_get, Option, Some, None, true, false}
 use Rattle.std.specs.Ordering.{nat_cmp}
+use Rattle.busy_marks.specs.declared.marks.MarkKind.TheVariants.{Busy, Stale}
 use Rattle.petal_base.specs.declared.cell.Cell.{Cell}
 use Rattle.petal_command.specs.declared.command.Command.{Command}
 use Rattle.petal_paxos.specs.Kept.{known_at}
@@ -19,13 +20,13 @@ use Rattle.script_lines.specs.declared.script.Script.{Script}
 use Rattle.petal_rules.specs.Clients.{Asked}
 use Rattle.petal_rules.specs.Lists.{In}
 use Rattle.petal_state.specs.declared.answer.Hold.TheVariants.{No}
-use Rattle.petal_rules.specs.State.{State, first, second, is_lead, held}
-use Rattle.petal_rules.specs.Store.{Chain, cell_cmp, chain_in, version_of}
+use Rattle.petal_rules.specs.State.{State, first, second, is_lead, leads_link, held}
+use Rattle.petal_rules.specs.Store.{Chain, Store, cell_cmp, chain_in, version_of, is_marked}
 use Rattle.petal_rules.specs.Log.{rev_of}
 use Rattle.petal_rules.specs.World.{Setting, World, start, setting_of, server_state, devices, chosen_log, chosen_state}
 use Rattle.petal_history.specs.Contents.{content_at}
 use Rattle.petal_history.specs.Events.{IsRunOf, events_of}
-use Rattle.petal_history.specs.Legal.{IsLegal, world_after}
+use Rattle.petal_history.specs.Legal.{IsLegal, stepped, world_after}
 use Rattle.petal_history.specs.Sound.{IsSound}
 use Rattle.petal_history.specs.declared.record.Record.{Record}
 
@@ -33,15 +34,28 @@ use Rattle.petal_history.specs.declared.record.Record.{Record}
 abbrev pub one_put_ahead : Chain → Pending → Chain
 one_put_ahead chain op = put nat_cmp chain op.key.epoch (record { version = version_of chain + 1; bytes = op.bytes })
 
--- two chains of a cell are equal, or the first is the second after one more put, by the operation that is pending
-abbrev pub Copies : Chain → Chain → Option Pending → Type 0
-Copies first second pending = (first ≡ second) ⊎ ((op : Pending) × (pending ≡ Some op) × (first ≡ one_put_ahead second op))
+-- two chains of a cell are equal, or the first is the second after one more put, by the operation that is pending, and the
+-- block is marked busy
+abbrev pub Copies : Chain → Chain → Option Pending → (busy : Bool) → Type 0
+Copies first second pending busy =
+    (first ≡ second) ⊎ ((op : Pending) × (pending ≡ Some op) × (first ≡ one_put_ahead second op) × (busy ≡ true))
 
 -- the two-copy rule for a cell in Both
 abbrev pub TwoCopies : State → World → Cell → Type 0
 TwoCopies state w cell =
     (n m : ℕ) → first state cell ≡ Some n → second state cell ≡ Some m
     → Copies (chain_in (w.servers n).own.store.chains cell) (chain_in (w.servers m).own.store.chains cell) (at cell_cmp (w.servers n).own.pairs.pending cell)
+    (is_marked (w.servers n).own.store Busy cell)
+
+-- the block is marked on the device, as busy or as stale
+abbrev pub IsMarked : Store → Cell → Type 0
+IsMarked store cell = (is_marked store Busy cell ≡ true) ⊎ (is_marked store Stale cell ≡ true)
+
+-- where a step changes a cell's chain at the server that leads the cell's link by its own state, the block was marked there
+pub record ChangesMarked (setting : Setting) (w v : World) (n : ℕ) (cell : Cell) : Type 0 where
+  pub marked : leads_link (server_state setting w n) n cell ≡ true
+      → chain_in (v.servers n).own.store.chains cell ≢ chain_in (w.servers n).own.store.chains cell
+      → IsMarked (w.servers n).own.store cell
 
 -- the client called a request under this number, and has answered it
 pub record IsOver (w : World) (client seq : ℕ) : Type 0 where
@@ -109,11 +123,19 @@ Grows script records =
     → IsPrefix (chosen_log (setting_of script) (world_after (setting_of script) (start (setting_of script)) front))
     (chosen_log (setting_of script) (world_after (setting_of script) (start (setting_of script)) records))
 
+-- each put of a lead fell on a block that was marked on its device
+abbrev pub MarksFirst : Script → List Record → Type 0
+MarksFirst script records =
+    (front back : List Record) (own : Record) → records ≡ front ++ own ∷ back → (n : ℕ) (cell : Cell)
+    → ChangesMarked (setting_of script) (world_after (setting_of script) (start (setting_of script)) front)
+    (stepped (setting_of script) (world_after (setting_of script) (start (setting_of script)) front) own).world n cell
+
 -- what every legal history of a script keeps: the rules of its world at its end, that the chosen log has only grown, that
--- its events are a run of the plain machine, and that the contents are the machine's
+-- leads put only on marked blocks, that its events are a run of the plain machine, and that the contents are the machine's
 pub record Keeps (script : Script) (records : List Record) : Type 0 where
   pub world : Stands (setting_of script) (world_after (setting_of script) (start (setting_of script)) records)
   pub grows : Grows script records
+  pub marks : MarksFirst script records
   pub run : IsRunOf (events_of script records)
   pub holds : AreHeld (setting_of script) (world_after (setting_of script) (start (setting_of script)) records) (machine_after (events_of script records)).disks
 

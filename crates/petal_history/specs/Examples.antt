@@ -1,5 +1,6 @@
 -- Examples of runs.
 use Rattle.std.specs.Prelude.{ℕ, ◌+◌, List, [], ◌∷◌, ◌++◌, true, if◌then◌else◌, ◌==◌, Option, None}
+use Rattle.busy_marks.specs.declared.marks.Mark.{Mark}
 use Rattle.petal_base.specs.declared.cell.Cell.{Cell}
 use Rattle.petal_command.specs.declared.command.Command.{Command}
 use Rattle.petal_command.specs.declared.command.Command.TheVariants.{MakeDisk}
@@ -59,6 +60,10 @@ world_of setting moves = plays setting (start setting) moves
 abbrev pub cell_at : ℕ → Cell
 cell_at block = record { map = 0; block = block }
 
+-- the marks that a server's device has
+abbrev pub marks_at : World → (server : ℕ) → List Mark
+marks_at w server = (w.servers server).own.store.marks
+
 -- the chain of a block of the first disk at a server
 abbrev pub chain_at : World → (server block : ℕ) → List (ℕ × Stored)
 chain_at w server block = chain_in (w.servers server).own.store.chains (cell_at block)
@@ -110,7 +115,11 @@ make_moves = Calls 0 1 ∷ passes 0 0 ++ ballot_moves 1 ++ client_ticks 0 ∷ pa
 -- the write goes by its lead, server 1, and its second server, 0, to its answer
 abbrev pub write_moves : List Move
 write_moves =
-    Calls 0 2 ∷ passes 15 1 ++ passes 16 0 ++ passes 17 1 ++ Works 1 ∷ passes 18 0 ++ passes 19 1 ++ Hands 20 ∷ []
+    Calls 0 2 ∷ passes 15 1 ++ passes 16 0 ++ passes 17 1 ++ Works 1 ∷ Works 1 ∷ passes 18 0 ++ passes 19 1 ++ Works 1 ∷ Hands 20 ∷ []
+
+-- the same up to where its lead has put, and its second server was not told yet
+abbrev pub put_moves : List Move
+put_moves = Calls 0 2 ∷ passes 15 1 ++ passes 16 0 ++ passes 17 1 ++ Works 1 ∷ []
 
 -- server 0 answers the read
 abbrev pub read_moves : List Move
@@ -209,7 +218,8 @@ crowd_after moves = plays crowded crowd moves
 
 -- the first write fills the slots of servers 0 and 1
 abbrev pub fill_moves : List Move
-fill_moves = Calls 0 2 ∷ passes 0 0 ++ passes 1 1 ++ passes 2 0 ++ Works 0 ∷ passes 3 1 ++ passes 4 0 ++ Hands 5 ∷ []
+fill_moves =
+    Calls 0 2 ∷ passes 0 0 ++ passes 1 1 ++ passes 2 0 ++ Works 0 ∷ Works 0 ∷ passes 3 1 ++ passes 4 0 ++ Works 0 ∷ Hands 5 ∷ []
 
 -- the second write is led by server 2, which sets its slot apart; server 0 has none
 abbrev pub declined_moves : List Move

@@ -1,13 +1,14 @@
 //! Runs that are computed: they show that the definitions are not empty, and what they say.
 
 ghost use Rattle.std.specs.Prelude.{◌≡◌, [], ◌∷◌, ◌++◌, length, Some};
+ghost use Rattle.busy_marks.specs.declared.marks.MarkKind.TheVariants.{Busy};
 ghost use Rattle.petal_base.specs.Block.{fill_block, zero_block};
 ghost use Rattle.script_lines.specs.declared.answer.Answer.TheVariants as answer;
 ghost use Rattle.petal_machine.specs.declared.event.Event.TheVariants.{Make};
 ghost use Rattle.petal_rules.specs.Store.{free_of};
 ghost use Rattle.petal_rules.specs.World.{chosen_log, server_state};
 ghost use Rattle.petal_history.specs.Contents.{content_at};
-ghost use Rattle.petal_history.specs.Examples.{after_clash_moves, again_moves, chain_at, clash_moves, crowd_after, crowd_disk, crowded, declined_moves, early, early_moves, fill_moves, forgetful, freed_moves, late_moves, make_moves, mindful, one_entry, pair_disk, read_moves, refused_moves, rival_disk, rivals, sevens, stray_moves, strays, told_of, twin_moves, twins, vol, world_of, write_moves};
+ghost use Rattle.petal_history.specs.Examples.{after_clash_moves, again_moves, cell_at, chain_at, clash_moves, crowd_after, crowd_disk, crowded, declined_moves, early, early_moves, fill_moves, forgetful, freed_moves, late_moves, make_moves, marks_at, mindful, one_entry, pair_disk, put_moves, read_moves, refused_moves, rival_disk, rivals, sevens, stray_moves, strays, told_of, twin_moves, twins, vol, world_of, write_moves};
 
 /// A client's disk is chosen by two servers and applied by both, and its client hears of it.
 pub fn a_disk_is_made()
@@ -24,6 +25,16 @@ pub fn a_write_is_read_back()
     ensures primary { chain_at (world_of sevens (make_moves ++ write_moves ++ read_moves)) 1 5 ≡ one_entry 1 (fill_block 7) }
     ensures secondary { chain_at (world_of sevens (make_moves ++ write_moves ++ read_moves)) 0 5 ≡ one_entry 1 (fill_block 7) }
     ensures content { content_at sevens (world_of sevens (make_moves ++ write_moves)) 0 0 5 ≡ fill_block 7 }
+{}
+
+/// While the write's lead has put and its second server was not told yet, the block is marked busy at the lead. Behind the
+/// write it is not. The lead's device then has three records: the mark, the put, and that the mark is gone.
+pub fn a_write_marks_its_block()
+    ensures primary { chain_at (world_of sevens (make_moves ++ put_moves)) 1 5 ≡ one_entry 1 (fill_block 7) }
+    ensures secondary { chain_at (world_of sevens (make_moves ++ put_moves)) 0 5 ≡ [] }
+    ensures marked { marks_at (world_of sevens (make_moves ++ put_moves)) 1 ≡ record { kind = Busy; cell = cell_at 5 } ∷ [] }
+    ensures unmarked { marks_at (world_of sevens (make_moves ++ write_moves)) 1 ≡ [] }
+    ensures records { ((world_of sevens (make_moves ++ write_moves)).servers 1).own.store.records ≡ 3 }
 {}
 
 /// A second disk of the same name is answered by its own entry of the log.

@@ -6,15 +6,18 @@ use Rattle.petal_base.specs.Cells.{cell_of}
 use Rattle.petal_msg.specs.declared.body.Body.{Body}
 use Rattle.petal_msg.specs.declared.body.Body.TheVariants as body
 
--- the agreed log; a client asks for a read, or for a write; a reply ends the request, or refuses it for a while; two servers
--- of a pair speak of an operation
+-- the agreed log; what a glance showed; a client asks for a read, or for a write; a reply ends the request, or refuses it for
+-- a while; two servers of a pair speak of a write; or of copies for one that returned; or of an entry that moves
 pub data Subject : Type 0 where
   Logged : Subject
+  Glanced : Subject
   Read_asked : Subject
   Write_asked : Subject
   Answered : Subject
   Refused : Subject
   Paired : Subject
+  Copied : Subject
+  Filling : Subject
 
 -- what a letter is about: its subject, the number of its client's request, the cell and the number of the operation, where
 -- it has one, and whether it is handled at each revision of its receiver, or at its sender's alone
@@ -26,6 +29,8 @@ pub record About : Type 0 where
   pub any_rev : Bool
 
 abbrev pub about : Body → About
+about (body.Down server inc) = record { subject = Logged; seq = None; cell = None; op = None; any_rev = true }
+about (body.Seen line round running inc full) = record { subject = Glanced; seq = None; cell = None; op = None; any_rev = true }
 about (body.Propose command) = record { subject = Logged; seq = None; cell = None; op = None; any_rev = true }
 about (body.Pax pax) = record { subject = Logged; seq = None; cell = None; op = None; any_rev = true }
 about (body.Ask rev) = record { subject = Logged; seq = None; cell = None; op = None; any_rev = true }
@@ -44,6 +49,16 @@ about (body.Reserved op cell) = record { subject = Paired; seq = None; cell = So
 about (body.PairFull op cell) = record { subject = Paired; seq = None; cell = Some cell; op = Some op; any_rev = false }
 about (body.Replicate op key version bytes) = record { subject = Paired; seq = None; cell = Some (cell_of key); op = Some op; any_rev = false }
 about (body.Replicated op cell) = record { subject = Paired; seq = None; cell = Some cell; op = Some op; any_rev = false }
+about (body.HelloAsk map link after) = record { subject = Copied; seq = None; cell = None; op = None; any_rev = false }
+about (body.Hello map link after block) = record { subject = Copied; seq = None; cell = None; op = None; any_rev = false }
+about (body.Trim op cell epochs) = record { subject = Copied; seq = None; cell = Some cell; op = Some op; any_rev = false }
+about (body.Trimmed op cell) = record { subject = Copied; seq = None; cell = Some cell; op = Some op; any_rev = false }
+about (body.Sync op key version index bytes) = record { subject = Copied; seq = None; cell = Some (cell_of key); op = Some op; any_rev = false }
+about (body.Synced op cell index) = record { subject = Copied; seq = None; cell = Some cell; op = Some op; any_rev = false }
+about (body.SyncFull op cell) = record { subject = Copied; seq = None; cell = Some cell; op = Some op; any_rev = false }
+about (body.Fill key bytes) = record { subject = Filling; seq = None; cell = Some (cell_of key); op = None; any_rev = false }
+about (body.Filled key) = record { subject = Filling; seq = None; cell = Some (cell_of key); op = None; any_rev = false }
+about (body.FillFull key) = record { subject = Filling; seq = None; cell = Some (cell_of key); op = None; any_rev = false }
 
 abbrev pub subject_of : Body → Subject
 subject_of said = (about said).subject

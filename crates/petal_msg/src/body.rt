@@ -1,11 +1,29 @@
 //! What letters say.
 
-use petal_base::{Cell, ClientId, Epoch, Key, Op, Rev, Seq, Sequence, SharedBlock, Version};
+use petal_base::{
+    BlockNo, Cell, ClientId, Epoch, Inc, Key, MapId, Op, Rev, Seq, Sequence, ServerId, SharedBlock,
+    Version,
+};
 use petal_command::{Command, Pax};
 
-/// The content of a letter. A kind is added here, in the order of the format, and each `match` over the kinds names all.
+/// The content of a letter, in the order of the format. Those that are about copies for a server that returns, and about
+/// entries that move to a new map, are sent and handled by no rule yet; nor are `Down` and `Seen`.
 #[derive(Clone, PartialEq, Eq, Drop)]
 pub enum Body {
+    /// This incarnation of a server has stopped.
+    Down {
+        server: ServerId,
+        inc: Inc,
+    },
+    /// What a server showed the operator at a glance, for this line and this round of it: whether it runs, as which
+    /// incarnation, and whether a copy found no slot there. A stopped server shows 0 and false.
+    Seen {
+        line: u32,
+        round: u32,
+        running: bool,
+        inc: Inc,
+        full: bool,
+    },
     /// A client asks that this command be proposed.
     Propose {
         command: Command,
@@ -91,5 +109,61 @@ pub enum Body {
     Replicated {
         op: Op,
         cell: Cell,
+    },
+    /// The holder of a link asks the server that returned for its least marked block above this one.
+    HelloAsk {
+        map: MapId,
+        link: u8,
+        after: Option<BlockNo>,
+    },
+    /// The least marked block above this one, where there is one.
+    Hello {
+        map: MapId,
+        link: u8,
+        after: Option<BlockNo>,
+        block: Option<BlockNo>,
+    },
+    /// The other server is to drop its entries of the cell but those of these epochs.
+    Trim {
+        op: Op,
+        cell: Cell,
+        epochs: Sequence<Epoch>,
+    },
+    /// No other entry of the cell is left.
+    Trimmed {
+        op: Op,
+        cell: Cell,
+    },
+    /// The entry of a copy that comes at this place, counted from 0 for each copy of a cell.
+    Sync {
+        op: Op,
+        key: Key,
+        version: Version,
+        index: u32,
+        bytes: SharedBlock,
+    },
+    /// The entry of this place is put.
+    Synced {
+        op: Op,
+        cell: Cell,
+        index: u32,
+    },
+    /// The other server has no free slot for the copy.
+    SyncFull {
+        op: Op,
+        cell: Cell,
+    },
+    /// An entry is to be put under the new map.
+    Fill {
+        key: Key,
+        bytes: SharedBlock,
+    },
+    /// The entry stands under the new map.
+    Filled {
+        key: Key,
+    },
+    /// The entry found no free slot under the new map.
+    FillFull {
+        key: Key,
     },
 }

@@ -1,5 +1,6 @@
 //! What two servers of a pair remember of an operation on one block.
 
+use busy_marks::MarkKind;
 use petal_base::{Cell, ClientId, Key, Op, Rev, Seq, SharedBlock, Version};
 
 /// Why an operation was opened.
@@ -54,10 +55,14 @@ pub struct Pending {
 pub enum Action {
     /// Ask the second server for a slot, and wait.
     Reserve,
+    /// Mark the block.
+    Mark(MarkKind),
     /// Put the lead's own copy.
     Put,
     /// Send the second server its copy, and wait.
     Replicate,
+    /// Take the block's mark away.
+    Unmark(MarkKind),
     /// Answer the client.
     Answer,
     /// Give up, since this server is not the lead.

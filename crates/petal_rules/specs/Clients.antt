@@ -212,6 +212,8 @@ answers client asked given = record { client = record client { asked = None }; p
 -- Data answers only a read, Written and Full only a write. What was refused for a while, or at another revision, is sent
 -- again, and the client asks what follows
 abbrev pub hears : State → ℕ → Client → Asked → ℕ → Body → Reaction
+hears state me client asked rev (body.Down server inc) = rests client
+hears state me client asked rev (body.Seen line round running inc full) = rests client
 hears state me client asked rev (body.Propose command) = rests client
 hears state me client asked rev (body.Pax said) = rests client
 hears state me client asked rev (body.Ask asked_rev) = rests client
@@ -236,6 +238,16 @@ hears state me client asked rev (body.Reserved number cell) = rests client
 hears state me client asked rev (body.PairFull number cell) = rests client
 hears state me client asked rev (body.Replicate number key version bytes) = rests client
 hears state me client asked rev (body.Replicated number cell) = rests client
+hears state me client asked rev (body.HelloAsk map link after) = rests client
+hears state me client asked rev (body.Hello map link after block) = rests client
+hears state me client asked rev (body.Trim number cell epochs) = rests client
+hears state me client asked rev (body.Trimmed number cell) = rests client
+hears state me client asked rev (body.Sync number key version index bytes) = rests client
+hears state me client asked rev (body.Synced number cell index) = rests client
+hears state me client asked rev (body.SyncFull number cell) = rests client
+hears state me client asked rev (body.Fill key bytes) = rests client
+hears state me client asked rev (body.Filled key) = rests client
+hears state me client asked rev (body.FillFull key) = rests client
 
 abbrev pub hears_of : State → ℕ → Client → Option Asked → Letter → Reaction
 hears_of state me client None letter = rests client

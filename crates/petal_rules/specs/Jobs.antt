@@ -23,6 +23,8 @@ use Rattle.petal_rules.specs.declared.job.Job.TheVariants as job
 
 -- what is done with the content of a letter of the pairs, at a server of its revision that handles it
 unfoldable pub handles : Here → Own → Body → Done
+handles here own (body.Down server inc) = silent own
+handles here own (body.Seen line round running inc full) = silent own
 handles here own (body.Propose command) = silent own
 handles here own (body.Pax said) = silent own
 handles here own (body.Ask rev) = silent own
@@ -41,6 +43,16 @@ handles here own (body.Reserved number cell) = on_reserved here own number cell
 handles here own (body.PairFull number cell) = on_pair_full own number cell
 handles here own (body.Replicate number key version bytes) = on_replicate here own number key bytes
 handles here own (body.Replicated number cell) = on_replicated here own number cell
+handles here own (body.HelloAsk map link after) = silent own
+handles here own (body.Hello map link after block) = silent own
+handles here own (body.Trim number cell epochs) = silent own
+handles here own (body.Trimmed number cell) = silent own
+handles here own (body.Sync number key version index bytes) = silent own
+handles here own (body.Synced number cell index) = silent own
+handles here own (body.SyncFull number cell) = silent own
+handles here own (body.Fill key bytes) = silent own
+handles here own (body.Filled key) = silent own
+handles here own (body.FillFull key) = silent own
 
 abbrev pub wrong_rev : Own → ℕ → Option ℕ → Done
 wrong_rev own client None = silent own
@@ -139,8 +151,10 @@ delivered server letter = if server.life.running then record server { queue = se
 -- the letter of which an operation waits for the answer
 abbrev pub awaited : Here → Own → Pending → Action → List Post
 awaited here own op action.Reserve = (acts here own op action.Reserve).posts
+awaited here own op (action.Mark kind) = []
 awaited here own op action.Put = []
 awaited here own op action.Replicate = (acts here own op action.Replicate).posts
+awaited here own op (action.Unmark kind) = []
 awaited here own op action.Answer = []
 awaited here own op action.Drop = []
 

@@ -2,7 +2,9 @@
 use Rattle.std.specs.Prelude.{ℕ, ◌+◌, ◌-◌, Bool, false, List, [], ◌∷◌, length, max, sum_by, nat_le, if◌then◌else◌, Option, Some, None, unwrap_or}
 use Rattle.std.specs.declared.cmp.Ordering.{Ordering}
 use Rattle.std.specs.Ordering.{nat_cmp, ordering_then}
+use Rattle.busy_marks.specs.Marks.{has_mark, with_mark, without_mark}
 use Rattle.busy_marks.specs.declared.marks.Mark.{Mark}
+use Rattle.busy_marks.specs.declared.marks.MarkKind.{MarkKind}
 use Rattle.petal_base.specs.declared.cell.Cell.{Cell}
 use Rattle.petal_base.specs.declared.cell.Key.{Key}
 use Rattle.petal_base.specs.Block.{zero_block}
@@ -87,3 +89,27 @@ without_ticket store = record store { tickets = store.tickets - 1 }
 -- an entry is put into a slot that was set apart, which is one record more
 abbrev pub with_entry : Store → Key → Stored → Store
 with_entry store key entry = record store { chains = chains_with store.chains key entry; tickets = store.tickets - 1; records = store.records + 1 }
+
+-- ### Marks
+
+-- the mark of this kind on the cell
+abbrev pub mark_on : MarkKind → Cell → Mark
+mark_on kind cell = record { kind = kind; cell = cell }
+
+-- the cell has a mark of this kind
+abbrev pub is_marked : Store → MarkKind → Cell → Bool
+is_marked store kind cell = has_mark (mark_on kind cell) store.marks
+
+-- the cell is marked, which is one record more where it was not
+abbrev pub with_mark_on : Store → MarkKind → Cell → Store
+with_mark_on store kind cell = record store {
+  marks = with_mark store.marks (mark_on kind cell);
+  records = if is_marked store kind cell then store.records else store.records + 1;
+}
+
+-- the cell's mark is gone, which is one record more where it had one
+abbrev pub without_mark_on : Store → MarkKind → Cell → Store
+without_mark_on store kind cell = record store {
+  marks = without_mark store.marks (mark_on kind cell);
+  records = if is_marked store kind cell then store.records + 1 else store.records;
+}

@@ -1,7 +1,10 @@
 -- Writes: what the lead of a cell does, and what its second server does ("Petal: Distributed Virtual Disks", 1996, 3.2,
--- over chained declustering; the second server's slot is reserved first, and the lead commits before the second server).
-use Rattle.std.specs.Prelude.{ℕ, ◌+◌, ◌==◌, ◌&&◌, not, Bool, true, false, nat_lt, List, [], ◌∷◌, if◌then◌else◌, Option, Some, None}
+-- over chained declustering; the second server's slot is reserved first, and the lead commits before the second server). A
+-- block is marked at its lead before the lead puts: busy where a second server is to follow, stale where there is none.
+use Rattle.std.specs.Prelude.{ℕ, ◌+◌, ◌==◌, ◌&&◌, ◌||◌, not, Bool, true, false, nat_lt, List, [], ◌∷◌, if◌then◌else◌, Option, Some, None}
 use Rattle.std.specs.Ordering.{nat_cmp}
+use Rattle.busy_marks.specs.declared.marks.MarkKind.{MarkKind}
+use Rattle.busy_marks.specs.declared.marks.MarkKind.TheVariants as mark
 use Rattle.petal_base.specs.declared.cell.Cell.{Cell}
 use Rattle.petal_base.specs.declared.cell.Key.{Key}
 use Rattle.petal_base.specs.Cells.{cell_of, key_at}
@@ -21,24 +24,39 @@ use Rattle.petal_msg.specs.declared.operation.OpKind.TheVariants as kind
 use Rattle.petal_msg.specs.declared.operation.Pending.{Pending}
 use Rattle.petal_msg.specs.declared.operation.Stage.{Stage}
 use Rattle.petal_state.specs.declared.answer.Hold.TheVariants as hold
-use Rattle.petal_rules.specs.State.{State, Hold, held, is_lead, leads_link, is_second, first, second}
-use Rattle.petal_rules.specs.Store.{cell_cmp, chain_in, version_of, free_of, with_ticket, without_ticket, with_entry}
+use Rattle.petal_rules.specs.State.{State, Hold, held, is_lead, leads_link, in_both, is_second, first, second}
+use Rattle.petal_rules.specs.Store.{cell_cmp, chain_in, version_of, free_of, with_ticket, without_ticket, with_entry, with_mark_on, without_mark_on}
 use Rattle.petal_rules.specs.Server.{Own, Here, Done, silent, says, says_to}
 use Rattle.petal_rules.specs.declared.job.Job.TheVariants as job
 
 -- ### The table of stages
 
--- what the operation does next in Both: reserve a slot at the second server, put, replicate, answer
+-- what the operation does next in Both: reserve a slot at the second server, mark the block busy, put, replicate, take the
+-- mark away, answer
 abbrev pub both_action : Stage → Action
 both_action stage =
     if not stage.reserved then action.Reserve
+    else if not (stage.busy || stage.put) then action.Mark mark.Busy
     else if not stage.put then action.Put
     else if not stage.paired then action.Replicate
+    else if stage.busy then action.Unmark mark.Busy
     else action.Answer
 
--- what the operation does next; it is dropped exactly where this server does not lead the cell's link
+-- what it does next at a holder that is alone: mark the block stale, put if it has not, take the busy mark away, answer
+abbrev pub alone_action : Stage → Action
+alone_action stage =
+    if not stage.stale then action.Mark mark.Stale
+    else if not stage.put then action.Put
+    else if stage.busy then action.Unmark mark.Busy
+    else action.Answer
+
+-- what the operation does next, by its cell's link as it now is; it is dropped exactly where this server does not lead the
+-- link
 abbrev pub next_stage : State → ℕ → Pending → Action
-next_stage state me op = if leads_link state me op.cell then both_action op.stage else action.Drop
+next_stage state me op =
+    if leads_link state me op.cell
+    then if in_both state op.cell then both_action op.stage else alone_action op.stage
+    else action.Drop
 
 -- ### What the lead remembers
 
@@ -83,14 +101,40 @@ puts own op =
       jobs = job.Stage op.cell ∷ [];
     }
 
+-- the stage with this mark set, or taken away
+abbrev pub with_flag : Stage → MarkKind → Bool → Stage
+with_flag stage mark.Busy is = record stage { busy = is }
+with_flag stage mark.Stale is = record stage { stale = is }
+
+abbrev pub with_mark_at : Pending → MarkKind → Bool → Pending
+with_mark_at op kind is = record op { stage = with_flag op.stage kind is }
+
+-- the block is marked
+abbrev pub marks : Own → Pending → MarkKind → Done
+marks own op kind = record {
+  own = with_pending (record own { store = with_mark_on own.store kind op.cell }) (with_mark_at op kind true);
+  posts = [];
+  jobs = job.Stage op.cell ∷ [];
+}
+
+-- the block's mark is taken away
+abbrev pub unmarks : Own → Pending → MarkKind → Done
+unmarks own op kind = record {
+  own = with_pending (record own { store = without_mark_on own.store kind op.cell }) (with_mark_at op kind false);
+  posts = [];
+  jobs = job.Stage op.cell ∷ [];
+}
+
 -- the operation ends without an answer; a slot that it has not used is free again
 abbrev pub gives_up : Own → Pending → Own
 gives_up own op = if op.stage.put then without_pending own op.cell else gives_back (without_pending own op.cell)
 
 abbrev pub acts : Here → Own → Pending → Action → Done
 acts here own op action.Reserve = says_to own (second here.state op.cell) (body.Reserve op.op op.cell)
+acts here own op (action.Mark kind) = marks own op kind
 acts here own op action.Put = puts own op
 acts here own op action.Replicate = says_to own (second here.state op.cell) (body.Replicate op.op op.key op.version op.bytes)
+acts here own op (action.Unmark kind) = unmarks own op kind
 acts here own op action.Answer = finishes (without_pending own op.cell) op.client op.seq Written
 acts here own op action.Drop = silent (gives_up own op)
 
@@ -208,11 +252,12 @@ hears_reserved here own number (Some op) =
 unfoldable pub on_reserved : Here → Own → ℕ → Cell → Done
 on_reserved here own number cell = hears_reserved here own number (pending_on own cell)
 
--- the lead gives its slot back, and answers that there is none
+-- the lead gives its slot back, and answers that there is none; an operation whose copy is put goes on
 abbrev pub hears_pair_full : Own → ℕ → Option Pending → Done
 hears_pair_full own number None = silent own
 hears_pair_full own number (Some op) =
-    if is_reserving op number then finishes (gives_back (without_pending own op.cell)) op.client op.seq Full else silent own
+    if is_reserving op number && not op.stage.put then finishes (gives_back (without_pending own op.cell)) op.client op.seq Full
+    else silent own
 
 -- only an operation that still waits for its reservation is refused
 unfoldable pub on_pair_full : Own → ℕ → Cell → Done

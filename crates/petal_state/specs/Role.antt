@@ -1,5 +1,5 @@
 -- What a server is to a cell.
-use Rattle.std.specs.Prelude.{ℕ, Bool, false, ◌==◌, if◌then◌else◌, Option, Some, None, option_map, option_and_then}
+use Rattle.std.specs.Prelude.{ℕ, Bool, false, ◌==◌, if◌then◌else◌, Option, Some, None, is_some, option_map, option_and_then}
 use Rattle.std.specs.Option.{option_map_or}
 use Rattle.petal_base.specs.declared.cell.Cell.{Cell}
 use Rattle.global_tables.specs.declared.link.LinkRow.{LinkRow}
@@ -28,6 +28,10 @@ row_in_both row Lost = None
 -- the link of a live cell, where both of its servers keep the cell's copies
 abbrev pub both : State → Cell → Option LinkRow
 both state cell = if live state cell then option_and_then (λ row. row_in_both row row.state) (cell_link state cell) else None
+
+-- the cell's link has both of its servers, whether or not its region is on its way
+abbrev pub in_both : State → Cell → Bool
+in_both state cell = is_some (option_and_then (λ row. row_in_both row row.state) (cell_link state cell))
 
 -- of a cell in Both, the server that puts first, and the one that follows
 abbrev pub first : State → Cell → Option ℕ

@@ -1,5 +1,5 @@
 -- A read leaves all but the device's state as it was.
-use Rattle.std.proofs.Common.{◌≡◌, ◌≤◌, ℕ, Result, Ok, Err, true, refl, sym, ap, subst, ◌∙◌}
+use Rattle.std.proofs.Common.{◌≡◌, ◌≤◌, ℕ, Result, Ok, Err, true, refl, ap, subst}
 use Rattle.petal_base.specs.declared.cell.Cell.{Cell}
 use Rattle.petal_disk.specs.declared.disk.Disk.{Ghosts}
 use Rattle.petal_msg.specs.declared.body.Body.{Body}
@@ -11,7 +11,7 @@ use Rattle.petal_rules.specs.Server as rules
 use Rattle.petal_rules.specs.Reads.{on_read, reply_to, said}
 use Rattle.server_store.specs.Holdings.{Holdings}
 use Rattle.pair_side.specs.declared.error.WorkError.{WorkError}
-use Rattle.pair_side.specs.declared.error.WorkError.TheVariants.{Failed, JournalFull, NoMemory}
+use Rattle.pair_side.specs.declared.error.WorkError.TheVariants.{NoMemory}
 use Rattle.pair_side.specs.declared.done.Done.{Done}
 use Rattle.pair_side.specs.Side.{Side, own_of}
 use Rattle.pair_side.specs.Done.{HoldsAt, IsBy, IsDone, IsSaid}

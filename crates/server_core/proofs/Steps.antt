@@ -1,5 +1,5 @@
 -- What a step of a server leaves.
-use Rattle.std.proofs.Common.{◌≡◌, ◌≢◌, ◌<◌, ◌+◌, arith, ℕ, List, [], ◌∷◌, Option, Some, None, Result, Ok, Err, IsErr, IfOk, refl, ap}
+use Rattle.std.proofs.Common.{◌≡◌, ◌≢◌, ◌<◌, ◌+◌, arith, ℕ, List, [], ◌∷◌, Some, None, Result, Ok, Err, IsErr, IfOk, refl}
 use Rattle.std.specs.Prelude.{slice_get}
 
 -- a list without a first item is empty

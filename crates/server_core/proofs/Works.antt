@@ -1,5 +1,5 @@
 -- The first job of a queue, by whether it is of the agreed log.
-use Rattle.std.proofs.Common.{◌≡◌, ℕ, Bool, true, false, List, [], ◌∷◌, ◌++◌, drop, Option, Some, None, refl, sym, ap, ◌∙◌}
+use Rattle.std.proofs.Common.{◌≡◌, ℕ, true, false, List, [], ◌∷◌, ◌++◌, drop, Some, refl, sym, ap, ◌∙◌}
 use Rattle.std.specs.Prelude.{slice_get}
 use Rattle.petal_rules.proofs.Applied.{servers_after}
 use Rattle.log_side.specs.Done.{IsBy, follow_ups}

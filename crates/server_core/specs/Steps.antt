@@ -1,5 +1,5 @@
 -- What a job leaves of a server: one of the pairs, over the store, and one of the agreed log, over the state store.
-use Rattle.std.specs.Prelude.{◌≡◌, ◌≤◌, ◌<◌, ◌∷◌, ◌++◌, [], ℕ, List, Option, None, Some, Result, Err, IfOk, IfErr, OnOk, OnErr}
+use Rattle.std.specs.Prelude.{◌≡◌, List, Result, Err, IfOk, OnOk, OnErr}
 use Rattle.kept_chains.specs.Kept.{store_of}
 use Rattle.log_side.specs.Done as logs
 use Rattle.pair_side.specs.Done.{HasFault, HoldsAt}

@@ -112,9 +112,12 @@ fn handles<D: Disk>(
         (handles here.now (own_of side.old store.old) letter.now.body) }
 {
     match &letter.body {
-        Body::Propose { .. } | Body::Pax(_) | Body::Ask { .. } | Body::News { .. } => {
-            silent(here, side, store)
-        },
+        Body::Down { .. }
+        | Body::Seen { .. }
+        | Body::Propose { .. }
+        | Body::Pax(_)
+        | Body::Ask { .. }
+        | Body::News { .. } => silent(here, side, store),
         Body::Read {
             client,
             seq,
@@ -134,6 +137,16 @@ fn handles<D: Disk>(
         | Body::WrongRev { .. }
         | Body::Written { .. }
         | Body::Full { .. } => silent(here, side, store),
+        Body::HelloAsk { .. }
+        | Body::Hello { .. }
+        | Body::Trim { .. }
+        | Body::Trimmed { .. }
+        | Body::Sync { .. }
+        | Body::Synced { .. }
+        | Body::SyncFull { .. }
+        | Body::Fill { .. }
+        | Body::Filled { .. }
+        | Body::FillFull { .. } => silent(here, side, store),
     }
 }
 

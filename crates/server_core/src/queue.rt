@@ -17,7 +17,11 @@ fn is_logged(body: &Body) -> bool
     ensures { result ≡ is_logged (subject_of body.now) }
 {
     match body {
-        Body::Propose { .. } | Body::Pax(_) | Body::Ask { .. } | Body::News { .. } => true,
+        Body::Down { .. }
+        | Body::Propose { .. }
+        | Body::Pax(_)
+        | Body::Ask { .. }
+        | Body::News { .. } => true,
         _ => false,
     }
 }

@@ -178,7 +178,26 @@ same_pax (Chosen p o) (Chosen q r) h =
     λ k. Chosen (x k) (y k)
 same_pax _ _ h = cc
 
+abbrev eq_block : Option ℕ → Option ℕ → Bool
+eq_block a b = bodies.ghosts.eq (body.HelloAsk 0 0 a) (body.HelloAsk 0 0 b)
+
+same_block : (a b : Option ℕ) → eq_block a b ≡ true → a ≡ b
+same_block None None h = refl
+same_block (Some n) (Some m) h = ap Some (same_number n m h)
+same_block _ _ h = cc
+
 same_body : (a b : Body) → bodies.ghosts.eq a b ≡ true → a ≡ b
+same_body (body.Seen line round running inc full) (body.Seen line' round' running' inc' full') h =
+    let one = both (line == line') _ h in
+    let two = both (round == round') _ one.1 in
+    let three = both (beq running running') _ two.1 in
+    let four = both (inc == inc') (beq full full') three.1 in
+    let v = same_number line line' one.0 in
+    let w = same_number round round' two.0 in
+    let x = same_flag running running' three.0 in
+    let y = same_number inc inc' four.0 in
+    let z = same_flag full full' four.1 in
+    λ k. body.Seen (v k) (w k) (x k) (y k) (z k)
 same_body (body.Write client seq cell epoch bytes) (body.Write client' seq' cell' epoch' bytes') h = let same = bytes_decides bytes bytes' in grind (arith, nat_tests, same.0)
 same_body (body.Data seq bytes) (body.Data seq' bytes') h = let same = bytes_decides bytes bytes' in grind (arith, nat_tests, same.0)
 same_body (body.Replicate op key version bytes) (body.Replicate op' key' version' bytes') h = let same = bytes_decides bytes bytes' in grind (arith, nat_tests, same.0)
@@ -189,7 +208,44 @@ same_body (body.News after entries) (body.News before others) h =
     let x = same_number after before parts.0 in
     let y = same_commands entries others parts.1 in
     λ i. body.News (x i) (y i)
-same_body _ _ h = grind (arith, nat_tests)
+same_body (body.HelloAsk map link after) (body.HelloAsk map' link' after') h =
+    let one = both (map == map') _ h in
+    let two = both (link == link') (eq_block after after') one.1 in
+    let x = same_number map map' one.0 in
+    let y = same_number link link' two.0 in
+    let z = same_block after after' two.1 in
+    λ k. body.HelloAsk (x k) (y k) (z k)
+same_body (body.Hello map link after block) (body.Hello map' link' after' block') h =
+    let one = both (map == map') _ h in
+    let two = both (link == link') _ one.1 in
+    let three = both (eq_block after after') (eq_block block block') two.1 in
+    let w = same_number map map' one.0 in
+    let x = same_number link link' two.0 in
+    let y = same_block after after' three.0 in
+    let z = same_block block block' three.1 in
+    λ k. body.Hello (w k) (x k) (y k) (z k)
+same_body (body.Trim op cell epochs) (body.Trim op' cell' epochs') h = let same = bytes_decides epochs epochs' in grind (arith, nat_tests, same.0)
+same_body (body.Sync op key version index bytes) (body.Sync op' key' version' index' bytes') h = let same = bytes_decides bytes bytes' in grind (arith, nat_tests, same.0)
+same_body (body.Fill key bytes) (body.Fill key' bytes') h = let same = bytes_decides bytes bytes' in grind (arith, nat_tests, same.0)
+same_body (body.Down server inc) (body.Down server' inc') h = grind (arith, nat_tests)
+same_body (body.Ask rev) (body.Ask rev') h = grind (arith, nat_tests)
+same_body (body.Read client seq cell epoch) (body.Read client' seq' cell' epoch') h = grind (arith, nat_tests)
+same_body (body.NotHere seq) (body.NotHere seq') h = grind (arith, nat_tests)
+same_body (body.BlockBusy seq) (body.BlockBusy seq') h = grind (arith, nat_tests)
+same_body (body.Held seq) (body.Held seq') h = grind (arith, nat_tests)
+same_body (body.WrongRev seq) (body.WrongRev seq') h = grind (arith, nat_tests)
+same_body (body.Written seq) (body.Written seq') h = grind (arith, nat_tests)
+same_body (body.Full seq) (body.Full seq') h = grind (arith, nat_tests)
+same_body (body.Reserve op cell) (body.Reserve op' cell') h = grind (arith, nat_tests)
+same_body (body.Reserved op cell) (body.Reserved op' cell') h = grind (arith, nat_tests)
+same_body (body.PairFull op cell) (body.PairFull op' cell') h = grind (arith, nat_tests)
+same_body (body.Replicated op cell) (body.Replicated op' cell') h = grind (arith, nat_tests)
+same_body (body.Trimmed op cell) (body.Trimmed op' cell') h = grind (arith, nat_tests)
+same_body (body.Synced op cell index) (body.Synced op' cell' index') h = grind (arith, nat_tests)
+same_body (body.SyncFull op cell) (body.SyncFull op' cell') h = grind (arith, nat_tests)
+same_body (body.Filled key) (body.Filled key') h = grind (arith, nat_tests)
+same_body (body.FillFull key) (body.FillFull key') h = grind (arith, nat_tests)
+same_body _ _ h = cc
 
 same_actor : (a b : Actor) → actors.ghosts.eq a b ≡ true → a ≡ b
 same_actor (actor.Server n) (actor.Server m) h = grind (arith, nat_tests)
@@ -269,7 +325,14 @@ pax_itself (Refuse p b o) =
     and_also (p == p) _ (number_itself p) (and_also (ballots.ghosts.eq b b) (ballots.ghosts.eq o o) (ballot_itself b) (ballot_itself o))
 pax_itself (Chosen p c) = and_also (p == p) (commands.ghosts.eq c c) (number_itself p) (command_itself c)
 
+block_itself : (a : Option ℕ) → eq_block a a ≡ true
+block_itself None = refl
+block_itself (Some n) = number_itself n
+
 body_itself : (a : Body) → bodies.ghosts.eq a a ≡ true
+body_itself (body.Seen line round running inc full) =
+    and_also (line == line) _ (number_itself line) (and_also (round == round) _ (number_itself round)
+    (and_also (beq running running) _ (flag_itself running) (and_also (inc == inc) (beq full full) (number_itself inc) (flag_itself full))))
 body_itself (body.Write client seq cell epoch bytes) = let same = bytes_itself bytes in grind (arith, nat_tests, same)
 body_itself (body.Data seq bytes) = let same = bytes_itself bytes in grind (arith, nat_tests, same)
 body_itself (body.Replicate op key version bytes) = let same = bytes_itself bytes in grind (arith, nat_tests, same)
@@ -277,6 +340,14 @@ body_itself (body.Propose command) = command_itself command
 body_itself (body.Pax said) = pax_itself said
 body_itself (body.News after entries) =
     and_also (after == after) (pointwise commands.ghosts.eq entries entries) (number_itself after) (commands_itself entries)
+body_itself (body.HelloAsk map link after) =
+    and_also (map == map) _ (number_itself map) (and_also (link == link) (eq_block after after) (number_itself link) (block_itself after))
+body_itself (body.Hello map link after block) =
+    and_also (map == map) _ (number_itself map) (and_also (link == link) _ (number_itself link)
+    (and_also (eq_block after after) (eq_block block block) (block_itself after) (block_itself block)))
+body_itself (body.Trim op cell epochs) = let same = bytes_itself epochs in grind (arith, nat_tests, same)
+body_itself (body.Sync op key version index bytes) = let same = bytes_itself bytes in grind (arith, nat_tests, same)
+body_itself (body.Fill key bytes) = let same = bytes_itself bytes in grind (arith, nat_tests, same)
 body_itself _ = grind (arith, nat_tests)
 
 actor_itself : (a : Actor) → actors.ghosts.eq a a ≡ true

@@ -16,8 +16,8 @@ fn writes_step_by_step(rt: HostRuntime) -> Result<(), Fail> {
             script: ONE_WRITE,
             steps: "a calls 2; agree; a calls 3; told begin; write a>1; 1 works; reserve 1>0; 0 works;
                 drop reserved 0>1; not 1 works; 1 ticks; reserve 1>0; 0 works; reserved 0>1; 1 works; 1 works;
-                replicate 1>0; told begin; 0 works; told begin take; replicated 0>1; 1 works; line 3 open;
-                written 1>a; line 3 ok; told begin take end;
+                not sent 1 replicate 1>0; 1 works; not 1 works; replicate 1>0; told begin; 0 works; told begin take;
+                replicated 0>1; 1 works; not sent 1 written 1>a; 1 works; line 3 open; written 1>a; line 3 ok; told begin take end;
                 wait; b calls 5; read b>0; 0 works; data 0>b; line 5 fill 7; told begin take end look",
         },
         Row {
@@ -32,7 +32,7 @@ fn writes_step_by_step(rt: HostRuntime) -> Result<(), Fail> {
             shows: "a read whose answer is lost goes to the other server",
             script: ONE_WRITE,
             steps: "a calls 2; agree; a calls 3; write a>1; 1 works; reserve 1>0; 0 works; reserved 0>1; 1 works off;
-                replicate 1>0; 0 works; replicated 0>1; 1 works; written 1>a; wait;
+                replicate 1>0; 0 works; replicated 0>1; 1 works off; written 1>a; wait;
                 b calls 5; read b>0; 0 works; drop data 0>b; b ticks; not read b>0; read b>1; 1 works;
                 data 1>b; line 5 fill 7; told begin take end look",
         },

@@ -31,9 +31,10 @@
 //! | `owners 8 data 0>a` | the block that the last such letter brings has at least so many owners |
 //!
 //! `not` before a step says that the world refuses it, or that there is no such letter; before an expectation, that it is not
-//! so. The kinds of letters are `propose`, `prepare`, `promise`, `accept`,
+//! so. The kinds of letters are `down`, `seen`, `propose`, `prepare`, `promise`, `accept`,
 //! `accepted`, `refuse`, `chosen`, `ask`, `news`, `read`, `write`, `data`, `nothere`, `busy`, `held`, `wrongrev`, `written`, `full`, `reserve`,
-//! `reserved`, `pairfull`, `replicate` and `replicated`; the events `make`, `freeze`, `begin`, `take`, `end` and `look`.
+//! `reserved`, `pairfull`, `replicate`, `replicated`, `helloask`, `hello`, `trim`, `trimmed`, `sync`, `synced`, `syncfull`, `fill`, `filled` and
+//! `fillfull`; the events `make`, `freeze`, `begin`, `take`, `end` and `look`.
 //!
 //! At the end of each row the plain machine takes all that it is told. A row that fails names itself, the step and, where a
 //! word is none of these, the word and its place in the step.

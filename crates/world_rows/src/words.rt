@@ -5,7 +5,9 @@ use petal_command::Pax;
 use petal_msg::{Actor, Body, Letter};
 
 /// The kinds of letters, in the order of the format.
-const KINDS: [&str; 23] = [
+const KINDS: [&str; 35] = [
+    "down",
+    "seen",
     "propose",
     "prepare",
     "promise",
@@ -29,6 +31,16 @@ const KINDS: [&str; 23] = [
     "pairfull",
     "replicate",
     "replicated",
+    "helloask",
+    "hello",
+    "trim",
+    "trimmed",
+    "sync",
+    "synced",
+    "syncfull",
+    "fill",
+    "filled",
+    "fillfull",
 ];
 
 /// The word of what servers say of a ballot.
@@ -46,6 +58,8 @@ fn ballot_kind(said: &Pax) -> &'static str {
 /// The word of a letter's kind.
 fn kind_of(body: &Body) -> &'static str {
     match body {
+        Body::Down { .. } => "down",
+        Body::Seen { .. } => "seen",
         Body::Propose { .. } => "propose",
         Body::Pax(said) => ballot_kind(said),
         Body::Ask { .. } => "ask",
@@ -64,6 +78,16 @@ fn kind_of(body: &Body) -> &'static str {
         Body::PairFull { .. } => "pairfull",
         Body::Replicate { .. } => "replicate",
         Body::Replicated { .. } => "replicated",
+        Body::HelloAsk { .. } => "helloask",
+        Body::Hello { .. } => "hello",
+        Body::Trim { .. } => "trim",
+        Body::Trimmed { .. } => "trimmed",
+        Body::Sync { .. } => "sync",
+        Body::Synced { .. } => "synced",
+        Body::SyncFull { .. } => "syncfull",
+        Body::Fill { .. } => "fill",
+        Body::Filled { .. } => "filled",
+        Body::FillFull { .. } => "fillfull",
     }
 }
 

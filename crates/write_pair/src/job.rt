@@ -14,7 +14,7 @@ use petal_msg::{Body, Letter};
 use second_write::{on_replicate, on_reserve};
 use server_store::Store;
 
-/// What a letter of writes does: at most one put. After Ok all is as the rule `handles` says, where the device tells its bytes.
+/// What a letter of writes does: at most one commit. After Ok all is as the rule `handles` says, where the device tells its bytes.
 ///
 /// # Errors
 /// `NoMemory`, and then nothing changed; `Failed` where the device failed, and `JournalFull` only where the store's journal had
@@ -59,17 +59,6 @@ pub fn on_letter<D: Disk>(
             bytes,
         } => on_replicate(here, side, store, *op, *key, bytes),
         Body::Replicated { op, cell } => on_replicated(here, side, store, *op, *cell),
-        Body::Propose { .. }
-        | Body::Pax(_)
-        | Body::Ask { .. }
-        | Body::News { .. }
-        | Body::Read { .. }
-        | Body::Data { .. }
-        | Body::NotHere { .. }
-        | Body::BlockBusy { .. }
-        | Body::Held { .. }
-        | Body::WrongRev { .. }
-        | Body::Written { .. }
-        | Body::Full { .. } => silent(here, side, store),
+        _ => silent(here, side, store),
     }
 }

@@ -7,7 +7,7 @@ use Rattle.lead_write.proofs.acts.goes_on.Goals as goal
 pub acts-requires-clause-moved : goal.acts-requires-clause-moved
 acts-requires-clause-moved g c = λ _ _.
     let is = sym c.in_ok-op.ensures.value ∙ c.in-Some.is in
-    not_moved c.args.side.now.pending c.args.cell c.in-Some.op is (own_is _ c.args.cell c.in-Some.op is c.in_ok-op.ensures.own) (c.requires.tickets.stages c.args.cell)
+    not_moved c.args.side.now.pending c.args.cell c.in-Some.op is (own_is _ c.args.cell c.in-Some.op is c.in_ok-op.ensures.own)
 
 pub returns-in-Some-clause-job : goal.returns-in-Some-clause-job
 returns-in-Some-clause-job g c =

@@ -1,6 +1,6 @@
 use Rattle.petal_base.specs.declared.cell.Cell.{Cell}
 use Rattle.petal_msg.specs.declared.operation.Pending.{Pending}
-use Rattle.petal_rules.specs.Server.{Own, letters_of, sender}
+use Rattle.petal_rules.specs.Server.{sender}
 use Rattle.petal_rules.specs.Jobs.{sent_anew}
 use Rattle.lead_write.proofs.Letters.{next_letters, last_letters}
 use Rattle.lead_write.proofs.anew.all_after.Goals as goal

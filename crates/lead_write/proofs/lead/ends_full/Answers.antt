@@ -28,6 +28,6 @@ returns g c =
     let said = rw (← c.side.view_is) at c.in_ok-done.ensures in
     let same = finished_pending c.args.here.now c.args.side.now after c.args.store.now op c.in_ok-done.done said in
     let there = ap (λ (t : Table Cell Pending). at cell_cmp t op.cell) same ∙ c.requires.there in
-    let slot = full_slot after c.args.store.now op said.keeps there c.requires.waits in
+    let slot = full_slot after c.args.store.now op said.keeps there c.requires.unused in
     full_is c.args.here.now c.args.side.now after c.args.store.now op c.in_ok-done.done c.close.new.self c.give_back.new.table c.give_back.new.store slot.0
     c.close.ensures.table c.give_back.ensures.sorted slot.1 c.give_back.ensures.table (c.give_back.ensures.store slot.0 slot.1) said

@@ -1,5 +1,4 @@
-use Rattle.std.proofs.Common.{List, Some, sym, ap, ◌∙◌}
-use Rattle.petal_msg.specs.declared.letter.Letter.{Letter}
+use Rattle.std.proofs.Common.{sym, ap, ◌∙◌}
 use Rattle.petal_table.specs.Table.{at}
 use Rattle.petal_rules.specs.Store.{cell_cmp}
 use Rattle.pair_side.specs.Side.{Side}
@@ -32,10 +31,10 @@ returns-clause-job g c =
       done = λ told.
           puts_done c.args.here.now before c.args.store.now c.args.op.now h m c.set_put.new.self c.spend.new.table c.spend.new.store c.next_version-version.result _
           table c.next_version-version.ensures (c.in_ok-spend.ensures.ok told)
-          (ap (λ (letters : List Letter). record { letters = letters; follow = Some c.args.op.now.cell }) c.new.ensures);
+          c.follows_up.ensures;
       keeps =
           puts_keeps c.args.here.now before c.args.store.now c.args.op.now h m c.set_put.new.self c.spend.new.table slot.0 c.next_version-version.result c.spend.new.store.tickets
-          table c.in_ok-spend.ensures.sorted slot.1 c.in_ok-spend.ensures.table (c.in_ok-spend.ensures.tickets slot.0 slot.1) c.requires.reserved;
+          table c.in_ok-spend.ensures.sorted slot.1 c.in_ok-spend.ensures.table (c.in_ok-spend.ensures.tickets slot.0 slot.1);
       holds = c.in_ok-spend.ensures.holds;
       still = λ no. absurd (cc);
       same = λ no. absurd (cc);

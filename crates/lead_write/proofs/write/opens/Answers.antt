@@ -1,55 +1,42 @@
-use Rattle.std.proofs.Common.{ℕ, Option, refl, sym, ap, ◌∙◌}
-use Rattle.petal_rules.specs.Server.{letters_of, post_to, sender}
-use Rattle.pair_side.specs.Side.{Side}
-use Rattle.pair_side.specs.Done.{only}
-use Rattle.pair_side.proofs.Kept.{kept_there, kept_some, kept_out}
-use Rattle.pair_side.proofs.Said.{all_same}
-use Rattle.pair_side.proofs.Tickets.{undone}
+use Rattle.std.proofs.Common.{Err, ap}
+use Rattle.pair_side.proofs.Said.{all_same, said_done}
 use Rattle.lead_write.specs.Wanted.{wanted}
-use Rattle.lead_write.proofs.Opens.{opens_done, own_back}
+use Rattle.lead_write.proofs.Opens.{opened_tickets, slot_some, slot_out, side_back, store_back}
 use Rattle.lead_write.proofs.write.opens.Goals as goal
 
-pub give_back-requires-clause-some : goal.give_back-requires-clause-some
-give_back-requires-clause-some g c = λ _ _.
-    kept_some c.side.inside.own c.keep.new.table c.args.store.now c.keep.new.store c.args.want.now.cell (c.in_ok-keep.ensures.yes c.if-not-branch.false)
+pub goes_on-requires-clause-tickets : goal.goes_on-requires-clause-tickets
+goes_on-requires-clause-tickets g c κs within =
+    opened_tickets c.args.here.now (wanted c.args.want.now) c.args.side.now c.args.store.now c.requires.tickets c.requires.none c.begins.new.side c.begins.new.store
+    (c.in_ok-begins.ensures.yes c.if-not-branch.false)
 
-pub give_back-requires-clause-out : goal.give_back-requires-clause-out
-give_back-requires-clause-out g c = λ _ _ slot is.
-    kept_out c.side.inside.own c.keep.new.table c.args.store.now c.keep.new.store c.args.want.now.cell (c.in_ok-keep.ensures.yes c.if-not-branch.false) slot is
+pub takes_back-requires-clause-some : goal.takes_back-requires-clause-some
+takes_back-requires-clause-some g c κs within =
+    slot_some c.args.here.now (wanted c.args.want.now) c.args.side.now c.args.store.now c.requires.tickets c.requires.none c.begins.new.side c.begins.new.store
+    (c.in_ok-begins.ensures.yes c.if-not-branch.false) c.goes_on.new.side c.goes_on.new.store (c.in-Err-NoMemory.ensures.job.same (ap Err c.in-Err-NoMemory.field-0-is)).0 (c.in-Err-NoMemory.ensures.same (ap Err c.in-Err-NoMemory.field-0-is))
 
-pub returns-in-Ok : goal.returns-in-Ok
-returns-in-Ok g c =
+pub takes_back-requires-clause-out : goal.takes_back-requires-clause-out
+takes_back-requires-clause-out g c κs within =
+    slot_out c.args.here.now (wanted c.args.want.now) c.args.side.now c.args.store.now c.requires.tickets c.requires.none c.begins.new.side c.begins.new.store
+    (c.in_ok-begins.ensures.yes c.if-not-branch.false) c.goes_on.new.side c.goes_on.new.store (c.in-Err-NoMemory.ensures.job.same (ap Err c.in-Err-NoMemory.field-0-is)).0 (c.in-Err-NoMemory.ensures.same (ap Err c.in-Err-NoMemory.field-0-is))
+
+pub returns-in-Err-NoMemory-clause-job : goal.returns-in-Err-NoMemory-clause-job
+returns-in-Err-NoMemory-clause-job g c =
+    let law = (g.met.D.Disk g.world.𝓛 g.world.𝓜 g.world.𝓡 ((λ s x. x), (λ x. x), (λ x. x), λ x. x)).stays in
     let h = rw (← c.side.view_is) at c.requires.tickets in
     let none = rw (← c.side.view_is) at c.requires.none in
-    let side : Side = record {
-      next = c.side.inside.next;
-      pending = c.side.inside.locks;
-      finished = c.side.inside.finished;
-      last = c.side.inside.last;
-      own = c.side.inside.own;
-      apart = c.side.inside.apart;
-    } in
-    rw (← c.side.view_is, c.only.ensures)
-    (opens_done c.args.here.now side c.args.store.now (wanted c.args.want.now) h none _ c.keep.new.table c.keep.new.store c.in-Ok.letters _
-    c.requires.lead (sym c.in_ok-keep.ensures.room ∙ c.if-not-branch.false) (c.in_ok-keep.ensures.yes c.if-not-branch.false)
-    (λ i. record side { next = c.in-Ok.ensures.next i; pending = c.in-Ok.ensures.ok i; own = c.keep.new.table }) c.in-Ok.ensures.letters)
-
-pub returns-in-Err : goal.returns-in-Err
-returns-in-Err g c =
-    let h = rw (← c.side.view_is) at c.requires.tickets in
-    let none = rw (← c.side.view_is) at c.requires.none in
-    let side : Side = record {
-      next = c.side.inside.next;
-      pending = c.side.inside.locks;
-      finished = c.side.inside.finished;
-      last = c.side.inside.last;
-      own = c.side.inside.own;
-      apart = c.side.inside.apart;
-    } in
-    let kept = c.in_ok-keep.ensures.yes c.if-not-branch.false in
-    let there = kept_there side.own c.keep.new.table c.args.store.now c.keep.new.store c.args.want.now.cell kept in
-    let back = own_back c.args.here.now side c.args.store.now (wanted c.args.want.now) h none c.keep.new.table c.give_back.new.table kept.slot kept.table c.give_back.ensures.table in
-    let held = c.give_back.ensures.store kept.slot there ∙ undone c.args.store.now c.keep.new.store kept.slot kept.slot kept.store refl kept.other in
+    let begun = rw (← c.side.view_is) at (c.in_ok-begins.ensures.yes c.if-not-branch.false) in
+    let side_is = (c.in-Err-NoMemory.ensures.job.same (ap Err c.in-Err-NoMemory.field-0-is)).0 in
+    let store_is = c.in-Err-NoMemory.ensures.same (ap Err c.in-Err-NoMemory.field-0-is) in
     rw (← c.side.view_is)
-    (all_same c.args.here.now side _ c.args.store.now c.give_back.new.store _
-    (λ i. record side { next = c.in-Err.ensures.err.1 i; pending = c.in-Err.ensures.err.0 i; own = back i }) held)
+    (said_done g.D.Disk law c.args.here.now _ _ _ _ _ _
+    (all_same c.args.here.now _ c.takes_back.new.side c.args.store.now c.takes_back.new.store _
+    (side_back c.args.here.now (wanted c.args.want.now) _ c.args.store.now h none c.begins.new.side c.begins.new.store begun c.goes_on.new.side c.goes_on.new.store
+    side_is store_is c.takes_back.new.side c.takes_back.ensures.side)
+    (store_back c.args.here.now (wanted c.args.want.now) _ c.args.store.now h none c.begins.new.side c.begins.new.store begun c.goes_on.new.side c.goes_on.new.store
+    side_is store_is c.takes_back.new.store c.takes_back.ensures.store)))
+
+pub returns-in-Err-NoMemory-clause-same : goal.returns-in-Err-NoMemory-clause-same
+returns-in-Err-NoMemory-clause-same g c _ =
+    store_back c.args.here.now (wanted c.args.want.now) c.args.side.now c.args.store.now c.requires.tickets c.requires.none c.begins.new.side c.begins.new.store
+    (c.in_ok-begins.ensures.yes c.if-not-branch.false) c.goes_on.new.side c.goes_on.new.store (c.in-Err-NoMemory.ensures.job.same (ap Err c.in-Err-NoMemory.field-0-is)).0
+    (c.in-Err-NoMemory.ensures.same (ap Err c.in-Err-NoMemory.field-0-is)) c.takes_back.new.store c.takes_back.ensures.store

@@ -11,7 +11,7 @@ use Rattle.petal_rules.specs.Lists.{In}
 use Rattle.petal_rules.specs.Store.{cell_cmp}
 use Rattle.petal_rules.specs.World.{Setting, start, setting_of, devices, chosen_log, chosen_state}
 use Rattle.script_lines.specs.declared.script.Script.{Script}
-use Rattle.petal_history.specs.Claims.{Grows}
+use Rattle.petal_history.specs.Claims.{Grows, MarksFirst}
 use Rattle.petal_history.proofs.laws.the_start_keeps_the_rules.Goals as goal
 
 none_some : {A B : Type 0} {x : A} → None ≡ Some x → B
@@ -44,6 +44,10 @@ grows : (script : Script) → Grows script []
 grows script [] back e = record { later = []; is = sym (append-nil (chosen_log (setting_of script) (start (setting_of script)))) }
 grows script (own ∷ front) back e = absurd cc
 
+marks : (script : Script) → MarksFirst script []
+marks script [] back own e = absurd cc
+marks script (first ∷ front) back own e = absurd cc
+
 pub returns : goal.returns
 unfolding In
 returns c script = record {
@@ -60,6 +64,7 @@ returns c script = record {
     };
   };
   grows = grows script;
+  marks = marks script;
   run = tt;
   holds = record {
     known = λ row there. not_in row _ (no_disks (setting_of script)) there;

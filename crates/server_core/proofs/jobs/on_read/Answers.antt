@@ -1,6 +1,5 @@
 use Rattle.std.proofs.Common.{◌≡◌, true, sym, ap, ◌∙◌}
 use Rattle.petal_rules.specs.State.{readable}
-use Rattle.server_store.specs.Holdings.{Holdings}
 use Rattle.pair_side.specs.Side.{own_of}
 use Rattle.server_core.proofs.Reading.{after_read, told_is}
 use Rattle.server_core.proofs.jobs.on_read.Goals as goal

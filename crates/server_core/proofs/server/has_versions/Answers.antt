@@ -1,4 +1,4 @@
-use Rattle.std.proofs.Common.{◌≡◌, sym, ◌∙◌}
+use Rattle.std.proofs.Common.{sym, ◌∙◌}
 use Rattle.petal_rules.specs.World.{greatest_u64}
 use Rattle.physical_map.specs.Entries.{top_of}
 use Rattle.server_store.specs.Holdings.{listed}

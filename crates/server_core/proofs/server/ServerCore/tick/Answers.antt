@@ -1,4 +1,4 @@
-use Rattle.std.proofs.Common.{◌≡◌, ◌+◌, ◌-◌, ◌%◌, ap, ◌∙◌}
+use Rattle.std.proofs.Common.{◌+◌, ◌-◌, ◌%◌, ap, ◌∙◌}
 use Rattle.log_side.specs.Part.{Part}
 use Rattle.server_core.specs.Core.{Core}
 use Rattle.server_core.proofs.Ticks.{ticked}

@@ -2,7 +2,7 @@
 use Rattle.law_steps.proofs.Firms.{always_firm}
 use Rattle.petal_rules.specs.World.{setting_of, start}
 use Rattle.law_steps.proofs.Histories.{ready_after, rests_after, start_rests}
-use Rattle.law_steps.proofs.operations_rest_in_two_stages.Goals as goal
+use Rattle.law_steps.proofs.operations_rest_in_four_stages.Goals as goal
 
 pub returns-clause-chosen : goal.returns-clause-chosen
 returns-clause-chosen c script records sound legal = ready_after script records (always_firm script records sound legal) legal

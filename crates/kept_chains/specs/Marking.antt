@@ -1,0 +1,24 @@
+-- Commits of a store that set a mark or take one away.
+use Rattle.std.specs.Prelude.{◌≡◌, Result, IfErr, IsErrOf, OnOk}
+use Rattle.petal_disk.specs.declared.disk.Disk.{Ghosts}
+use Rattle.petal_rules.specs.Store.{Store}
+use Rattle.server_store.specs.Errors.{IsMarkError, HasFault}
+use Rattle.server_store.specs.Holdings.{Holdings}
+use Rattle.server_store.specs.Shown.{Holds}
+use Rattle.data_device.specs.declared.error.StoreError.{StoreError}
+use Rattle.data_device.specs.declared.error.StoreError.TheVariants.{JournalFull, NoMemory}
+use Rattle.kept_chains.specs.Kept.{store_of}
+
+-- the store is what the rule says where the device tells its bytes, and the device that showed it shows it still. Its entries
+-- and tickets stay, whatever comes; one that was refused for memory changed nothing
+pub record IsCommit {D T : Type 0} (device : Ghosts D) (before after : Holdings D) (result : Result T StoreError) (rule : Store) : Type 0 where
+  pub done : OnOk result (device.told → store_of after ≡ rule)
+  pub holds : device.told → Holds before (device.seen before.disk) (device.may_leave before.disk)
+      → OnOk result (Holds after (device.seen after.disk) (device.may_leave after.disk))
+  pub tickets : after.tickets ≡ before.tickets
+  pub kept : device.told → after.entries ≡ before.entries
+  pub errors : IfErr result IsMarkError
+  pub memory : IsErrOf result NoMemory → after ≡ before
+  pub full : IsErrOf result JournalFull → before.log.region.count ≡ 65536
+  pub cause : HasFault (device.faults before.disk) (device.faults after.disk) result
+  pub run : device.came_to before.disk after.disk

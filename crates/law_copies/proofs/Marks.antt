@@ -1,0 +1,71 @@
+-- A mark that is set is there, and marks on other cells stay as they are.
+use Rattle.std.proofs.Common.{◌≡◌, ◌≢◌, ◌==◌, Bool, true, false, ◌||◌, not, cond, List, [], ◌∷◌, refl, ap, sym, ◌∙◌, arith}
+use Rattle.std.proofs.lemmas.Bool.Decides.{nat_tests}
+use Rattle.std.proofs.lemmas.List.Folds.{list_any-append}
+use Rattle.busy_marks.specs.Marks.{same_kind, same_mark, has_mark, with_mark, without_mark}
+use Rattle.busy_marks.specs.declared.marks.Mark.{Mark}
+use Rattle.busy_marks.specs.declared.marks.MarkKind.{MarkKind}
+use Rattle.busy_marks.specs.declared.marks.MarkKind.TheVariants.{Busy, Stale}
+use Rattle.petal_base.specs.declared.cell.Cell.{Cell}
+use Rattle.petal_rules.specs.Store.{Store, is_marked, mark_on, with_mark_on, without_mark_on}
+use Rattle.petal_rules.proofs.Tests.{by_test, by_bool, both_true, same_numbers}
+
+same_kind_itself : (kind : MarkKind) → same_kind kind kind ≡ true
+same_kind_itself Busy = refl
+same_kind_itself Stale = refl
+
+same_itself : (mark : Mark) → same_mark mark mark ≡ true
+same_itself mark = let kind = same_kind_itself mark.kind in grind (arith, nat_tests, kind)
+
+is_kind : (a b : MarkKind) → same_kind a b ≡ true → a ≡ b
+is_kind Busy Busy e = refl
+is_kind Stale Stale e = refl
+is_kind Busy Stale e = cc
+is_kind Stale Busy e = cc
+
+-- two marks that pass the test are one
+is_mark : (a b : Mark) → same_mark a b ≡ true → a ≡ b
+is_mark a b e =
+    let tests = both_true _ (a.cell.block == b.cell.block) e in
+    let first = both_true (same_kind a.kind b.kind) (a.cell.map == b.cell.map) tests.0 in
+    let kind = is_kind a.kind b.kind first.0 in
+    let map = same_numbers a.cell.map b.cell.map first.1 in
+    let block = same_numbers a.cell.block b.cell.block tests.1 in
+    λ i. record { kind = kind i; cell = record { map = map i; block = block i } }
+
+other_mark : (kind : MarkKind) (cell q : Cell) → q ≢ cell → same_mark (mark_on kind cell) (mark_on kind q) ≡ false
+other_mark kind cell q ne = by_bool (same_mark (mark_on kind cell) (mark_on kind q))
+    (λ e. absurd (ne (sym (ap (λ (m : Mark). m.cell) (is_mark (mark_on kind cell) (mark_on kind q) e))))) (λ e. e)
+
+is_set : (marks : List Mark) (mark : Mark) → has_mark mark (with_mark marks mark) ≡ true
+is_set marks mark = by_test (λ xs. has_mark mark xs ≡ true) (has_mark mark marks) _ _ (λ there. there)
+    (λ new. list_any-append (λ m. same_mark m mark) marks (mark ∷ [])
+    ∙ ap (λ b. b || (same_mark mark mark || false)) new ∙ ap (λ b. b || false) (same_itself mark))
+
+set_apart : (marks : List Mark) (mark other : Mark) → same_mark mark other ≡ false → has_mark other (with_mark marks mark) ≡ has_mark other marks
+set_apart marks mark other ne = by_test (λ xs. has_mark other xs ≡ has_mark other marks) (has_mark mark marks) _ _ (λ there. refl)
+    (λ new. list_any-append (λ m. same_mark m other) marks (mark ∷ []) ∙ ap (λ b. has_mark other marks || (b || false)) ne ∙ or_false (has_mark other marks))
+  where
+    or_false : (b : Bool) → (b || false) ≡ b
+    or_false true = refl
+    or_false false = refl
+
+unset_apart : (marks : List Mark) (mark other : Mark) → same_mark mark other ≡ false → has_mark other (without_mark marks mark) ≡ has_mark other marks
+unset_apart [] mark other ne = refl
+unset_apart (m ∷ marks) mark other ne = by_bool (same_mark m mark)
+    (λ same. ap (λ b. has_mark other (cond (not b) (m ∷ without_mark marks mark) (without_mark marks mark))) same ∙ unset_apart marks mark other ne
+    ∙ ap (λ b. b || has_mark other marks) (sym (ap (λ k. same_mark k other) (is_mark m mark same) ∙ ne)))
+    (λ apart. ap (λ b. has_mark other (cond (not b) (m ∷ without_mark marks mark) (without_mark marks mark))) apart
+    ∙ ap (λ b. same_mark m other || b) (unset_apart marks mark other ne))
+
+-- ### On cells
+
+pub mark_there : (store : Store) (kind : MarkKind) (cell : Cell) → is_marked (with_mark_on store kind cell) kind cell ≡ true
+mark_there store kind cell = is_set store.marks (mark_on kind cell)
+
+pub mark_apart : (store : Store) (kind : MarkKind) (cell q : Cell) → q ≢ cell → is_marked (with_mark_on store kind cell) kind q ≡ is_marked store kind q
+mark_apart store kind cell q ne = set_apart store.marks (mark_on kind cell) (mark_on kind q) (other_mark kind cell q ne)
+
+pub unmark_apart : (store : Store) (kind : MarkKind) (cell q : Cell) → q ≢ cell
+    → is_marked (without_mark_on store kind cell) kind q ≡ is_marked store kind q
+unmark_apart store kind cell q ne = unset_apart store.marks (mark_on kind cell) (mark_on kind q) (other_mark kind cell q ne)
