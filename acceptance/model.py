@@ -1,10 +1,11 @@
 """A plain model of the script language as far as it is built: what `petal run` may print for a script.
 
 It knows nothing of servers' letters and of agreement: a disk is a map of blocks, and each block takes a slot on two
-neighbouring servers of the disk's tuple. Within a phase the clients run at once, so the model goes through a phase as a whole
-and tells for each line which answers are right in some order of the clients; it allows a little more than that where several
-clients write one block, and never less. `answers_of` tells the answers of scripts in which each line has one right answer,
-and `complaint` says what is wrong with a run's answers to any script.
+neighbouring servers of the disk's tuple, its pair. A server that stopped never runs again, and what is left of a pair serves
+its blocks alone, until it stops too. Within a phase the clients and the operator run at once, so the model goes through a
+phase as a whole and tells for each line which answers are right in some order of them; it allows a little more than that where
+several clients write one block, or where slots run out while servers stop, and never less. `answers_of` tells the answers of
+scripts in which each line has one right answer, and `complaint` says what is wrong with a run's answers to any script.
 
 It decides nothing where slots could run out while several clients write: then it raises Racing."""
 import hashlib, re
@@ -62,34 +63,42 @@ class Making:
         self.number, self.client, self.name = number, client, words[2]
         self.tuple = [int(word) for word in words[4:]]
 
+class Stop:
+    """A line that stops a server."""
+
+    def __init__(self, number, words):
+        self.number, self.server = number, int(words[2])
+
 class World:
-    """The disks by name, what each block may hold, and how many slots are in use."""
+    """The disks by name, what each block may hold, which servers have stopped, and on each server the blocks that have a slot,
+    or may have one."""
 
     def __init__(self, servers, slots):
         self.slots = slots
         self.disks = {}
         self.contents = {}
-        self.used = dict.fromkeys(range(servers), 0)
+        self.stopped = set()
+        self.taken = {server: {} for server in range(servers)}
 
     def pair_of(self, spot):
-        """The two servers of a block."""
+        """The two servers of a block: the primary and the secondary."""
         tuple_ = self.disks[spot[0]]
         at = spot[1] % len(tuple_)
         return tuple_[at], tuple_[(at + 1) % len(tuple_)]
 
-    def take_slots(self, spot):
-        if spot not in self.contents:
-            for server in self.pair_of(spot):
-                self.used[server] += 1
+    def take_slot(self, server, spot, is_sure):
+        self.taken[server][spot] = is_sure or self.taken[server].get(spot, False)
+
+    def least_free(self, server):
+        """How many slots are free, where each block that may have one has it."""
+        return self.slots - len(self.taken[server])
+
+    def most_free(self, server):
+        return self.slots - sum(self.taken[server].values())
 
     def held(self, spot):
         """What a block may hold."""
         return self.contents.get(spot, {ZEROS})
-
-    def was_read(self, spot, answer):
-        """A block holds what was read, where nobody writes it."""
-        if spot in self.contents:
-            self.contents[spot] = {answer.removeprefix("data ")}
 
 class Phase:
     """The lines of a phase, what was answered to them, where that is known, and what may be answered."""
@@ -99,19 +108,26 @@ class Phase:
         self.lines = lines
         self.old = set(world.disks)
         self.winners = {}
+        self.stopping = {line.server for line in lines if isinstance(line, Stop)} - world.stopped
+        # By line: the servers of its block that may run when it is served; and whether a write took effect for sure, or perhaps.
+        self.running, self.effects = {}, {}
 
     def answers(self):
         """Which answers are right, by number of line."""
+        self.stop_servers()
         self.make_disks()
         served = [use for use in self.lines if isinstance(use, Use) and self.is_served(use)]
-        writes = [use for use in served if use.writes is not None]
-        self.write(writes)
-        effective = [use for use in writes if self.answer_to(use) == "ok"]
-        for use in served:
-            if use.writes is None:
-                self.allowed[use.number] |= {"data " + content for content in self.seen_by(use, effective)}
-        self.settle(effective, served)
+        self.find_servers(served)
+        self.write([use for use in served if use.writes is not None and self.running[use.number]])
+        self.read(served)
+        self.world.stopped |= self.stopping
         return self.allowed
+
+    def stop_servers(self):
+        """The operator is always told that the server has stopped."""
+        for line in self.lines:
+            if isinstance(line, Stop):
+                self.allowed[line.number] = {"ok"}
 
     def answer_to(self, line):
         """What was answered, or the one answer that may be."""
@@ -165,49 +181,101 @@ class Phase:
             raise Racing(f"line {use.number} races with the making of its disk")
         return self.heard.get(use.number) != "nodisk"
 
+    def find_servers(self, served):
+        """A block is served while a server of its pair runs. A client that was told that a pair has stopped knows it from then on."""
+        known = defaultdict(set)
+        for use in served:
+            pair = self.world.pair_of(use.spot)
+            self.running[use.number] = [server for server in pair if server not in self.world.stopped | known[use.client]]
+            if not self.stays(use):
+                self.allowed[use.number] |= {"unavailable"}
+            if self.was_unavailable(use):
+                known[use.client] |= set(pair)
+
+    def stays(self, use):
+        """The servers that surely run when the line is served."""
+        return [server for server in self.running[use.number] if server not in self.stopping]
+
+    def was_unavailable(self, use):
+        if self.stays(use):
+            return False
+        if self.running[use.number] and self.heard is None:
+            raise Racing(f"line {use.number} races with the stop of the last server of its block")
+        return self.answer_to(use) == "unavailable"
+
     def write(self, writes):
-        """A write needs a free slot on both servers; one that replaces a content gives its slots back afterwards."""
+        """A write needs a free slot on each server of its pair that runs; one that replaces a content gives its slots back
+        afterwards."""
         alone = len({use.client for use in writes}) == 1
         if not alone and writes:
             self.stop_where_slots_may_run_out(writes)
         for use in writes:
-            full = alone and any(self.world.used[server] >= self.world.slots for server in self.world.pair_of(use.spot))
-            self.allowed[use.number] |= {"nospace" if full else "ok"}
-            if not full:
-                self.world.take_slots(use.spot)
-                self.world.contents.setdefault(use.spot, {ZEROS})
+            self.allowed[use.number] |= self.outcomes_of(use) if alone else {"ok"}
+            self.note_effect(use)
+
+    def outcomes_of(self, use):
+        """What the write of the only client that writes may be answered, beside `unavailable`."""
+        world, running, stays = self.world, self.running[use.number], self.stays(use)
+        has_room = [world.most_free(server) > 0 for server in stays or running]
+        full = self.may_be_full_again(use) or any(world.least_free(server) <= 0 for server in running)
+        return ({"ok"} if (all(has_room) if stays else any(has_room)) else set()) | ({"nospace"} if full else set())
+
+    def may_be_full_again(self, use):
+        """Whether the write may take the secondary's last slot, and then find none, where it is sent again after a stop of the
+        primary. Then it takes effect."""
+        if len(self.running[use.number]) < 2 or self.running[use.number][0] not in self.stopping:
+            return False
+        second = self.running[use.number][1]
+        return not self.world.taken[second].get(use.spot, False) and self.world.least_free(second) <= 1
+
+    def note_effect(self, use):
+        """A write that is told `unavailable` may have taken effect before. Slots of a server that stops are not sure."""
+        answer = self.answer_to(use)
+        if answer in ("ok", "unavailable") or answer == "nospace" and self.may_be_full_again(use):
+            self.effects[use.number] = answer == "ok"
+            for server in self.running[use.number]:
+                self.world.take_slot(server, use.spot, answer == "ok" and server not in self.stopping)
 
     def stop_where_slots_may_run_out(self, writes):
         """Each client has one write open at a time, which takes a slot more than what stays."""
         fresh, writers = defaultdict(set), defaultdict(set)
         for use in writes:
-            for server in self.world.pair_of(use.spot):
+            for server in self.running[use.number]:
                 writers[server].add(use.client)
-                if use.spot not in self.world.contents:
+                if use.spot not in self.world.taken[server]:
                     fresh[server].add(use.spot)
         for server, clients in writers.items():
-            if self.world.used[server] + len(fresh[server]) + len(clients) > self.world.slots:
+            if self.world.least_free(server) < len(fresh[server]) + len(clients):
                 raise Racing(f"slots of server {server} may run out while several clients write")
 
-    def seen_by(self, use, writes):
-        """What a read may find: what its client wrote last, or what was there, or what others write meanwhile."""
-        there = [other for other in writes if other.spot == use.spot]
-        own = [other.writes for other in there if other.client == use.client and other.number < use.number]
-        others = {other.writes for other in there if other.client != use.client}
-        return others | ({own[-1]} if own else self.world.held(use.spot))
-
-    def settle(self, writes, served):
-        """What each block may hold after the phase: the last write of some client; without writes what was read."""
-        last = defaultdict(dict)
-        for use in writes:
-            last[use.spot][use.client] = use.writes
+    def read(self, served):
+        """What each read may find, and what each block may hold afterwards."""
+        by_spot = defaultdict(list)
         for use in served:
-            if use.writes is None and use.spot not in last:
-                answer = self.answer_to(use)
-                if answer in self.allowed[use.number]:
-                    self.world.was_read(use.spot, answer)
-        for spot, ends in last.items():
-            self.world.contents[spot] = set(ends.values())
+            by_spot[use.spot].append(use)
+        for spot, uses in by_spot.items():
+            self.read_block(spot, uses, [use for use in uses if use.number in self.effects])
+
+    def read_block(self, spot, uses, writes):
+        """A read finds what its client wrote last, or what was there, or what others write meanwhile. Where no other client
+        writes, later reads find the same."""
+        writers = {write.client for write in writes}
+        # What a client that writes may find of its own, and what all others may find that was there.
+        found = defaultdict(lambda: self.world.held(spot))
+        for use in uses:
+            own = use.client if use.client in writers else None
+            if use in writes:
+                found[own] = {use.writes} if self.effects[use.number] else found[own] | {use.writes}
+            elif use.writes is None and self.running[use.number]:
+                others = {write.writes for write in writes if write.client != use.client}
+                self.allowed[use.number] |= {"data " + content for content in found[own] | others}
+                if not others:
+                    found[own] = self.narrowed(found[own], use)
+        self.world.contents[spot] = set().union(*(found[own] for own in writers or {None}))
+
+    def narrowed(self, contents, use):
+        """Of what a block may hold, what the read found."""
+        return contents & {(self.answer_to(use) or "").removeprefix("data ")} or contents
 
 def phases_of(text):
     """The world of a script at its start, and the lines of each of its phases."""
@@ -220,6 +288,8 @@ def phases_of(text):
         elif words[0] in CLIENTS:
             kind = Making if words[1] == "disk" else Use
             phases[-1].append(kind(number, words[0], words))
+        elif words[:2] == ["op", "stop"]:
+            phases[-1].append(Stop(number, words))
     return world, phases
 
 def answers_of(text):

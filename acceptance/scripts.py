@@ -113,40 +113,84 @@ def many_disks(count, *nets):
     return joined(lines)
 
 def mixed_line(draw, clients, names, makes):
-    """A request of one of the clients, about one of the disks or a name that none has."""
+    """A request of one of the clients, about one of the disks or a name that none has. A line that makes a disk lacks its servers."""
     client, name = draw.choice(clients), draw.choice(names)
     if makes and draw.randrange(6) == 0:
-        return f"{client} disk {name} on {{tuple}}"
+        return f"{client} disk {name}"
     block = draw.choice((0, 1, 2, 3, draw.randrange(2**48), 2**48 - 1))
     if draw.randrange(5) < 2:
         return f"{client} read {name} {block}"
     byte, other = draw.randrange(256), draw.randrange(256)
     return f"{client} write {name} {block} " + draw.choice((f"fill {byte}", f"halves {byte} {other}", f"ramp {byte}"))
 
+def made_disk(draw, client, name, servers):
+    """A line that makes a disk over some of so many servers."""
+    return f"{client} disk {name} on " + " ".join(map(str, draw.sample(range(servers), draw.randint(2, servers))))
+
+def mixed_phase(draw, clients, names, servers, makes):
+    """The lines of a phase of these clients, of which at most so many make a disk."""
+    lines = []
+    for _ in range(draw.randint(1, 20)):
+        line = mixed_line(draw, clients, names, makes)
+        if line[1:6] == " disk":
+            makes -= 1
+            line = made_disk(draw, line[0], line.split()[2], servers)
+        lines.append(line)
+    return lines
+
+def mixed_phases(draw, servers, most, nets, stops_of=None):
+    """Phases of a mixed script of at most so many disks. Where servers stop, most disks are made first, and `stops_of` gives the
+    phases that come before the next one, and the lines that stand in it."""
+    alone = draw.randrange(4) == 0
+    names = [f"d{number}" for number in range(draw.randint(1, most))]
+    lines = [f"servers {servers} slots {draw.randint(1, 6) if alone else 1024}", *(net.replace("_", " ") for net in nets)]
+    makes, clients = 16, list(CLIENTS[: draw.randint(1, 8)])
+    if stops_of:
+        makes -= len(names)
+        lines += [made_disk(draw, "a", name, servers) for name in names if draw.randrange(4)] + ["wait"]
+    for _ in range(draw.randint(1, 7)):
+        here = [draw.choice(clients)] if alone else clients
+        before, beside = stops_of() if stops_of else ([], [])
+        phase = mixed_phase(draw, here, names, servers, makes)
+        makes -= sum(line[1:6] == " disk" for line in phase)
+        lines += [*before, *phase, *beside, "wait"]
+    spots = sorted({tuple(line.split()[2:4]) for line in lines if line.split()[1:2] == ["write"]})
+    return lines + [f"{draw.choice(CLIENTS)} read {name} {block}" for name, block in spots]
+
 def mixed(seed, *nets):
     """Up to 16 disks, made at any time by any client, some under a name that is taken, with writes and reads of disks that are
     there and of some that are not. Either slots are plenty, or one client works at a time. At the end each block is read that a
     line wrote."""
     draw = random.Random(int(seed))
-    servers, alone = draw.randint(2, 8), draw.randrange(4) == 0
-    names = [f"d{number}" for number in range(draw.randint(1, 18))]
-    lines = [f"servers {servers} slots {draw.randint(1, 6) if alone else 1024}", *(net.replace("_", " ") for net in nets)]
-    makes, clients = 16, list(CLIENTS[: draw.randint(1, 8)])
-    for _ in range(draw.randint(1, 7)):
-        here = [draw.choice(clients)] if alone else clients
-        for _ in range(draw.randint(1, 20)):
-            line = mixed_line(draw, here, names, makes)
-            if "{tuple}" in line:
-                makes -= 1
-                line = line.replace("{tuple}", " ".join(map(str, draw.sample(range(servers), draw.randint(2, servers)))))
-            lines.append(line)
-        lines.append("wait")
-    spots = sorted({tuple(line.split()[2:4]) for line in lines if line.split()[1:2] == ["write"]})
-    lines += [f"{draw.choice(CLIENTS)} read {name} {block}" for name, block in spots]
-    return joined(lines)
+    return joined(mixed_phases(draw, draw.randint(2, 8), 18, nets))
 
-MAKERS = {"many_disks": many_disks, "mixed": mixed, "text": text, "bytes": bytes_of, "nothing": nothing, "work": work, "busy": busy, "all_servers": all_servers, "patterns": patterns,
-          "sized": sized, "requests": requests, "phases": phases, "large": large}
+def stops(seed, *nets):
+    """A mixed script of few disks in which servers stop, at most as many as may, often neighbours: in phases of their own, and
+    beside writes and reads. A server that has stopped is stopped again, which takes the operator a while: so others stop in the
+    middle of writes."""
+    draw = random.Random(int(seed))
+    servers = draw.choice((3, 4, 5, 5, 6, 7, 7, 8))
+    first = draw.randrange(servers)
+    order = [(first + step) % servers for step in range(servers)] if draw.randrange(2) else draw.sample(range(servers), servers)
+    waiting, stopped = order[: servers - servers // 2 - 1], []
+
+    def some():
+        lines = []
+        for _ in range(draw.choice((0, 0, 1, 1, 2))):
+            lines += [f"op stop {draw.choice(stopped)}" for _ in range(draw.randint(0, 6)) if stopped]
+            if waiting:
+                stopped.append(waiting.pop(0))
+                lines.append(f"op stop {stopped[-1]}")
+        return lines
+
+    def stops_of():
+        before = [*some(), "wait"] if draw.randrange(3) == 0 else []
+        return before, some()
+
+    return joined(mixed_phases(draw, servers, 4, nets, stops_of))
+
+MAKERS = {"many_disks": many_disks, "mixed": mixed, "stops": stops, "text": text, "bytes": bytes_of, "nothing": nothing, "work": work, "busy": busy,
+          "all_servers": all_servers, "patterns": patterns, "sized": sized, "requests": requests, "phases": phases, "large": large}
 
 def made(words):
     """The script that words such as `work,3,1,40,8,1,net_lose_2` name, split at commas."""

@@ -1,5 +1,5 @@
 -- The open request in code: the block that a write sends is made once.
-use Rattle.std.specs.Prelude.{ℕ, List, Option, Some, None, option_map}
+use Rattle.std.specs.Prelude.{ℕ, ◌==◌, List, Option, Some, None, option_map, if◌then◌else◌}
 use Rattle.script_lines.specs.Pattern.{pattern_block}
 use Rattle.script_lines.specs.declared.answer.Answer.{Answer}
 use Rattle.script_lines.specs.declared.request.Request.{Request}
@@ -31,3 +31,12 @@ with_witnesses witnesses asked = option_map (λ (was : Asked). record was { witn
 -- the request, where it was sent so often, and last at this revision
 abbrev pub with_send : (turn rev : ℕ) → Option Asked → Option Asked
 with_send turn rev asked = option_map (λ (was : Asked). record was { turn = turn; rev = rev }) asked
+
+-- the request's line, where it stops this server
+abbrev pub stop_in : ℕ → Asked → Request → Option ℕ
+stop_in server asked (request.Stop other) = if other == server then Some asked.line else None
+stop_in server asked _ = None
+
+abbrev pub stop_of : ℕ → Option Asked → Option ℕ
+stop_of server None = None
+stop_of server (Some asked) = stop_in server asked asked.request

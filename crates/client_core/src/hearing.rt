@@ -59,8 +59,11 @@ impl Open {
             )),
             Body::BlockBusy { seq } | Body::Held { seq } => Ok(again_if(self.counts(rev, *seq))),
             Body::WrongRev { seq } => Ok(again_if(*seq == self.seq)),
+            Body::Seen { line, .. } => Ok(answered_if(
+                *line == self.line && self.request.is_stop(),
+                Answer::Ok,
+            )),
             Body::Down { .. }
-            | Body::Seen { .. }
             | Body::Propose { .. }
             | Body::Pax(_)
             | Body::Ask { .. }

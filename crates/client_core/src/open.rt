@@ -2,9 +2,9 @@
 
 ghost use Rattle.std.specs.Prelude.{◌≡◌, IfOk};
 ghost use Rattle.petal_rules.specs.Clients.{counts};
-ghost use Rattle.client_core.specs.Open.{bytes_sent, with_send, with_witnesses};
+ghost use Rattle.client_core.specs.Open.{bytes_sent, stop_in, with_send, with_witnesses};
 
-use petal_base::{NoMemory, Rev, Seq, SharedBlock};
+use petal_base::{NoMemory, Rev, Seq, ServerId, SharedBlock};
 use script_lines::Request;
 use std::alloc::Global;
 use std::marker::Model;
@@ -76,6 +76,22 @@ impl Open {
         ensures { result ≡ counts self.now rev seq }
     {
         seq == self.seq && rev == self.rev
+    }
+
+    /// The request's line, where it stops this server.
+    pub fn stops(&self, server: ServerId) -> Option<u32>
+        ensures { result ≡ stop_in server self.now self.now.request }
+    {
+        match &self.request {
+            Request::Stop { server: other } => {
+                if *other == server {
+                    Some(self.line)
+                } else {
+                    None
+                }
+            }
+            _ => None,
+        }
     }
 
     /// It was sent `turn` times, the last time at a revision.

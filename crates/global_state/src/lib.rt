@@ -9,6 +9,7 @@ mod place;
 mod role;
 mod settled;
 mod state;
+mod touch;
 
 pub use global_tables::{Fence, FenceKind, Latest, LinkState, Member, RegionState, Verdict};
 pub use petal_state::{DiskView, Hold, Link};

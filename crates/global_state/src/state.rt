@@ -51,6 +51,16 @@ impl GlobalState {
         Ok(())
     }
 
+    /// The state with one entry more, as `apply` makes it.
+    pub fn next(&self, alloc: Global, command: &Command) -> Result<GlobalState, NoMemory>
+        requires { self.now.rev < 2 ^ 32 - 1 }
+        ensures { IfOk result (λ next. next ≡ after self.now command.now) }
+    {
+        Ok(GlobalState {
+            tables: self.tables.next(alloc, command)?,
+        })
+    }
+
     /// The same state again.
     pub fn copy(&self) -> Result<GlobalState, NoMemory>
         ensures { IfOk result (λ state. state ≡ self.now) }

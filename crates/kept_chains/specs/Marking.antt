@@ -1,5 +1,5 @@
 -- Commits of a store that set a mark or take one away.
-use Rattle.std.specs.Prelude.{◌≡◌, Result, IfErr, IsErrOf, OnOk}
+use Rattle.std.specs.Prelude.{◌≡◌, ◌+◌, length, Result, IfErr, IsErrOf, OnOk}
 use Rattle.petal_disk.specs.declared.disk.Disk.{Ghosts}
 use Rattle.petal_rules.specs.Store.{Store}
 use Rattle.server_store.specs.Errors.{IsMarkError, HasFault}
@@ -8,6 +8,12 @@ use Rattle.server_store.specs.Shown.{Holds}
 use Rattle.data_device.specs.declared.error.StoreError.{StoreError}
 use Rattle.data_device.specs.declared.error.StoreError.TheVariants.{JournalFull, NoMemory}
 use Rattle.kept_chains.specs.Kept.{store_of}
+
+-- the rule has one record more than the journal has room for, and nothing changed
+pub record IsFull {D : Type 0} (before after : Holdings D) (rule : Store) : Type 0 where
+  pub count : before.log.region.count ≡ 65536
+  pub over : rule.records ≡ length before.log.records + 1
+  pub same : after ≡ before
 
 -- the store is what the rule says where the device tells its bytes, and the device that showed it shows it still. Its entries
 -- and tickets stay, whatever comes; one that was refused for memory changed nothing
@@ -19,6 +25,6 @@ pub record IsCommit {D T : Type 0} (device : Ghosts D) (before after : Holdings 
   pub kept : device.told → after.entries ≡ before.entries
   pub errors : IfErr result IsMarkError
   pub memory : IsErrOf result NoMemory → after ≡ before
-  pub full : IsErrOf result JournalFull → before.log.region.count ≡ 65536
+  pub full : IsErrOf result JournalFull → IsFull before after rule
   pub cause : HasFault (device.faults before.disk) (device.faults after.disk) result
   pub run : device.came_to before.disk after.disk

@@ -112,7 +112,7 @@ module _ (lines : List Line) (rise : AreRising lines) (given : List (ℕ × Answ
     own : OwnAnswer c reacted.client.seq reacted.answer
     ahead : IsAhead lines (with_answer reacted.answer given) c reacted.client
 
-  module _ (heard : Body → Type 0) (servers c : ℕ) (client : Client) (a : IsAhead lines given c client) where
+  module _ (heard : ℕ → Body → Type 0) (servers c : ℕ) (client : Client) (a : IsAhead lines given c client) where
     next_open : (line : Line) → next_line lines c client ≡ Some line → IsOpenAt lines given c (client.seq + 1) line.number
     next_open line is =
         record { place = client.seq; line = line; is = is; before = omega arith; number_is = refl; new = a.due client.seq line is (omega arith) }
@@ -128,14 +128,14 @@ module _ (lines : List Line) (rise : AreRising lines) (given : List (ℕ × Answ
     the_row called e o = subst (λ (r : ℕ × Answer). IsOpenAt lines given c called r.0) (same_some e) o
 
     -- what stays open is at the line that it was
-    stays_at : (o : Option Asked) → client.asked ≡ o → (now : Asked) → StaysOpen o (Some now) → IsOpenAt lines given c client.seq now.line
-    stays_at None is now stays = absurd stays
-    stays_at (Some old) is now stays = subst (IsOpenAt lines given c client.seq) (sym stays.line) (a.asked old is)
+    stays_at : (rev : ℕ) (o : Option Asked) → client.asked ≡ o → (now : Asked) → StaysOpen rev o (Some now) → IsOpenAt lines given c client.seq now.line
+    stays_at rev None is now stays = absurd stays
+    stays_at rev (Some old) is now stays = subst (IsOpenAt lines given c client.seq) (sym stays.line) (a.asked old is)
 
-    goes_ahead : (to : Client) → to.seq ≡ client.seq → StaysOpen client.asked to.asked → IsAhead lines given c to
-    goes_ahead to seq stays = record {
+    goes_ahead : (rev : ℕ) (to : Client) → to.seq ≡ client.seq → StaysOpen rev client.asked to.asked → IsAhead lines given c to
+    goes_ahead rev to seq stays = record {
       due = λ i line is le. a.due i line is (omega arith);
-      asked = λ now e. subst (λ k. IsOpenAt lines given c k now.line) (sym seq) (stays_at client.asked refl now (subst (StaysOpen client.asked) e stays));
+      asked = λ now e. subst (λ k. IsOpenAt lines given c k now.line) (sym seq) (stays_at rev client.asked refl now (subst (StaysOpen rev client.asked) e stays));
     }
 
     begins_ahead : (line : Line) → next_line lines c client ≡ Some line → (to : Client) (asked : Asked) → to.seq ≡ client.seq + 1
@@ -157,7 +157,7 @@ module _ (lines : List Line) (rise : AreRising lines) (given : List (ℕ × Answ
     judged to asked seq is = subst (λ k. IsOpenAt lines given c k asked.line) (sym seq) (a.asked asked is)
 
     turned : (in_call : Bool) (reacted : Reaction) → Turned heard servers lines c client in_call reacted → IsTurned c reacted
-    turned _ _ (Goes_on reacted seq stays only) = silent reacted only.unanswered (goes_ahead reacted.client seq stays)
+    turned _ _ (Goes_on reacted seq stays only) = silent reacted only.unanswered (goes_ahead _ reacted.client seq stays)
     turned _ _ (Begins reacted line asked is free seq there called only) =
         silent reacted only.unanswered (begins_ahead line is reacted.client asked seq there called.line_is)
     turned _ _ (Reads asked bytes h is reads) = record {
@@ -165,6 +165,10 @@ module _ (lines : List Line) (rise : AreRising lines) (given : List (ℕ × Answ
       ahead = none_ahead _ _ (omega arith) refl (a.asked asked is);
     }
     turned _ _ (happens.Ends asked how h is writes) = record {
+      own = λ row e. the_row client.seq e (a.asked asked is);
+      ahead = none_ahead _ _ (omega arith) refl (a.asked asked is);
+    }
+    turned _ _ (happens.Shown asked rev round inc running full h is stops) = record {
       own = λ row e. the_row client.seq e (a.asked asked is);
       ahead = none_ahead _ _ (omega arith) refl (a.asked asked is);
     }

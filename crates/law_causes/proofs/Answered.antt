@@ -24,19 +24,19 @@ use Rattle.petal_history.specs.declared.record.Record.{Record}
 use Rattle.script_lines.specs.declared.script.Script.{Script}
 use Rattle.petal_rules.specs.Lists.{In}
 use Rattle.petal_rules.specs.State.{State}
-use Rattle.petal_rules.specs.Clients.{Client, Asked, Reaction, is_read, is_write, command_of, refusal, verdict_for, verdict_answer, is_witness}
+use Rattle.petal_rules.specs.Clients.{Client, Asked, Reaction, is_read, is_stop, is_write, command_of, refusal, verdict_for, verdict_answer, is_witness}
 use Rattle.petal_rules.specs.World.{Setting, World, lines_of, chosen_log, chosen_state, state_at, with_answer, setting_of, start}
 use Rattle.petal_rules.proofs.Tests.{same_some, none_some, same_numbers, both_true, all_put}
 use Rattle.law_state.specs.Plain.{IsPlainLog}
 use Rattle.law_state.proofs.Places.{get_front, in_get}
 use Rattle.law_state.proofs.Entries.{log_plain}
-use Rattle.law_state.proofs.Steady.{front_plain, log_steady}
-use Rattle.law_steps.specs.Turned.{Turned, IsSame, StaysOpen, IsReason, By_verdict, By_witness, IsJudged, Goes_on, Begins, Reads, Ends, Judges, answer_of}
+use Rattle.law_state.proofs.Steady.{front_plain, log_below, log_steady}
+use Rattle.law_steps.specs.Turned.{Turned, IsSame, StaysOpen, IsReason, By_verdict, By_witness, IsJudged, Goes_on, Begins, Reads, Ends, Shown, Judges, answer_of}
 use Rattle.law_steps.specs.Happens.{Happens, Serves, Turns}
 use Rattle.petal_rules.proofs.ListLemmas.{put_same}
 use Rattle.law_steps.specs.Ready.{AreFirm, Rests}
 use Rattle.law_steps.proofs.Fronts.{front_itself, front_on, below_itself}
-use Rattle.law_steps.proofs.Histories.{chosen_steady, rests_next, happens, firm_now, firm_after, start_rests}
+use Rattle.law_steps.proofs.Histories.{rests_next, happens, firm_now, firm_after, start_rests}
 use Rattle.law_causes.specs.Asked.{AreAsked}
 use Rattle.law_answers.proofs.Places.{one_client, one_place}
 use Rattle.law_causes.proofs.Folds.{Outcome, Taken, Free}
@@ -96,6 +96,10 @@ no_command_write : (c seq : ℕ) (asked : Request) → is_write asked ≡ true �
 no_command_write c seq (request.Disk name tuple) h = absurd (cc)
 no_command_write c seq _ h = refl
 
+no_command_stop : (c seq : ℕ) (asked : Request) → is_stop asked ≡ true → command_of c seq asked ≡ None
+no_command_stop c seq (request.Disk name tuple) h = absurd (cc)
+no_command_stop c seq _ h = refl
+
 none_of : {X : Type 0} (o : Option X) → is_some o ≡ false → o ≡ None
 none_of None h = refl
 none_of (Some x) h = absurd (cc)
@@ -113,6 +117,15 @@ free_before : (s : State) (name tuple : List ℕ) (v : Rattle.global_tables.spec
 free_before s name tuple _ given (Taken is) says e = let exists : answer.Exists ≡ given = same_some says in absurd (cc)
 free_before s name tuple _ given (Free is) says e = none_of (named s.disks.rows name) is
 
+-- the open request is that of a line
+pub record IsOpenFor (lines : List Line) (c : ℕ) (asked : Asked) : Type 0 where
+  pub before : ℕ
+  pub line : Line
+  pub is : slice_get (lines_of lines c) before ≡ Some line
+  pub line_is : asked.line ≡ line.number
+  pub seq_is : asked.seq ≡ before + 1
+  pub request_is : asked.request ≡ line.request
+
 module _ (setting : Setting) (last : World) (plain : IsPlainLog setting.servers (chosen_log setting last))
     (disks : AreAsked setting.lines (chosen_log setting last)) where
   -- the answer of the line of this number has its cause
@@ -124,17 +137,8 @@ module _ (setting : Setting) (last : World) (plain : IsPlainLog setting.servers 
     pub number_is : line.number ≡ number
     pub cause : CauseOf setting last client (before + 1) line.request (command_of client (before + 1) line.request) given
 
-  -- the open request is that of a line
-  pub record IsOpenFor (c : ℕ) (asked : Asked) : Type 0 where
-    pub before : ℕ
-    pub line : Line
-    pub is : slice_get (lines_of setting.lines c) before ≡ Some line
-    pub line_is : asked.line ≡ line.number
-    pub seq_is : asked.seq ≡ before + 1
-    pub request_is : asked.request ≡ line.request
-
   -- a cause in view of the open request
-  caused_by : (c : ℕ) (asked : Asked) (given : Answer) → IsOpenFor c asked
+  caused_by : (c : ℕ) (asked : Asked) (given : Answer) → IsOpenFor setting.lines c asked
       → CauseOf setting last c asked.seq asked.request (command_of c asked.seq asked.request) given → HasCause asked.line given
   caused_by c asked given o cause = record {
     client = c;
@@ -197,7 +201,8 @@ module _ (setting : Setting) (last : World) (plain : IsPlainLog setting.servers 
           }
 
   -- a disk of the open request's number is the one that it asks for
-  own_disk : (c : ℕ) (asked : Asked) → IsOpenFor c asked → (name tuple : List ℕ) → In (MakeDisk c asked.seq name tuple) (chosen_log setting last)
+  own_disk : (c : ℕ) (asked : Asked) → IsOpenFor setting.lines c asked → (name tuple : List ℕ)
+      → In (MakeDisk c asked.seq name tuple) (chosen_log setting last)
       → asked.request ≡ request.Disk name tuple
   own_disk c asked o name tuple there =
       let a = disks c asked.seq name tuple there in
@@ -205,7 +210,8 @@ module _ (setting : Setting) (last : World) (plain : IsPlainLog setting.servers 
       let line : o.line ≡ a.line = same_some (sym o.is ∙ ap (slice_get (lines_of setting.lines c)) (sym same) ∙ a.is) in
       o.request_is ∙ ap (λ (l : Line). l.request) line ∙ a.request
 
-  judged_cause : (c : ℕ) (before after : List Command) (asked : Asked) (given : Answer) → IsOpenFor c asked → IsPrefix after (chosen_log setting last)
+  judged_cause : (c : ℕ) (before after : List Command) (asked : Asked) (given : Answer) → IsOpenFor setting.lines c asked
+      → IsPrefix after (chosen_log setting last)
       → IsJudged setting.servers c before after asked given → HasCause asked.line given
   judged_cause c before after asked given o part judged = caused_by c asked given o (by judged.reason)
     where
@@ -243,15 +249,15 @@ module _ (setting : Setting) (last : World) (plain : IsPlainLog setting.servers 
 
   pub record Kept (w : World) : Type 0 where
     pub answers : (number : ℕ) (given : Answer) → In (number, given) w.answers → HasCause number given
-    pub open_for : (c : ℕ) (asked : Asked) → (w.clients c).asked ≡ Some asked → IsOpenFor c asked
+    pub open_for : (c : ℕ) (asked : Asked) → (w.clients c).asked ≡ Some asked → IsOpenFor setting.lines c asked
 
   -- what a client's step leaves and answers
   record Reacted (c : ℕ) (reacted : Reaction) : Type 0 where
-    open_for : (asked : Asked) → reacted.client.asked ≡ Some asked → IsOpenFor c asked
+    open_for : (asked : Asked) → reacted.client.asked ≡ Some asked → IsOpenFor setting.lines c asked
     answered : (number : ℕ) (given : Answer) → reacted.answer ≡ Some (number, given) → HasCause number given
 
-  open_same : (c : ℕ) (old new : Asked) → IsSame old new → IsOpenFor c old → IsOpenFor c new
-  open_same c old new same o = record {
+  open_same : (rev c : ℕ) (old new : Asked) → IsSame rev old new → IsOpenFor setting.lines c old → IsOpenFor setting.lines c new
+  open_same rev c old new same o = record {
     before = o.before;
     line = o.line;
     is = o.is;
@@ -260,12 +266,13 @@ module _ (setting : Setting) (last : World) (plain : IsPlainLog setting.servers 
     request_is = same.request ∙ o.request_is;
   }
 
-  stays_open : (c : ℕ) (old new : Option Asked) → StaysOpen old new → ((asked : Asked) → old ≡ Some asked → IsOpenFor c asked) → (asked : Asked)
-      → new ≡ Some asked → IsOpenFor c asked
-  stays_open c None None stays before asked e = none_some refl e
-  stays_open c None (Some new) stays before asked e = absurd stays
-  stays_open c (Some old) None stays before asked e = none_some refl e
-  stays_open c (Some old) (Some new) stays before asked e = subst (IsOpenFor c) (same_some e) (open_same c old new stays (before old refl))
+  stays_open : (rev c : ℕ) (old new : Option Asked) → StaysOpen rev old new
+      → ((asked : Asked) → old ≡ Some asked → IsOpenFor setting.lines c asked) → (asked : Asked) → new ≡ Some asked → IsOpenFor setting.lines c asked
+  stays_open rev c None None stays before asked e = none_some refl e
+  stays_open rev c None (Some new) stays before asked e = absurd stays
+  stays_open rev c (Some old) None stays before asked e = none_some refl e
+  stays_open rev c (Some old) (Some new) stays before asked e =
+      subst (IsOpenFor setting.lines c) (same_some e) (open_same rev c old new stays (before old refl))
 
   answer_given : (number line : ℕ) (given told : Answer) → (let pair : Option (ℕ × Answer) = Some (line, told) in pair) ≡ Some (number, given)
       → HasCause line told → HasCause number given
@@ -280,16 +287,19 @@ module _ (setting : Setting) (last : World) (plain : IsPlainLog setting.servers 
   write_cause c seq asked ending.Written is = subst (λ o. CauseOf setting last c seq asked o answer.Ok) (sym (no_command_write c seq asked is)) tt
   write_cause c seq asked ending.Full is = subst (λ o. CauseOf setting last c seq asked o answer.NoSpace) (sym (no_command_write c seq asked is)) tt
 
-  reacted_kept : (heard : Body → Type 0) (c : ℕ) (client : Client) (in_call : Bool) (reacted : Reaction)
-      → ((asked : Asked) → client.asked ≡ Some asked → IsOpenFor c asked)
+  stop_cause : (c seq : ℕ) (asked : Request) → is_stop asked ≡ true → CauseOf setting last c seq asked (command_of c seq asked) answer.Ok
+  stop_cause c seq asked is = subst (λ o. CauseOf setting last c seq asked o answer.Ok) (sym (no_command_stop c seq asked is)) tt
+
+  reacted_kept : (heard : ℕ → Body → Type 0) (c : ℕ) (client : Client) (in_call : Bool) (reacted : Reaction)
+      → ((asked : Asked) → client.asked ≡ Some asked → IsOpenFor setting.lines c asked)
       → IsPrefix reacted.client.applied (chosen_log setting last) → Turned heard setting.servers setting.lines c client in_call reacted → Reacted c reacted
   reacted_kept heard c client _ _ before part (Goes_on reacted seq stays says) = record {
-    open_for = stays_open c client.asked reacted.client.asked stays before;
+    open_for = stays_open _ c client.asked reacted.client.asked stays before;
     answered = λ number given e. none_some says.unanswered e;
   }
   reacted_kept heard c client _ _ before part (Begins reacted line asked next free seq now called says) = record {
-    open_for = λ other e. subst (IsOpenFor c) (same_some (sym now ∙ e))
-        (let o : IsOpenFor c asked = record {
+    open_for = λ other e. subst (IsOpenFor setting.lines c) (same_some (sym now ∙ e))
+        (let o : IsOpenFor setting.lines c asked = record {
           before = client.seq;
           line = line;
           is = next;
@@ -311,6 +321,12 @@ module _ (setting : Setting) (last : World) (plain : IsPlainLog setting.servers 
         answer_given number asked.line given (answer_of how) e
         (caused_by c asked (answer_of how) (before asked is) (write_cause c asked.seq asked.request how write));
   }
+  reacted_kept heard c client _ _ before part (Shown asked rev round inc running full told is stops) = record {
+    open_for = λ other e. none_some refl e;
+    answered = λ number given e.
+        answer_given number asked.line given answer.Ok e
+        (caused_by c asked answer.Ok (before asked is) (stop_cause c asked.seq asked.request stops));
+  }
   reacted_kept heard c client _ _ before part (Judges after asked told is gone seq judged) = record {
     open_for = λ other e. none_some gone e;
     answered = λ number given e. answer_given number asked.line given told e
@@ -327,7 +343,7 @@ module _ (setting : Setting) (last : World) (plain : IsPlainLog setting.servers 
 
   pub step_keeps : (state : State) (w v : World) → Kept w → ((c : ℕ) → IsPrefix (v.clients c).applied (chosen_log setting last)) → Happens setting state w v
       → Kept v
-  step_keeps state w _ kept parts (Serves n stamp log done queue lt did queued) = record { answers = kept.answers; open_for = kept.open_for }
+  step_keeps state w _ kept parts (Serves n stamp what acted lt within serving) = record { answers = kept.answers; open_for = kept.open_for }
   step_keeps state w _ kept parts (Turns c stamp in_call reacted lt small turned onward) =
       let part : IsPrefix reacted.client.applied (chosen_log setting last) =
       subst (λ (client : Client). IsPrefix client.applied (chosen_log setting last)) (put_same w.clients c reacted.client) (parts c) in
@@ -335,7 +351,7 @@ module _ (setting : Setting) (last : World) (plain : IsPlainLog setting.servers 
       record {
         answers = more_answers reacted.answer w.answers kept.answers r.answered;
         open_for = all_put w.clients c reacted.client
-            (λ k (client : Client). (asked : Asked) → client.asked ≡ Some asked → IsOpenFor k asked) kept.open_for r.open_for;
+            (λ k (client : Client). (asked : Asked) → client.asked ≡ Some asked → IsOpenFor setting.lines k asked) kept.open_for r.open_for;
       }
 
 -- ### Histories
@@ -363,91 +379,85 @@ kept_after setting last plain disks w (own ∷ later) firm rests legal upto kept
     let v = (stepped setting w own).world in
     let next = firm_now setting v later firm.2 in
     let state = chosen_state setting v in
-    let steady = chosen_steady setting v next in
     kept_after setting last plain disks v later firm.2 (rests_next setting w own rests firm.0 legal.0 next) legal.1 upto
     (step_keeps setting last plain disks state w v kept
     (λ c. front_on (v.clients c).applied (chosen_log setting (world_after setting v later)) (chosen_log setting last)
     (clients_on setting v later firm.2 c) upto)
-    (happens setting w own rests firm.0 legal.0 next firm.1 state steady (below_itself state)))
+    (happens setting w own rests firm.0 legal.0 next state (below_itself state)))
 
-pub causes_after : (script : Script) (records : List Record) → AreRising script.lines → AreFirm (setting_of script) (start (setting_of script)) records
-    → IsLegal script records
-    → AreAsked script.lines (chosen_log (setting_of script) (world_after (setting_of script) (start (setting_of script)) records))
-    → AreCaused (setting_of script) (world_after (setting_of script) (start (setting_of script)) records)
-unfolding In
-causes_after script records rise firm legal disks line before given there told = by (kept.answers line.number given told)
-  where
-    setting : Setting
-    setting = setting_of script
+take_front : (log : List Command) (k : ℕ) → IsPrefix (take k log) log
+take_front [] zero = record { later = []; is = refl }
+take_front [] (suc k) = record { later = []; is = refl }
+take_front (e ∷ log) zero = record { later = e ∷ log; is = refl }
+take_front (e ∷ log) (suc k) = let rest = take_front log k in record { later = rest.later; is = ap (λ xs. e ∷ xs) rest.is }
 
-    last : World
-    last = world_after setting (start setting) records
+-- in view of the log at a history's end
+module _ (script : Script) (records : List Record) (firm : AreFirm (setting_of script) (start (setting_of script)) records) (legal : IsLegal script records)
+    (disks : AreAsked script.lines (chosen_log (setting_of script) (world_after (setting_of script) (start (setting_of script)) records))) where
+  abbrev setting : Setting
+  setting = setting_of script
 
-    plain : IsPlainLog setting.servers (chosen_log setting last)
-    plain = (firm_after setting (start setting) records firm).plain
+  abbrev last : World
+  last = world_after setting (start setting) records
 
-    kept : Kept setting last plain disks last
-    kept =
-        kept_after setting last plain disks (start setting) records firm (start_rests script) legal (front_itself (chosen_log setting last))
-        (record { answers = λ number told h. absurd h; open_for = λ c asked e. none_some refl e })
+  plain_end : IsPlainLog script.servers (chosen_log setting last)
+  plain_end = (firm_after setting (start setting) records firm).plain
 
-    by : HasCause setting last plain disks line.number given
-        → CauseOf setting last line.client (before + 1) line.request (command_of line.client (before + 1) line.request) given
-    by h =
-        let client : h.client ≡ line.client = one_client script.lines rise h.client line.client h.before before h.line line h.is there h.number_is in
-        let here : slice_get (lines_of script.lines line.client) h.before ≡ Some h.line = subst
-        (λ c. slice_get (lines_of script.lines c) h.before ≡ Some h.line) client h.is in
-        let place : h.before ≡ before = one_place script.lines rise line.client h.before before h.line line here there h.number_is in
-        let same : h.line ≡ line = same_some (sym here ∙ ap (slice_get (lines_of script.lines line.client)) place ∙ there) in
-        subst (λ c. CauseOf setting last c (before + 1) line.request (command_of c (before + 1) line.request) given) client
-        (subst (λ k. CauseOf setting last h.client (k + 1) line.request (command_of h.client (k + 1) line.request) given) place
-        (subst (λ (l : Line). CauseOf setting last h.client (h.before + 1) l.request (command_of h.client (h.before + 1) l.request) given) same h.cause))
+  kept_end : Kept setting last plain_end disks last
+  unfolding In
+  kept_end =
+      kept_after setting last plain_end disks (start setting) records firm (start_rests script) legal (front_itself (chosen_log setting last))
+      (record { answers = λ number told h. absurd h; open_for = λ c asked e. none_some refl e })
 
--- while nobody stops, no answer is `Unavailable`
-pub never_unavailable_after : (script : Script) (records : List Record) → AreFirm (setting_of script) (start (setting_of script)) records
-    → IsLegal script records
-    → AreAsked script.lines (chosen_log (setting_of script) (world_after (setting_of script) (start (setting_of script)) records))
-    → (number : ℕ) → In (number, answer.Unavailable) (world_after (setting_of script) (start (setting_of script)) records).answers → ⊥
-unfolding In
-never_unavailable_after script records firm legal disks number told = by (kept.answers number answer.Unavailable told)
-  where
-    setting : Setting
-    setting = setting_of script
+  -- an open request is that of a line
+  pub open_after : (c : ℕ) (asked : Asked) → (last.clients c).asked ≡ Some asked → IsOpenFor script.lines c asked
+  open_after = kept_end.open_for
 
-    last : World
-    last = world_after setting (start setting) records
+  pub causes_after : AreRising script.lines → AreCaused setting last
+  causes_after rise line before given there told = by (kept_end.answers line.number given told)
+    where
+      by : HasCause setting last plain_end disks line.number given
+          → CauseOf setting last line.client (before + 1) line.request (command_of line.client (before + 1) line.request) given
+      by h =
+          let client : h.client ≡ line.client = one_client script.lines rise h.client line.client h.before before h.line line h.is there h.number_is in
+          let here : slice_get (lines_of script.lines line.client) h.before ≡ Some h.line = subst
+          (λ c. slice_get (lines_of script.lines c) h.before ≡ Some h.line) client h.is in
+          let place : h.before ≡ before = one_place script.lines rise line.client h.before before h.line line here there h.number_is in
+          let same : h.line ≡ line = same_some (sym here ∙ ap (slice_get (lines_of script.lines line.client)) place ∙ there) in
+          subst (λ c. CauseOf setting last c (before + 1) line.request (command_of c (before + 1) line.request) given) client
+          (subst (λ k. CauseOf setting last h.client (k + 1) line.request (command_of h.client (k + 1) line.request) given) place
+          (subst (λ (l : Line). CauseOf setting last h.client (h.before + 1) l.request (command_of h.client (h.before + 1) l.request) given) same h.cause))
 
-    plain : IsPlainLog setting.servers (chosen_log setting last)
-    plain = (firm_after setting (start setting) records firm).plain
+  -- where every server runs, no answer is `Unavailable`
+  pub never_unavailable_after : ((n : ℕ) → n < script.servers → (last.servers n).life.running ≡ true) → (number : ℕ)
+      → In (number, answer.Unavailable) last.answers → ⊥
+  never_unavailable_after runs number told = by (kept_end.answers number answer.Unavailable told)
+    where
+      verdicts : (v : Rattle.global_tables.specs.declared.disk.Verdict.Verdict) → verdict_answer v ≡ Some answer.Unavailable → ⊥
+      verdicts verdict.Ok e = absurd (cc)
+      verdicts verdict.Waiting e = absurd (cc)
+      verdicts verdict.Exists e = absurd (cc)
+      verdicts verdict.NoDisk e = absurd (cc)
+      verdicts verdict.Moving e = absurd (cc)
 
-    kept : Kept setting last plain disks last
-    kept =
-        kept_after setting last plain disks (start setting) records firm (start_rests script) legal (front_itself (chosen_log setting last))
-        (record { answers = λ number told h. absurd h; open_for = λ c asked e. none_some refl e })
+      verdict_never : (seq : ℕ) (o : Option Latest) → verdict_for seq o ≡ Some answer.Unavailable → ⊥
+      verdict_never seq None e = absurd (cc)
+      verdict_never seq (Some row) e = test (row.seq == seq) e
+        where
+          test : (b : Bool) → (if b then verdict_answer row.verdict else None) ≡ Some answer.Unavailable → ⊥
+          test true e = verdicts row.verdict e
+          test false e = absurd (cc)
 
-    verdicts : (v : Rattle.global_tables.specs.declared.disk.Verdict.Verdict) → verdict_answer v ≡ Some answer.Unavailable → ⊥
-    verdicts verdict.Ok e = absurd (cc)
-    verdicts verdict.Waiting e = absurd (cc)
-    verdicts verdict.Exists e = absurd (cc)
-    verdicts verdict.NoDisk e = absurd (cc)
-    verdicts verdict.Moving e = absurd (cc)
+      cause_never : (c seq : ℕ) (asked : Request) (o : Option Command) → CauseOf setting last c seq asked o answer.Unavailable → ⊥
+      cause_never c seq asked (Some command) h = verdict_never seq (latest (state_at setting last (h.place + 1)) c) h.so
+      cause_never c seq asked None h =
+          let whole = chosen_log setting last in
+          let front = take (h.place + 1) whole in
+          let proper : IsPlainLog script.servers front = plain_front script.servers whole (h.place + 1) plain_end in
+          let many = (log_plain script.servers front proper).many in
+          let below = log_below script.servers front whole plain_end (take_front whole (h.place + 1)) in
+          never_unavailable (state_at setting last (h.place + 1)) (log_steady script.servers front proper)
+          (λ n low. below.ups n ((firm_after setting (start setting) records firm).runs n (runs n (subst (λ k. n < k) many low)))) asked h.so
 
-    verdict_never : (seq : ℕ) (o : Option Latest) → verdict_for seq o ≡ Some answer.Unavailable → ⊥
-    verdict_never seq None e = absurd (cc)
-    verdict_never seq (Some row) e = test (row.seq == seq) e
-      where
-        test : (b : Bool) → (if b then verdict_answer row.verdict else None) ≡ Some answer.Unavailable → ⊥
-        test true e = verdicts row.verdict e
-        test false e = absurd (cc)
-
-    cause_never : (c seq : ℕ) (asked : Request) (o : Option Command) → CauseOf setting last c seq asked o answer.Unavailable → ⊥
-    cause_never c seq asked (Some command) h = verdict_never seq (latest (state_at setting last (h.place + 1)) c) h.so
-    cause_never c seq asked None h =
-        let proper : IsPlainLog setting.servers (take (h.place + 1) (chosen_log setting last)) = plain_front setting.servers (chosen_log setting last)
-        (h.place + 1) plain in
-        never_unavailable setting.servers (state_at setting last (h.place + 1))
-        (log_plain setting.servers (take (h.place + 1) (chosen_log setting last)) proper)
-        (log_steady setting.servers (take (h.place + 1) (chosen_log setting last)) proper) asked h.so
-
-    by : HasCause setting last plain disks number answer.Unavailable → ⊥
-    by h = cause_never h.client (h.before + 1) h.line.request (command_of h.client (h.before + 1) h.line.request) h.cause
+      by : HasCause setting last plain_end disks number answer.Unavailable → ⊥
+      by h = cause_never h.client (h.before + 1) h.line.request (command_of h.client (h.before + 1) h.line.request) h.cause

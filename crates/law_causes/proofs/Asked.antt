@@ -12,7 +12,7 @@ use Rattle.petal_history.specs.declared.record.Record.{Record}
 use Rattle.petal_rules.specs.Clients.{command_of}
 use Rattle.petal_rules.specs.World.{lines_of, chosen_log, setting_of, start}
 use Rattle.petal_rules.proofs.Tests.{same_some, none_some}
-use Rattle.law_log.proofs.Histories.{chosen_is_scripted}
+use Rattle.law_log.proofs.Histories.{chosen_is_called_for}
 use Rattle.law_causes.specs.Asked.{IsAsked, AreAsked}
 
 -- the command of a line that makes a disk makes the one that the line asks for
@@ -44,8 +44,10 @@ no_witness client seq turn c s name tuple e = absurd (cc)
 pub disks_are_asked : (script : Script) (records : List Record) → IsSound script → IsLegal script records
     → AreAsked script.lines (chosen_log (setting_of script) (world_after (setting_of script) (start (setting_of script)) records))
 disks_are_asked script records sound legal c seq name tuple there =
-    let r = chosen_is_scripted script records sound legal (MakeDisk c seq name tuple) there in
-    elim r.so [
-      | inl own ↦ line_asks script.lines r.client r.before c seq r.line name tuple r.is own
-      | inr witness ↦ absurd (no_witness r.client (r.before + 1) witness.0 c seq name tuple witness.1)
+    elim (chosen_is_called_for script records sound legal (MakeDisk c seq name tuple) there) [
+      | inr leaving ↦ absurd leaving
+      | inl r ↦ elim r.so [
+        | inl own ↦ line_asks script.lines r.client r.before c seq r.line name tuple r.is own
+        | inr witness ↦ absurd (no_witness r.client (r.before + 1) witness.0 c seq name tuple witness.1)
+      ]
     ]

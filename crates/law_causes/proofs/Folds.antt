@@ -4,13 +4,15 @@ use Rattle.std.proofs.lemmas.Bool.{cases_lt}
 use Rattle.std.proofs.lemmas.Option.{slice_get_past}
 use Rattle.std.specs.Prelude.{slice_get, slice_set, unwrap_or}
 use Rattle.global_tables.specs.Disk.{named}
+use Rattle.global_tables.specs.View.{awaiting, out_of, servers_in}
+use Rattle.global_tables.specs.declared.fence.Member.TheVariants.{Out}
 use Rattle.global_tables.specs.declared.disk.Latest.{Latest}
 use Rattle.global_tables.specs.declared.disk.Verdict.{Verdict}
 use Rattle.global_tables.specs.declared.disk.Verdict.TheVariants as verdict
 use Rattle.petal_command.specs.declared.command.Command.{Command}
-use Rattle.petal_command.specs.declared.command.Command.TheVariants.{MakeDisk, Witness}
-use Rattle.petal_state.specs.State.{State, latest, told}
-use Rattle.petal_state.specs.Command.{is_new, with_disk, make_disk, act, after}
+use Rattle.petal_command.specs.declared.command.Command.TheVariants.{Leave, MakeDisk, Witness}
+use Rattle.petal_state.specs.State.{State, is_up_as, latest, told}
+use Rattle.petal_state.specs.Command.{is_new, with_disk, leave, make_disk, act, after}
 use Rattle.petal_state.specs.Fence.{settled}
 use Rattle.petal_rules.proofs.Tests.{by_test, same_or_apart}
 use Rattle.law_state.specs.Plain.{IsPlain}
@@ -58,18 +60,23 @@ make_view s client seq name tuple =
     (told (with_disk s name tuple) client seq verdict.Ok)
     (λ there. refl) (λ none. refl))
 
-act_view : (servers : ℕ) (e : Command) (s : State) → IsPlain servers e → (act e s).view ≡ s.view
-act_view servers (MakeDisk client seq name tuple) s plain = make_view s client seq name tuple
-act_view servers (Witness client seq turn) s plain = refl
-act_view servers _ s plain = absurd plain
+leave_queue : (s : State) (server inc : ℕ) → s.view.queue ≡ [] → (leave s server inc).view.queue ≡ []
+leave_queue s server inc quiet = by_test (λ (t : State). t.view.queue ≡ []) (is_up_as s server inc) _ _
+    (λ up. ap (awaiting (servers_in (slice_set s.view.members server (Out (out_of (slice_get s.view.members server)))))) quiet) (λ out. quiet)
+
+act_queue : (servers : ℕ) (e : Command) (s : State) → IsPlain servers e → s.view.queue ≡ [] → (act e s).view.queue ≡ []
+act_queue servers (MakeDisk client seq name tuple) s plain quiet = ap (λ view. view.queue) (make_view s client seq name tuple) ∙ quiet
+act_queue servers (Witness client seq turn) s plain quiet = quiet
+act_queue servers (Leave server inc) s plain quiet = leave_queue s server inc quiet
+act_queue servers _ s plain quiet = absurd plain
 
 -- an entry has no further effect
 pub after_is : (servers : ℕ) (e : Command) (s : State) → IsPlain servers e → s.view.queue ≡ [] → settled (act e s) ≡ act e s
-after_is servers e s plain quiet = settled_quiet (act e s) (ap (λ view. view.queue) (act_view servers e s plain) ∙ quiet)
+after_is servers e s plain quiet = settled_quiet (act e s) (act_queue servers e s plain quiet)
 
 pub after_quiet : (servers : ℕ) (e : Command) (s : State) → IsPlain servers e → s.view.queue ≡ [] → (after s e).view.queue ≡ []
 after_quiet servers e s plain quiet =
-    ap (λ (t : State). t.view.queue) (after_is servers e s plain quiet) ∙ ap (λ view. view.queue) (act_view servers e s plain) ∙ quiet
+    ap (λ (t : State). t.view.queue) (after_is servers e s plain quiet) ∙ act_queue servers e s plain quiet
 
 -- a client's verdict where one client was told this
 abbrev verdict_with : State → ℕ → ℕ → Verdict → ℕ → Option Latest
@@ -144,4 +151,7 @@ telling servers s (MakeDisk d q n t) c plain quiet =
     making_tells s c d q n t (ap (λ (x : State). latest x c) (after_is servers (MakeDisk d q n t) s plain quiet))
 telling servers s (Witness client seq turn) c plain quiet =
     Same (ap (λ (x : State). latest x c) (after_is servers (Witness client seq turn) s plain quiet)) (λ seq name tuple e low. absurd (cc))
+telling servers s (Leave server inc) c plain quiet =
+    Same (ap (λ (x : State). latest x c) (after_is servers (Leave server inc) s plain quiet)
+    ∙ by_test (λ (t : State). latest t c ≡ latest s c) (is_up_as s server inc) _ s (λ up. refl) (λ out. refl)) (λ seq name tuple e low. absurd (cc))
 telling servers s _ c plain quiet = absurd plain

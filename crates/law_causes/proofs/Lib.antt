@@ -4,3 +4,4 @@ pub mod Verdicts
 pub mod Answered
 pub mod Served
 pub mod Revisions
+pub mod Stops

@@ -1,7 +1,7 @@
 -- A client is told of another revision in one place alone: where its letter has one.
 use Rattle.std.proofs.Common.{◌≡◌, ◌≢◌, ◌⊎◌, inl, inr, ◌++◌, ◌==◌, ◌&&◌, ℕ, Bool, true, false, not, List, [], ◌∷◌, Option, Some, None, refl, sym, ap, ◌∙◌, subst, arith}
 use Rattle.std.proofs.lemmas.Bool.Decides.{nat_tests}
-use Rattle.std.specs.Prelude.{nat_lt}
+use Rattle.std.specs.Prelude.{map, nat_lt}
 use Rattle.petal_rules.specs.Store.{free_of}
 use Rattle.std.specs.List.{flat_map}
 use Rattle.petal_base.specs.declared.cell.Cell.{Cell}
@@ -24,17 +24,22 @@ use Rattle.petal_msg.specs.declared.operation.Pending.{Pending}
 use Rattle.petal_msg.specs.declared.operation.Reply.{Reply}
 use Rattle.petal_msg.specs.declared.operation.Reply.TheVariants as reply
 use Rattle.petal_rules.specs.Lists.{In}
-use Rattle.petal_rules.specs.State.{State, is_in, is_lead, is_second, first, second, readable}
-use Rattle.petal_rules.specs.Server.{Server, Own, Here, Done, Post, post_to, sender, silent}
+use Rattle.petal_rules.specs.State.{State, is_in, is_lead, is_second, first, second, readable, servers_of}
+use Rattle.petal_rules.specs.Server.{Server, Own, Here, Done, Post, post_to, sender, silent, letters_of}
 use Rattle.petal_rules.specs.Reads.{on_read, said, reply_to}
 use Rattle.petal_rules.specs.Writes.{Wanted, Standing, Older, Again, Newer, pending_on, next_stage, acts, goes_on, goes_on_with, ended, opens, opened, takes, takes_newer, is_pending_for, on_write, hears_reserved, hears_pair_full, hears_replicated, is_reserving, is_replicating, with_pending, with_reserved, with_paired, on_reserved, on_pair_full, on_replicated, tells, reserves, has_slot, hears_reserve, on_reserve, follows_once, hears_replicate, on_replicate}
-use Rattle.petal_rules.specs.Jobs.{handles, wrong_rev, at_other_rev, is_from_in, does, here_of, works, worked, entered, voter_of, log_does, is_log_job, sent_anew, awaited, tick_posts}
+use Rattle.petal_command.specs.declared.command.Command.{Command}
+use Rattle.petal_rules.specs.Ballots.{post_of}
+use Rattle.petal_rules.specs.Entries.{applies}
+use Rattle.petal_rules.specs.Log.{LogDone, known, next_place}
+use Rattle.petal_rules.specs.Jobs.{Acted, handles, wrong_rev, at_other_rev, is_from_in, does, here_of, works, job_done, worked, entered, stops, is_overfull, down_posts, glances, glance_sender, shown, operator, voter_of, log_does, is_log_job, sent_anew, awaited, tick_posts}
 use Rattle.petal_rules.specs.Clients.{Client, Asked, Reaction, client_sender}
 use Rattle.petal_rules.specs.World.{Setting, World, stamped, server_state, client_state, client_step, next_line, step, MayActor, setting_of, start}
 use Rattle.petal_rules.specs.declared.job.Job.{Job}
 use Rattle.petal_rules.specs.declared.job.Job.TheVariants as job
+use Rattle.petal_rules.specs.declared.step.CommitEnd.TheVariants.{Before, After}
 use Rattle.petal_rules.specs.declared.step.Step.{Step}
-use Rattle.petal_rules.specs.declared.step.Step.TheVariants.{Call, Deliver, Tick, Work}
+use Rattle.petal_rules.specs.declared.step.Step.TheVariants.{Call, Deliver, Tick, Work, Stop, Glance}
 use Rattle.petal_rules.specs.declared.step.WorkEnd.TheVariants as work_end
 use Rattle.petal_rules.proofs.ListLemmas.{in-append}
 use Rattle.petal_rules.proofs.Tests.{by_test, true_false, not_true}
@@ -43,11 +48,11 @@ use Rattle.petal_history.specs.declared.record.Record.{Record}
 use Rattle.script_lines.specs.declared.script.Script.{Script}
 use Rattle.law_state.proofs.Steady.{log_rev}
 use Rattle.law_steps.specs.Ready.{AreFirm, Rests}
-use Rattle.law_steps.specs.Turned.{Turned, Says, Of_the_log, A_write, A_read, Goes_on, Begins, Reads, Ends, Judges}
+use Rattle.law_steps.specs.Turned.{Turned, Says, Of_the_log, A_write, A_read, Goes_on, Begins, Reads, Ends, Shown, Judges}
 use Rattle.law_steps.proofs.Histories.{rests_next, firm_now, start_rests}
 use Rattle.law_steps.proofs.Letters.{one_post, posted}
 use Rattle.law_steps.proofs.Letters.{said as said_in}
-use Rattle.law_steps.proofs.LogJobs.{log_frame, ballot_logged, ask_logged}
+use Rattle.law_steps.proofs.LogJobs.{LogFrame, letter_frame_of, start_frame_of, applied_entry, applied_none, ballot_logged, ask_logged}
 use Rattle.law_steps.proofs.Turning.{client_turns}
 use Rattle.law_causes.specs.Reasons.{IsOtherRev, HasReason}
 
@@ -271,10 +276,10 @@ module _ (here : Here) where
 
 says_mute : (state : State) (c : ℕ) (open_now : Option Asked) (post : Post) → Says state c open_now post → IsMute post.body
 says_mute state c open_now _ (Of_the_log post is) k e = logged_mute post.body is k e
-says_mute state c open_now _ (A_write asked name block pattern disk to now is there) k e = absurd (cc)
+says_mute state c open_now _ (A_write asked name block pattern disk to now is there rev) k e = absurd (cc)
 says_mute state c open_now _ (A_read asked name snap block disk epoch to now is there at) k e = absurd (cc)
 
-client_mute : (heard : Body → Type 0) (servers : ℕ) (lines : List Rattle.script_lines.specs.declared.request.Line.Line) (c : ℕ) (client : Client)
+client_mute : (heard : ℕ → Body → Type 0) (servers : ℕ) (lines : List Rattle.script_lines.specs.declared.request.Line.Line) (c : ℕ) (client : Client)
     (in_call : Bool) (reacted : Reaction)
     → Turned heard servers lines c client in_call reacted → AreMute reacted.posts
 client_mute heard servers lines c client _ _ (Goes_on reacted seq stays says) post h = says_mute _ c reacted.client.asked post (says.says post h)
@@ -282,6 +287,7 @@ client_mute heard servers lines c client _ _ (Begins reacted line asked next fre
     (says.says post h)
 client_mute heard servers lines c client _ _ (Reads asked bytes told is read) post h = none_mute post h
 client_mute heard servers lines c client _ _ (Ends asked how told is write) post h = none_mute post h
+client_mute heard servers lines c client _ _ (Shown asked rev round inc running full told is stops) post h = none_mute post h
 client_mute heard servers lines c client _ _ (Judges after asked told is gone seq judged) post h = none_mute post h
 
 -- what a server's step tells of revisions
@@ -298,27 +304,75 @@ no_letter : (stamp : ℕ) (letter : Letter) → In letter (stamped stamp []) →
 unfolding In
 no_letter stamp letter h = h
 
-works_tells : (here : Here) (server : Server) (queue : List Job) (stamp : ℕ) (letter : Letter) (seq : ℕ)
-    → In letter (stamped stamp (works here server queue).letters) → letter.body ≡ body.WrongRev seq
-    → TellsRev here queue (Work work_end.Done) letter seq
-works_tells here server [] stamp letter seq h e = absurd (no_letter stamp letter h)
-works_tells here server (first ∷ rest) stamp letter seq h e =
-    by_test (λ acted. In letter (stamped stamp acted.letters) → TellsRev here (first ∷ rest) (Work work_end.Done) letter seq) (is_log_job first)
-    (entered here server rest (log_does (voter_of here) server.log first)) (worked here server rest (does here server.own first))
-    (λ logged i.
-    let s = said_in (sender here) stamp 0 (log_does (voter_of here) server.log first).posts letter i in
-    absurd (logged_mute s.post.body ((log_frame (voter_of here) server.log first).says s.post s.there) seq (sym s.body ∙ e)))
-    (λ pairs i.
-    let s = said_in (sender here) stamp 0 (does here server.own first).posts letter i in
-    record {
-      works = refl;
-      first = first;
-      rest = rest;
-      next = refl;
-      post = s.post;
-      told = job_tells here server.own first s.post seq s.there (sym s.body ∙ e);
-      to = s.to;
-    }) h
+downs_mute : (me inc : ℕ) (others : List ℕ) → AreMute (map (post_of (body.Down me inc)) others)
+unfolding In
+downs_mute me inc [] post h seq f = absurd h
+downs_mute me inc (n ∷ others) post (inl e) seq f = let g : post.body ≡ body.Down me inc = ap (λ (p : Post). p.body) e in absurd (cc)
+downs_mute me inc (n ∷ others) post (inr h) seq f = downs_mute me inc others post h seq f
+
+-- what a server that stops tells the others
+stops_mute : (here : Here) (server : Server) (stamp : ℕ) (letter : Letter) (seq : ℕ) → In letter (stamped stamp (stops here server).letters)
+    → letter.body ≡ body.WrongRev seq → ⊥
+stops_mute here server stamp letter seq h e =
+    let posts = down_posts here.me here.inc (servers_of here.state) in
+    let s = said_in (record { from = actor.Server here.me; inc = here.inc; rev = 0 }) stamp 0 posts letter h in
+    downs_mute here.me here.inc _ s.post s.there seq (sym s.body ∙ e)
+
+glances_mute : (here : Here) (line round : ℕ) (server : Server) (stamp : ℕ) (letter : Letter) (seq : ℕ)
+    → In letter (stamped stamp (glances here line round server).letters) → letter.body ≡ body.WrongRev seq → ⊥
+glances_mute here line round server stamp letter seq h e =
+    let s = said_in (glance_sender here server) stamp 0 (record { to = actor.Client operator; body = shown line round server } ∷ []) letter h in
+    let one = one_post (actor.Client operator) (shown line round server) s.post s.there in
+    shown_mute (sym one.1 ∙ sym s.body ∙ e)
+  where
+    shown_mute : shown line round server ≡ body.WrongRev seq → ⊥
+    shown_mute = by_test (λ (said : Body). said ≡ body.WrongRev seq → ⊥) server.life.running _ _ (λ t f. absurd (cc)) (λ t f. absurd (cc))
+
+module _ (here : Here) (server : Server) (stamp : ℕ) (letter : Letter) (seq : ℕ) (e : letter.body ≡ body.WrongRev seq) where
+  abbrev Tells : List Job → Acted → Type 0
+  Tells queue acted = In letter (stamped stamp acted.letters) → TellsRev here queue (Work work_end.Done) letter seq
+
+  entered_tells : (queue : List Job) (what : Job) (rest : List Job) (done : LogDone) → LogFrame server.log what done
+      → Tells queue (entered here server rest done)
+  entered_tells queue what rest done frame i =
+      let s = said_in (sender here) stamp 0 done.posts letter i in
+      absurd (logged_mute s.post.body (frame.says s.post s.there) seq (sym s.body ∙ e))
+
+  pair_tells : (first : Job) (rest : List Job) → Tells (first ∷ rest) (worked here server rest (does here server.own first))
+  pair_tells first rest i =
+      let s = said_in (sender here) stamp 0 (does here server.own first).posts letter i in
+      record {
+        works = refl;
+        first = first;
+        rest = rest;
+        next = refl;
+        post = s.post;
+        told = job_tells here server.own first s.post seq s.there (sym s.body ∙ e);
+        to = s.to;
+      }
+
+  applied_silent : (o : Option Command) → known server.log (next_place server.log) ≡ o → (applies server.log).posts ≡ []
+  applied_silent None none = ap (λ (d : LogDone). d.posts) (applied_none server.log none)
+  applied_silent (Some entry) is = (applied_entry server.log entry is).silent
+
+  done_tells : (first : Job) (rest : List Job) → Tells (first ∷ rest) (job_done here server first rest)
+  done_tells (job.Letter heard) rest =
+      by_test (Tells (job.Letter heard ∷ rest)) (is_log_job (job.Letter heard)) _ _
+      (λ t. entered_tells (job.Letter heard ∷ rest) (job.Letter heard) rest _ (letter_frame_of (voter_of here) server.log heard))
+      (λ t. pair_tells (job.Letter heard) rest)
+  done_tells (job.Stage cell) rest = pair_tells (job.Stage cell) rest
+  done_tells job.Start rest =
+      entered_tells (job.Start ∷ rest) job.Start rest (log_does (voter_of here) server.log job.Start) (start_frame_of (voter_of here) server.log)
+  done_tells job.Apply rest = λ i.
+      absurd (no_letter stamp letter
+      (subst (λ posts. In letter (stamped stamp (letters_of (sender here) 0 posts))) (applied_silent (known server.log (next_place server.log)) refl) i))
+
+  works_tells : (queue : List Job) → Tells queue (works here server queue)
+  works_tells [] = λ i. absurd (no_letter stamp letter i)
+  works_tells (first ∷ rest) =
+      let acted = job_done here server first rest in
+      by_test (Tells (first ∷ rest)) (is_overfull acted.server) (stops here server) acted
+      (λ full i. absurd (stops_mute here server stamp letter seq i e)) (λ room. done_tells first rest)
 
 server_tells : (setting : Setting) (w : World) (n : ℕ) (what : Step) (stamp : ℕ) → MayActor (actor.Server n) what setting w → (letter : Letter) (seq : ℕ)
     → In letter (step (actor.Server n) what setting w stamp).letters → letter.body ≡ body.WrongRev seq
@@ -330,8 +384,17 @@ server_tells setting w n Tick stamp may letter seq h e =
     let here = here_of (server_state setting w n) n (w.servers n) in
     let s = said_in (sender here) stamp 0 (tick_posts here (w.servers n)) letter h in
     absurd (tick_mute here (w.servers n) s.post s.there seq (sym s.body ∙ e))
-server_tells setting w n (Work work_end.Done) stamp may letter seq h e = works_tells (here_of (server_state setting w n) n (w.servers n)) (w.servers n)
-    (w.servers n).queue stamp letter seq h e
+server_tells setting w n (Work work_end.Done) stamp may letter seq h e =
+    works_tells (here_of (server_state setting w n) n (w.servers n)) (w.servers n) stamp letter seq e (w.servers n).queue h
+server_tells setting w n (Work (work_end.Fault Before)) stamp may letter seq h e =
+    absurd (stops_mute (here_of (server_state setting w n) n (w.servers n)) (w.servers n) stamp letter seq h e)
+server_tells setting w n (Work (work_end.Fault After)) stamp may letter seq h e =
+    let here = here_of (server_state setting w n) n (w.servers n) in
+    absurd (stops_mute here (works here (w.servers n) (w.servers n).queue).server stamp letter seq h e)
+server_tells setting w n Stop stamp may letter seq h e =
+    absurd (stops_mute (here_of (server_state setting w n) n (w.servers n)) (w.servers n) stamp letter seq h e)
+server_tells setting w n (Glance line round) stamp may letter seq h e =
+    absurd (glances_mute (here_of (server_state setting w n) n (w.servers n)) line round (w.servers n) stamp letter seq h e)
 
 client_tells : (setting : Setting) (w : World) (c : ℕ) (what : Step) (stamp : ℕ) → MayActor (actor.Client c) what setting w → (letter : Letter) (seq : ℕ)
     → In letter (step (actor.Client c) what setting w stamp).letters → letter.body ≡ body.WrongRev seq → ⊥

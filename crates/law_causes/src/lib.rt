@@ -1,11 +1,12 @@
 //! Why each request is answered so: over every legal history of a sound script, each answer that says what is not there, and
-//! each answer of a `disk` line, comes by its own entry of the chosen log, with a state at its place that says so.
+//! each answer of a `disk` line, comes by its own entry of the chosen log, with a state at its place that says so. And why a
+//! server does not run.
 //!
-//! To the layers above it promises this of answers, and of what clients are told of revisions. It speaks of definitions alone,
-//! and knows nothing of code.
+//! To the layers above it promises this of answers, of what clients are told of revisions, and of servers that stop. It speaks
+//! of definitions alone, and knows nothing of code.
 #![tactic(auto)]
 
-ghost use Rattle.std.specs.Prelude.{◌≡◌, ℕ, List};
+ghost use Rattle.std.specs.Prelude.{◌≡◌, ◌<◌, ℕ, List, false};
 ghost use Rattle.petal_msg.specs.declared.body.Body.TheVariants.{WrongRev};
 ghost use Rattle.petal_msg.specs.declared.letter.Letter.{Letter};
 ghost use Rattle.script_lines.specs.declared.script.Script.{Script};
@@ -18,15 +19,23 @@ ghost use Rattle.petal_history.specs.Order.{AreRising};
 ghost use Rattle.petal_history.specs.Sound.{IsSound};
 ghost use Rattle.petal_history.specs.declared.record.Record.{Record};
 ghost use Rattle.law_causes.specs.Reasons.{HasReason};
+ghost use Rattle.law_causes.specs.Stops.{HasReasonToStop, NoneIsStopped, NoneStopsByItself};
 
 /// Each answer has its cause in the chosen log. The lines rise, so an answer's number names the place of one line.
 pub fn answers_are_caused()
     ensures { (script : Script) (records : List Record) → IsSound script → AreRising script.lines → IsLegal script records → AreCaused (setting_of script) (world_after (setting_of script) (start (setting_of script)) records) }
 {}
 
-/// While nobody stops, each block of a known disk has its servers: no answer is that they are unavailable.
+/// A server of the script that does not run at the end stopped in a step of its own, for a reason: the operator's open line
+/// told it to, a device failed, or a journal was full.
+pub fn a_server_stops_for_a_reason()
+    ensures { (script : Script) (records : List Record) → IsSound script → IsLegal script records → (n : ℕ) → n < script.servers → ((world_after (setting_of script) (start (setting_of script)) records).servers n).life.running ≡ false → HasReasonToStop (setting_of script) (start (setting_of script)) records n }
+{}
+
+/// Where no line of the script stops a server, and in no step a server stops by itself, each block of a known disk has its
+/// servers: no answer is that they are unavailable.
 pub fn no_answer_is_unavailable()
-    ensures { (script : Script) (records : List Record) → IsSound script → IsLegal script records → (number : ℕ) → In (number, Unavailable) (world_after (setting_of script) (start (setting_of script)) records).answers → ⊥ }
+    ensures { (script : Script) (records : List Record) → IsSound script → IsLegal script records → NoneIsStopped script.lines → NoneStopsByItself (setting_of script) (start (setting_of script)) records → (number : ℕ) → In (number, Unavailable) (world_after (setting_of script) (start (setting_of script)) records).answers → ⊥ }
 {}
 
 /// A client is told of another revision only where a server that was In as itself handled its read or write, and had another

@@ -1,5 +1,5 @@
 -- A step of one server changes the pairs that it is of, and no others.
-use Rattle.std.proofs.Common.{◌≡◌, ◌≢◌, ℕ, List, false, Some, None, ap, sym, ◌∙◌, subst, if◌then◌else◌, inl, inr, arith}
+use Rattle.std.proofs.Common.{◌≡◌, ◌≢◌, ℕ, Bool, List, false, Some, None, ap, sym, ◌∙◌, subst, if◌then◌else◌, inl, inr, arith}
 use Rattle.petal_base.specs.declared.cell.Cell.{Cell}
 use Rattle.petal_msg.specs.Kinds.{about, is_paired, pair_cell, subject_of}
 use Rattle.petal_msg.specs.declared.body.Body.{Body}
@@ -8,8 +8,9 @@ use Rattle.petal_rules.specs.Lists.{In}
 use Rattle.petal_rules.specs.State.{State}
 use Rattle.petal_rules.specs.Server.{Own, Post}
 use Rattle.law_state.specs.Steady.{IsSteady}
+use Rattle.law_state.proofs.Alone.{has_secondary}
 use Rattle.petal_rules.proofs.Tests.{none_some, same_or_apart, same_some}
-use Rattle.law_copies.specs.Pair.{Pair, pair_of, IsPair, PairOk, Grows, Keeps, Known, SaidOk}
+use Rattle.law_copies.specs.Pair.{Pair, pair_of, IsPair, AreTogether, PairOk, Grows, Keeps, Known, SaidOk}
 
 -- what was known of a letter is known later
 pub known_later : (old new : Pair) → Grows old new → (said : Body) → Known old said → Known new said
@@ -26,8 +27,8 @@ known_later old new grows _ h = tt
 pub unpaired : (said : Body) → is_paired (subject_of said) ≡ false → pair_cell said ≡ None
 unpaired said e = ap (λ b. if b then (about said).cell else None) e
 
-pub no_cell : (state : State) (halves : ℕ → Own) (said : Body) → pair_cell said ≡ None → SaidOk state halves said
-no_cell state halves said none cell n m is pair = none_some none is
+pub no_cell : (state : State) (alone : ℕ → Cell → Bool) (halves : ℕ → Own) (said : Body) → pair_cell said ≡ None → SaidOk state alone halves said
+no_cell state alone halves said none cell n m is pair together = none_some none is
 
 -- one server's own is another
 pub record Changes (halves later : ℕ → Own) (k : ℕ) (new : Own) : Type 0 where
@@ -36,18 +37,18 @@ pub record Changes (halves later : ℕ → Own) (k : ℕ) (new : Own) : Type 0 w
 
 -- What a job has to show: for the cells that its server is the first of, for those that it is the second of, and of what it
 -- sends.
-pub record JobKeeps (state : State) (halves : ℕ → Own) (k : ℕ) (new : Own) (posts : List Post) : Type 0 where
-  pub as_first : (cell : Cell) (m : ℕ) → IsPair state cell k m → Keeps (pair_of (halves k) (halves m) cell) (pair_of new (halves m) cell)
-  pub as_second : (cell : Cell) (n : ℕ) → IsPair state cell n k → Keeps (pair_of (halves n) (halves k) cell) (pair_of (halves n) new cell)
-  pub says : (later : ℕ → Own) → Changes halves later k new → (post : Post) → In post posts → SaidOk state later post.body
+pub record JobKeeps (state : State) (alone : ℕ → Cell → Bool) (halves : ℕ → Own) (k : ℕ) (new : Own) (posts : List Post) : Type 0 where
+  pub as_first : (cell : Cell) (m : ℕ) → IsPair state cell k m → AreTogether alone cell k m → Keeps (pair_of (halves k) (halves m) cell) (pair_of new (halves m) cell)
+  pub as_second : (cell : Cell) (n : ℕ) → IsPair state cell n k → AreTogether alone cell n k → Keeps (pair_of (halves n) (halves k) cell) (pair_of (halves n) new cell)
+  pub says : (later : ℕ → Own) → Changes halves later k new → (post : Post) → In post posts → SaidOk state alone later post.body
 
 module _ (state : State) (steady : IsSteady state) where
   -- the two servers of a cell are two
   pub apart : (cell : Cell) (n m : ℕ) → IsPair state cell n m → n ≢ m
   apart cell n m pair e =
-      let two = steady.pairs cell n pair.leads in
-      let same : two.other ≡ m = same_some (sym two.is ∙ pair.follows) in
-      two.apart (e ∙ sym same)
+      let two = has_secondary state steady cell n pair.leads in
+      let same : two.0 ≡ m = same_some (sym two.1 ∙ pair.follows) in
+      two.2 (e ∙ sym same)
 
   pub same_first : (cell : Cell) (n m i j : ℕ) → IsPair state cell n m → IsPair state cell i j → n ≡ i
   same_first cell n m i j p q = same_some (sym p.leads ∙ q.leads)
@@ -55,7 +56,7 @@ module _ (state : State) (steady : IsSteady state) where
   pub same_second : (cell : Cell) (n m i j : ℕ) → IsPair state cell n m → IsPair state cell i j → m ≡ j
   same_second cell n m i j p q = same_some (sym p.follows ∙ q.follows)
 
-  module _ (halves later : ℕ → Own) (k : ℕ) (new : Own) (changes : Changes halves later k new) where
+  module _ (alone : ℕ → Cell → Bool) (halves later : ℕ → Own) (k : ℕ) (new : Own) (changes : Changes halves later k new) where
     -- the pair of a cell that the server is the first of
     pub now_first : (cell : Cell) (m : ℕ) → IsPair state cell k m → pair_of new (halves m) cell ≡ pair_of (later k) (later m) cell
     now_first cell m pair =
@@ -76,27 +77,29 @@ module _ (state : State) (steady : IsSteady state) where
         λ i. pair_of (p i) (q i) cell
 
     -- each pair is kept
-    pub pairs_kept : (posts : List Post) → JobKeeps state halves k new posts → ((pair : Pair) → PairOk pair → Keeps pair pair)
-        → (cell : Cell) (n m : ℕ) → IsPair state cell n m → PairOk (pair_of (halves n) (halves m) cell)
+    pub pairs_kept : (posts : List Post) → JobKeeps state alone halves k new posts → ((pair : Pair) → PairOk pair → Keeps pair pair)
+        → (cell : Cell) (n m : ℕ) → IsPair state cell n m → AreTogether alone cell n m → PairOk (pair_of (halves n) (halves m) cell)
         → Keeps (pair_of (halves n) (halves m) cell) (pair_of (later n) (later m) cell)
-    pairs_kept posts keeps same cell n m pair ok = elim (same_or_apart n k) [
+    pairs_kept posts keeps same cell n m pair together ok = elim (same_or_apart n k) [
       | inl e ↦
           let mine : IsPair state cell k m = subst (λ i. IsPair state cell i m) e pair in
+          let both : AreTogether alone cell k m = subst (λ i. AreTogether alone cell i m) e together in
           subst (λ i. Keeps (pair_of (halves i) (halves m) cell) (pair_of (later i) (later m) cell)) (sym e)
-          (subst (Keeps (pair_of (halves k) (halves m) cell)) (now_first cell m mine) (keeps.as_first cell m mine))
+          (subst (Keeps (pair_of (halves k) (halves m) cell)) (now_first cell m mine) (keeps.as_first cell m mine both))
       | inr ne ↦ elim (same_or_apart m k) [
         | inl e ↦
             let mine : IsPair state cell n k = subst (λ i. IsPair state cell n i) e pair in
+            let both : AreTogether alone cell n k = subst (λ i. AreTogether alone cell n i) e together in
             subst (λ i. Keeps (pair_of (halves n) (halves i) cell) (pair_of (later n) (later i) cell)) (sym e)
-            (subst (Keeps (pair_of (halves n) (halves k) cell)) (now_second cell n mine) (keeps.as_second cell n mine))
+            (subst (Keeps (pair_of (halves n) (halves k) cell)) (now_second cell n mine) (keeps.as_second cell n mine both))
         | inr ne' ↦ subst (Keeps (pair_of (halves n) (halves m) cell)) (now_other cell n m ne ne') (same (pair_of (halves n) (halves m) cell) ok)
       ]
     ]
 
     -- what is known of a letter about a cell that the server is the first of, or the second
     pub known_first : (said : Body) (cell : Cell) (m : ℕ) → IsPair state cell k m → pair_cell said ≡ Some cell
-        → Known (pair_of new (halves m) cell) said → SaidOk state later said
-    known_first said cell m mine is h c n j e pair =
+        → Known (pair_of new (halves m) cell) said → SaidOk state alone later said
+    known_first said cell m mine is h c n j e pair together =
         let same : cell ≡ c = same_some (sym is ∙ e) in
         let pair' : IsPair state cell n j = subst (λ (q : Cell). IsPair state q n j) (sym same) pair in
         let known : Known (pair_of (later k) (later m) cell) said = subst (λ p. Known p said) (now_first cell m mine) h in
@@ -105,8 +108,8 @@ module _ (state : State) (steady : IsSteady state) where
         (subst (λ i. Known (pair_of (later k) (later i) cell) said) (same_second cell k m n j mine pair') known))
 
     pub known_second : (said : Body) (cell : Cell) (n : ℕ) → IsPair state cell n k → pair_cell said ≡ Some cell
-        → Known (pair_of (halves n) new cell) said → SaidOk state later said
-    known_second said cell n mine is h c i j e pair =
+        → Known (pair_of (halves n) new cell) said → SaidOk state alone later said
+    known_second said cell n mine is h c i j e pair together =
         let same : cell ≡ c = same_some (sym is ∙ e) in
         let pair' : IsPair state cell i j = subst (λ (q : Cell). IsPair state q i j) (sym same) pair in
         let known : Known (pair_of (later n) (later k) cell) said = subst (λ p. Known p said) (now_second cell n mine) h in

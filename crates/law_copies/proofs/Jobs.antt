@@ -1,9 +1,9 @@
 -- Each kind of job keeps the pairs of its server.
-use Rattle.std.proofs.Common.{◌≡◌, ◌≢◌, ℕ, ◌+◌, ◌≤◌, List, [], true, false, Some, None, refl, ap, sym, ◌∙◌, subst, ◌⊎◌, inl, inr, arith}
-use Rattle.std.specs.Prelude.{unwrap_or}
+use Rattle.std.proofs.Common.{◌≡◌, ◌≢◌, ℕ, ◌+◌, ◌≤◌, Bool, List, [], true, false, Some, None, refl, ap, sym, ◌∙◌, subst, ◌⊎◌, inl, inr, arith}
+use Rattle.std.specs.Prelude.{unwrap_or, option_map}
+use Rattle.global_tables.specs.declared.link.LinkRow.{LinkRow}
 use Rattle.std.specs.Ordering.{nat_cmp}
-use Rattle.busy_marks.specs.Marks.{has_mark}
-use Rattle.busy_marks.specs.declared.marks.MarkKind.TheVariants.{Busy}
+use Rattle.busy_marks.specs.declared.marks.MarkKind.TheVariants.{Busy, Stale}
 use Rattle.petal_base.specs.declared.cell.Cell.{Cell}
 use Rattle.petal_base.specs.declared.cell.Key.{Key}
 use Rattle.petal_base.specs.Cells.{cell_of}
@@ -19,27 +19,33 @@ use Rattle.petal_msg.specs.declared.operation.LastOp.{LastOp}
 use Rattle.petal_msg.specs.declared.operation.Pending.{Pending}
 use Rattle.petal_msg.specs.declared.operation.Stage.{Stage}
 use Rattle.petal_rules.specs.Lists.{In}
-use Rattle.petal_rules.specs.State.{State, first, second, is_lead, is_second}
-use Rattle.petal_rules.specs.Store.{Chain, cell_cmp, chain_in, version_of, is_marked, mark_on}
+use Rattle.petal_rules.specs.State.{State, first, second, primary, secondary, in_both, is_lead, is_second, is_alone_on}
+use Rattle.petal_rules.specs.Store.{Chain, Store, cell_cmp, chain_in, version_of}
 use Rattle.petal_rules.specs.Server.{Own, Here, Post, Done, post_to}
-use Rattle.petal_rules.specs.Writes.{Wanted, operation, opened, with_reserved, with_paired, with_mark_at, ended, with_last, tells, marks, puts, unmarks, with_pending, follows}
-use Rattle.petal_rules.specs.World.{Setting, World}
+use Rattle.petal_rules.specs.Writes.{Wanted, operation, opened, with_reserved, with_paired, with_mark_at, ended, finishes, with_last, tells, marks, puts, unmarks, with_pending, without_pending, follows}
+use Rattle.petal_rules.specs.World.{Setting, World, server_state}
 use Rattle.petal_rules.proofs.CellTables.{cell_same, cell_apart, cell_gone, cell_gone_apart}
+use Rattle.petal_state.specs.State.{is_up}
+use Rattle.law_state.specs.Below.{IsBelow}
 use Rattle.law_state.specs.Steady.{IsSteady}
+use Rattle.law_state.proofs.Alone.{both_not_alone, lead_alone, lead_first, second_both, first_primary, second_secondary, has_secondary, has_primary, alone_row, alone_left, primary_on, secondary_on}
 use Rattle.law_steps.specs.Operations.{waiting, putting, copying, progress}
 use Rattle.law_steps.specs.DidRead.{DidRead}
-use Rattle.law_steps.specs.DidLead.{DidLead, Asks_for, Repeats, Is_full, Opens, Marks, Puts, Gives_up, Unmarks, Closes, Asks, A_slot, A_copy, Of_the_log}
+use Rattle.law_steps.specs.DidLead.{DidLead, Asks_for, Repeats, Is_full, Opens, Marks, Puts, Gives_up, Unmarks, Closes, Opens_alone, Marks_alone, Puts_alone, Unmarks_alone, Closes_alone, Asks, A_slot, A_copy, Of_the_log, IsNew, Taken}
 use Rattle.law_steps.specs.DidSecond.{DidSecond, with_tickets, Sets_apart, Promises, Declines, Follows}
 use Rattle.law_steps.specs.Did.{Did, Ignores, Refuses, By_read, By_lead, By_second}
 use Rattle.law_steps.specs.Happens.{Handled, own_place}
+use Rattle.law_steps.specs.Operations.{IsStaged}
 use Rattle.law_steps.specs.Ready.{Ready}
-use Rattle.petal_rules.proofs.Tests.{same_some, is_the_one, true_false}
+use Rattle.petal_rules.proofs.Tests.{by_bool, same_some, is_the_one, true_false}
+use Rattle.law_steps.proofs.Fronts.{below_on}
+use Rattle.law_steps.proofs.Histories.{own_steady, own_below, runs_by}
 use Rattle.law_steps.proofs.Letters.{one_post, posted}
 use Rattle.law_steps.proofs.Staged.{same_cell_or_apart, put_put}
 use Rattle.law_steps.proofs.Subjects.{of_read, told_own}
-use Rattle.law_copies.specs.Pair.{Pair, pair_of, IsPair, far, ceiling_of, PairOk, IsPutting, Keeps, Known, SaidOk, owns_of, Good}
+use Rattle.law_steps.proofs.Taking.{taking}
+use Rattle.law_copies.specs.Pair.{Pair, pair_of, IsPair, alone_in, AreTogether, far, ceiling_of, PairOk, IsPutting, Keeps, Known, SaidOk, owns_of, Good}
 use Rattle.law_copies.proofs.Frames.{Changes, JobKeeps, apart, known_first, known_second, unpaired, no_cell}
-use Rattle.law_copies.proofs.Marks.{mark_there, mark_apart, unmark_apart}
 use Rattle.law_copies.proofs.Moves as moves
 
 -- what speaks of the agreed log says nothing of pairs
@@ -58,7 +64,8 @@ pub chain_apart : (chains : Table Cell Chain) (cell : Cell) (chain : Chain) (q :
     → chain_in (put cell_cmp chains cell chain) q ≡ chain_in chains q
 chain_apart chains cell chain q ne = ap (λ o. unwrap_or {T = Chain} o []) (cell_apart chains cell chain q ne)
 
-module _ (setting : Setting) (state : State) (steady : IsSteady state) (w : World) (ready : Ready state w) (good : Good state w) (k : ℕ) where
+module _ (setting : Setting) (state : State) (steady : IsSteady state) (w : World) (ready : Ready setting state w) (good : Good setting state w) (k : ℕ)
+    (runs : (w.servers k).life.running ≡ true) where
   abbrev here : Here
   here = own_place setting w k
 
@@ -68,44 +75,90 @@ module _ (setting : Setting) (state : State) (steady : IsSteady state) (w : Worl
   abbrev halves : ℕ → Own
   halves = owns_of w
 
+  abbrev alone : ℕ → Cell → Bool
+  alone = alone_in setting w
+
   abbrev J : Own → List Post → Type 0
-  J new posts = JobKeeps state halves k new posts
+  J new posts = JobKeeps state alone halves k new posts
 
-  -- the pair of a cell that the server leads, or is the second of
-  pub lead_pair : (cell : Cell) → is_lead state k cell ≡ true → (m : ℕ) × IsPair state cell k m
-  lead_pair cell e =
-      let is : first state cell ≡ Some k = sym (steady.leads cell) ∙ is_the_one _ k e in
-      let two = steady.pairs cell k is in
-      (two.other, record { leads = is; follows = two.is })
+  steady_at : (n : ℕ) → IsSteady (server_state setting w n)
+  steady_at n = own_steady setting w ready.firm n
 
-  pub second_pair : (cell : Cell) → is_second state k cell ≡ true → (n : ℕ) × IsPair state cell n k
+  below_at : (n : ℕ) → IsBelow (server_state setting w n) state
+  below_at n = below_on _ _ _ (own_below setting w ready.firm n) ready.below
+
+  -- ### Who is together
+
+  -- while a server runs, the other one of its cell does not hold the cell alone
+  pub not_left : (n : ℕ) (cell : Cell) (i j : ℕ) → IsPair state cell i j → n ≢ k → (k ≡ i) ⊎ (k ≡ j) → alone n cell ≡ false
+  not_left n cell i j pair ne mine = by_bool (alone n cell)
+      (λ on.
+      let row = alone_row (server_state setting w n) n cell on in
+      let now = below_at n in
+      let one : primary (server_state setting w n) cell ≡ Some row.row.primary = ap (option_map (λ (r : LinkRow). r.primary)) row.is in
+      let two : secondary (server_state setting w n) cell ≡ Some row.row.secondary = ap (option_map (λ (r : LinkRow). r.secondary)) row.is in
+      let first : row.row.primary ≡ i = same_some (sym (primary_on _ _ now cell row.row.primary one) ∙ pair.leads) in
+      let second : row.row.secondary ≡ j = same_some (sym (secondary_on _ _ now cell row.row.secondary two) ∙ pair.follows) in
+      let left = alone_left (server_state setting w n) (steady_at n) n cell i j on (one ∙ ap Some first) (two ∙ ap Some second) in
+      let up = runs_by setting w ready.firm n k runs in
+      elim mine [
+        | inl e ↦ true_false (ap (is_up (server_state setting w n)) (sym e) ∙ up) (left.first_out (λ f. ne (f ∙ sym e)))
+        | inr e ↦ true_false (ap (is_up (server_state setting w n)) (sym e) ∙ up) (left.second_out (λ f. ne (f ∙ sym e)))
+      ])
+      (λ off. off)
+
+  pub first_together : (cell : Cell) (m : ℕ) → IsPair state cell k m → in_both here.state cell ≡ true → AreTogether alone cell k m
+  first_together cell m pair both = record {
+    one = both_not_alone here.state k cell both;
+    other = not_left m cell k m pair (λ e. apart state steady cell k m pair (sym e)) (inl refl);
+  }
+
+  pub second_together : (cell : Cell) (n : ℕ) → IsPair state cell n k → in_both here.state cell ≡ true → AreTogether alone cell n k
+  second_together cell n pair both = record {
+    one = not_left n cell n k pair (apart state steady cell n k pair) (inr refl);
+    other = both_not_alone here.state k cell both;
+  }
+
+  -- the pair of a cell in Both that the server leads, or is the second of
+  pub lead_pair : (cell : Cell) → is_lead here.state k cell ≡ true → in_both here.state cell ≡ true → (m : ℕ) × IsPair state cell k m
+  lead_pair cell e both =
+      let is = first_primary here.state (steady_at k) cell k (lead_first here.state (steady_at k) k cell e both) in
+      let one = primary_on here.state state (below_at k) cell k is in
+      let two = has_secondary state steady cell k one in
+      (two.0, record { leads = one; follows = two.1 })
+
+  pub second_pair : (cell : Cell) → is_second here.state k cell ≡ true → (n : ℕ) × IsPair state cell n k
   second_pair cell e =
-      let is = is_the_one _ k e in
-      let one = steady.followed cell k is in
-      (one.0, record { leads = one.1; follows = is })
+      let is = second_secondary here.state (steady_at k) cell k (is_the_one _ k e) in
+      let two = secondary_on here.state state (below_at k) cell k is in
+      let one = has_primary state steady cell k two in
+      (one.0, record { leads = one.1; follows = two })
 
-  ok_first : (cell : Cell) (m : ℕ) → IsPair state cell k m → PairOk (pair_of own (halves m) cell)
-  ok_first cell m pair = good.pairs cell k m pair
+  second_is_both : (cell : Cell) → is_second here.state k cell ≡ true → in_both here.state cell ≡ true
+  second_is_both cell e = second_both here.state (steady_at k) cell k (is_the_one _ k e)
 
-  ok_second : (cell : Cell) (n : ℕ) → IsPair state cell n k → PairOk (pair_of (halves n) own cell)
-  ok_second cell n pair = good.pairs cell n k pair
+  ok_first : (cell : Cell) (m : ℕ) → IsPair state cell k m → AreTogether alone cell k m → PairOk (pair_of own (halves m) cell)
+  ok_first cell m pair together = good.pairs cell k m pair together
+
+  ok_second : (cell : Cell) (n : ℕ) → IsPair state cell n k → AreTogether alone cell n k → PairOk (pair_of (halves n) own cell)
+  ok_second cell n pair together = good.pairs cell n k pair together
 
   -- what is known of a letter that was heard
-  pub heard_known : (said : Body) → Handled w k said → SaidOk state halves said
-  heard_known said h = subst (SaidOk state halves) h.is (good.letters h.letter h.sent)
+  pub heard_known : (said : Body) → Handled w k said → SaidOk state alone halves said
+  heard_known said h = subst (SaidOk state alone halves) h.is (good.letters h.letter h.sent)
+
+  -- ### Frames
 
   -- a cell that the job of its first server does not touch, and one that the job of its second does not
   off_first : (new other : Own) (cell : Cell) → PairOk (pair_of own other cell) → chain_in new.store.chains cell ≡ chain_in own.store.chains cell
-      → at cell_cmp new.pairs.pending cell ≡ at cell_cmp own.pairs.pending cell → is_marked new.store Busy cell ≡ is_marked own.store Busy cell
-      → own.pairs.next ≤ new.pairs.next
+      → at cell_cmp new.pairs.pending cell ≡ at cell_cmp own.pairs.pending cell → own.pairs.next ≤ new.pairs.next
       → Keeps (pair_of own other cell) (pair_of new other cell)
-  off_first new other cell ok chain pending busy next =
+  off_first new other cell ok chain pending next =
       subst (Keeps (pair_of own other cell)) (λ i. record {
         first = sym chain i;
         second = chain_in other.store.chains cell;
         pending = sym pending i;
         next = new.pairs.next;
-        busy = sym busy i;
         last = at cell_cmp other.pairs.last cell;
       })
       (moves.stays (pair_of own other cell) new.pairs.next ok next)
@@ -119,52 +172,71 @@ module _ (setting : Setting) (state : State) (steady : IsSteady state) (w : Worl
         second = sym chain i;
         pending = at cell_cmp other.pairs.pending cell;
         next = other.pairs.next;
-        busy = is_marked other.store Busy cell;
         last = sym last i;
       })
       (moves.stays (pair_of other own cell) other.pairs.next ok (omega arith))
 
-  -- a job of the first server of a cell, that changes the copy, the operation and the mark of that cell
-  first_job : (new : Own) (posts : List Post) (cell : Cell) (m : ℕ) → IsPair state cell k m
+  -- the server is not the second of this cell, or holds it alone
+  abbrev IsOwn : Cell → Type 0
+  IsOwn cell = (q : Cell) (n : ℕ) → IsPair state q n k → AreTogether alone q n k → q ≢ cell
+
+  first_own : (cell : Cell) (m : ℕ) → IsPair state cell k m → IsOwn cell
+  first_own cell m pair q n mine together e = apart state steady q n k mine (same_some (sym mine.leads ∙ ap (primary state) e ∙ pair.leads))
+
+  alone_own : (cell : Cell) → alone k cell ≡ true → IsOwn cell
+  alone_own cell on q n mine together e = true_false (ap (alone k) e ∙ on) together.other
+
+  led_own : (cell : Cell) → is_lead here.state k cell ≡ true → IsOwn cell
+  led_own cell lead = by_bool (in_both here.state cell)
+      (λ both. let pair = lead_pair cell lead both in first_own cell pair.0 pair.1)
+      (λ off. alone_own cell (lead_alone here.state (steady_at k) k cell lead off))
+
+  -- a job of the lead of a cell, that changes the copy and the operation of that cell
+  first_job : (new : Own) (posts : List Post) (cell : Cell) → IsOwn cell
       → ((q : Cell) → q ≢ cell → chain_in new.store.chains q ≡ chain_in own.store.chains q)
       → ((q : Cell) → q ≢ cell → at cell_cmp new.pairs.pending q ≡ at cell_cmp own.pairs.pending q)
-      → ((q : Cell) → q ≢ cell → is_marked new.store Busy q ≡ is_marked own.store Busy q)
       → ((q : Cell) → at cell_cmp new.pairs.last q ≡ at cell_cmp own.pairs.last q) → own.pairs.next ≤ new.pairs.next
-      → Keeps (pair_of own (halves m) cell) (pair_of new (halves m) cell)
-      → ((later : ℕ → Own) → Changes halves later k new → (post : Post) → In post posts → SaidOk state later post.body)
+      → ((m : ℕ) → IsPair state cell k m → AreTogether alone cell k m → Keeps (pair_of own (halves m) cell) (pair_of new (halves m) cell))
+      → ((later : ℕ → Own) → Changes halves later k new → (post : Post) → In post posts → SaidOk state alone later post.body)
       → J new posts
-  first_job new posts cell m pair chains pending busy last next keeps says = record {
-    as_first = λ q j mine. elim (same_cell_or_apart q cell) [
-      | inl e ↦
-          let same : m ≡ j = same_some (sym pair.follows ∙ ap (second state) (sym e) ∙ mine.follows) in
-          subst (λ (c : Cell). Keeps (pair_of own (halves j) c) (pair_of new (halves j) c)) (sym e)
-          (subst (λ i. Keeps (pair_of own (halves i) cell) (pair_of new (halves i) cell)) same keeps)
-      | inr ne ↦ off_first new (halves j) q (ok_first q j mine) (chains q ne) (pending q ne) (busy q ne) next
+  first_job new posts cell is_own chains pending last next keeps says = record {
+    as_first = λ q j mine together. elim (same_cell_or_apart q cell) [
+      | inl e ↦ subst (λ (c : Cell). Keeps (pair_of own (halves j) c) (pair_of new (halves j) c)) (sym e)
+          (keeps j (subst (λ (c : Cell). IsPair state c k j) e mine) (subst (λ (c : Cell). AreTogether alone c k j) e together))
+      | inr ne ↦ off_first new (halves j) q (ok_first q j mine together) (chains q ne) (pending q ne) next
     ];
-    as_second = λ q n mine. off_second new (halves n) q (ok_second q n mine)
-        (chains q (λ e. apart state steady q n k mine (same_some (sym mine.leads ∙ ap (first state) e ∙ pair.leads)))) (last q);
+    as_second = λ q n mine together. off_second new (halves n) q (ok_second q n mine together) (chains q (is_own q n mine together)) (last q);
     says = says;
   }
+
+  -- a job of a holder that is alone
+  alone_job : (new : Own) (posts : List Post) (cell : Cell) → alone k cell ≡ true
+      → ((q : Cell) → q ≢ cell → chain_in new.store.chains q ≡ chain_in own.store.chains q)
+      → ((q : Cell) → q ≢ cell → at cell_cmp new.pairs.pending q ≡ at cell_cmp own.pairs.pending q)
+      → ((q : Cell) → at cell_cmp new.pairs.last q ≡ at cell_cmp own.pairs.last q) → own.pairs.next ≤ new.pairs.next
+      → ((later : ℕ → Own) → Changes halves later k new → (post : Post) → In post posts → SaidOk state alone later post.body)
+      → J new posts
+  alone_job new posts cell on chains pending last next says =
+      first_job new posts cell (alone_own cell on) chains pending last next (λ m pair together. true_false on together.one) says
 
   -- a job of the second server of a cell, that changes the copy and how far it is
   second_job : (new : Own) (posts : List Post) (cell : Cell) (n : ℕ) → IsPair state cell n k
       → ((q : Cell) → q ≢ cell → chain_in new.store.chains q ≡ chain_in own.store.chains q)
       → ((q : Cell) → at cell_cmp new.pairs.pending q ≡ at cell_cmp own.pairs.pending q)
-      → ((q : Cell) → is_marked new.store Busy q ≡ is_marked own.store Busy q)
       → ((q : Cell) → q ≢ cell → at cell_cmp new.pairs.last q ≡ at cell_cmp own.pairs.last q) → own.pairs.next ≤ new.pairs.next
       → Keeps (pair_of (halves n) own cell) (pair_of (halves n) new cell)
-      → ((later : ℕ → Own) → Changes halves later k new → (post : Post) → In post posts → SaidOk state later post.body)
+      → ((later : ℕ → Own) → Changes halves later k new → (post : Post) → In post posts → SaidOk state alone later post.body)
       → J new posts
-  second_job new posts cell n pair chains pending busy last next keeps says = record {
-    as_first = λ q j mine. off_first new (halves j) q (ok_first q j mine)
-        (chains q (λ e. apart state steady q k j mine (same_some (sym pair.follows ∙ ap (second state) (sym e) ∙ mine.follows)))) (pending q)
-        (busy q) next;
-    as_second = λ q i mine. elim (same_cell_or_apart q cell) [
+  second_job new posts cell n pair chains pending last next keeps says = record {
+    as_first = λ q j mine together. off_first new (halves j) q (ok_first q j mine together)
+        (chains q (λ e. apart state steady q k j mine (same_some (sym pair.follows ∙ ap (secondary state) (sym e) ∙ mine.follows)))) (pending q)
+        next;
+    as_second = λ q i mine together. elim (same_cell_or_apart q cell) [
       | inl e ↦
-          let same : n ≡ i = same_some (sym pair.leads ∙ ap (first state) (sym e) ∙ mine.leads) in
+          let same : n ≡ i = same_some (sym pair.leads ∙ ap (primary state) (sym e) ∙ mine.leads) in
           subst (λ (c : Cell). Keeps (pair_of (halves i) own c) (pair_of (halves i) new c)) (sym e)
           (subst (λ x. Keeps (pair_of (halves x) own cell) (pair_of (halves x) new cell)) same keeps)
-      | inr ne ↦ off_second new (halves i) q (ok_second q i mine) (chains q ne) (last q ne)
+      | inr ne ↦ off_second new (halves i) q (ok_second q i mine together) (chains q ne) (last q ne)
     ];
     says = says;
   }
@@ -172,106 +244,110 @@ module _ (setting : Setting) (state : State) (steady : IsSteady state) (w : Worl
   -- a job that leaves copies and operations as they are
   talks : (new : Own) (posts : List Post) → ((other : Own) (q : Cell) → pair_of new other q ≡ pair_of own other q)
       → ((other : Own) (q : Cell) → pair_of other new q ≡ pair_of other own q)
-      → ((later : ℕ → Own) → Changes halves later k new → (post : Post) → In post posts → SaidOk state later post.body)
+      → ((later : ℕ → Own) → Changes halves later k new → (post : Post) → In post posts → SaidOk state alone later post.body)
       → J new posts
   talks new posts first second says = record {
-    as_first = λ q j mine. subst (Keeps (pair_of own (halves j) q)) (sym (first (halves j) q))
-        (moves.stays (pair_of own (halves j) q) own.pairs.next (ok_first q j mine) (omega arith));
-    as_second = λ q n mine. subst (Keeps (pair_of (halves n) own q)) (sym (second (halves n) q))
-        (moves.stays (pair_of (halves n) own q) (halves n).pairs.next (ok_second q n mine) (omega arith));
+    as_first = λ q j mine together. subst (Keeps (pair_of own (halves j) q)) (sym (first (halves j) q))
+        (moves.stays (pair_of own (halves j) q) own.pairs.next (ok_first q j mine together) (omega arith));
+    as_second = λ q n mine together. subst (Keeps (pair_of (halves n) own q)) (sym (second (halves n) q))
+        (moves.stays (pair_of (halves n) own q) (halves n).pairs.next (ok_second q n mine together) (omega arith));
     says = says;
   }
 
   -- a job that leaves the server's own part
-  speaks : (posts : List Post) → ((later : ℕ → Own) → Changes halves later k own → (post : Post) → In post posts → SaidOk state later post.body) → J own posts
+  speaks : (posts : List Post) → ((later : ℕ → Own) → Changes halves later k own → (post : Post) → In post posts → SaidOk state alone later post.body)
+      → J own posts
   speaks posts says = talks own posts (λ other q. refl) (λ other q. refl) says
 
   talked : (done : Done) → done.own ≡ own
-      → ((later : ℕ → Own) → Changes halves later k done.own → (post : Post) → In post done.posts → SaidOk state later post.body)
+      → ((later : ℕ → Own) → Changes halves later k done.own → (post : Post) → In post done.posts → SaidOk state alone later post.body)
       → J done.own done.posts
   talked done same says =
       talks done.own done.posts (λ other q. ap (λ (o : Own). pair_of o other q) same) (λ other q. ap (λ (o : Own). pair_of other o q) same) says
 
   -- the letter says this, of which nothing need be known
-  says_any : (later : ℕ → Own) (said : Body) (post : Post) → post.body ≡ said → ((pair : Pair) → Known pair said) → SaidOk state later post.body
-  says_any later said post e h cell n m is pair = subst (Known (pair_of (later n) (later m) cell)) (sym e) (h (pair_of (later n) (later m) cell))
+  says_any : (later : ℕ → Own) (said : Body) (post : Post) → post.body ≡ said → ((pair : Pair) → Known pair said) → SaidOk state alone later post.body
+  says_any later said post e h cell n m is pair together = subst (Known (pair_of (later n) (later m) cell)) (sym e) (h (pair_of (later n) (later m) cell))
 
-  says_so : (later : ℕ → Own) (said : Body) (post : Post) → post.body ≡ said → SaidOk state later said → SaidOk state later post.body
-  says_so later said post e h = subst (SaidOk state later) (sym e) h
+  says_so : (later : ℕ → Own) (said : Body) (post : Post) → post.body ≡ said → SaidOk state alone later said → SaidOk state alone later post.body
+  says_so later said post e h = subst (SaidOk state alone later) (sym e) h
 
-  staged_pair : (op : Pending) → at cell_cmp own.pairs.pending op.cell ≡ Some op → (m : ℕ) × IsPair state op.cell k m
-  staged_pair op is = lead_pair op.cell ((ready.pending k).staged op.cell op is).lead
+  staged_at : (op : Pending) → at cell_cmp own.pairs.pending op.cell ≡ Some op → IsStaged here.state k op.cell op
+  staged_at op is = (ready.rests.pending k).staged op.cell op is
 
-  asks_known : (later : ℕ → Own) → Changes halves later k own → (post : Post) → Asks here state own post → SaidOk state later post.body
+  staged_pair : (op : Pending) → at cell_cmp own.pairs.pending op.cell ≡ Some op → in_both here.state op.cell ≡ true → (m : ℕ) × IsPair state op.cell k m
+  staged_pair op is both = lead_pair op.cell (staged_at op is).lead both
+
+  asks_known : (later : ℕ → Own) → Changes halves later k own → (post : Post) → Asks here own post → SaidOk state alone later post.body
   asks_known later changes _ (A_slot op to is stage e) =
-      let pair = staged_pair op is in
+      let pair = staged_pair op is (second_both here.state (steady_at k) op.cell to e) in
       let above : ceiling_of (at cell_cmp own.pairs.pending op.cell) own.pairs.next ≡ op.op + 1 = ap (λ o. ceiling_of o own.pairs.next) is in
-      known_first state steady halves later k own changes (body.Reserve op.op op.cell) op.cell pair.0 pair.1 refl (omega arith)
+      known_first state steady alone halves later k own changes (body.Reserve op.op op.cell) op.cell pair.0 pair.1 refl (omega arith)
   asks_known later changes _ (A_copy op to is stage e) =
-      let pair = staged_pair op is in
-      let keyed = ((ready.pending k).staged op.cell op is).keyed in
-      known_first state steady halves later k own changes (body.Replicate op.op op.key op.version op.bytes) op.cell pair.0 pair.1 (ap Some keyed)
+      let pair = staged_pair op is (second_both here.state (steady_at k) op.cell to e) in
+      let keyed = (staged_at op is).keyed in
+      known_first state steady alone halves later k own changes (body.Replicate op.op op.key op.version op.bytes) op.cell pair.0 pair.1 (ap Some keyed)
       (inl (record { op = op; is = is; number_is = refl; put = ap (λ (s : Stage). s.put) stage; key_is = refl; bytes_is = refl }))
-  asks_known later changes _ (Of_the_log post e) = no_cell state later post.body (unpaired post.body (logged_unpaired (subject_of post.body) e))
+  asks_known later changes _ (Of_the_log post e) = no_cell state alone later post.body (unpaired post.body (logged_unpaired (subject_of post.body) e))
 
   tells_known : (later : ℕ → Own) (new : Own) → Changes halves later k new → (cell : Cell) (number : ℕ) (how : Far) (n : ℕ) → IsPair state cell n k
       → at cell_cmp new.pairs.last cell ≡ Some (record { op = number; far = how }) → (post : Post) → In post (tells here new cell number how).posts
-      → SaidOk state later post.body
+      → SaidOk state alone later post.body
   tells_known later new changes cell number far_is.Reserved n pair is post i =
       let e : progress (at cell_cmp new.pairs.last cell) ≡ number + number = ap progress is in
-      says_so later _ post (posted _ _ post i) (known_second state steady halves later k new changes (body.Reserved number cell) cell n pair refl (omega arith))
+      says_so later _ post (posted _ _ post i) (known_second state steady alone halves later k new changes (body.Reserved number cell) cell n pair refl (omega arith))
   tells_known later new changes cell number far_is.Replicated n pair is post i =
       let e : progress (at cell_cmp new.pairs.last cell) ≡ number + number + 1 = ap progress is in
       says_so later _ post (posted _ _ post i)
-      (known_second state steady halves later k new changes (body.Replicated number cell) cell n pair refl (omega arith))
+      (known_second state steady alone halves later k new changes (body.Replicated number cell) cell n pair refl (omega arith))
 
   -- ### The first server's jobs
 
   abbrev hears : Body → Type 0
   hears = Handled w k
 
-  opens_keeps : (want : Wanted) → is_lead state k want.cell ≡ true → at cell_cmp own.pairs.pending want.cell ≡ None
+  opens_keeps : (want : Wanted) → IsNew hears here own want → in_both here.state want.cell ≡ true
       → J (opened here own want) (post_to (second here.state want.cell) (body.Reserve own.pairs.next want.cell))
-  opens_keeps want lead none =
-      let pair = lead_pair want.cell lead in
+  opens_keeps want fresh both =
+      let pair = lead_pair want.cell fresh.lead both in
       let op = operation here own.pairs.next want in
       let new = opened here own want in
       let there : at cell_cmp new.pairs.pending want.cell ≡ Some op = cell_same own.pairs.pending want.cell op in
-      first_job new _ want.cell pair.0 pair.1 (λ q ne. refl) (λ q ne. cell_apart own.pairs.pending want.cell op q ne) (λ q ne. refl) (λ q. refl)
+      first_job new _ want.cell (first_own want.cell pair.0 pair.1) (λ q ne. refl) (λ q ne. cell_apart own.pairs.pending want.cell op q ne) (λ q. refl)
       (omega arith)
-      (subst (λ o. Keeps (pair_of own (halves pair.0) want.cell)
-      (record (pair_of own (halves pair.0) want.cell) { pending = o; next = own.pairs.next + 1 })) (sym there)
-      (moves.opens (pair_of own (halves pair.0) want.cell) op (ok_first want.cell pair.0 pair.1) none refl refl refl refl))
+      (λ m mine together. subst (λ o. Keeps (pair_of own (halves m) want.cell)
+      (record (pair_of own (halves m) want.cell) { pending = o; next = own.pairs.next + 1 })) (sym there)
+      (moves.opens (pair_of own (halves m) want.cell) op (ok_first want.cell m mine together) fresh.none refl refl refl))
       (λ later changes post i. says_so later _ post (posted _ _ post i)
-      (known_first state steady halves later k new changes (body.Reserve own.pairs.next want.cell) want.cell pair.0 pair.1 refl
+      (known_first state steady alone halves later k new changes (body.Reserve own.pairs.next want.cell) want.cell pair.0 pair.1 refl
       (subst (λ o. Known (record (pair_of new (halves pair.0) want.cell) { pending = o }) (body.Reserve own.pairs.next want.cell)) (sym there) (omega arith))))
 
-  marks_keeps : (op : Pending) → hears (body.Reserved op.op op.cell) → at cell_cmp own.pairs.pending op.cell ≡ Some op → op.stage ≡ waiting
+  marks_keeps : (op : Pending) → hears (body.Reserved op.op op.cell) → at cell_cmp own.pairs.pending op.cell ≡ Some op → in_both here.state op.cell ≡ true
+      → op.stage ≡ waiting
       → J (marks (with_pending own (with_reserved op)) (with_reserved op) Busy).own []
   unfolding In
-  marks_keeps op h is stage =
-      let pair = staged_pair op is in
+  marks_keeps op h is both stage =
+      let pair = staged_pair op is both in
       let t = own.pairs.pending in
       let one = with_reserved op in
       let two = with_mark_at one Busy true in
       let new = (marks (with_pending own one) one Busy).own in
-      let begun : op.op + op.op ≤ progress (at cell_cmp (halves pair.0).pairs.last op.cell) = heard_known _ h op.cell k pair.0 refl pair.1 in
       let at_put = ap (λ (s : Stage). s.put) stage in
       let there : at cell_cmp new.pairs.pending op.cell ≡ Some two = cell_same (put cell_cmp t op.cell one) op.cell two in
-      let marked : is_marked new.store Busy op.cell ≡ true = mark_there own.store Busy op.cell in
-      first_job new _ op.cell pair.0 pair.1 (λ q ne. refl) (λ q ne. put_put t op.cell one two q ne) (λ q ne. mark_apart own.store Busy op.cell q ne)
-      (λ q. refl) (omega arith)
-      (subst (Keeps (pair_of own (halves pair.0) op.cell))
-      (λ i. record (pair_of new (halves pair.0) op.cell) { pending = sym there i; busy = sym marked i })
-      (moves.marks (pair_of own (halves pair.0) op.cell) op two (ok_first op.cell pair.0 pair.1) is at_put begun refl at_put))
+      first_job new _ op.cell (first_own op.cell pair.0 pair.1) (λ q ne. refl) (λ q ne. put_put t op.cell one two q ne) (λ q. refl) (omega arith)
+      (λ m mine together.
+      let begun : op.op + op.op ≤ progress (at cell_cmp (halves m).pairs.last op.cell) = heard_known _ h op.cell k m refl mine together in
+      subst (Keeps (pair_of own (halves m) op.cell)) (λ i. record (pair_of new (halves m) op.cell) { pending = sym there i })
+      (moves.marks (pair_of own (halves m) op.cell) op two (ok_first op.cell m mine together) is at_put begun refl at_put))
       (λ later changes post i. absurd i)
 
-  puts_keeps : (op : Pending) → at cell_cmp own.pairs.pending op.cell ≡ Some op → op.stage ≡ putting → J (puts own op).own []
+  puts_keeps : (op : Pending) → at cell_cmp own.pairs.pending op.cell ≡ Some op → in_both here.state op.cell ≡ true → op.stage ≡ putting
+      → J (puts own op).own []
   unfolding In
-  puts_keeps op is stage =
-      let pair = staged_pair op is in
+  puts_keeps op is both stage =
+      let pair = staged_pair op is both in
       let chains = own.store.chains in
-      let keyed = ((ready.pending k).staged op.cell op is).keyed in
+      let keyed = (staged_at op is).keyed in
       let version = version_of (chain_in chains op.cell) + 1 in
       let two : Pending = record op { version = version; stage = record op.stage { put = true } } in
       let new = (puts own op).own in
@@ -280,60 +356,89 @@ module _ (setting : Setting) (state : State) (steady : IsSteady state) (w : Worl
       let copied : put nat_cmp (chain_in chains op.cell) op.key.epoch (record { version = version; bytes = op.bytes }) ≡ chain_in new.store.chains op.cell =
       ap (λ (c : Cell). put nat_cmp (chain_in chains c) op.key.epoch (record { version = version; bytes = op.bytes })) (sym keyed)
       ∙ sym (chain_put chains (cell_of op.key) chain) ∙ ap (chain_in new.store.chains) keyed in
-      first_job new _ op.cell pair.0 pair.1
+      first_job new _ op.cell (first_own op.cell pair.0 pair.1)
       (λ q ne. chain_apart chains (cell_of op.key) chain q (λ e. ne (e ∙ keyed)))
-      (λ q ne. cell_apart own.pairs.pending op.cell two q ne) (λ q ne. refl) (λ q. refl) (omega arith)
-      (subst (Keeps (pair_of own (halves pair.0) op.cell)) (λ i. record (pair_of new (halves pair.0) op.cell) { first = copied i; pending = sym there i })
-      (moves.puts (pair_of own (halves pair.0) op.cell) op two (ok_first op.cell pair.0 pair.1) is (ap (λ (s : Stage). s.reserved) stage)
-      (ap (λ (s : Stage). s.busy) stage) (ap (λ (s : Stage). s.put) stage) refl refl refl refl (ap (λ (s : Stage). s.paired) stage)))
+      (λ q ne. cell_apart own.pairs.pending op.cell two q ne) (λ q. refl) (omega arith)
+      (λ m mine together.
+      subst (Keeps (pair_of own (halves m) op.cell)) (λ i. record (pair_of new (halves m) op.cell) { first = copied i; pending = sym there i })
+      (moves.puts (pair_of own (halves m) op.cell) op two (ok_first op.cell m mine together) is (ap (λ (s : Stage). s.reserved) stage)
+      (ap (λ (s : Stage). s.put) stage) refl refl refl refl (ap (λ (s : Stage). s.paired) stage)))
       (λ later changes post i. absurd i)
 
-  unmarks_keeps : (op : Pending) → hears (body.Replicated op.op op.cell) → at cell_cmp own.pairs.pending op.cell ≡ Some op → op.stage ≡ copying
+  unmarks_keeps : (op : Pending) → hears (body.Replicated op.op op.cell) → at cell_cmp own.pairs.pending op.cell ≡ Some op
+      → in_both here.state op.cell ≡ true → op.stage ≡ copying
       → J (unmarks (with_pending own (with_paired op)) (with_paired op) Busy).own []
   unfolding In
-  unmarks_keeps op h is stage =
-      let pair = staged_pair op is in
+  unmarks_keeps op h is both stage =
+      let pair = staged_pair op is both in
       let t = own.pairs.pending in
       let one = with_paired op in
       let two = with_mark_at one Busy false in
       let new = (unmarks (with_pending own one) one Busy).own in
-      let past : op.op + op.op + 1 ≤ progress (at cell_cmp (halves pair.0).pairs.last op.cell) = heard_known _ h op.cell k pair.0 refl pair.1 in
       let at_put = ap (λ (s : Stage). s.put) stage in
       let there : at cell_cmp new.pairs.pending op.cell ≡ Some two = cell_same (put cell_cmp t op.cell one) op.cell two in
-      first_job new _ op.cell pair.0 pair.1 (λ q ne. refl) (λ q ne. put_put t op.cell one two q ne) (λ q ne. unmark_apart own.store Busy op.cell q ne)
-      (λ q. refl) (omega arith)
-      (subst (Keeps (pair_of own (halves pair.0) op.cell)) (λ i. record (pair_of new (halves pair.0) op.cell) { pending = sym there i })
-      (moves.unmarks (pair_of own (halves pair.0) op.cell) op two (is_marked new.store Busy op.cell) (ok_first op.cell pair.0 pair.1) is at_put past refl
-      at_put refl))
+      first_job new _ op.cell (first_own op.cell pair.0 pair.1) (λ q ne. refl) (λ q ne. put_put t op.cell one two q ne) (λ q. refl) (omega arith)
+      (λ m mine together.
+      let past : op.op + op.op + 1 ≤ progress (at cell_cmp (halves m).pairs.last op.cell) = heard_known _ h op.cell k m refl mine together in
+      subst (Keeps (pair_of own (halves m) op.cell)) (λ i. record (pair_of new (halves m) op.cell) { pending = sym there i })
+      (moves.unmarks (pair_of own (halves m) op.cell) op two (ok_first op.cell m mine together) is at_put past refl at_put))
       (λ later changes post i. absurd i)
 
   -- an operation is done with
   done_keeps : (op : Pending) (new : Own) (posts : List Post) → at cell_cmp own.pairs.pending op.cell ≡ Some op → new.store.chains ≡ own.store.chains
-      → new.store.marks ≡ own.store.marks → new.pairs.last ≡ own.pairs.last → new.pairs.next ≡ own.pairs.next
-      → new.pairs.pending ≡ without cell_cmp own.pairs.pending op.cell
-      → ((m : ℕ) → IsPair state op.cell k m → Keeps (pair_of own (halves m) op.cell) (record (pair_of own (halves m) op.cell) { pending = None }))
-      → ((later : ℕ → Own) → Changes halves later k new → (post : Post) → In post posts → SaidOk state later post.body)
+      → new.pairs.last ≡ own.pairs.last → new.pairs.next ≡ own.pairs.next → new.pairs.pending ≡ without cell_cmp own.pairs.pending op.cell
+      → ((m : ℕ) → PairOk (pair_of own (halves m) op.cell) → Keeps (pair_of own (halves m) op.cell) (record (pair_of own (halves m) op.cell) { pending = None }))
+      → ((later : ℕ → Own) → Changes halves later k new → (post : Post) → In post posts → SaidOk state alone later post.body)
       → J new posts
-  done_keeps op new posts is chains marks last next pending keeps says =
-      let pair = staged_pair op is in
+  done_keeps op new posts is chains last next pending keeps says =
       let gone : at cell_cmp new.pairs.pending op.cell ≡ None = ap (λ t. at cell_cmp t op.cell) pending ∙ cell_gone own.pairs.pending op.cell in
-      first_job new posts op.cell pair.0 pair.1 (λ q ne. ap (λ c. chain_in c q) chains)
+      first_job new posts op.cell (led_own op.cell (staged_at op is).lead) (λ q ne. ap (λ c. chain_in c q) chains)
       (λ q ne. ap (λ t. at cell_cmp t q) pending ∙ cell_gone_apart own.pairs.pending op.cell q ne)
-      (λ q ne. ap (λ ms. has_mark (mark_on Busy q) ms) marks) (λ q. ap (λ t. at cell_cmp t q) last) (omega arith)
-      (subst (Keeps (pair_of own (halves pair.0) op.cell))
+      (λ q. ap (λ t. at cell_cmp t q) last) (omega arith)
+      (λ m mine together. subst (Keeps (pair_of own (halves m) op.cell))
       (λ i. record {
         first = chain_in (sym chains i) op.cell;
-        second = chain_in (halves pair.0).store.chains op.cell;
+        second = chain_in (halves m).store.chains op.cell;
         pending = sym gone i;
         next = sym next i;
-        busy = has_mark (mark_on Busy op.cell) (sym marks i);
-        last = at cell_cmp (halves pair.0).pairs.last op.cell;
-      }) (keeps pair.0 pair.1))
+        last = at cell_cmp (halves m).pairs.last op.cell;
+      }) (keeps m (ok_first op.cell m mine together)))
       says
+
+  -- ### A holder that is alone
+
+  opens_alone : (want : Wanted) → is_alone_on here.state k want.cell ≡ true → J (marks (opened here own want) (operation here own.pairs.next want) Stale).own []
+  unfolding In
+  opens_alone want on =
+      let op = operation here own.pairs.next want in
+      alone_job (marks (opened here own want) op Stale).own _ want.cell on (λ q ne. refl)
+      (λ q ne. put_put own.pairs.pending want.cell op (with_mark_at op Stale true) q ne) (λ q. refl) (omega arith) (λ later changes post i. absurd i)
+
+  -- a pending operation that is taken up comes to stand so, or is gone
+  taken_keeps : (now : Own) (op : Pending) → Taken own now op → is_alone_on here.state k op.cell ≡ true → (new : Own) (posts : List Post)
+      → ((q : Cell) → q ≢ op.cell → chain_in new.store.chains q ≡ chain_in now.store.chains q)
+      → ((q : Cell) → q ≢ op.cell → at cell_cmp new.pairs.pending q ≡ at cell_cmp now.pairs.pending q)
+      → new.pairs.last ≡ now.pairs.last → new.pairs.next ≡ now.pairs.next
+      → ((later : ℕ → Own) → Changes halves later k new → (post : Post) → In post posts → SaidOk state alone later post.body)
+      → J new posts
+  taken_keeps now op taken on new posts chains pending last next says =
+      let t = taking own now op taken in
+      let same : new.pairs.next ≡ own.pairs.next = next ∙ t.next in
+      alone_job new posts op.cell on (λ q ne. chains q ne ∙ ap (λ (s : Store). chain_in s.chains q) t.store) (λ q ne. pending q ne ∙ t.others q ne)
+      (λ q. ap (λ u. at cell_cmp u q) (last ∙ t.last)) (omega arith) says
+
+  alone_puts : (now : Own) (op : Pending) → Taken own now op → is_alone_on here.state k op.cell ≡ true → J (puts now op).own []
+  unfolding In
+  alone_puts now op taken on =
+      let t = taking own now op taken in
+      let keyed : cell_of op.key ≡ op.cell =
+      ap (λ (o : Pending). cell_of o.key) t.is ∙ ((ready.rests.pending k).staged op.cell t.old t.was).keyed in
+      taken_keeps now op taken on (puts now op).own _ (λ q ne. chain_apart now.store.chains (cell_of op.key) _ q (λ e. ne (e ∙ keyed)))
+      (λ q ne. cell_apart now.pairs.pending op.cell _ q ne) refl refl (λ later changes post i. absurd i)
 
   -- ### The second server's jobs
 
-  reserves_keeps : (number : ℕ) (cell : Cell) (tickets : ℕ) → hears (body.Reserve number cell) → is_second state k cell ≡ true
+  reserves_keeps : (number : ℕ) (cell : Cell) (tickets : ℕ) → hears (body.Reserve number cell) → is_second here.state k cell ≡ true
       → progress (at cell_cmp own.pairs.last cell) ≤ number + number
       → J (with_last (with_tickets own tickets) cell number far_is.Reserved)
       (tells here (with_last (with_tickets own tickets) cell number far_is.Reserved) cell number far_is.Reserved).posts
@@ -342,9 +447,11 @@ module _ (setting : Setting) (state : State) (steady : IsSteady state) (w : Worl
       let now : LastOp = record { op = number; far = far_is.Reserved } in
       let new = with_last (with_tickets own tickets) cell number far_is.Reserved in
       let there : at cell_cmp new.pairs.last cell ≡ Some now = cell_same own.pairs.last cell now in
-      second_job new _ cell pair.0 pair.1 (λ q ne. refl) (λ q. refl) (λ q. refl) (λ q ne. cell_apart own.pairs.last cell now q ne) (omega arith)
+      let together = second_together cell pair.0 pair.1 (second_is_both cell s) in
+      second_job new _ cell pair.0 pair.1 (λ q ne. refl) (λ q. refl) (λ q ne. cell_apart own.pairs.last cell now q ne) (omega arith)
       (subst (Keeps (pair_of (halves pair.0) own cell)) (λ i. record (pair_of (halves pair.0) new cell) { last = sym there i })
-      (moves.reserves (pair_of (halves pair.0) own cell) number (ok_second cell pair.0 pair.1) le (heard_known _ h cell pair.0 k refl pair.1)))
+      (moves.reserves (pair_of (halves pair.0) own cell) number (ok_second cell pair.0 pair.1 together) le
+      (heard_known _ h cell pair.0 k refl pair.1 together)))
       (λ later changes post i. tells_known later new changes cell number far_is.Reserved pair.0 pair.1 there post i)
 
   -- a second server that has not followed was asked to by an operation that is pending
@@ -354,18 +461,19 @@ module _ (setting : Setting) (state : State) (steady : IsSteady state) (w : Worl
   asked number key bytes pair last (inr past) = let e : far pair ≡ number + number = ap progress last in absurd (omega arith)
 
   follows_keeps : (number : ℕ) (key : Key) (version : ℕ) (bytes : List ℕ) → hears (body.Replicate number key version bytes)
-      → is_second state k (cell_of key) ≡ true → at cell_cmp own.pairs.last (cell_of key) ≡ Some (record { op = number; far = far_is.Reserved })
+      → is_second here.state k (cell_of key) ≡ true → at cell_cmp own.pairs.last (cell_of key) ≡ Some (record { op = number; far = far_is.Reserved })
       → J (follows here own number key bytes).own (follows here own number key bytes).posts
   follows_keeps number key version bytes h s is =
       let cell = cell_of key in
       let pair = second_pair cell s in
+      let together = second_together cell pair.0 pair.1 (second_is_both cell s) in
       let chains = own.store.chains in
       let new = (follows here own number key bytes).own in
       let now : LastOp = record { op = number; far = far_is.Replicated } in
       let there : at cell_cmp new.pairs.last cell ≡ Some now = cell_same own.pairs.last cell now in
       let chain : Chain = put nat_cmp (chain_in chains cell) key.epoch (record { version = version_of (chain_in chains cell) + 1; bytes = bytes }) in
-      let putting = asked number key bytes (pair_of (halves pair.0) own cell) is (heard_known _ h cell pair.0 k refl pair.1) in
-      second_job new _ cell pair.0 pair.1 (λ q ne. chain_apart chains cell chain q ne) (λ q. refl) (λ q. refl) (λ q ne. cell_apart own.pairs.last cell now q ne)
+      let putting = asked number key bytes (pair_of (halves pair.0) own cell) is (heard_known _ h cell pair.0 k refl pair.1 together) in
+      second_job new _ cell pair.0 pair.1 (λ q ne. chain_apart chains cell chain q ne) (λ q. refl) (λ q ne. cell_apart own.pairs.last cell now q ne)
       (omega arith)
       (subst (Keeps (pair_of (halves pair.0) own cell))
       (λ i. record {
@@ -373,13 +481,12 @@ module _ (setting : Setting) (state : State) (steady : IsSteady state) (w : Worl
         second = sym (chain_put chains cell chain) i;
         pending = at cell_cmp (halves pair.0).pairs.pending cell;
         next = (halves pair.0).pairs.next;
-        busy = is_marked (halves pair.0).store Busy cell;
         last = sym there i;
       })
-      (moves.follows (pair_of (halves pair.0) own cell) number key bytes (ok_second cell pair.0 pair.1) is putting))
+      (moves.follows (pair_of (halves pair.0) own cell) number key bytes (ok_second cell pair.0 pair.1 together) is putting))
       (λ later changes post i. tells_known later new changes cell number far_is.Replicated pair.0 pair.1 there post i)
 
-  promises_keeps : (number : ℕ) (cell : Cell) (how : Far) → is_second state k cell ≡ true
+  promises_keeps : (number : ℕ) (cell : Cell) (how : Far) → is_second here.state k cell ≡ true
       → at cell_cmp own.pairs.last cell ≡ Some (record { op = number; far = how })
       → J (tells here own cell number how).own (tells here own cell number how).posts
   promises_keeps number cell how s is =
@@ -390,43 +497,54 @@ module _ (setting : Setting) (state : State) (steady : IsSteady state) (w : Worl
 
   -- ### Each kind of job
 
-  lead_keeps : (done : Done) → DidLead hears here state own done → J done.own done.posts
+  lead_keeps : (done : Done) → DidLead hears here own done → J done.own done.posts
   unfolding In
   lead_keeps _ (Asks_for posts h) = speaks _ (λ later changes post i. asks_known later changes post (h post i))
   lead_keeps _ (Repeats want last h lead is e) =
       speaks _ (λ later changes post i. says_any later _ post (one_post _ _ post i).1 (λ pair. ended_known pair want.seq last.ending))
-  lead_keeps _ (Is_full want h lead new none no_room) =
+  lead_keeps _ (Is_full want new no_room) =
       talks _ _ (λ other q. refl) (λ other q. refl) (λ later changes post i. says_any later _ post (one_post _ _ post i).1 (λ pair. tt))
-  lead_keeps _ (Opens want h lead new none) = opens_keeps want lead none
-  lead_keeps _ (Marks op h is stage) = marks_keeps op h is stage
-  lead_keeps _ (Puts op is stage) = puts_keeps op is stage
-  lead_keeps _ (Gives_up op h is stage) =
-      done_keeps op _ _ is refl refl refl refl refl
-      (λ m pair. moves.refuses (pair_of own (halves m) op.cell) op (ok_first op.cell m pair) is (ap (λ (s : Stage). s.put) stage))
+  lead_keeps _ (Gives_up op h is reserved put) =
+      done_keeps op _ _ is refl refl refl refl
+      (λ m ok. moves.refuses (pair_of own (halves m) op.cell) op ok is put)
       (λ later changes post i. says_any later _ post (one_post _ _ post i).1 (λ pair. tt))
-  lead_keeps _ (Unmarks op h is stage) = unmarks_keeps op h is stage
-  lead_keeps _ (Closes op is stage) =
-      done_keeps op _ _ is refl refl refl refl refl
-      (λ m pair. moves.closes (pair_of own (halves m) op.cell) op (ok_first op.cell m pair) is (ap (λ (s : Stage). s.put) stage)
-      (ap (λ (s : Stage). s.paired) stage))
+  lead_keeps _ (Opens want new both) = opens_keeps want new both
+  lead_keeps _ (Marks op h is both stage) = marks_keeps op h is both stage
+  lead_keeps _ (Puts op is both stage) = puts_keeps op is both stage
+  lead_keeps _ (Unmarks op h is both stage) = unmarks_keeps op h is both stage
+  lead_keeps _ (Closes op is both stage) =
+      done_keeps op _ _ is refl refl refl refl
+      (λ m ok. moves.closes (pair_of own (halves m) op.cell) op ok is (ap (λ (s : Stage). s.put) stage) (ap (λ (s : Stage). s.paired) stage))
+      (λ later changes post i. says_any later _ post (one_post _ _ post i).1 (λ pair. tt))
+  lead_keeps _ (Opens_alone want new on) = opens_alone want on
+  lead_keeps _ (Marks_alone now op taken on fresh) =
+      taken_keeps now op taken on (marks now op Stale).own _ (λ q ne. refl) (λ q ne. cell_apart now.pairs.pending op.cell _ q ne) refl refl
+      (λ later changes post i. absurd i)
+  lead_keeps _ (Puts_alone now op taken on stale put) = alone_puts now op taken on
+  lead_keeps _ (Unmarks_alone now op taken on stale put busy) =
+      taken_keeps now op taken on (unmarks now op Busy).own _ (λ q ne. refl) (λ q ne. cell_apart now.pairs.pending op.cell _ q ne) refl refl
+      (λ later changes post i. absurd i)
+  lead_keeps _ (Closes_alone now op taken on stale put free) =
+      taken_keeps now op taken on (finishes (without_pending now op.cell) op.client op.seq ending.Written).own _ (λ q ne. refl)
+      (λ q ne. cell_gone_apart now.pairs.pending op.cell q ne) refl refl
       (λ later changes post i. says_any later _ post (one_post _ _ post i).1 (λ pair. tt))
 
-  second_keeps : (done : Done) → DidSecond hears here state own done → J done.own done.posts
+  second_keeps : (done : Done) → DidSecond hears here own done → J done.own done.posts
   second_keeps _ (Sets_apart number cell tickets h s le) = reserves_keeps number cell tickets h s le
   second_keeps _ (Promises number cell how s is) = promises_keeps number cell how s is
   second_keeps _ (Declines number cell h s no_room) = speaks _ (λ later changes post i. says_any later _ post (posted _ _ post i) (λ pair. tt))
   second_keeps _ (Follows number key version bytes h s is) = follows_keeps number key version bytes h s is
 
-  read_keeps : (done : Done) → DidRead hears here state own done → J done.own done.posts
+  read_keeps : (done : Done) → DidRead hears here own done → J done.own done.posts
   read_keeps done d =
-      let frame = of_read hears here state own done d in
+      let frame = of_read hears here own done d in
       talked done frame.same (λ later changes post i. says_any later _ post (frame.says post i).is (λ pair. tt))
 
-  pub job_keeps : (done : Done) → Did hears here state own done → J done.own done.posts
+  pub job_keeps : (done : Done) → Did hears here own done → J done.own done.posts
   unfolding In
   job_keeps _ Ignores = speaks _ (λ later changes post i. absurd i)
   job_keeps _ (Refuses to said is why) =
-      speaks _ (λ later changes post i. says_so later said post (one_post to said post i).1 (no_cell state later said (unpaired said (ap is_paired is))))
+      speaks _ (λ later changes post i. says_so later said post (one_post to said post i).1 (no_cell state alone later said (unpaired said (ap is_paired is))))
   job_keeps _ (By_read done d) = read_keeps done d
   job_keeps _ (By_lead done d) = lead_keeps done d
   job_keeps _ (By_second done d) = second_keeps done d

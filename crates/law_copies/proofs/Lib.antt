@@ -1,6 +1,8 @@
-pub mod Marks
 pub mod Moves
+pub mod Marks
 pub mod Frames
+pub mod Crossed
 pub mod Jobs
-pub mod Copying
 pub mod Marking
+pub mod Copying
+pub mod First

@@ -1,5 +1,5 @@
 -- A mark that is set is there, and marks on other cells stay as they are.
-use Rattle.std.proofs.Common.{◌≡◌, ◌≢◌, ◌==◌, Bool, true, false, ◌||◌, not, cond, List, [], ◌∷◌, refl, ap, sym, ◌∙◌, arith}
+use Rattle.std.proofs.Common.{◌≡◌, ◌≢◌, ◌==◌, true, false, ◌||◌, not, cond, List, [], ◌∷◌, refl, ap, sym, ◌∙◌, arith}
 use Rattle.std.proofs.lemmas.Bool.Decides.{nat_tests}
 use Rattle.std.proofs.lemmas.List.Folds.{list_any-append}
 use Rattle.busy_marks.specs.Marks.{same_kind, same_mark, has_mark, with_mark, without_mark}
@@ -42,14 +42,6 @@ is_set marks mark = by_test (λ xs. has_mark mark xs ≡ true) (has_mark mark ma
     (λ new. list_any-append (λ m. same_mark m mark) marks (mark ∷ [])
     ∙ ap (λ b. b || (same_mark mark mark || false)) new ∙ ap (λ b. b || false) (same_itself mark))
 
-set_apart : (marks : List Mark) (mark other : Mark) → same_mark mark other ≡ false → has_mark other (with_mark marks mark) ≡ has_mark other marks
-set_apart marks mark other ne = by_test (λ xs. has_mark other xs ≡ has_mark other marks) (has_mark mark marks) _ _ (λ there. refl)
-    (λ new. list_any-append (λ m. same_mark m other) marks (mark ∷ []) ∙ ap (λ b. has_mark other marks || (b || false)) ne ∙ or_false (has_mark other marks))
-  where
-    or_false : (b : Bool) → (b || false) ≡ b
-    or_false true = refl
-    or_false false = refl
-
 unset_apart : (marks : List Mark) (mark other : Mark) → same_mark mark other ≡ false → has_mark other (without_mark marks mark) ≡ has_mark other marks
 unset_apart [] mark other ne = refl
 unset_apart (m ∷ marks) mark other ne = by_bool (same_mark m mark)
@@ -63,9 +55,18 @@ unset_apart (m ∷ marks) mark other ne = by_bool (same_mark m mark)
 pub mark_there : (store : Store) (kind : MarkKind) (cell : Cell) → is_marked (with_mark_on store kind cell) kind cell ≡ true
 mark_there store kind cell = is_set store.marks (mark_on kind cell)
 
-pub mark_apart : (store : Store) (kind : MarkKind) (cell q : Cell) → q ≢ cell → is_marked (with_mark_on store kind cell) kind q ≡ is_marked store kind q
-mark_apart store kind cell q ne = set_apart store.marks (mark_on kind cell) (mark_on kind q) (other_mark kind cell q ne)
-
 pub unmark_apart : (store : Store) (kind : MarkKind) (cell q : Cell) → q ≢ cell
     → is_marked (without_mark_on store kind cell) kind q ≡ is_marked store kind q
 unmark_apart store kind cell q ne = unset_apart store.marks (mark_on kind cell) (mark_on kind q) (other_mark kind cell q ne)
+
+-- a mark that was there stays where another one is set
+set_keeps : (marks : List Mark) (mark other : Mark) → has_mark other marks ≡ true → has_mark other (with_mark marks mark) ≡ true
+set_keeps marks mark other there = by_test (λ xs. has_mark other xs ≡ true) (has_mark mark marks) _ _ (λ t. there)
+    (λ new. list_any-append (λ m. same_mark m other) marks (mark ∷ []) ∙ ap (λ b. b || (same_mark mark other || false)) there)
+
+pub mark_kept : (store : Store) (kind other : MarkKind) (cell q : Cell) → is_marked store other q ≡ true → is_marked (with_mark_on store kind cell) other q ≡ true
+mark_kept store kind other cell q there = set_keeps store.marks (mark_on kind cell) (mark_on other q) there
+
+-- where the busy mark goes, the stale one stays
+pub stale_kept : (store : Store) (cell q : Cell) → is_marked (without_mark_on store Busy cell) Stale q ≡ is_marked store Stale q
+stale_kept store cell q = unset_apart store.marks (mark_on Busy cell) (mark_on Stale q) refl

@@ -1,5 +1,5 @@
 -- What happens to one cell keeps its two copies together.
-use Rattle.std.proofs.Common.{◌≡◌, ℕ, ◌+◌, ◌<◌, ◌≤◌, Bool, List, Some, None, true, false, arith}
+use Rattle.std.proofs.Common.{◌≡◌, ℕ, ◌+◌, ◌<◌, ◌≤◌, List, Some, None, true, false, arith}
 use Rattle.std.specs.Ordering.{nat_cmp}
 use Rattle.petal_base.specs.declared.cell.Key.{Key}
 use Rattle.petal_table.specs.Table.{put}
@@ -14,35 +14,33 @@ pub stays : (pair : Pair) (next : ℕ) → PairOk pair → pair.next ≤ next �
 stays pair next ok le = grind arith
 
 -- a new operation opens
-pub opens : (pair : Pair) (op : Pending) → PairOk pair → pair.pending ≡ None → op.op ≡ pair.next → op.stage.reserved ≡ false → op.stage.busy ≡ false
-    → op.stage.put ≡ false
+pub opens : (pair : Pair) (op : Pending) → PairOk pair → pair.pending ≡ None → op.op ≡ pair.next → op.stage.reserved ≡ false → op.stage.put ≡ false
     → Keeps pair (record pair { pending = Some op; next = pair.next + 1 })
-opens pair op ok none number reserved busy put = grind arith
+opens pair op ok none number reserved put = grind arith
 
 -- the first server marks the block, once the second has set a slot apart
 pub marks : (pair : Pair) (op new : Pending) → PairOk pair → pair.pending ≡ Some op → op.stage.put ≡ false → op.op + op.op ≤ far pair → new.op ≡ op.op
     → new.stage.put ≡ false
-    → Keeps pair (record pair { pending = Some new; busy = true })
+    → Keeps pair (record pair { pending = Some new })
 marks pair op new ok some at begun number put = grind arith
 
 -- the first server puts its copy, once the block is marked
-pub puts : (pair : Pair) (op new : Pending) → PairOk pair → pair.pending ≡ Some op → op.stage.reserved ≡ true → op.stage.busy ≡ true
-    → op.stage.put ≡ false → new.op ≡ op.op → new.key ≡ op.key → new.bytes ≡ op.bytes → new.stage.put ≡ true → new.stage.paired ≡ false
+pub puts : (pair : Pair) (op new : Pending) → PairOk pair → pair.pending ≡ Some op → op.stage.reserved ≡ true → op.stage.put ≡ false → new.op ≡ op.op → new.key ≡ op.key → new.bytes ≡ op.bytes → new.stage.put ≡ true → new.stage.paired ≡ false
     → Keeps pair (record pair {
       first = put nat_cmp pair.first op.key.epoch (record { version = version_of pair.first + 1; bytes = op.bytes });
       pending = Some new;
     })
-puts pair op new ok some reserved busy at number key bytes put paired = grind arith
+puts pair op new ok some reserved at number key bytes put paired = grind arith
 
 -- the second server has no room
 pub refuses : (pair : Pair) (op : Pending) → PairOk pair → pair.pending ≡ Some op → op.stage.put ≡ false → Keeps pair (record pair { pending = None })
 refuses pair op ok some at = grind arith
 
 -- the mark may go once the second server has followed
-pub unmarks : (pair : Pair) (op new : Pending) (busy : Bool) → PairOk pair → pair.pending ≡ Some op → op.stage.put ≡ true
-    → op.op + op.op + 1 ≤ far pair → new.op ≡ op.op → new.stage.put ≡ true → new.stage.busy ≡ false
-    → Keeps pair (record pair { pending = Some new; busy = busy })
-unmarks pair op new busy ok some at past number put unmarked = grind arith
+pub unmarks : (pair : Pair) (op new : Pending) → PairOk pair → pair.pending ≡ Some op → op.stage.put ≡ true → op.op + op.op + 1 ≤ far pair
+    → new.op ≡ op.op → new.stage.put ≡ true
+    → Keeps pair (record pair { pending = Some new })
+unmarks pair op new ok some at past number put = grind arith
 
 -- the operation is done with: the second server said that it has followed
 pub closes : (pair : Pair) (op : Pending) → PairOk pair → pair.pending ≡ Some op → op.stage.put ≡ true → op.stage.paired ≡ true

@@ -1,9 +1,9 @@
 -- One cell as its two servers have it, and what is kept of it.
 use Rattle.std.specs.Prelude.{◌≡◌, ℕ, ◌+◌, ◌≤◌, ◌<◌, ◌⊎◌, Bool, true, false, List, Option, Some, None}
-use Rattle.busy_marks.specs.declared.marks.MarkKind.TheVariants.{Busy}
+use Rattle.busy_marks.specs.declared.marks.MarkKind.TheVariants.{Busy, Stale}
 use Rattle.petal_base.specs.declared.cell.Cell.{Cell}
 use Rattle.petal_base.specs.declared.cell.Key.{Key}
-use Rattle.petal_table.specs.Table.{at}
+use Rattle.petal_table.specs.Table.{Table, at}
 use Rattle.petal_msg.specs.Kinds.{pair_cell}
 use Rattle.petal_msg.specs.declared.body.Body.{Body}
 use Rattle.petal_msg.specs.declared.body.Body.TheVariants as body
@@ -11,21 +11,20 @@ use Rattle.petal_msg.specs.declared.letter.Letter.{Letter}
 use Rattle.petal_msg.specs.declared.operation.LastOp.{LastOp}
 use Rattle.petal_msg.specs.declared.operation.Pending.{Pending}
 use Rattle.petal_rules.specs.Lists.{In}
-use Rattle.petal_rules.specs.State.{State, first, second}
-use Rattle.petal_rules.specs.Store.{Chain, cell_cmp, chain_in, is_marked}
+use Rattle.petal_rules.specs.State.{State, primary, secondary, is_alone_on}
+use Rattle.petal_rules.specs.Store.{Chain, Store, cell_cmp, chain_in, is_marked}
 use Rattle.petal_rules.specs.Server.{Own}
-use Rattle.petal_rules.specs.World.{World}
-use Rattle.petal_history.specs.Claims.{one_put_ahead}
+use Rattle.petal_rules.specs.World.{Setting, World, server_state}
+use Rattle.petal_history.specs.Claims.{one_put_ahead, AreCovered}
 use Rattle.law_steps.specs.Operations.{progress}
 
--- the two copies, the operation that is pending at the first server and the number of its next one, whether the block is
--- marked busy there, and the last operation that the second one took part in
+-- the two copies, the operation that is pending at the first server and the number of its next one, and the last operation that
+-- the second one took part in
 pub record Pair : Type 0 where
   pub first : Chain
   pub second : Chain
   pub pending : Option Pending
   pub next : ℕ
-  pub busy : Bool
   pub last : Option LastOp
 
 abbrev pub pair_of : Own → Own → Cell → Pair
@@ -34,14 +33,22 @@ pair_of lead other cell = record {
   second = chain_in other.store.chains cell;
   pending = at cell_cmp lead.pairs.pending cell;
   next = lead.pairs.next;
-  busy = is_marked lead.store Busy cell;
   last = at cell_cmp other.pairs.last cell;
 }
 
--- these two servers keep the cell
+-- these two servers keep the cell, whoever serves it
 pub record IsPair (state : State) (cell : Cell) (n m : ℕ) : Type 0 where
-  pub leads : first state cell ≡ Some n
-  pub follows : second state cell ≡ Some m
+  pub leads : primary state cell ≡ Some n
+  pub follows : secondary state cell ≡ Some m
+
+-- the server holds the cell alone, by its own state, also that in which it stopped
+abbrev pub alone_in : Setting → World → ℕ → Cell → Bool
+alone_in setting w n cell = is_alone_on (server_state setting w n) n cell
+
+-- neither of the two holds the cell alone
+pub record AreTogether (alone : ℕ → Cell → Bool) (cell : Cell) (n m : ℕ) : Type 0 where
+  pub one : alone n cell ≡ false
+  pub other : alone m cell ≡ false
 
 -- above each number that operations on the cell have had
 abbrev pub ceiling_of : Option Pending → ℕ → ℕ
@@ -71,11 +78,6 @@ abbrev pub Working : Chain → Chain → ℕ → Pending → (put : Bool) → Ty
 Working first second at op false = IsEven first second at op
 Working first second at op true = IsAhead first second at op
 
--- an operation whose stage says that the block is marked finds it so
-abbrev pub HasMark : Option Pending → (busy : Bool) → Type 0
-HasMark None busy = Unit {0}
-HasMark (Some op) busy = op.stage.busy ≡ true → busy ≡ true
-
 -- the two copies, where the second server is so far
 abbrev pub AreCopies : Chain → Chain → ℕ → Option Pending → Type 0
 AreCopies first second at None = first ≡ second
@@ -83,7 +85,6 @@ AreCopies first second at (Some op) = Working first second at op op.stage.put
 
 pub record PairOk (pair : Pair) : Type 0 where
   pub copies : AreCopies pair.first pair.second (far pair) pair.pending
-  pub marked : HasMark pair.pending pair.busy
   pub below : far pair < ceiling pair + ceiling pair
   pub fresh : ceiling pair ≤ pair.next
 
@@ -115,13 +116,30 @@ Known pair (body.Replicate number key version bytes) = IsPutting pair.pending nu
 Known pair (body.Replicated number cell) = number + number + 1 ≤ far pair
 Known pair _ = Unit {0}
 
-abbrev pub SaidOk : State → (ℕ → Own) → Body → Type 0
-SaidOk state halves said = (cell : Cell) (n m : ℕ) → pair_cell said ≡ Some cell → IsPair state cell n m → Known (pair_of (halves n) (halves m) cell) said
+abbrev pub SaidOk : State → (ℕ → Cell → Bool) → (ℕ → Own) → Body → Type 0
+SaidOk state alone halves said =
+    (cell : Cell) (n m : ℕ) → pair_cell said ≡ Some cell → IsPair state cell n m → AreTogether alone cell n m
+    → Known (pair_of (halves n) (halves m) cell) said
 
 abbrev pub owns_of : World → ℕ → Own
 owns_of w n = (w.servers n).own
 
--- the pair of each cell, and the letters that were ever sent
-pub record Good (state : State) (w : World) : Type 0 where
-  pub pairs : (cell : Cell) (n m : ℕ) → IsPair state cell n m → PairOk (pair_of (owns_of w n) (owns_of w m) cell)
-  pub letters : (letter : Letter) → In letter w.sent → SaidOk state (owns_of w) letter.body
+-- ### Marks
+
+-- an operation whose stage says that its block is marked finds it so
+pub record HasMarks (op : Pending) (store : Store) (cell : Cell) : Type 0 where
+  pub busy : op.stage.busy ≡ true → is_marked store Busy cell ≡ true
+  pub stale : op.stage.stale ≡ true → is_marked store Stale cell ≡ true
+
+-- each operation of a table does
+abbrev pub HaveMarks : Table Cell Pending → Store → Type 0
+HaveMarks pending store = (cell : Cell) (op : Pending) → at cell_cmp pending cell ≡ Some op → HasMarks op store cell
+
+-- the two copies of each cell while neither of its servers holds it alone, and an unequal block is marked where one does; marks
+-- of operations; and the letters that were ever sent
+pub record Good (setting : Setting) (state : State) (w : World) : Type 0 where
+  pub pairs : (cell : Cell) (n m : ℕ) → IsPair state cell n m → AreTogether (alone_in setting w) cell n m → PairOk (pair_of (owns_of w n) (owns_of w m) cell)
+  pub covered : (cell : Cell) (n m : ℕ) → IsPair state cell n m → (alone_in setting w n cell ≡ true) ⊎ (alone_in setting w m cell ≡ true)
+      → AreCovered (w.servers n).own.store (w.servers m).own.store cell
+  pub marks : (n : ℕ) → HaveMarks (w.servers n).own.pairs.pending (w.servers n).own.store
+  pub letters : (letter : Letter) → In letter w.sent → SaidOk state (alone_in setting w) (owns_of w) letter.body

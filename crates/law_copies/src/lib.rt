@@ -1,5 +1,6 @@
-//! The two-copy rule: after every legal history, the two chains of a cell in Both are equal, or the first is one put ahead, by
-//! the operation that is pending on it, and the block is marked busy ("Petal: Distributed Virtual Disks", 1996, 3.2).
+//! The two-copy rule: after every legal history, the two chains of a cell in Both are equal, or the first is one put ahead, and
+//! the block is marked busy ("Petal: Distributed Virtual Disks", 1996, 3.2); and an unequal block of a cell that one server
+//! holds alone is marked.
 //!
 //! To the laws above it promises this and what goes with it: that a block is marked before its lead puts, how far the second
 //! server is, and what a letter between the two servers tells of that. It knows nothing of clients or of the plain machine.
@@ -9,21 +10,27 @@ ghost use Rattle.std.specs.Prelude.{List};
 ghost use Rattle.petal_base.specs.declared.cell.Cell.{Cell};
 ghost use Rattle.script_lines.specs.declared.script.Script.{Script};
 ghost use Rattle.petal_rules.specs.World.{chosen_state, setting_of, start};
-ghost use Rattle.petal_history.specs.Claims.{TwoCopies, MarksFirst};
+ghost use Rattle.petal_history.specs.Claims.{TwoCopies, Covered, MarksFirst};
 ghost use Rattle.petal_history.specs.Legal.{IsLegal, world_after};
 ghost use Rattle.petal_history.specs.Sound.{IsSound};
 ghost use Rattle.petal_history.specs.declared.record.Record.{Record};
 ghost use Rattle.law_copies.specs.Pair.{Good};
 
-/// After every legal history of a sound script, the two copies of each cell keep the rule.
+/// After every legal history of a sound script, the two copies of each cell in Both keep the rule.
 pub fn two_copies()
     ensures { (script : Script) (records : List Record) → IsSound script → IsLegal script records → (cell : Cell) → TwoCopies (chosen_state (setting_of script) (world_after (setting_of script) (start (setting_of script)) records)) (world_after (setting_of script) (start (setting_of script)) records) cell }
 {}
 
-/// And what goes with it: the second server is no further than the lead has given numbers out, and each letter that was ever
-/// sent between the two tells what is so, or what is past.
+/// Where one server holds a cell alone by what is chosen, the two copies are equal, or the block is marked at one of the cell's
+/// two servers.
+pub fn an_unequal_block_is_marked()
+    ensures { (script : Script) (records : List Record) → IsSound script → IsLegal script records → (cell : Cell) → Covered (chosen_state (setting_of script) (world_after (setting_of script) (start (setting_of script)) records)) (world_after (setting_of script) (start (setting_of script)) records) cell }
+{}
+
+/// And what goes with it: while neither of a cell's two servers holds it alone by its own state, the second one is no further
+/// than the lead has given numbers out, and each letter that was ever sent between the two tells what is so, or what is past.
 pub fn letters_between_two_servers()
-    ensures { (script : Script) (records : List Record) → IsSound script → IsLegal script records → Good (chosen_state (setting_of script) (world_after (setting_of script) (start (setting_of script)) records)) (world_after (setting_of script) (start (setting_of script)) records) }
+    ensures { (script : Script) (records : List Record) → IsSound script → IsLegal script records → Good (setting_of script) (chosen_state (setting_of script) (world_after (setting_of script) (start (setting_of script)) records)) (world_after (setting_of script) (start (setting_of script)) records) }
 {}
 
 /// In every legal history of a sound script, each put of a lead fell on a block that was marked on its device.

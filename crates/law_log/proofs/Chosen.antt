@@ -1,8 +1,9 @@
 -- The chosen log of a world whose steps are those of a schedule.
-use Rattle.std.proofs.Common.{◌≡◌, ◌<◌, ◌≤◌, ◌+◌, ◌⊎◌, inl, inr, ℕ, List, length, Some, None, sym, subst, arith}
+use Rattle.std.proofs.Common.{◌≡◌, ◌<◌, ◌≤◌, ◌+◌, ◌⊎◌, inl, inr, ℕ, true, List, length, Some, None, subst, arith}
 use Rattle.std.specs.Prelude.{slice_get}
 use Rattle.std.proofs.lemmas.Bool.Decides.{nat_tests}
 use Rattle.petal_command.specs.declared.command.Command.{Command}
+use Rattle.petal_command.specs.declared.command.Command.TheVariants.{Leave}
 use Rattle.petal_paxos.specs.Chosen.{IsChosenBy, chosen_at}
 use Rattle.petal_paxos.specs.Schedule.{run, begin, IsChosen}
 use Rattle.petal_paxos.specs.Schedule as schedule
@@ -12,14 +13,18 @@ use Rattle.law_chosen.proofs.Votes.{told_is_chosen, chosen_is_told}
 use Rattle.petal_history.specs.Claims.{IsPrefix, Agrees}
 use Rattle.petal_msg.specs.declared.body.Body.TheVariants as body
 use Rattle.petal_msg.specs.declared.letter.Letter.{Letter}
-use Rattle.petal_rules.specs.Agreement.{IsTold, IsProposer, HasSchedule}
+use Rattle.petal_rules.specs.Agreement.{IsTold, HasSchedule}
 use Rattle.petal_rules.specs.Lists.{In as Among}
-use Rattle.petal_rules.specs.World.{Setting, World, devices, chosen_log}
-use Rattle.petal_rules.proofs.Tests.{none_some}
+use Rattle.petal_state.specs.State.{is_up}
+use Rattle.petal_rules.specs.State.{is_in}
+use Rattle.petal_rules.specs.World.{Setting, World, devices, chosen_log, chosen_state}
+use Rattle.petal_rules.proofs.Tests.{by_bool, none_some, true_false}
 use Rattle.law_state.specs.Firm.{Firm}
+use Rattle.law_state.specs.Plain.{IsPlainLog}
+use Rattle.law_state.proofs.Disks.{log_in, who_is_out}
 use Rattle.law_log.specs.Logged.{IsBacked, IsSaidBy, Logged}
-use Rattle.law_log.specs.Requested.{IsScripted}
-use Rattle.law_log.proofs.Facts.{IsFair, told_chosen, chosen_wanted, chosen_once, told_wanted, scripted_plain}
+use Rattle.law_log.specs.Requested.{IsCalledFor}
+use Rattle.law_log.proofs.Facts.{IsFair, told_chosen, chosen_wanted, chosen_once, told_wanted, called_plain, leave_stopped}
 use Rattle.law_log.proofs.Lists.{at_among}
 use Rattle.law_log.proofs.Worlds.{IsGrown}
 
@@ -67,18 +72,32 @@ module _ (setting : Setting) (w : World) (fair : IsFair setting) (l : Logged set
         record { later = front.0; is = front.1 };
   }
 
-  pub scripted : (c : Command) → Among c (chosen_log setting w) → IsScripted setting w c
-  scripted c i =
+  pub called_for : (c : Command) → Among c (chosen_log setting w) → IsCalledFor setting w c
+  called_for c i =
       let at = at_among c (chosen_log setting w) i in
       (chosen_wanted setting w fair.small l (at.0 + 1) c
       (by_schedule (at.0 + 1) c (told_is_chosen setting.servers (devices w) (at.0 + 1) c (log_tells setting.servers (devices w) at.0 c at.1)))).0
 
+  plain : IsPlainLog setting.servers (chosen_log setting w)
+  plain c i = called_plain setting w fair c (called_for c i)
+
+  -- a server that runs has no Leave chosen, so it is In
+  runs_up : (n : ℕ) → (w.servers n).life.running ≡ true → is_up (chosen_state setting w) n ≡ true
+  runs_up n runs = by_bool (is_up (chosen_state setting w) n) (λ up. up)
+      (λ out. elim (leave_stopped setting w n 1 (called_for (Leave n 1) (who_is_out setting.servers (chosen_log setting w) n plain (l.is.known n runs) out))) [
+        | inl gone ↦ true_false runs gone.0
+        | inr later ↦ let one = l.is.incs n in absurd (omega arith)
+      ])
+
+  pub runs_in : (n : ℕ) → (w.servers n).life.running ≡ true → is_in (chosen_state setting w) n 1 ≡ true
+  runs_in n runs = (log_in setting.servers (chosen_log setting w) plain).up n (runs_up n runs)
+
   pub firm : Firm setting w
-  firm = record { servers = agrees.servers; clients = agrees.clients; plain = λ c i. scripted_plain setting w fair c (scripted c i) }
+  firm = record { servers = agrees.servers; clients = agrees.clients; plain = plain; runs = runs_up }
 
   news_told : (letter : Letter) → Among letter w.sent → (after : ℕ) (commands : List Command) → letter.body ≡ body.News after commands
       → (i : ℕ) (command : Command) → slice_get commands i ≡ Some command → IsTold P (after + i + 1) command
-  news_told letter there after commands is = subst (IsBacked P (IsScripted setting w) (IsSaidBy P letter.from)) is (l.is.sent letter there)
+  news_told letter there after commands is = subst (IsBacked P (IsCalledFor setting w) (IsSaidBy P letter.from)) is (l.is.sent letter there)
 
   pub has_schedule : HasSchedule setting.servers w
   has_schedule = record {
@@ -87,11 +106,11 @@ module _ (setting : Setting) (w : World) (fair : IsFair setting) (l : Logged set
       acceptors = λ s place. (l.is.servers s).acceptors place;
       known = λ s place. (l.is.servers s).known place;
       incs = λ s. (l.is.servers s).inc;
-      proposers = λ s lt. subst (λ b. IsProposer b (w.servers s).log.phase (P.proposers s)) (sym (l.is.running s lt)) (l.is.busy s lt).proposer;
+      proposers = λ s lt. (l.is.busy s lt).proposer;
       asked = λ s lt. (l.is.busy s lt).asked;
       votes = λ s place ballot command. (l.is.servers s).votes place ballot command;
       letters = λ letter from said i who is.
-          let backed : IsSaidBy P letter.from said = subst (IsBacked P (IsScripted setting w) (IsSaidBy P letter.from)) is (l.is.sent letter i) in
+          let backed : IsSaidBy P letter.from said = subst (IsBacked P (IsCalledFor setting w) (IsSaidBy P letter.from)) is (l.is.sent letter i) in
           subst (λ who. IsSaidBy P who said) who backed;
       told = λ s place command e. (l.is.servers s).told place command e;
       news = λ letter after i commands command there is e. news_told letter there after commands is i command e;

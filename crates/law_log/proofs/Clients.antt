@@ -1,5 +1,5 @@
 -- Each step of a client keeps what is kept of a world.
-use Rattle.std.proofs.Common.{◌≡◌, ◌<◌, ◌≤◌, ◌+◌, ◌-◌, ◌⊎◌, inl, inr, ℕ, zero, suc, ◌&&◌, List, [], ◌∷◌, ◌++◌, length, drop, Option, Some, None, refl, sym, ap, ◌∙◌, subst, arith}
+use Rattle.std.proofs.Common.{◌≡◌, ◌<◌, ◌≤◌, ◌+◌, ◌-◌, ◌⊎◌, inl, inr, ℕ, zero, suc, ◌==◌, ◌&&◌, List, [], ◌∷◌, ◌++◌, length, drop, Option, Some, None, refl, sym, ap, ◌∙◌, subst, arith}
 use Rattle.std.specs.Prelude.{slice_get, ⊤, nat_le}
 use Rattle.std.proofs.lemmas.Bool.Decides.{nat_tests}
 use Rattle.petal_base.specs.declared.cell.Cell.{Cell}
@@ -16,7 +16,7 @@ use Rattle.script_lines.specs.declared.request.Request.TheVariants as request
 use Rattle.petal_state.specs.State.{latest}
 use Rattle.petal_state.specs.Command.{after}
 use Rattle.petal_state.specs.declared.answer.DiskView.{DiskView}
-use Rattle.petal_rules.specs.Clients.{Client, Asked, Reaction, Learning, rests, in_turn, readers, cell_on, epoch_for, write_posts, read_posts_at, read_posts, posts_for, command_of, refusal, witness_where, or_command, to_propose, post_in_turn, sends_or_proposes, goes_out, goes_out_where, asking, asks_and_sends, called, replies, is_read, is_write, answers, hears, hears_of, verdict_for, answered_where, witnessed, is_witness, judged_by, judged, takes_entry, next_entries, takes_all, then_goes_out, takes_entries, hears_any, heard, ticked}
+use Rattle.petal_rules.specs.Clients.{Client, Asked, Reaction, Learning, rests, in_turn, readers, cell_on, epoch_for, write_posts, read_posts_at, read_posts, posts_for, command_of, refusal, witness_where, or_command, to_propose, post_in_turn, sends_or_proposes, goes_out, goes_out_where, asking, asks_and_sends, called, replies, is_read, is_write, is_stop, answers, hears, hears_of, verdict_for, answered_where, witnessed, is_witness, judged_by, judged, takes_entry, next_entries, takes_all, then_goes_out, takes_entries, hears_any, heard, ticked}
 use Rattle.petal_rules.specs.Lists.{In as Among}
 use Rattle.petal_rules.specs.Posts.{Post}
 use Rattle.petal_rules.specs.State.{State, lead}
@@ -28,14 +28,16 @@ use Rattle.law_log.proofs.Lists.{at_last}
 use Rattle.law_log.proofs.Pairs.{IsOther, posted_other}
 use Rattle.law_log.proofs.Turns.{no_posts}
 
--- what a client posts: no letter of a ballot and no News, and a command only of its open request
+-- what a client posts: no letter of a ballot, no News and no Down, and a command only of its open request
 abbrev pub IsClients : (Command → Type 0) → Body → Type 0
+IsClients Own (body.Down server inc) = ⊥
 IsClients Own (body.Propose command) = Own command
 IsClients Own (body.Pax said) = ⊥
 IsClients Own (body.News after commands) = ⊥
 IsClients Own _ = ⊤
 
 other_clients : (Own : Command → Type 0) (what : Body) → IsOther what → IsClients Own what
+other_clients Own (body.Down server inc) h = absurd h
 other_clients Own (body.Propose command) h = absurd h
 other_clients Own (body.Pax said) h = absurd h
 other_clients Own (body.News after commands) h = absurd h
@@ -199,6 +201,8 @@ module _ (Told : ℕ → Command → Type 0) (lines : List Line) (me : ℕ) (sta
 
   replied : (client : Client) (asked : Asked) → Fine client → client.asked ≡ Some asked → (rev : ℕ) (what : Body)
       → Reacts Told lines me client.seq (hears state me client asked rev what)
+  replied client asked f e rev (body.Seen line round running inc full) =
+      by_test (Reacts Told lines me client.seq) ((line == asked.line) && is_stop asked.request) _ _ (λ _. answering client asked _ f) (λ _. resting client f)
   replied client asked f e rev (body.Data seq bytes) =
       by_test (Reacts Told lines me client.seq) (replies asked rev (about (body.Data seq bytes)) && is_read asked.request) _ _
       (λ _. answering client asked _ f) (λ _. resting client f)

@@ -1,8 +1,9 @@
 -- What follows from what is kept: one command a place is told, those that are told were asked for, and logs are plain.
-use Rattle.std.proofs.Common.{◌≡◌, ◌≤◌, ◌+◌, inl, inr, ℕ, Bool, true, false, cond, List, [], ◌∷◌, Some, refl, sym, subst}
-use Rattle.std.specs.Prelude.{slice_get, filter, ◌==◌}
+use Rattle.std.proofs.Common.{◌≡◌, ◌≤◌, ◌+◌, inl, inr, ℕ, true, List, Some, refl, sym, subst}
+use Rattle.std.specs.Prelude.{slice_get, ◌==◌}
 use Rattle.petal_base.specs.Tuple.{is_tuple}
 use Rattle.petal_command.specs.declared.command.Command.{Command}
+use Rattle.petal_command.specs.declared.command.Command.TheVariants.{Leave, MakeDisk, Witness}
 use Rattle.petal_command.specs.declared.pax.Pax.TheVariants.{Chosen}
 use Rattle.petal_paxos.specs.Schedule.{run, begin, IsChosen}
 use Rattle.law_agreement.proofs.Runs.{run_holds, begin_holds, one_chosen}
@@ -19,8 +20,8 @@ use Rattle.script_lines.specs.declared.request.Request.TheVariants as request
 use Rattle.law_state.specs.Plain.{IsPlain, IsPlainLog}
 use Rattle.law_state.proofs.Disks.{log_in}
 use Rattle.law_log.specs.Logged.{Logged}
-use Rattle.law_log.specs.Requested.{IsScripted}
-use Rattle.law_log.proofs.Lists.{among_at, at_among}
+use Rattle.law_log.specs.Requested.{HasStopped, IsCalledFor, IsLeaving, IsScripted}
+use Rattle.law_log.proofs.Lists.{among_at, at_among, kept_among}
 use Rattle.law_log.proofs.Worlds.{MayWant}
 
 -- what the laws need of a setting: ballots tell the servers apart, and each disk is made over a tuple of them
@@ -55,17 +56,8 @@ module _ (setting : Setting) (w : World) (small : setting.servers ≤ 256) (l : 
 
 -- ### Lines of a script
 
-kept_line : (test : Line → Bool) (lines : List Line) (line : Line) → Among line (filter test lines) → Among line lines
-unfolding Among
-kept_line test [] line h = absurd h
-kept_line test (first ∷ lines) line h =
-    elim (test first) as (λ b. Among line (cond b (first ∷ filter test lines) (filter test lines)) → Among line (first ∷ lines)) [
-      | true ↦ λ i. elim i [ inl e ↦ inl e | inr j ↦ inr (kept_line test lines line j) ]
-      | false ↦ λ i. inr (kept_line test lines line i)
-    ] h
-
 pub line_of : (lines : List Line) (c i : ℕ) (line : Line) → slice_get (lines_of lines c) i ≡ Some line → Among line lines
-line_of lines c i line e = kept_line (λ l. l.client == c) lines line (among_at (lines_of lines c) i line e)
+line_of lines c i line e = kept_among (λ l. l.client == c) lines line (among_at (lines_of lines c) i line e)
 
 -- ### Plain logs
 
@@ -82,12 +74,33 @@ scripted_plain setting w fair c s = elim s.so [
   | inr e ↦ subst (IsPlain setting.servers) (sym e.1) tt
 ]
 
+leaving_plain : (servers : ℕ) (w : World) (c : Command) → IsLeaving w c → IsPlain servers c
+leaving_plain servers w (Leave server inc) h = tt
+leaving_plain servers w _ h = absurd h
+
+pub called_plain : (setting : Setting) (w : World) → IsFair setting → (c : Command) → IsCalledFor setting w c → IsPlain setting.servers c
+called_plain setting w fair c (inl s) = scripted_plain setting w fair c s
+called_plain setting w fair c (inr h) = leaving_plain setting.servers w c h
+
+-- no line of a script asks for a Leave
+not_asked : {B : Type 0} (client seq server inc : ℕ) (asked : Request) → command_of client seq asked ≡ Some (Leave server inc) → B
+not_asked client seq server inc (request.Disk name tuple) e =
+    let f : MakeDisk client seq name tuple ≡ Leave server inc = same_some e in absurd cc
+not_asked client seq server inc _ e = none_some refl e
+
+pub leave_stopped : (setting : Setting) (w : World) (server inc : ℕ) → IsCalledFor setting w (Leave server inc) → HasStopped w server inc
+leave_stopped setting w server inc (inl s) = elim s.so [
+  | inl e ↦ not_asked s.client (s.before + 1) server inc s.line.request e
+  | inr e ↦ (let f : Leave server inc ≡ Witness s.client (s.before + 1) e.0 = e.1 in absurd cc)
+]
+leave_stopped setting w server inc (inr h) = h
+
 module _ (setting : Setting) (w : World) (fair : IsFair setting) (l : Logged setting w) where
   pub applied_plain : (n : ℕ) → IsPlainLog setting.servers (w.servers n).log.applied
   applied_plain n c i =
       let at = at_among c (w.servers n).log.applied i in
       let told = (l.is.servers n).told (at.0 + 1) c ((l.is.servers n).applied at.0 c at.1) in
-      scripted_plain setting w fair c (told_wanted setting w fair.small l (at.0 + 1) c told).0
+      called_plain setting w fair c (told_wanted setting w fair.small l (at.0 + 1) c told).0
 
   pub as_many : (n : ℕ) → servers_of (server_state setting w n) ≡ setting.servers
   as_many n = (log_in setting.servers (w.servers n).log.applied (applied_plain n)).many

@@ -1,6 +1,10 @@
 -- The laws, over every legal history of a sound script.
-use Rattle.std.proofs.Common.{◌≡◌, ◌++◌, List, [], ◌∷◌, refl, sym, ap, ◌∙◌, subst}
+use Rattle.std.proofs.Common.{◌≡◌, ◌++◌, ℕ, true, false, List, [], ◌∷◌, refl, sym, ap, ◌∙◌, subst}
 use Rattle.petal_command.specs.declared.command.Command.{Command}
+use Rattle.petal_command.specs.declared.command.Command.TheVariants.{Leave}
+use Rattle.petal_msg.specs.declared.body.Body.TheVariants as body
+use Rattle.petal_msg.specs.declared.letter.Letter.{Letter}
+use Rattle.petal_paxos.specs.Schedule.{run, begin}
 use Rattle.script_lines.specs.declared.script.Script.{Script}
 use Rattle.petal_history.specs.Claims.{Agrees, Grows, IsPrefix}
 use Rattle.petal_history.specs.Legal.{IsLegal, IsLegalFrom, stepped, world_after}
@@ -8,12 +12,14 @@ use Rattle.petal_history.specs.Sound.{IsSound}
 use Rattle.petal_history.specs.declared.record.Record.{Record}
 use Rattle.petal_rules.specs.Agreement.{HasSchedule}
 use Rattle.petal_rules.specs.Lists.{In}
-use Rattle.petal_rules.specs.World.{Setting, World, start, setting_of, chosen_log}
+use Rattle.petal_rules.specs.State.{is_in}
+use Rattle.petal_rules.specs.World.{Setting, World, start, setting_of, chosen_log, chosen_state}
+use Rattle.petal_rules.proofs.Tests.{by_bool, true_false}
 use Rattle.law_state.specs.Firm.{Firm}
-use Rattle.law_log.specs.Logged.{Logged}
-use Rattle.law_log.specs.Requested.{IsScripted}
-use Rattle.law_log.proofs.Chosen.{agrees, firm, scripted, has_schedule, grown_log}
-use Rattle.law_log.proofs.Facts.{IsFair}
+use Rattle.law_log.specs.Logged.{IsBacked, IsSaidBy, Logged}
+use Rattle.law_log.specs.Requested.{HasStopped, IsCalledFor}
+use Rattle.law_log.proofs.Chosen.{agrees, firm, called_for, runs_in, has_schedule, grown_log}
+use Rattle.law_log.proofs.Facts.{IsFair, leave_stopped}
 use Rattle.law_log.proofs.Steps.{history_goes, start_logged}
 
 sound_fair : (script : Script) → IsSound script → IsFair (setting_of script)
@@ -36,10 +42,40 @@ pub history_has_schedule : (script : Script) (records : List Record) → IsSound
 history_has_schedule script records sound legal = has_schedule (setting_of script) (At script records) (sound_fair script sound)
     (logged script records sound legal)
 
-pub chosen_is_scripted : (script : Script) (records : List Record) → IsSound script → IsLegal script records → (command : Command)
-    → In command (chosen_log (setting_of script) (At script records)) → IsScripted (setting_of script) (At script records) command
-chosen_is_scripted script records sound legal command i =
-    scripted (setting_of script) (At script records) (sound_fair script sound) (logged script records sound legal) command i
+pub chosen_is_called_for : (script : Script) (records : List Record) → IsSound script → IsLegal script records → (command : Command)
+    → In command (chosen_log (setting_of script) (At script records)) → IsCalledFor (setting_of script) (At script records) command
+chosen_is_called_for script records sound legal command i =
+    called_for (setting_of script) (At script records) (sound_fair script sound) (logged script records sound legal) command i
+
+-- a server that runs is In by the chosen state
+pub who_runs_is_in : (script : Script) (records : List Record) → IsSound script → IsLegal script records → (n : ℕ)
+    → ((At script records).servers n).life.running ≡ true → is_in (chosen_state (setting_of script) (At script records)) n 1 ≡ true
+who_runs_is_in script records sound legal n runs =
+    runs_in (setting_of script) (At script records) (sound_fair script sound) (logged script records sound legal) n runs
+
+pub out_has_stopped : (script : Script) (records : List Record) → IsSound script → IsLegal script records → (n : ℕ)
+    → is_in (chosen_state (setting_of script) (At script records)) n 1 ≡ false → ((At script records).servers n).life.running ≡ false
+out_has_stopped script records sound legal n out = by_bool ((At script records).servers n).life.running
+    (λ runs. true_false (who_runs_is_in script records sound legal n runs) out) (λ e. e)
+
+-- who has a Leave chosen, or of whom a Down tells, has stopped
+pub chosen_leaves : (script : Script) (records : List Record) → IsSound script → IsLegal script records → (server inc : ℕ)
+    → In (Leave server inc) (chosen_log (setting_of script) (At script records)) → HasStopped (At script records) server inc
+chosen_leaves script records sound legal server inc i =
+    leave_stopped (setting_of script) (At script records) server inc (chosen_is_called_for script records sound legal (Leave server inc) i)
+
+pub told_stops : (script : Script) (records : List Record) → IsSound script → IsLegal script records → (letter : Letter) (server inc : ℕ)
+    → In letter (At script records).sent → letter.body ≡ body.Down server inc → HasStopped (At script records) server inc
+told_stops script records sound legal letter server inc i is =
+    let l = logged script records sound legal in
+    let p = run script.servers l.events begin in
+    leave_stopped (setting_of script) (At script records) server inc
+    (subst (IsBacked p (IsCalledFor (setting_of script) (At script records)) (IsSaidBy p letter.from)) is (l.is.sent letter i))
+
+-- no server boots yet
+pub first_incs : (script : Script) (records : List Record) → IsSound script → IsLegal script records → (n : ℕ)
+    → ((At script records).servers n).life.inc ≡ 1
+first_incs script records sound legal n = (logged script records sound legal).is.incs n
 
 -- ### A longer history
 

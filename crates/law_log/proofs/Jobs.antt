@@ -1,8 +1,10 @@
 -- Each job of the log, as the schedule has it.
 use Rattle.std.proofs.Common.{◌≡◌, ◌<◌, ◌≤◌, ◌+◌, ◌⊎◌, inl, inr, ℕ, zero, suc, Bool, true, false, if◌then◌else◌, ◌||◌, List, [], ◌∷◌, ◌++◌, Option, Some, None, is_some, refl, sym, ap, ◌∙◌, subst, arith}
-use Rattle.std.specs.Prelude.{slice_get, nat_lt}
-use Rattle.petal_command.specs.Same.{has_command}
+use Rattle.std.specs.Prelude.{slice_get, nat_lt, fold, not}
+use Rattle.std.proofs.lemmas.Bool.Decides.{nat_tests}
+use Rattle.petal_command.specs.Same.{has_command, same_command}
 use Rattle.petal_command.specs.declared.command.Command.{Command}
+use Rattle.petal_command.specs.declared.command.Command.TheVariants.{Leave}
 use Rattle.petal_command.specs.declared.pax.Pax.{Pax}
 use Rattle.petal_command.specs.declared.pax.Pax.TheVariants as pax
 use Rattle.petal_msg.specs.declared.body.Body.{Body}
@@ -20,19 +22,20 @@ use Rattle.petal_paxos.specs.declared.phase.Heard.TheVariants.{Nothing, Send, Re
 use Rattle.petal_paxos.specs.declared.phase.Heard.TheVariants.{Chosen as Decided}
 use Rattle.petal_paxos.specs.declared.phase.Phase.{Phase}
 use Rattle.petal_paxos.specs.declared.phase.Phase.TheVariants.{Idle, Collecting, Voting}
+use Rattle.petal_state.specs.State.{inc_of}
 use Rattle.petal_rules.specs.Agreement.{IsTold, IsProposer}
-use Rattle.petal_rules.specs.Ballots.{on_propose, on_pax, starts, starts_for, hears_of_ballot, proposes, greatest_place}
-use Rattle.petal_rules.specs.Entries.{learns, applies_then, unknown_from, learns_first, on_news, but, with_entry, applies, applies_known, before_known, known_run, on_ask}
+use Rattle.petal_rules.specs.Ballots.{is_due, own_leave, leave_before, with_leave, wanted, on_down, on_propose, on_pax, starts, starts_for, hears_of_ballot, proposes, greatest_place}
+use Rattle.petal_rules.specs.Entries.{learns, applies_then, unknown_from, learns_first, on_news, with_entry, applies, applies_known, before_known, known_run, on_ask}
 use Rattle.petal_rules.specs.Jobs.{log_does, hears_log}
 use Rattle.petal_rules.specs.Lists.{In as Among}
-use Rattle.petal_rules.specs.Log.{Log, LogDone, Voter, rev_of, next_place, known, keeps}
+use Rattle.petal_rules.specs.Log.{Log, LogDone, Voter, state_in, rev_of, next_place, known, keeps}
 use Rattle.petal_rules.specs.Server.{Post}
 use Rattle.petal_rules.specs.declared.job.Job.{Job}
 use Rattle.petal_rules.specs.declared.job.Job.TheVariants as job
 use Rattle.petal_rules.proofs.ListLemmas.{in-append}
 use Rattle.petal_rules.proofs.Tests.{only, by_test, none_some}
 use Rattle.law_log.specs.Logged.{IsSeenAt, AreLow, IsBusyAs, IsBacked, IsSaidBy}
-use Rattle.law_log.proofs.Lists.{at_last}
+use Rattle.law_log.proofs.Lists.{at_last, kept_among}
 use Rattle.law_log.proofs.Proposing.{pax_turn, start_turn}
 use Rattle.law_log.proofs.Taking.{learn_turn}
 use Rattle.law_log.proofs.Turns.{HasTurn, still, no_posts, proposer_there}
@@ -74,17 +77,6 @@ run_known log zero place i command e = none_some refl e
 run_known log (suc most) place i command e =
     run_by log place command (known_run log (place + 1) most) (λ i. run_known log most (place + 1) i command) (known log place) refl i e
 
-kept_by : (c want : Command) (wants later : List Command) → (Among c later → Among c wants) → (b : Bool) → Among c (if b then want ∷ later else later)
-    → Among c (want ∷ wants)
-unfolding Among
-kept_by c want wants later f true (inl e) = inl e
-kept_by c want wants later f true (inr j) = inr (f j)
-kept_by c want wants later f false j = inr (f j)
-
-kept_want : (entry c : Command) (wants : List Command) → Among c (but entry wants) → Among c wants
-kept_want entry c [] h = h
-kept_want entry c (want ∷ wants) h = kept_by c want wants (but entry wants) (kept_want entry c wants) _ h
-
 -- ### What follows a job up, and what is wanted afterwards
 
 -- each letter that follows the job up is the job's own
@@ -102,19 +94,25 @@ applies_follow letter None true (inr h) = absurd h
 applies_follow letter None false h = absurd h
 applies_follow letter (Some c) next h = absurd h
 
--- what a job of the log leaves: what is wanted then was wanted before, or may be
-pub record Leaves (servers n : ℕ) (log : Log) (own : Job) (p : World) (Good : ℕ → Command → Type 0) (Fine : Command → Type 0) (done : LogDone) : Type 0 where
-  pub turn : HasTurn servers n done.log done.posts p Good
+-- what comes of a job of the log: what is wanted then was wanted before, or may be
+pub record Outcome (servers n : ℕ) (log : Log) (own : Job) (p : World) (Good : ℕ → Command → Type 0) (Fine : Command → Type 0) (done : LogDone) : Type 0 where
+  pub turn : HasTurn servers n true done.log done.posts p Good
   pub wants : (command : Command) → Among command done.log.wants → Fine command
+  pub leaves : (command : Command) → Among command done.log.leaves → Fine command
   pub follows : (letter : Letter) → Among (job.Letter letter) done.jobs → own ≡ job.Letter letter
+
+-- the same is wanted
+record WantsSame (before later : Log) : Type 0 where
+  wants : later.wants ≡ before.wants
+  leaves : later.leaves ≡ before.leaves
 
 -- ### Letters of a ballot
 
-out_wants : (voter : Voter) (log : Log) (step : Step) (said : Heard) (c : Command) → Among c (proposes voter log step said).log.wants → Among c log.wants
-out_wants voter log step Nothing c h = h
-out_wants voter log step (Send said) c h = h
-out_wants voter log step (Decided place command) c h = h
-out_wants voter log step (Refused promised) c h = h
+out_wants : (voter : Voter) (log : Log) (step : Step) (said : Heard) → WantsSame log (proposes voter log step said).log
+out_wants voter log step Nothing = record { wants = refl; leaves = refl }
+out_wants voter log step (Send said) = record { wants = refl; leaves = refl }
+out_wants voter log step (Decided place command) = record { wants = refl; leaves = refl }
+out_wants voter log step (Refused promised) = record { wants = refl; leaves = refl }
 
 out_follows : {A : Type 0} (voter : Voter) (log : Log) (step : Step) (said : Heard) (letter : Letter)
     → Among (job.Letter letter) (proposes voter log step said).jobs → A
@@ -123,23 +121,23 @@ out_follows voter log step (Send said) letter h = no_follow letter h
 out_follows voter log step (Decided place command) letter h = no_follow letter h
 out_follows voter log step (Refused promised) letter h = no_follow letter h
 
-learn_wants : (log : Log) (place : ℕ) (command c : Command) → Among c (learns log place command).log.wants → Among c log.wants
+learn_wants : (log : Log) (place : ℕ) (command : Command) → WantsSame log (learns log place command).log
 unfolding learns
-learn_wants log place command c h = h
+learn_wants log place command = record { wants = refl; leaves = refl }
 
 learn_follows : {A : Type 0} (log : Log) (place : ℕ) (command : Command) (letter : Letter) → Among (job.Letter letter) (learns log place command).jobs → A
 unfolding learns
 learn_follows log place command letter h = applies_follow letter (known log place) _ h
 
-pax_wants : (voter : Voter) (log : Log) (from : ℕ) (said : Pax) (c : Command) → Among c (hears_of_ballot voter log from said).log.wants → Among c log.wants
-pax_wants voter log from (pax.Prepare place b) c h =
-    by_test (λ (l : Log). Among c l.wants → Among c log.wants) (is_open (acceptor_of log.records place) b) _ _ (λ e h. h) (λ e h. h) h
-pax_wants voter log from (pax.Accept place b command) c h =
-    by_test (λ (l : Log). Among c l.wants → Among c log.wants) (is_open (acceptor_of log.records place) b) _ _ (λ e h. h) (λ e h. h) h
-pax_wants voter log from (pax.Chosen place command) c h = learn_wants log place command c h
-pax_wants voter log from (pax.Promise place b best) c h = out_wants voter log (hear voter.servers log.phase from (pax.Promise place b best)) _ c h
-pax_wants voter log from (pax.Accepted place b) c h = out_wants voter log (hear voter.servers log.phase from (pax.Accepted place b)) _ c h
-pax_wants voter log from (pax.Refuse place b promised) c h = out_wants voter log (hear voter.servers log.phase from (pax.Refuse place b promised)) _ c h
+pax_wants : (voter : Voter) (log : Log) (from : ℕ) (said : Pax) → WantsSame log (hears_of_ballot voter log from said).log
+pax_wants voter log from (pax.Prepare place b) =
+    by_test (WantsSame log) (is_open (acceptor_of log.records place) b) _ _ (λ e. record { wants = refl; leaves = refl }) (λ e. record { wants = refl; leaves = refl })
+pax_wants voter log from (pax.Accept place b command) =
+    by_test (WantsSame log) (is_open (acceptor_of log.records place) b) _ _ (λ e. record { wants = refl; leaves = refl }) (λ e. record { wants = refl; leaves = refl })
+pax_wants voter log from (pax.Chosen place command) = learn_wants log place command
+pax_wants voter log from (pax.Promise place b best) = out_wants voter log (hear voter.servers log.phase from (pax.Promise place b best)) _
+pax_wants voter log from (pax.Accepted place b) = out_wants voter log (hear voter.servers log.phase from (pax.Accepted place b)) _
+pax_wants voter log from (pax.Refuse place b promised) = out_wants voter log (hear voter.servers log.phase from (pax.Refuse place b promised)) _
 
 pax_follows : {A : Type 0} (voter : Voter) (log : Log) (from : ℕ) (said : Pax) (letter : Letter)
     → Among (job.Letter letter) (hears_of_ballot voter log from said).jobs → A
@@ -157,13 +155,13 @@ idle_too : (phase : Phase) (o : Option Phase) → IsProposer true phase o → Is
 idle_too phase None h = h
 idle_too phase (Some there) h = (refl, tt)
 
-start_wants : (voter : Voter) (log : Log) (phase : Phase) (wants : List Command) (c : Command) → Among c (starts_for voter log phase wants).log.wants
-    → Among c log.wants
-start_wants voter log Idle (want ∷ wants) c h =
-    by_test (λ (d : LogDone). Among c d.log.wants → Among c log.wants) (nat_lt (rev_of log) greatest_place) _ _ (λ e h. h) (λ e h. h) h
-start_wants voter log Idle [] c h = h
-start_wants voter log (Collecting place ballot want heard best) wants c h = h
-start_wants voter log (Voting place ballot command heard) wants c h = h
+start_wants : (voter : Voter) (log : Log) (phase : Phase) (wants : List Command) → WantsSame log (starts_for voter log phase wants).log
+start_wants voter log Idle (want ∷ wants) =
+    by_test (λ (d : LogDone). WantsSame log d.log) (nat_lt (rev_of log) greatest_place) _ _
+    (λ e. record { wants = refl; leaves = refl }) (λ e. record { wants = refl; leaves = refl })
+start_wants voter log Idle [] = record { wants = refl; leaves = refl }
+start_wants voter log (Collecting place ballot want heard best) wants = record { wants = refl; leaves = refl }
+start_wants voter log (Voting place ballot command heard) wants = record { wants = refl; leaves = refl }
 
 start_follows : {A : Type 0} (voter : Voter) (log : Log) (phase : Phase) (wants : List Command) (letter : Letter)
     → Among (job.Letter letter) (starts_for voter log phase wants).jobs → A
@@ -180,34 +178,91 @@ one_more c command wants h = elim (in-append c wants (command ∷ []) h) [
   | inr i ↦ inr (only (λ x. x ≡ command) command c i refl)
 ]
 
-module _ (servers n : ℕ) (small : servers ≤ 256) (member : n < servers) (log : Log) (p : World) (low : AreLow p) (seen : IsSeenAt n log.records log.applied p)
+-- ### Leaves
+
+-- one Leave more is one of those before, or this one
+one_leave : (xs : List Command) (leave c : Command) → Among c (with_leave xs leave) → Among c xs ⊎ (c ≡ leave)
+unfolding Among
+one_leave [] leave c h = elim h [ inl e ↦ inr e | inr none ↦ absurd none ]
+one_leave (first ∷ xs) leave c h =
+    by_test (λ (ys : List Command). Among c ys → Among c (first ∷ xs) ⊎ (c ≡ leave)) (same_command first leave) _ _ (λ e i. inl i)
+    (λ e. by_test (λ (ys : List Command). Among c ys → Among c (first ∷ xs) ⊎ (c ≡ leave)) (leave_before leave first) _ _
+    (λ f i. elim i [ inl is ↦ inr is | inr old ↦ inl old ])
+    (λ f i. elim i [ inl is ↦ inl (inl is) | inr j ↦ elim (one_leave xs leave c j) [ inl old ↦ inl (inr old) | inr is ↦ inr is ] ])) h
+
+all_leaves : (more xs : List Command) (c : Command) → Among c (fold with_leave xs more) → Among c xs ⊎ Among c more
+unfolding Among
+all_leaves [] xs c h = inl h
+all_leaves (leave ∷ more) xs c h = elim (all_leaves more (with_leave xs leave) c h) [
+  | inl i ↦ elim (one_leave xs leave c i) [ inl old ↦ inl old | inr is ↦ inr (inl is) ]
+  | inr i ↦ inr (inr i)
+]
+
+-- its own Leave is of an earlier incarnation
+own_leaves : {A : Type 0} (me inc : ℕ) (o : Option ℕ) (c : Command) → ((earlier : ℕ) → earlier < inc → c ≡ Leave me earlier → A)
+    → Among c (own_leave me inc o) → A
+unfolding Among
+own_leaves me inc None c so h = absurd h
+own_leaves {A} me inc (Some earlier) c so h = by_test (λ (xs : List Command). Among c xs → A) (nat_lt earlier inc) _ _
+    (λ lt i. elim i [ inl is ↦ so earlier (less earlier inc lt) is | inr none ↦ absurd none ]) (λ e i. absurd i) h
+  where
+    less : (a b : ℕ) → nat_lt a b ≡ true → a < b
+    less a b e = grind (arith, nat_tests)
+
+module _ (servers n inc : ℕ) (small : servers ≤ 256) (member : n < servers) (log : Log) (p : World) (low : AreLow p) (seen : IsSeenAt n log.records log.applied p)
     (busy : IsBusyAs servers n true log.phase p) (one : (place : ℕ) (c d : Command) → IsTold p place c → IsTold p place d → d ≡ c)
     (Good : ℕ → Command → Type 0) (Fine : Command → Type 0) (fine : (c : Command) → Among c log.wants → Fine c)
+    (leaving : (c : Command) → Among c log.leaves → Fine c) (own_leaving : (earlier : ℕ) → earlier < inc → Fine (Leave n earlier))
     (good : (c : Command) → Fine c → Good (next_place log) c) where
   abbrev Left : Job → LogDone → Type 0
-  Left own done = Leaves servers n log own p Good Fine done
+  Left own done = Outcome servers n log own p Good Fine done
+
+  abbrev voter : Voter
+  voter = record { me = n; inc = inc; servers = servers }
+
+  still_fine : (later : Log) → WantsSame log later → (c : Command) → Among c later.wants → Fine c
+  still_fine later same c h = fine c (subst (Among c) same.wants h)
+
+  still_leaving : (later : Log) → WantsSame log later → (c : Command) → Among c later.leaves → Fine c
+  still_leaving later same c h = leaving c (subst (Among c) same.leaves h)
 
   kept : (own : Job) → Left own (keeps log)
-  kept own = record { turn = still servers n log [] p Good low seen busy (λ post i. no_posts post i); wants = fine; follows = λ letter h. no_follow letter h }
+  kept own = record {
+    turn = still servers n true log [] p Good low seen busy (λ post i. no_posts post i);
+    wants = fine;
+    leaves = leaving;
+    follows = λ letter h. no_follow letter h;
+  }
+
+  stopped : (own : Job) (server stop : ℕ) → Fine (Leave server stop) → Left own (on_down log server stop)
+  unfolding on_down
+  stopped own server stop f = record {
+    turn = still servers n true (record log { leaves = with_leave log.leaves (Leave server stop) }) [] p Good low seen busy (λ post i. no_posts post i);
+    wants = fine;
+    leaves = λ c h. elim (one_leave log.leaves (Leave server stop) c h) [ inl old ↦ leaving c old | inr is ↦ subst Fine (sym is) f ];
+    follows = λ letter h. no_follow letter h;
+  }
 
   proposed : (own : Job) (command : Command) → Fine command → Left own (on_propose log command)
   unfolding on_propose
   proposed own command f =
       by_test (Left own) (has_command log.applied command || has_command log.wants command) _ _ (λ e. kept own)
       (λ e. record {
-        turn = still servers n (record log { wants = log.wants ++ command ∷ [] }) [] p Good low seen busy (λ post i. no_posts post i);
+        turn = still servers n true (record log { wants = log.wants ++ command ∷ [] }) [] p Good low seen busy (λ post i. no_posts post i);
         wants = λ c h. elim (one_more c command log.wants h) [ inl old ↦ fine c old | inr is ↦ subst Fine (sym is) f ];
+        leaves = leaving;
         follows = λ letter h. no_follow letter h;
       })
 
   told : (own : Job) (who : Actor) (rev : ℕ) → Left own (on_ask log who rev)
   unfolding on_ask
   told own who rev = record {
-    turn = still servers n log _ p Good low seen busy
+    turn = still servers n true log _ p Good low seen busy
         (λ post i. only (λ (x : Post). IsBacked p (λ command. ⊥) (λ said. In (sent n said) p.letters) x.body) _ post i
         (λ i c e. let at : rev + 1 + i ≡ rev + i + 1 = omega arith in subst (λ place. IsTold p place c) at
         (seen.told (rev + 1 + i) c (run_known log 64 (rev + 1) i c e))));
     wants = fine;
+    leaves = leaving;
     follows = λ letter h. no_follow letter h;
   }
 
@@ -217,8 +272,9 @@ module _ (servers n : ℕ) (small : servers ≤ 256) (member : n < servers) (log
       let at = proposer_there log.phase (p.proposers n) busy.proposer in
       let h = learn_turn servers n log p low seen busy Good at.0 at.1 place c t (λ d u. one place c d t u) in
       record {
-        turn = record { event = h.event; wanted = h.wanted; turns = h.turns };
-        wants = λ d h. fine d (learn_wants log place c d h);
+        turn = record { events = h.events; wanted = h.wanted; turns = h.turns };
+        wants = still_fine _ (learn_wants log place c);
+        leaves = still_leaving _ (learn_wants log place c);
         follows = λ letter h. learn_follows log place c letter h;
       }
 
@@ -237,8 +293,9 @@ module _ (servers n : ℕ) (small : servers ≤ 256) (member : n < servers) (log
   heard_news letter after commands told (first ∷ next ∷ more) e =
       let h = learnt (job.Letter letter) first.0 first.1 (told_first letter after commands told first (next ∷ more) e) in
       record {
-        turn = record { event = h.turn.event; wanted = h.turn.wanted; turns = h.turn.turns };
+        turn = record { events = h.turn.events; wanted = h.turn.wanted; turns = h.turn.turns };
         wants = h.wants;
+        leaves = h.leaves;
         follows = λ own i. elim (in-append (job.Letter own) (learns log first.0 first.1).jobs (job.Letter letter ∷ []) i) [
           | inl j ↦ learn_follows log first.0 first.1 own j
           | inr j ↦ only (λ x. job.Letter letter ≡ x) (job.Letter letter) (job.Letter own) j refl
@@ -250,21 +307,22 @@ module _ (servers n : ℕ) (small : servers ≤ 256) (member : n < servers) (log
   unfolding on_news
   news letter after commands told = heard_news letter after commands told (unknown_from log (after + 1) commands) refl
 
-  ballots : (own : Job) (who : Actor) (said : Pax) → IsSaidBy p who said → Left own (on_pax (record { me = n; servers = servers }) log who said)
+  ballots : (own : Job) (who : Actor) (said : Pax) → IsSaidBy p who said → Left own (on_pax voter log who said)
   unfolding on_pax
   ballots own (actor.Server from) said i =
       let at = proposer_there log.phase (p.proposers n) busy.proposer in
       record {
-        turn = pax_turn servers n small member log p low seen busy Good at.0 at.1 one at.2 from said i;
-        wants = λ c h. fine c (pax_wants (record { me = n; servers = servers }) log from said c h);
-        follows = λ letter h. pax_follows (record { me = n; servers = servers }) log from said letter h;
+        turn = pax_turn servers n inc small member log p low seen busy Good at.0 at.1 one at.2 from said i;
+        wants = still_fine _ (pax_wants voter log from said);
+        leaves = still_leaving _ (pax_wants voter log from said);
+        follows = λ letter h. pax_follows voter log from said letter h;
       }
   ballots own (actor.Client c) said i = kept own
 
   applied_one : (own : Job) (o : Option Command) → known log (next_place log) ≡ o → Left own (applies_known log o)
   applied_one own None e = kept own
   applied_one own (Some entry) e = record {
-    turn = still servers n (with_entry log entry) [] p Good low
+    turn = still servers n true (with_entry log entry) [] p Good low
         (record {
           acceptors = seen.acceptors;
           known = seen.known;
@@ -277,28 +335,40 @@ module _ (servers n : ℕ) (small : servers ≤ 256) (member : n < servers) (log
           ];
         })
         (record { proposer = idle_too log.phase (p.proposers n) busy.proposer; asked = tt }) (λ post i. no_posts post i);
-    wants = λ c h. fine c (kept_want entry c log.wants h);
+    wants = λ c h. fine c (kept_among (λ other. not (same_command other entry)) log.wants c h);
+    leaves = leaving;
     follows = λ letter h. applies_follow letter None _ h;
   }
 
-  started : (own : Job) → Left own (starts (record { me = n; servers = servers }) log)
+  fine_wanted : (c : Command) → Among c (wanted voter log) → Fine c
+  fine_wanted c h = elim (in-append c _ log.wants h) [
+    | inl i ↦ elim (all_leaves (own_leave n inc (inc_of (state_in servers log) n)) _ c i) [
+      | inl due ↦ leaving c (kept_among (is_due (state_in servers log)) log.leaves c due)
+      | inr own ↦ own_leaves n inc (inc_of (state_in servers log) n) c (λ earlier lt is. subst Fine (sym is) (own_leaving earlier lt)) own
+    ]
+    | inr i ↦ fine c i
+  ]
+
+  started : (own : Job) → Left own (starts voter log)
   unfolding starts
   started own =
       let at = proposer_there log.phase (p.proposers n) busy.proposer in
-      let turn = start_turn servers n small member log p low seen busy Good at.0 at.1 (λ want i. good want (fine want i)) in
+      let turn = start_turn servers n inc small member log p low seen busy Good at.0 at.1 (λ want i. good want (fine_wanted want i)) in
       record {
-        turn = record { event = turn.event; wanted = turn.wanted; turns = turn.turns };
-        wants = λ c h. fine c (start_wants (record { me = n; servers = servers }) log log.phase log.wants c h);
-        follows = λ letter h. start_follows (record { me = n; servers = servers }) log log.phase log.wants letter h;
+        turn = record { events = turn.events; wanted = turn.wanted; turns = turn.turns };
+        wants = still_fine _ (start_wants voter log log.phase (wanted voter log));
+        leaves = still_leaving _ (start_wants voter log log.phase (wanted voter log));
+        follows = λ letter h. start_follows voter log log.phase (wanted voter log) letter h;
       }
 
-  applied_next : (own : Job) → Left own (applies log)
+  pub applied_next : (own : Job) → Left own (applies log)
   unfolding applies
   applied_next own = applied_one own (known log (next_place log)) refl
 
   letter_done : (letter : Letter) (what : Body) → IsBacked p Fine (IsSaidBy p letter.from) what
-      → Left (job.Letter letter) (hears_log (record { me = n; servers = servers }) log letter what)
+      → Left (job.Letter letter) (hears_log voter log letter what)
   unfolding hears_log
+  letter_done letter (body.Down server stop) h = stopped (job.Letter letter) server stop h
   letter_done letter (body.Propose command) h = proposed (job.Letter letter) command h
   letter_done letter (body.Pax said) h = ballots (job.Letter letter) letter.from said h
   letter_done letter (body.Ask rev) h = told (job.Letter letter) letter.from rev
@@ -307,7 +377,7 @@ module _ (servers n : ℕ) (small : servers ≤ 256) (member : n < servers) (log
 
   -- what a job's letter says stands there
   pub job_done : (own : Job) → ((letter : Letter) → own ≡ job.Letter letter → IsBacked p Fine (IsSaidBy p letter.from) letter.body)
-      → Left own (log_does (record { me = n; servers = servers }) log own)
+      → Left own (log_does voter log own)
   unfolding log_does
   job_done (job.Letter letter) backed = letter_done letter letter.body (backed letter refl)
   job_done (job.Stage cell) backed = kept (job.Stage cell)

@@ -1,6 +1,6 @@
 -- Places in lists, and functions with one value given again.
-use Rattle.std.proofs.Common.{◌≡◌, ◌≢◌, ◌<◌, ◌⊎◌, inl, inr, ℕ, zero, suc, List, [], ◌∷◌, ◌++◌, length, Some, refl, sym, ap, ◌∙◌, arith}
-use Rattle.std.specs.Prelude.{slice_get}
+use Rattle.std.proofs.Common.{◌≡◌, ◌≢◌, ◌<◌, ◌⊎◌, inl, inr, ℕ, zero, suc, Bool, true, false, cond, List, [], ◌∷◌, ◌++◌, length, Some, refl, sym, ap, ◌∙◌, arith}
+use Rattle.std.specs.Prelude.{filter, slice_get}
 use Rattle.petal_paxos.specs.Member.{In, put, put_at}
 use Rattle.law_agreement.proofs.Members.{put_cases, put_at_cases}
 use Rattle.petal_rules.specs.Lists.{In as Among}
@@ -46,6 +46,16 @@ at_last (z ∷ xs) y (suc i) x e = elim (at_last xs y i x e) [
   | inl before ↦ inl before
   | inr last ↦ inr (omega (arith, last.0), last.1)
 ]
+
+-- what a filter keeps was there
+pub kept_among : {X : Type 0} (test : X → Bool) (xs : List X) (x : X) → Among x (filter test xs) → Among x xs
+unfolding Among
+kept_among test [] x h = absurd h
+kept_among test (first ∷ xs) x h =
+    elim (test first) as (λ b. Among x (cond b (first ∷ filter test xs) (filter test xs)) → Among x (first ∷ xs)) [
+      | true ↦ λ i. elim i [ inl e ↦ inl e | inr j ↦ inr (kept_among test xs x j) ]
+      | false ↦ λ i. inr (kept_among test xs x i)
+    ] h
 
 -- ### Functions with one value given again
 

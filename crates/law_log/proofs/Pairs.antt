@@ -38,12 +38,14 @@ use Rattle.law_log.proofs.Turns.{no_posts}
 
 -- it tells nothing of the log, but may ask
 abbrev pub IsOther : Body → Type 0
+IsOther (body.Down server inc) = ⊥
 IsOther (body.Propose command) = ⊥
 IsOther (body.Pax pax) = ⊥
 IsOther (body.News after commands) = ⊥
 IsOther _ = ⊤
 
 pub other_backed : (p : World) (Good : Command → Type 0) (Said : Pax → Type 0) (what : Body) → IsOther what → IsBacked p Good Said what
+other_backed p Good Said (body.Down server inc) h = absurd h
 other_backed p Good Said (body.Propose command) h = absurd h
 other_backed p Good Said (body.Pax pax) h = absurd h
 other_backed p Good Said (body.News after commands) h = absurd h

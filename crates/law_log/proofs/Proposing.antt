@@ -8,6 +8,7 @@ use Rattle.petal_command.specs.declared.command.Command.{Command}
 use Rattle.petal_command.specs.declared.pax.Pax.{Pax}
 use Rattle.petal_command.specs.declared.pax.Pax.TheVariants as pax
 use Rattle.petal_command.specs.Ballot.{number}
+use Rattle.petal_msg.specs.declared.body.Body.{Body}
 use Rattle.petal_msg.specs.declared.body.Body.TheVariants as body
 use Rattle.petal_paxos.specs.Acceptor.{Acceptor, rank, is_open, is_unpromised, promise}
 use Rattle.petal_paxos.specs.Kept.{acceptor_of, committed}
@@ -25,7 +26,7 @@ use Rattle.petal_paxos.specs.declared.record.StateRecord.TheVariants.{Promise}
 use Rattle.law_agreement.proofs.Members.{in_here, in_there}
 use Rattle.law_agreement.proofs.Moves.{not_in_nobody}
 use Rattle.petal_rules.specs.Agreement.{IsTold, IsAskedFor, IsAbout, IsProposer}
-use Rattle.petal_rules.specs.Ballots.{post_of, round_of, next_round, starts, starts_for, starts_ballot, greatest_place, gives_way, proposes, comes_out, hears_of_ballot}
+use Rattle.petal_rules.specs.Ballots.{post_of, round_of, next_round, wanted, starts, starts_for, starts_ballot, greatest_place, gives_way, proposes, comes_out, hears_of_ballot}
 use Rattle.petal_rules.specs.Entries.{learns}
 use Rattle.petal_rules.specs.Lists.{In as Among}
 use Rattle.petal_rules.specs.Log.{Log, LogDone, rev_of, next_place, with_phase}
@@ -92,7 +93,7 @@ hear_asks p n servers low (Voting place ballot command heard) a from _ = a
 
 -- ### What it sends
 
-said_to_all : (said : Pax) (ns : List ℕ) (post : Post) → Among post (map (post_of (body.Pax said)) ns) → post.body ≡ body.Pax said
+pub said_to_all : (said : Body) (ns : List ℕ) (post : Post) → Among post (map (post_of said) ns) → post.body ≡ said
 unfolding Among
 said_to_all said [] post h = absurd h
 said_to_all said (k ∷ ns) post (inl e) = ap (λ (x : Post). x.body) e
@@ -101,17 +102,17 @@ said_to_all said (k ∷ ns) post (inr h) = said_to_all said ns post h
 pub all_backed : (q : World) (Good : Command → Type 0) (n : ℕ) (said : Pax) (ns : List ℕ) → In (sent n said) q.letters → (post : Post)
     → Among post (map (post_of (body.Pax said)) ns)
     → IsBacked q Good (λ x. In (sent n x) q.letters) post.body
-all_backed q Good n said ns i post h = subst (IsBacked q Good (λ x. In (sent n x) q.letters)) (sym (said_to_all said ns post h)) i
+all_backed q Good n said ns i post h = subst (IsBacked q Good (λ x. In (sent n x) q.letters)) (sym (said_to_all (body.Pax said) ns post h)) i
 
 seen_sent : (n : ℕ) (log : Log) (p : World) (said : Pax) → IsSeenAt n log.records log.applied p → IsSeenAt n log.records log.applied (send p n said)
 seen_sent n log p said seen =
     seen_same n log.records log.applied p (send p n said) (λ x i. in_there _ _ _ i) (λ place. refl) (λ place. refl) refl
     (λ place ballot command. (λ i. i, λ i. i)) seen
 
-module _ (servers n : ℕ) (log : Log) (p : World) (low : AreLow p) (seen : IsSeenAt n log.records log.applied p) where
+module _ (servers n inc : ℕ) (log : Log) (p : World) (low : AreLow p) (seen : IsSeenAt n log.records log.applied p) where
   out_by : (phase : Phase) (said : Heard) → AsksFor p n servers phase said
-      → Turns servers n (proposes (record { me = n; servers = servers }) log (record { phase = phase; heard = said }) said).log
-      (proposes (record { me = n; servers = servers }) log (record { phase = phase; heard = said }) said).posts p
+      → Turns servers n true (proposes (record { me = n; inc = inc; servers = servers }) log (record { phase = phase; heard = said }) said).log
+      (proposes (record { me = n; inc = inc; servers = servers }) log (record { phase = phase; heard = said }) said).posts p
       (turn (schedule.acts p n said) n (Some phase))
   out_by phase Nothing a =
       turned servers n (with_phase log phase) [] p p phase (apart_itself n p) low seen (about_itself phase) a (λ post i. no_posts post i)
@@ -147,11 +148,11 @@ both_so a b e f = cc
 below : (k m : ℕ) → k < m → nat_lt k m ≡ true
 below k m h = grind (arith, nat_tests)
 
-module _ (servers n : ℕ) (small : servers ≤ 256) (member : n < servers) (log : Log) (p : World) (low : AreLow p) (seen : IsSeenAt n log.records log.applied p)
+module _ (servers n inc : ℕ) (small : servers ≤ 256) (member : n < servers) (log : Log) (p : World) (low : AreLow p) (seen : IsSeenAt n log.records log.applied p)
     (busy : IsBusyAs servers n true log.phase p) (Good : ℕ → Command → Type 0) (there : Phase) (is : p.proposers n ≡ Some there) where
   ballot_turn : (place : ℕ) (b : Ballot) (want : Command) → b.server ≡ n → is_unpromised (p.acceptors n place) b ≡ true
-      → Turns servers n (starts_ballot (record { me = n; servers = servers }) log place b want).log
-      (starts_ballot (record { me = n; servers = servers }) log place b want).posts p
+      → Turns servers n true (starts_ballot (record { me = n; inc = inc; servers = servers }) log place b want).log
+      (starts_ballot (record { me = n; inc = inc; servers = servers }) log place b want).posts p
       (started p n place b want Goes)
   ballot_turn place b want own free =
       let kept = keep p n place (promise (p.acceptors n place) b) in
@@ -181,10 +182,10 @@ module _ (servers n : ℕ) (small : servers ≤ 256) (member : n < servers) (log
   good_want place want good j command (inr h) = absurd h
 
   start_for : (phase : Phase) (wants : List Command) → log.phase ≡ phase → ((want : Command) → Among want wants → Good (next_place log) want)
-      → HasTurn servers n (starts_for (record { me = n; servers = servers }) log phase wants).log
-      (starts_for (record { me = n; servers = servers }) log phase wants).posts p Good
+      → HasTurn servers n true (starts_for (record { me = n; inc = inc; servers = servers }) log phase wants).log
+      (starts_for (record { me = n; inc = inc; servers = servers }) log phase wants).posts p Good
   start_for Idle (want ∷ wants) e good =
-      by_test (λ (d : LogDone). HasTurn servers n d.log d.posts p Good) (nat_lt (rev_of log) greatest_place) _ _
+      by_test (λ (d : LogDone). HasTurn servers n true d.log d.posts p Good) (nat_lt (rev_of log) greatest_place) _ _
       (λ few.
       let place = next_place log in
       let b : Ballot = record { round = next_round log; server = n } in
@@ -193,40 +194,40 @@ module _ (servers n : ℕ) (small : servers ≤ 256) (member : n < servers) (log
       let free : is_unpromised (p.acceptors n place) b ≡ true = unpromised (p.acceptors n place).promised b (λ x i. low.acceptors n place x i) (omega arith) in
       let goes : (nat_lt n servers && is_unpromised (p.acceptors n place) b) ≡ true = both_so (nat_lt n servers) _ (below n servers member) free in
       record {
-        event = Some (Starts n place (next_round log) want Goes);
+        events = Starts n place (next_round log) want Goes ∷ [];
         wanted = good_want place want (good want (first_among want wants));
         turns = rw (is, goes) (ballot_turn place b want refl free);
       })
-      (λ many. nothing_happens servers n log [] p Good low seen busy (λ post i. no_posts post i))
-  start_for Idle [] e good = nothing_happens servers n log [] p Good low seen busy (λ post i. no_posts post i)
-  start_for (Collecting place ballot want heard best) wants e good = nothing_happens servers n log [] p Good low seen busy (λ post i. no_posts post i)
-  start_for (Voting place ballot command heard) wants e good = nothing_happens servers n log [] p Good low seen busy (λ post i. no_posts post i)
+      (λ many. nothing_happens servers n true log [] p Good low seen busy (λ post i. no_posts post i))
+  start_for Idle [] e good = nothing_happens servers n true log [] p Good low seen busy (λ post i. no_posts post i)
+  start_for (Collecting place ballot want heard best) wants e good = nothing_happens servers n true log [] p Good low seen busy (λ post i. no_posts post i)
+  start_for (Voting place ballot command heard) wants e good = nothing_happens servers n true log [] p Good low seen busy (λ post i. no_posts post i)
 
-  pub start_turn : ((want : Command) → Among want log.wants → Good (next_place log) want)
-      → HasTurn servers n (starts (record { me = n; servers = servers }) log).log (starts (record { me = n; servers = servers }) log).posts p Good
+  pub start_turn : ((want : Command) → Among want (wanted (record { me = n; inc = inc; servers = servers }) log) → Good (next_place log) want)
+      → HasTurn servers n true (starts (record { me = n; inc = inc; servers = servers }) log).log (starts (record { me = n; inc = inc; servers = servers }) log).posts p Good
   unfolding starts
-  start_turn good = start_for log.phase log.wants refl good
+  start_turn good = start_for log.phase (wanted (record { me = n; inc = inc; servers = servers }) log) refl good
 
   -- ### Letters of a ballot
 
   heard_there : (phase : Phase) → there ≡ phase → IsAskedFor p n servers phase → (from : ℕ) (said : Pax) → In (sent from said) p.letters
       → schedule.handed servers p n there from said Goes ≡ schedule.comes_out p n (hear servers there from said)
-      → HasTurn servers n (comes_out (record { me = n; servers = servers }) log (hear servers phase from said)).log
-      (comes_out (record { me = n; servers = servers }) log (hear servers phase from said)).posts p Good
+      → HasTurn servers n true (comes_out (record { me = n; inc = inc; servers = servers }) log (hear servers phase from said)).log
+      (comes_out (record { me = n; inc = inc; servers = servers }) log (hear servers phase from said)).posts p Good
   heard_there phase about a from said i hands =
-      let done = comes_out (record { me = n; servers = servers }) log (hear servers phase from said) in
+      let done = comes_out (record { me = n; inc = inc; servers = servers }) log (hear servers phase from said) in
       by_letter servers n done.log done.posts p Good there from said is i
-      (subst (λ (w : World). Turns servers n done.log done.posts p w) (sym hands)
-      (subst (λ (q : Phase). Turns servers n done.log done.posts p (schedule.comes_out p n (hear servers q from said))) (sym about)
-      (out_by servers n log p low seen (hear servers phase from said).phase (hear servers phase from said).heard
+      (subst (λ (w : World). Turns servers n true done.log done.posts p w) (sym hands)
+      (subst (λ (q : Phase). Turns servers n true done.log done.posts p (schedule.comes_out p n (hear servers q from said))) (sym about)
+      (out_by servers n inc log p low seen (hear servers phase from said).phase (hear servers phase from said).heard
       (hear_asks p n servers low phase a from said))))
 
   answered : (phase : Phase) → log.phase ≡ phase → IsAbout phase there → IsAskedFor p n servers phase → (from : ℕ) (said : Pax) → In (sent from said) p.letters
       → schedule.handed servers p n there from said Goes ≡ schedule.comes_out p n (hear servers there from said)
-      → HasTurn servers n (comes_out (record { me = n; servers = servers }) log (hear servers phase from said)).log
-      (comes_out (record { me = n; servers = servers }) log (hear servers phase from said)).posts p Good
+      → HasTurn servers n true (comes_out (record { me = n; inc = inc; servers = servers }) log (hear servers phase from said)).log
+      (comes_out (record { me = n; inc = inc; servers = servers }) log (hear servers phase from said)).posts p Good
   answered Idle e about a from said i hands =
-      nothing_happens servers n (with_phase log Idle) [] p Good low seen
+      nothing_happens servers n true (with_phase log Idle) [] p Good low seen
       (record { proposer = subst (λ phase. IsProposer true phase (p.proposers n)) e busy.proposer; asked = tt }) (λ post i. no_posts post i)
   answered (Collecting place ballot want heard best) e about a from said i hands =
       heard_there (Collecting place ballot want heard best) about a from said i hands
@@ -235,15 +236,15 @@ module _ (servers n : ℕ) (small : servers ≤ 256) (member : n < servers) (log
   -- what another server told of a place is what this one knows of it
   pub pax_turn : ((place : ℕ) (c d : Command) → IsTold p place c → IsTold p place d → d ≡ c) → IsAbout log.phase there → (from : ℕ) (said : Pax)
       → In (sent from said) p.letters
-      → HasTurn servers n (hears_of_ballot (record { me = n; servers = servers }) log from said).log
-      (hears_of_ballot (record { me = n; servers = servers }) log from said).posts p Good
+      → HasTurn servers n true (hears_of_ballot (record { me = n; inc = inc; servers = servers }) log from said).log
+      (hears_of_ballot (record { me = n; inc = inc; servers = servers }) log from said).posts p Good
   unfolding learns
   pax_turn one about from (pax.Prepare place b) i = prepare_turn servers n log p low seen busy Good there is from place b i
   pax_turn one about from (pax.Accept place b c) i = accept_turn servers n log p low seen busy Good there is from place b c i
   pax_turn one about from (pax.Chosen place c) i =
       let t : IsTold p place c = record { from = from; is = i } in
       let h = learn_turn servers n log p low seen busy Good there is place c t (λ d u. one place c d t u) in
-      record { event = h.event; wanted = h.wanted; turns = h.turns }
+      record { events = h.events; wanted = h.wanted; turns = h.turns }
   pax_turn one about from (pax.Promise place b best) i = answered log.phase refl about busy.asked from (pax.Promise place b best) i refl
   pax_turn one about from (pax.Accepted place b) i = answered log.phase refl about busy.asked from (pax.Accepted place b) i refl
   pax_turn one about from (pax.Refuse place b promised) i = answered log.phase refl about busy.asked from (pax.Refuse place b promised) i refl

@@ -21,18 +21,18 @@ use Rattle.petal_rules.specs.Lists.{In as Among}
 use Rattle.petal_rules.specs.Server.{letters_of}
 use Rattle.petal_rules.specs.World.{Setting, World, start, stamped, reacts, step, MayActor, MayClient, client_step, client_state, calls, next_line}
 use Rattle.petal_rules.specs.declared.step.Step.{Step}
-use Rattle.petal_rules.specs.declared.step.Step.TheVariants.{Call, Deliver, Tick, Work}
+use Rattle.petal_rules.specs.declared.step.Step.TheVariants.{Call, Deliver, Tick, Work, Stop, Glance}
 use Rattle.petal_rules.proofs.ListLemmas.{in-append, in_later, put_same}
 use Rattle.petal_rules.proofs.Tests.{all_put_apart, none_some}
 use Rattle.petal_history.specs.Legal.{IsLegalFrom, stepped, world_after}
 use Rattle.petal_history.specs.declared.record.Record.{Record}
 use Rattle.law_log.specs.Logged.{IsBacked, IsSaidBy, IsOpen, Logged}
-use Rattle.law_log.specs.Requested.{IsRequested, IsScripted, calls_in}
+use Rattle.law_log.specs.Requested.{IsCalledFor, IsRequested, calls_in}
 use Rattle.law_log.proofs.Clients.{IsFine, Reacts, IsOf, IsClients, calls_so, hears_so, ticks_so}
 use Rattle.law_log.proofs.Facts.{IsFair}
 use Rattle.law_log.proofs.Servers.{server_steps}
 use Rattle.law_log.proofs.Turns.{backed_more}
-use Rattle.law_log.proofs.Worlds.{Goes, posted_by}
+use Rattle.law_log.proofs.Worlds.{Goes, called_more, posted_by, same_life}
 
 -- ### A client's step
 
@@ -48,6 +48,7 @@ requested_more lines a b le command r = record {
 
 clients_backed : (p : schedule.World) (Own Good : Command → Type 0) (Said : Pax → Type 0) → ((c : Command) → Own c → Good c) → (what : Body)
     → IsClients Own what → IsBacked p Good Said what
+clients_backed p Own Good Said good (body.Down server inc) h = absurd h
 clients_backed p Own Good Said good (body.Propose command) h = good command h
 clients_backed p Own Good Said good (body.Pax said) h = absurd h
 clients_backed p Own Good Said good (body.News after commands) h = absurd h
@@ -67,8 +68,9 @@ module _ (setting : Setting) (w : World) (l : Logged setting w) (c stamp : ℕ) 
   client_goes reacted r =
       let called : (d : ℕ) → calls_in w d ≤ calls_in (After reacted) d =
       all_put_apart w.clients c reacted.client (λ d (x : Client). (w.clients d).seq ≤ x.seq) (λ d ne. omega arith) r.later in
-      let more : (command : Command) → IsScripted setting w command → IsScripted setting (After reacted) command =
-      requested_more setting.lines (calls_in w) (calls_in (After reacted)) called in
+      let more : (command : Command) → IsCalledFor setting w command → IsCalledFor setting (After reacted) command =
+      called_more setting w (After reacted) (requested_more setting.lines (calls_in w) (calls_in (After reacted)) called)
+      (λ s. same_life (w.servers s).life) in
       let now : calls_in (After reacted) c ≡ reacted.client.seq = ap (λ (x : Client). x.seq) (put_same w.clients c reacted.client) in
       record {
         grown = λ s place ballot command i. i;
@@ -76,14 +78,15 @@ module _ (setting : Setting) (w : World) (l : Logged setting w) (c stamp : ℕ) 
           events = l.events;
           is = record {
             servers = l.is.servers;
-            running = l.is.running;
+            known = l.is.known;
+            incs = l.is.incs;
             busy = l.is.busy;
             low = l.is.low;
             sent = λ letter i. elim (in-append letter (stamped stamp (letters_of (client_sender c reacted.client) 0 reacted.posts)) w.sent i) [
               | inl new ↦ (
                   let post = posted_by (client_sender c reacted.client) stamp 0 reacted.posts letter new in
-                  let backed = clients_backed P (IsOf setting.lines c reacted.client.seq) (IsScripted setting (After reacted)) (IsSaidBy P letter.from)
-                  (λ command o. record {
+                  let backed = clients_backed P (IsOf setting.lines c reacted.client.seq) (IsCalledFor setting (After reacted)) (IsSaidBy P letter.from)
+                  (λ command o. inl (record {
                     client = c;
                     before = o.before;
                     line = o.line;
@@ -91,13 +94,14 @@ module _ (setting : Setting) (w : World) (l : Logged setting w) (c stamp : ℕ) 
                     so = o.so;
                     past =
                         subst (λ k. o.before < k) (sym now) o.past;
-                  })
+                  }))
                   post.0.body (r.posts post.0 post.1) in
-                  subst (IsBacked P (IsScripted setting (After reacted)) (IsSaidBy P letter.from)) (sym post.2) backed)
+                  subst (IsBacked P (IsCalledFor setting (After reacted)) (IsSaidBy P letter.from)) (sym post.2) backed)
               | inr old ↦ backed_more P P _ _ (IsSaidBy P letter.from) (IsSaidBy P letter.from) (λ x i. i) more (λ said h. h) letter.body (l.is.sent letter old)
             ];
             wanted = λ place command h. let good = l.is.wanted place command h in (more command good.0, good.1);
             wants = λ s command i. more command (l.is.wants s command i);
+            leaves = λ s command i. more command (l.is.leaves s command i);
             queued = λ s letter i. in_later letter _ w.sent (l.is.queued s letter i);
             applied = all_put_apart w.clients c reacted.client (λ d (x : Client). (i : ℕ) (command : Command) → slice_get x.applied i ≡ Some command
                 → IsTold P (i + 1) command)
@@ -113,7 +117,7 @@ module _ (setting : Setting) (w : World) (l : Logged setting w) (c stamp : ℕ) 
 
   news_told : (letter : Letter) → Among letter w.sent → (after : ℕ) (commands : List Command) → letter.body ≡ body.News after commands
       → (i : ℕ) (command : Command) → slice_get commands i ≡ Some command → Told (after + i + 1) command
-  news_told letter i after commands e = subst (IsBacked P (IsScripted setting w) (IsSaidBy P letter.from)) e (l.is.sent letter i)
+  news_told letter i after commands e = subst (IsBacked P (IsCalledFor setting w) (IsSaidBy P letter.from)) e (l.is.sent letter i)
 
   client_steps : (what : Step) → MayClient what setting w c
       → Goes setting w (After (client_step what (client_state setting w c) c (w.clients c) (next_line setting.lines c (w.clients c))))
@@ -125,6 +129,8 @@ module _ (setting : Setting) (w : World) (l : Logged setting w) (c stamp : ℕ) 
       client_goes _ (hears_so Told setting.lines c (client_state setting w c) (w.clients c) fine_now letter (news_told letter may.sent))
   client_steps Tick may = client_goes _ (ticks_so Told setting.lines c (client_state setting w c) (w.clients c) fine_now)
   client_steps (Work end) may = absurd may
+  client_steps Stop may = absurd may
+  client_steps (Glance line round) may = absurd may
 
 -- ### A step, and a history
 
@@ -147,6 +153,9 @@ history_goes setting fair (own ∷ later) w l legal =
 below : (s n : ℕ) → s < n → nat_lt s n ≡ true
 below s n h = grind (arith, nat_tests)
 
+within : (s n : ℕ) → nat_lt s n ≡ true → s < n
+within s n e = grind (arith, nat_tests)
+
 no_vote : {B : Type 0} (place : ℕ) (ballot : Ballot) (command : Command) → In (Accepted place ballot command) (Inc 1 ∷ []) → B
 unfolding In
 no_vote place ballot command (inl e) = let f : Accepted place ballot command ≡ Inc 1 = e in absurd cc
@@ -165,12 +174,14 @@ start_logged setting = record {
       told = λ place command e. none_some refl e;
       applied = λ i command e. none_some refl e;
     };
-    running = λ s lt. below s setting.servers lt;
-    busy = λ s lt. record { proposer = (refl, tt); asked = tt };
+    known = λ s e. within s setting.servers e;
+    incs = λ s. refl;
+    busy = λ s lt. record { proposer = (below s setting.servers lt, tt); asked = tt };
     low = record { acceptors = λ s place ballot e. none_some refl e; letters = λ from said h. absurd h };
     sent = λ letter h. absurd h;
     wanted = λ place command h. absurd h;
     wants = λ s command h. absurd h;
+    leaves = λ s command h. absurd h;
     queued = λ s letter h. absurd h;
     applied = λ c i command e. none_some refl e;
     asked = λ c asked e. none_some refl e;

@@ -153,7 +153,7 @@ module _ (servers n : ℕ) (log : Log) (p : World) (low : AreLow p) (seen : IsSe
     (busy : IsBusyAs servers n true log.phase p) where
   prepared : (to : Actor) (place : ℕ) (b : Ballot) → b.server < 256 → (one two : Pax) → one ≡ two → IsLow two
       → (o u : Bool) → is_open (acceptor_of log.records place) b ≡ o → u ≡ o
-      → Turns servers n (if o then commits log (Promise place b) else log) (record { to = to; body = body.Pax one } ∷ []) p
+      → Turns servers n true (if o then commits log (Promise place b) else log) (record { to = to; body = body.Pax one } ∷ []) p
       (send (keep p n place (if u then promise (p.acceptors n place) b else p.acceptors n place)) n two)
   prepared to place b lt one two e l true true is same =
       replied servers n (commits log (Promise place b)) to one two p (keep p n place (promise (p.acceptors n place) b)) e (apart_keep n p place _)
@@ -170,7 +170,7 @@ module _ (servers n : ℕ) (log : Log) (p : World) (low : AreLow p) (seen : IsSe
 
   accepted : (to : Actor) (place : ℕ) (b : Ballot) (c : Command) → b.server < 256 → (one two : Pax) → one ≡ two → IsLow two
       → (o u : Bool) → is_open (acceptor_of log.records place) b ≡ o → u ≡ o
-      → Turns servers n (if o then commits log (Accepted place b c) else log) (record { to = to; body = body.Pax one } ∷ []) p
+      → Turns servers n true (if o then commits log (Accepted place b c) else log) (record { to = to; body = body.Pax one } ∷ []) p
       (send (if u then cast (keep p n place (accept b c)) (vote n place b c) else p) n two)
   accepted to place b c lt one two e l true true is same =
       replied servers n (commits log (Accepted place b c)) to one two p _ e (apart_both n p _ _ (apart_keep n p place _) (apart_cast n _ place b c))
@@ -182,21 +182,21 @@ module _ (servers n : ℕ) (log : Log) (p : World) (low : AreLow p) (seen : IsSe
 
   module _ (Good : ℕ → Command → Type 0) (there : Phase) (is : p.proposers n ≡ Some there) where
     pub prepare_turn : (from place : ℕ) (b : Ballot) → In (sent from (pax.Prepare place b)) p.letters
-        → HasTurn servers n (on_prepare log from place b).log (on_prepare log from place b).posts p Good
+        → HasTurn servers n true (on_prepare log from place b).log (on_prepare log from place b).posts p Good
     prepare_turn from place b i =
         by_letter servers n _ _ p Good there from (pax.Prepare place b) is i
         (prepared (actor.Server from) place b (low.letters from (pax.Prepare place b) i) _ _ (ap (λ a. prepare_reply place a b) (sym (seen.acceptors place)))
         (quiet_promise place (p.acceptors n place) b) _ _ refl (ap (λ a. is_open a b) (seen.acceptors place)))
 
     pub accept_turn : (from place : ℕ) (b : Ballot) (c : Command) → In (sent from (pax.Accept place b c)) p.letters
-        → HasTurn servers n (on_accept log from place b c).log (on_accept log from place b c).posts p Good
+        → HasTurn servers n true (on_accept log from place b c).log (on_accept log from place b c).posts p Good
     accept_turn from place b c i =
         by_letter servers n _ _ p Good there from (pax.Accept place b c) is i
         (accepted (actor.Server from) place b c (low.letters from (pax.Accept place b c) i) _ _ (ap (λ a. accept_reply place a b) (sym (seen.acceptors place)))
         (quiet_acceptance place (p.acceptors n place) b) _ _ refl (ap (λ a. is_open a b) (seen.acceptors place)))
 
     pub learn_turn : (place : ℕ) (c : Command) → IsTold p place c → ((d : Command) → IsTold p place d → d ≡ c)
-        → HasTurn servers n (learns log place c).log [] p Good
+        → HasTurn servers n true (learns log place c).log [] p Good
     unfolding learns
     learn_turn place c t one =
         by_letter servers n _ [] p Good there t.from (pax.Chosen place c) is t.is

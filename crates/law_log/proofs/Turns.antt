@@ -1,15 +1,16 @@
 -- What changes in a schedule when one server does something.
-use Rattle.std.proofs.Common.{◌≡◌, ◌≢◌, ◌<◌, ◌+◌, inl, inr, ℕ, Bool, true, false, List, [], ◌∷◌, Option, Some, None, refl, sym, ap, ◌∙◌, subst}
+use Rattle.std.proofs.Common.{◌≡◌, ◌≢◌, ◌<◌, ◌+◌, ◌⊎◌, inl, inr, ℕ, Bool, true, false, List, [], ◌∷◌, ◌++◌, Option, Some, None, refl, sym, ap, ◌∙◌, subst}
 use Rattle.std.specs.Prelude.{◌↔◌}
 use Rattle.petal_command.specs.declared.ballot.Ballot.{Ballot}
 use Rattle.petal_command.specs.declared.command.Command.{Command}
+use Rattle.petal_command.specs.declared.command.Command.TheVariants.{Leave}
 use Rattle.petal_command.specs.declared.pax.Pax.{Pax}
 use Rattle.petal_msg.specs.declared.body.Body.{Body}
 use Rattle.petal_msg.specs.declared.body.Body.TheVariants as body
 use Rattle.petal_msg.specs.declared.letter.Actor.{Actor}
 use Rattle.petal_paxos.specs.Acceptor.{Acceptor}
 use Rattle.petal_paxos.specs.Member.{In}
-use Rattle.petal_paxos.specs.Schedule.{handed, Vote, vote, Sent, sent, World, Event, Handed, Goes, keep, cast, learn, send, turn, happens, IsWanted}
+use Rattle.petal_paxos.specs.Schedule.{handed, Vote, vote, Sent, sent, World, Event, Starts, Handed, Stops, Boots, Goes, keep, cast, learn, send, turn, happens, run, IsWanted}
 use Rattle.petal_paxos.specs.declared.phase.Phase.{Phase}
 use Rattle.petal_paxos.specs.declared.record.StateRecord.{StateRecord}
 use Rattle.petal_paxos.specs.declared.phase.Phase.TheVariants.{Idle, Collecting, Voting}
@@ -161,36 +162,27 @@ low_send p n said l low = record {
 -- ### What one server does
 
 -- its log and what it sends, as the schedule q has them after p
-pub record Turns (servers n : ℕ) (log : Log) (posts : List Post) (p q : World) : Type 0 where
+pub record Turns (servers n : ℕ) (running : Bool) (log : Log) (posts : List Post) (p q : World) : Type 0 where
   pub apart : IsApart n p q
   pub low : AreLow q
   pub seen : IsSeenAt n log.records log.applied q
-  pub busy : IsBusyAs servers n true log.phase q
+  pub busy : IsBusyAs servers n running log.phase q
   pub posted : (post : Post) → Among post posts → IsBacked q (λ command. ⊥) (λ said. In (sent n said) q.letters) post.body
 
--- nothing happens in the schedule, or one event
-abbrev pub after_event : ℕ → World → Option Event → World
-after_event servers p None = p
-after_event servers p (Some e) = happens servers p e
-
-abbrev pub IsWantedBy : Option Event → ℕ → Command → Type 0
-IsWantedBy None place command = ⊥
-IsWantedBy (Some e) place command = IsWanted (e ∷ []) place command
-
--- there is such an event; what it wants may be wanted
-pub record HasTurn (servers n : ℕ) (log : Log) (posts : List Post) (p : World) (Good : ℕ → Command → Type 0) : Type 0 where
-  pub event : Option Event
-  pub wanted : (place : ℕ) (command : Command) → IsWantedBy event place command → Good place command
-  pub turns : Turns servers n log posts p (after_event servers p event)
+-- there are such events; what they want may be wanted
+pub record HasTurn (servers n : ℕ) (running : Bool) (log : Log) (posts : List Post) (p : World) (Good : ℕ → Command → Type 0) : Type 0 where
+  pub events : List Event
+  pub wanted : (place : ℕ) (command : Command) → IsWanted events place command → Good place command
+  pub turns : Turns servers n running log posts p (run servers events p)
 
 -- a letter that was sent is handed over
 pub by_letter : (servers n : ℕ) (log : Log) (posts : List Post) (p : World) (Good : ℕ → Command → Type 0) (there : Phase) (from : ℕ) (said : Pax)
-    → p.proposers n ≡ Some there → In (sent from said) p.letters → Turns servers n log posts p (handed servers p n there from said Goes)
-    → HasTurn servers n log posts p Good
+    → p.proposers n ≡ Some there → In (sent from said) p.letters → Turns servers n true log posts p (handed servers p n there from said Goes)
+    → HasTurn servers n true log posts p Good
 by_letter servers n log posts p Good there from said is i t =
     let at = placed (sent from said) p.letters i in
     record {
-      event = Some (Handed at.0 n Goes);
+      events = Handed at.0 n Goes ∷ [];
       wanted = λ place command h. absurd h;
       turns = rw (is, at.1) t;
     }
@@ -230,7 +222,7 @@ busy_same servers s running phase p q more e busy = record {
 -- a reply that the schedule sends too
 pub replied : (servers n : ℕ) (log : Log) (to : Actor) (one two : Pax) (p q : World) → one ≡ two → IsApart n p q → AreLow q → IsLow two
     → IsSeenAt n log.records log.applied q → IsBusyAs servers n true log.phase q
-    → Turns servers n log (record { to = to; body = body.Pax one } ∷ []) p (send q n two)
+    → Turns servers n true log (record { to = to; body = body.Pax one } ∷ []) p (send q n two)
 replied servers n log to one two p q same a low l seen busy = record {
   apart = apart_both n p q _ a (apart_send n q two);
   low = low_send q n two l low;
@@ -245,6 +237,7 @@ replied servers n log to one two p q same a low l seen busy = record {
 
 pub backed_more : (p q : World) (Good Fine : Command → Type 0) (Said Heard : Pax → Type 0) → ((x : Sent) → In x p.letters → In x q.letters)
     → ((c : Command) → Good c → Fine c) → ((said : Pax) → Said said → Heard said) → (what : Body) → IsBacked p Good Said what → IsBacked q Fine Heard what
+backed_more p q Good Fine Said Heard more good said (body.Down server inc) h = good (Leave server inc) h
 backed_more p q Good Fine Said Heard more good said (body.Propose command) h = good command h
 backed_more p q Good Fine Said Heard more good said (body.Pax x) h = said x h
 backed_more p q Good Fine Said Heard more good said (body.News after commands) h = λ i command e. told_more p q more (after + i + 1) command (h i command e)
@@ -254,7 +247,7 @@ backed_more p q Good Fine Said Heard more good said _ h = tt
 pub turned : (servers n : ℕ) (log : Log) (posts : List Post) (p r : World) (there : Phase) → IsApart n p r → AreLow r → IsSeenAt n log.records log.applied r
     → IsAbout log.phase there → IsAskedFor r n servers log.phase
     → ((post : Post) → Among post posts → IsBacked r (λ command. ⊥) (λ said. In (sent n said) r.letters) post.body)
-    → Turns servers n log posts p (turn r n (Some there))
+    → Turns servers n true log posts p (turn r n (Some there))
 turned servers n log posts p r there a low seen about asked posted = record {
   apart = apart_both n p r (turn r n (Some there)) a (apart_turn n r (Some there));
   low = low_turn r n (Some there) low;
@@ -264,18 +257,60 @@ turned servers n log posts p r there a low seen about asked posted = record {
     proposer = subst (IsProposer true log.phase) (sym (put_here r.proposers n (Some there))) (refl, about);
     asked = asked_more r (turn r n (Some there)) (λ x i. i) n servers log.phase asked;
   };
-  posted = λ post i. backed_more r (turn r n (Some there)) _ _ _ _ (λ x i. i) (λ c h. h) (λ said h. h) post.body (posted post i);
+  posted = λ post i. backed_more r (turn r n (Some there)) (λ c. ⊥) (λ c. ⊥) (λ said. In (sent n said) r.letters) (λ said. In (sent n said) r.letters) (λ x i. i)
+      (λ c h. h) (λ said h. h) post.body (posted post i);
 }
 
 -- nothing happens in the schedule
-pub still : (servers n : ℕ) (log : Log) (posts : List Post) (p : World) (Good : ℕ → Command → Type 0) → AreLow p → IsSeenAt n log.records log.applied p
-    → IsBusyAs servers n true log.phase p → ((post : Post) → Among post posts → IsBacked p (λ command. ⊥) (λ said. In (sent n said) p.letters) post.body)
-    → HasTurn servers n log posts p Good
-still servers n log posts p Good low seen busy posted = record {
-  event = None;
+pub still : (servers n : ℕ) (running : Bool) (log : Log) (posts : List Post) (p : World) (Good : ℕ → Command → Type 0) → AreLow p
+    → IsSeenAt n log.records log.applied p
+    → IsBusyAs servers n running log.phase p → ((post : Post) → Among post posts → IsBacked p (λ command. ⊥) (λ said. In (sent n said) p.letters) post.body)
+    → HasTurn servers n running log posts p Good
+still servers n running log posts p Good low seen busy posted = record {
+  events = [];
   wanted = λ place command h. absurd h;
   turns = record { apart = apart_itself n p; low = low; seen = seen; busy = busy; posted = posted };
 }
+
+pub no_posts : {A : Type 0} (post : Post) → Among post [] → A
+unfolding Among
+no_posts post h = absurd h
+
+-- ### A server stops
+
+pub run_on : (n : ℕ) (front back : List Event) (w : World) → run n (front ++ back) w ≡ run n back (run n front w)
+run_on n [] back w = refl
+run_on n (first ∷ front) back w = run_on n front back (happens n w first)
+
+pub wanted_on : (front back : List Event) (place : ℕ) (c : Command) → IsWanted (front ++ back) place c → IsWanted front place c ⊎ IsWanted back place c
+wanted_on [] back place c h = inr h
+wanted_on (Starts s at round want end ∷ front) back place c (inl is) = inl (inl is)
+wanted_on (Starts s at round want end ∷ front) back place c (inr h) = elim (wanted_on front back place c h) [ inl old ↦ inl (inr old) | inr new ↦ inr new ]
+wanted_on (Handed which to end ∷ front) back place c h = wanted_on front back place c h
+wanted_on (Stops s ∷ front) back place c h = wanted_on front back place c h
+wanted_on (Boots s end ∷ front) back place c h = wanted_on front back place c h
+
+-- what it did stands, and nothing of what it would send
+pub stop_turn : (servers n : ℕ) (log : Log) (posts : List Post) (p : World) (Good : ℕ → Command → Type 0) → HasTurn servers n true log posts p Good
+    → HasTurn servers n false log [] p Good
+stop_turn servers n log posts p Good turn_of =
+    let q = run servers turn_of.events p in
+    let t = turn_of.turns in
+    record {
+      events = turn_of.events ++ Stops n ∷ [];
+      wanted = λ place command h. elim (wanted_on turn_of.events (Stops n ∷ []) place command h) [ inl old ↦ turn_of.wanted place command old | inr none ↦ absurd none ];
+      turns = subst (Turns servers n false log [] p) (sym (run_on servers turn_of.events (Stops n ∷ []) p)) (record {
+        apart = apart_both n p q (turn q n None) t.apart (apart_turn n q None);
+        low = low_turn q n None t.low;
+        seen = seen_same n log.records log.applied q (turn q n None) (λ x i. i) (λ place. refl) (λ place. refl) refl
+            (λ place ballot command. (λ i. i, λ i. i)) t.seen;
+        busy = record {
+          proposer = subst (IsProposer false log.phase) (sym (put_here q.proposers n None)) refl;
+          asked = asked_more q (turn q n None) (λ x i. i) n servers log.phase t.busy.asked;
+        };
+        posted = λ post i. no_posts post i;
+      });
+    }
 
 -- a server that runs has a proposer there
 pub proposer_there : (phase : Phase) (o : Option Phase) → IsProposer true phase o → (there : Phase) × (o ≡ Some there) × IsAbout phase there
@@ -286,7 +321,3 @@ pub about_itself : (phase : Phase) → IsAbout phase phase
 about_itself Idle = tt
 about_itself (Collecting place ballot want heard best) = refl
 about_itself (Voting place ballot command heard) = refl
-
-pub no_posts : {A : Type 0} (post : Post) → Among post [] → A
-unfolding Among
-no_posts post h = absurd h

@@ -2,6 +2,7 @@
 use Rattle.std.specs.Prelude.{ℕ, ◌+◌, ◌≡◌, ◌↔◌, ◌<◌, ⊤, Bool, true, List, slice_get, Some}
 use Rattle.petal_command.specs.declared.ballot.Ballot.{Ballot}
 use Rattle.petal_command.specs.declared.command.Command.{Command}
+use Rattle.petal_command.specs.declared.command.Command.TheVariants.{Leave}
 use Rattle.petal_command.specs.declared.pax.Pax.{Pax}
 use Rattle.petal_command.specs.declared.pax.Pax.TheVariants.{Prepare, Accept}
 use Rattle.petal_msg.specs.declared.body.Body.{Body}
@@ -21,7 +22,7 @@ use Rattle.petal_rules.specs.Clients.{Asked}
 use Rattle.petal_rules.specs.Lists.{In as Among}
 use Rattle.petal_rules.specs.World.{Setting, World, lines_of}
 use Rattle.petal_rules.specs.declared.job.Job.TheVariants as job
-use Rattle.law_log.specs.Requested.{IsScripted}
+use Rattle.law_log.specs.Requested.{IsCalledFor}
 
 -- ### A schedule
 
@@ -52,16 +53,17 @@ pub record IsSeenAt (s : ℕ) (records : List StateRecord) (entries : List Comma
   pub told : (place : ℕ) (command : Command) → known_at records place ≡ Some command → IsTold p place command
   pub applied : (i : ℕ) (command : Command) → slice_get entries i ≡ Some command → known_at records (i + 1) ≡ Some command
 
--- what its proposer is about was asked for there
+-- a stopped server has no proposer there, and what it was about was asked for
 pub record IsBusyAs (servers s : ℕ) (running : Bool) (phase : Phase) (p : schedule.World) : Type 0 where
   pub proposer : IsProposer running phase (p.proposers s)
   pub asked : IsAskedFor p s servers phase
 
 -- ### Letters
 
--- what a letter says of the log was said there: a Propose has a command that may be proposed, a ballot's letter was sent in
--- the schedule, and each command of a News was told for its place
+-- what a letter says of the log was said there: a Propose has a command that may be proposed, and so is the Leave of which a Down
+-- tells; a ballot's letter was sent in the schedule, and each command of a News was told for its place
 abbrev pub IsBacked : schedule.World → (Command → Type 0) → (Pax → Type 0) → Body → Type 0
+IsBacked p Good Said (body.Down server inc) = Good (Leave server inc)
 IsBacked p Good Said (body.Propose command) = Good command
 IsBacked p Good Said (body.Pax said) = Said said
 IsBacked p Good Said (body.News after commands) = (i : ℕ) (command : Command) → slice_get commands i ≡ Some command → IsTold p (after + i + 1) command
@@ -87,12 +89,14 @@ pub record IsOpen (lines : List Line) (c called : ℕ) (asked : Asked) : Type 0 
 
 pub record IsLogged (setting : Setting) (w : World) (events : List schedule.Event) (p : schedule.World) : Type 0 where
   pub servers : (s : ℕ) → IsSeenAt s (w.servers s).log.records (w.servers s).log.applied p
-  pub running : (s : ℕ) → s < setting.servers → (w.servers s).life.running ≡ true
-  pub busy : (s : ℕ) → s < setting.servers → IsBusyAs setting.servers s true (w.servers s).log.phase p
+  pub known : (s : ℕ) → (w.servers s).life.running ≡ true → s < setting.servers
+  pub incs : (s : ℕ) → (w.servers s).life.inc ≡ 1
+  pub busy : (s : ℕ) → s < setting.servers → IsBusyAs setting.servers s (w.servers s).life.running (w.servers s).log.phase p
   pub low : AreLow p
-  pub sent : (letter : Letter) → Among letter w.sent → IsBacked p (IsScripted setting w) (IsSaidBy p letter.from) letter.body
-  pub wanted : (place : ℕ) (command : Command) → schedule.IsWanted events place command → IsScripted setting w command × IsReached p place
-  pub wants : (s : ℕ) (command : Command) → Among command (w.servers s).log.wants → IsScripted setting w command
+  pub sent : (letter : Letter) → Among letter w.sent → IsBacked p (IsCalledFor setting w) (IsSaidBy p letter.from) letter.body
+  pub wanted : (place : ℕ) (command : Command) → schedule.IsWanted events place command → IsCalledFor setting w command × IsReached p place
+  pub wants : (s : ℕ) (command : Command) → Among command (w.servers s).log.wants → IsCalledFor setting w command
+  pub leaves : (s : ℕ) (command : Command) → Among command (w.servers s).log.leaves → IsCalledFor setting w command
   pub queued : (s : ℕ) (letter : Letter) → Among (job.Letter letter) (w.servers s).queue → Among letter w.sent
   pub applied : (c i : ℕ) (command : Command) → slice_get (w.clients c).applied i ≡ Some command → IsTold p (i + 1) command
   pub asked : (c : ℕ) (asked : Asked) → (w.clients c).asked ≡ Some asked → IsOpen setting.lines c (w.clients c).seq asked

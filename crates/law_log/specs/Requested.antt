@@ -1,7 +1,7 @@
--- Which commands a run proposes: those of requests that clients have called.
-use Rattle.std.specs.Prelude.{◌≡◌, ◌⊎◌, ◌+◌, ◌<◌, ℕ, List, slice_get, Some}
+-- Which commands a run proposes: those of requests that clients have called, and Leaves of incarnations that have stopped.
+use Rattle.std.specs.Prelude.{◌≡◌, ◌⊎◌, ◌+◌, ◌<◌, ◌≤◌, ℕ, List, false, slice_get, Some}
 use Rattle.petal_command.specs.declared.command.Command.{Command}
-use Rattle.petal_command.specs.declared.command.Command.TheVariants.{Witness}
+use Rattle.petal_command.specs.declared.command.Command.TheVariants.{Leave, Witness}
 use Rattle.script_lines.specs.declared.request.Line.{Line}
 use Rattle.petal_rules.specs.Clients.{command_of}
 use Rattle.petal_rules.specs.World.{Setting, World, lines_of}
@@ -23,3 +23,16 @@ calls_in w c = (w.clients c).seq
 -- the command is that of a line that its client has called, or a Witness of it
 abbrev pub IsScripted : Setting → World → Command → Type 0
 IsScripted setting w command = IsRequested setting.lines (calls_in w) command
+
+-- this incarnation of the server has stopped: the server does not run, or runs as a later one
+abbrev pub HasStopped : World → (server inc : ℕ) → Type 0
+HasStopped w server inc = (((w.servers server).life.running ≡ false) × (inc ≤ (w.servers server).life.inc)) ⊎ (inc < (w.servers server).life.inc)
+
+-- the command is the Leave of an incarnation that has stopped
+abbrev pub IsLeaving : World → Command → Type 0
+IsLeaving w (Leave server inc) = HasStopped w server inc
+IsLeaving w _ = ⊥
+
+-- what may be proposed: what a script asks for, or such a Leave
+abbrev pub IsCalledFor : Setting → World → Command → Type 0
+IsCalledFor setting w command = IsScripted setting w command ⊎ IsLeaving w command

@@ -5,10 +5,9 @@ use Rattle.petal_msg.specs.declared.body.Body.TheVariants as body
 use Rattle.petal_msg.specs.declared.operation.Ending.{Ending}
 use Rattle.petal_msg.specs.declared.operation.Ending.TheVariants as ending
 use Rattle.petal_rules.specs.Lists.{In}
-use Rattle.petal_rules.specs.State.{State}
 use Rattle.petal_rules.specs.Server.{Own, Here, Post, Done}
 use Rattle.petal_rules.specs.Writes.{ended}
-use Rattle.law_steps.specs.DidLead.{DidLead, Asks_for, Repeats, Is_full, Opens, Marks, Puts, Gives_up, Unmarks, Closes, Asks, A_slot, A_copy, Of_the_log}
+use Rattle.law_steps.specs.DidLead.{DidLead, Asks_for, Repeats, Is_full, Gives_up, Opens, Marks, Puts, Unmarks, Closes, Opens_alone, Marks_alone, Puts_alone, Unmarks_alone, Closes_alone, Asks, A_slot, A_copy, Of_the_log}
 use Rattle.law_steps.specs.Did.{Did, Ignores, Refuses, IsBusy, By_read, By_lead, By_second}
 use Rattle.law_steps.proofs.Letters.{one_post, posted}
 use Rattle.petal_rules.proofs.Tests.{true_false}
@@ -17,7 +16,7 @@ use Rattle.petal_msg.specs.Kinds.{is_logged, is_refused, subject_of}
 
 -- ### Who says that a block is busy
 
-abbrev is_busy : Body → Bool
+abbrev pub is_busy : Body → Bool
 is_busy (body.BlockBusy seq) = true
 is_busy _ = false
 
@@ -25,40 +24,45 @@ logged_quiet : (said : Body) → is_logged (subject_of said) ≡ true → is_bus
 logged_quiet (body.BlockBusy seq) e = true_false e refl
 logged_quiet _ e = refl
 
-asks_quiet : (here : Here) (state : State) (own : Own) (post : Post) → Asks here state own post → is_busy post.body ≡ false
-asks_quiet here state own _ (A_slot op to is stage e) = refl
-asks_quiet here state own _ (A_copy op to is stage e) = refl
-asks_quiet here state own _ (Of_the_log post e) = logged_quiet post.body e
+asks_quiet : (here : Here) (own : Own) (post : Post) → Asks here own post → is_busy post.body ≡ false
+asks_quiet here own _ (A_slot op to is stage e) = refl
+asks_quiet here own _ (A_copy op to is stage e) = refl
+asks_quiet here own _ (Of_the_log post e) = logged_quiet post.body e
 
 ended_quiet : (seq : ℕ) (how : Ending) → is_busy (ended seq how) ≡ false
 ended_quiet seq ending.Written = refl
 ended_quiet seq ending.Full = refl
 
 -- what is no refusal says nothing of a busy block
-not_refused : (what : Body) → is_refused (subject_of what) ≡ false → is_busy what ≡ false
+pub not_refused : (what : Body) → is_refused (subject_of what) ≡ false → is_busy what ≡ false
 not_refused (body.BlockBusy seq) e = true_false refl e
 not_refused _ e = refl
 
-lead_quiet : (heard : Body → Type 0) (here : Here) (state : State) (own : Own) (done : Done) → DidLead heard here state own done → (post : Post)
+lead_quiet : (heard : Body → Type 0) (here : Here) (own : Own) (done : Done) → DidLead heard here own done → (post : Post)
     → In post done.posts
     → is_busy post.body ≡ false
 unfolding In
-lead_quiet heard here state own _ (Asks_for posts h) post i = asks_quiet here state own post (h post i)
-lead_quiet heard here state own _ (Repeats want last h lead is f) post i = ap is_busy (one_post _ _ post i).1 ∙ ended_quiet want.seq last.ending
-lead_quiet heard here state own _ (Is_full want h lead new none no_room) post i = ap is_busy (one_post _ _ post i).1
-lead_quiet heard here state own _ (Opens want h lead new none) post i = ap is_busy (posted _ _ post i)
-lead_quiet heard here state own _ (Marks op h is stage) post i = absurd i
-lead_quiet heard here state own _ (Puts op is stage) post i = absurd i
-lead_quiet heard here state own _ (Gives_up op h is stage) post i = ap is_busy (one_post _ _ post i).1
-lead_quiet heard here state own _ (Unmarks op h is stage) post i = absurd i
-lead_quiet heard here state own _ (Closes op is stage) post i = ap is_busy (one_post _ _ post i).1
+lead_quiet heard here own _ (Asks_for posts h) post i = asks_quiet here own post (h post i)
+lead_quiet heard here own _ (Repeats want last h lead is f) post i = ap is_busy (one_post _ _ post i).1 ∙ ended_quiet want.seq last.ending
+lead_quiet heard here own _ (Is_full want new no_room) post i = ap is_busy (one_post _ _ post i).1
+lead_quiet heard here own _ (Opens want new both) post i = ap is_busy (posted _ _ post i)
+lead_quiet heard here own _ (Marks op h is both stage) post i = absurd i
+lead_quiet heard here own _ (Puts op is both stage) post i = absurd i
+lead_quiet heard here own _ (Gives_up op h is reserved put) post i = ap is_busy (one_post _ _ post i).1
+lead_quiet heard here own _ (Unmarks op h is both stage) post i = absurd i
+lead_quiet heard here own _ (Closes op is both stage) post i = ap is_busy (one_post _ _ post i).1
+lead_quiet heard here own _ (Opens_alone want new alone) post i = absurd i
+lead_quiet heard here own _ (Marks_alone now op taken alone fresh) post i = absurd i
+lead_quiet heard here own _ (Puts_alone now op taken alone stale put) post i = absurd i
+lead_quiet heard here own _ (Unmarks_alone now op taken alone stale put busy) post i = absurd i
+lead_quiet heard here own _ (Closes_alone now op taken alone stale put free) post i = ap is_busy (one_post _ _ post i).1
 
-pub did_busy : (heard : Body → Type 0) (here : Here) (state : State) (own : Own) (done : Done) → Did heard here state own done
-    → (post : Post) (seq : ℕ) → In post done.posts → post.body ≡ body.BlockBusy seq → IsBusy heard here state own seq
+pub did_busy : (heard : Body → Type 0) (here : Here) (own : Own) (done : Done) → Did heard here own done
+    → (post : Post) (seq : ℕ) → In post done.posts → post.body ≡ body.BlockBusy seq → IsBusy heard here own seq
 unfolding In
-did_busy heard here state own _ Ignores post seq i e = absurd i
-did_busy heard here state own _ (Refuses to what is why) post seq i e = why seq (sym (one_post to what post i).1 ∙ e)
-did_busy heard here state own _ (By_read done d) post seq i e = true_false (ap is_busy e) (ap is_busy ((of_read heard here state own done d).says post i).is)
-did_busy heard here state own _ (By_lead done d) post seq i e = true_false (ap is_busy e) (lead_quiet heard here state own done d post i)
-did_busy heard here state own _ (By_second done d) post seq i e =
-    true_false (ap is_busy e) (not_refused post.body (ap is_refused ((of_second heard here state own done d).says post i)))
+did_busy heard here own _ Ignores post seq i e = absurd i
+did_busy heard here own _ (Refuses to what is why) post seq i e = why seq (sym (one_post to what post i).1 ∙ e)
+did_busy heard here own _ (By_read done d) post seq i e = true_false (ap is_busy e) (ap is_busy ((of_read heard here own done d).says post i).is)
+did_busy heard here own _ (By_lead done d) post seq i e = true_false (ap is_busy e) (lead_quiet heard here own done d post i)
+did_busy heard here own _ (By_second done d) post seq i e =
+    true_false (ap is_busy e) (not_refused post.body (ap is_refused ((of_second heard here own done d).says post i)))

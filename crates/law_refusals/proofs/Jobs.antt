@@ -1,6 +1,7 @@
 -- Each kind of job refuses for a reason.
-use Rattle.std.proofs.Common.{◌≡◌, ◌≤◌, ◌<◌, ℕ, List, [], ◌∷◌, Bool, true, false, Some, refl, sym, ap, ◌∙◌, subst, ◌⊎◌, inl, inr, arith}
+use Rattle.std.proofs.Common.{◌≡◌, ◌≢◌, ◌≤◌, ◌<◌, ℕ, List, [], ◌∷◌, Bool, true, false, Some, refl, sym, ap, ◌∙◌, subst, ◌⊎◌, inl, inr, arith}
 use Rattle.std.specs.Ordering.{nat_cmp}
+use Rattle.busy_marks.specs.declared.marks.MarkKind.TheVariants.{Stale}
 use Rattle.petal_base.specs.declared.cell.Cell.{Cell}
 use Rattle.petal_base.specs.Cells.{cell_of}
 use Rattle.petal_table.specs.Table.{Table, at, put}
@@ -19,31 +20,34 @@ use Rattle.petal_rules.specs.Lists.{In}
 use Rattle.petal_rules.specs.State.{State, first, second, is_second}
 use Rattle.petal_rules.specs.Store.{cell_cmp}
 use Rattle.petal_rules.specs.Server.{Own, Here, Post, Done, post_to}
-use Rattle.petal_rules.specs.Writes.{operation, opened, ended, tells}
+use Rattle.petal_rules.specs.Writes.{operation, opened, ended, tells, with_mark_at}
 use Rattle.petal_rules.specs.World.{Setting, World}
 use Rattle.petal_rules.specs.declared.step.Step.TheVariants.{Work}
 use Rattle.petal_rules.specs.declared.step.WorkEnd.TheVariants as work_end
 use Rattle.petal_rules.proofs.CellTables.{cell_same, cell_apart}
+use Rattle.petal_rules.proofs.Tests.{same_or_apart, same_some, true_false, is_the_one}
 use Rattle.law_state.specs.Steady.{IsSteady}
+use Rattle.law_state.proofs.Alone.{first_primary, primary_on, second_both}
+use Rattle.law_state.proofs.Cells.{both_first, second_by}
 use Rattle.law_steps.specs.DidRead.{DidRead}
-use Rattle.law_steps.specs.DidLead.{DidLead, Asks_for, Repeats, Is_full, Opens, Marks, Puts, Gives_up, Unmarks, Closes, Asks, A_slot, A_copy, Of_the_log}
+use Rattle.law_steps.specs.DidLead.{DidLead, Asks_for, Repeats, Is_full, Gives_up, Opens, Marks, Puts, Unmarks, Closes, Opens_alone, Marks_alone, Puts_alone, Unmarks_alone, Closes_alone, Asks, A_slot, A_copy, Of_the_log}
 use Rattle.law_steps.specs.DidSecond.{DidSecond, Sets_apart, Promises, Declines, Follows, FoundNoSlot}
 use Rattle.law_steps.specs.Did.{Did, Ignores, Refuses, IsRefusal, By_read, By_lead, By_second}
 use Rattle.law_steps.specs.Happens.{IsIdle, Handled, own_place}
 use Rattle.law_steps.specs.Ready.{Ready}
+use Rattle.law_steps.proofs.Fronts.{below_on}
+use Rattle.law_steps.proofs.Histories.{own_below, own_steady}
 use Rattle.law_steps.proofs.Letters.{one_post, posted}
-use Rattle.law_steps.proofs.Restages.{Restages, Was, was_same, stood, marked, has_put, unmarked}
-use Rattle.petal_rules.proofs.Tests.{same_or_apart, same_some, true_false, is_the_one}
-use Rattle.law_steps.proofs.Lifting.{second_up}
+use Rattle.law_steps.proofs.Restages.{Restages, Was, was_same, stood, was_before, marked, has_put, unmarked, marked_alone, put_alone, unmarked_alone}
 use Rattle.law_steps.proofs.Staged.{same_cell_or_apart}
+use Rattle.law_steps.proofs.Subjects.{of_read, told_own}
+use Rattle.law_steps.proofs.Taking.{taking}
 use Rattle.law_copies.specs.Pair.{IsPair, ceiling_of, owns_of, Good}
 use Rattle.law_copies.proofs.Frames.{apart}
-use Rattle.law_copies.proofs.Jobs.{heard_known, lead_pair, second_pair}
+use Rattle.law_copies.proofs.Jobs.{heard_known, second_pair, second_together}
 use Rattle.law_refusals.specs.Reasons.{HadNoSlot, At_the_lead, At_the_second, Refusals}
-use Rattle.law_steps.proofs.Subjects.{of_read, told_own}
-use Rattle.law_refusals.proofs.Frames.{JobRefuses, Scene}
 
-abbrev is_full : Body → Bool
+abbrev pub is_full : Body → Bool
 is_full (body.Full seq) = true
 is_full (body.PairFull number cell) = true
 is_full _ = false
@@ -58,10 +62,10 @@ logged_not_full (body.Full seq) e = true_false e refl
 logged_not_full (body.PairFull number cell) e = true_false e refl
 logged_not_full _ e = refl
 
-asks_not_full : (here : Here) (state : State) (own : Own) (post : Post) → Asks here state own post → is_full post.body ≡ false
-asks_not_full here state own _ (A_slot op to is stage e) = refl
-asks_not_full here state own _ (A_copy op to is stage e) = refl
-asks_not_full here state own _ (Of_the_log post e) = logged_not_full post.body e
+asks_not_full : (here : Here) (own : Own) (post : Post) → Asks here own post → is_full post.body ≡ false
+asks_not_full here own _ (A_slot op to is stage e) = refl
+asks_not_full here own _ (A_copy op to is stage e) = refl
+asks_not_full here own _ (Of_the_log post e) = logged_not_full post.body e
 
 tells_not_full : (here : Here) (new : Own) (cell : Cell) (number : ℕ) (how : Far) (post : Post) → In post (tells here new cell number how).posts
     → is_full post.body ≡ false
@@ -74,35 +78,86 @@ one_client e = cc
 full_seq : {seq other : ℕ} → body.Full seq ≡ body.Full other → seq ≡ other
 full_seq e = cc
 
--- ### Each kind of job
+-- what a job has to show: of what it remembers, of what is pending, and of what it sends
+pub record JobRefuses (S : ℕ → ℕ → Type 0) (w : World) (n : ℕ) (new : Own) (posts : List Post) : Type 0 where
+  pub finished : (c : ℕ) (last : Finished) → at nat_cmp new.pairs.finished c ≡ Some last → last.ending ≡ ending.Full
+      → (at nat_cmp (owns_of w n).pairs.finished c ≡ Some last) ⊎ S c last.seq
+  pub pending : (cell : Cell) (op : Pending) → at cell_cmp new.pairs.pending cell ≡ Some op → Was (owns_of w n) cell op ⊎ (op.op ≡ (owns_of w n).pairs.next)
+  pub next : (owns_of w n).pairs.next ≤ new.pairs.next
+  pub letters : (post : Post) (c seq : ℕ) → In post posts → post.to ≡ actor.Client c → post.body ≡ body.Full seq → S c seq
+  pub numbers : (post : Post) (number p : ℕ) (cell : Cell) → In post posts → post.body ≡ body.PairFull number cell → post.to ≡ actor.Server p
+      → (p ≢ n) × (number < (owns_of w p).pairs.next)
+  pub declined : (post : Post) (number p : ℕ) (cell : Cell) (op : Pending) → In post posts → post.body ≡ body.PairFull number cell
+      → post.to ≡ actor.Server p → at cell_cmp (owns_of w p).pairs.pending cell ≡ Some op → op.op ≡ number → S op.client op.seq
+
+-- a job of a running server in a world where R holds of each request that was refused so far, which implies what is to hold after
+-- the job
+pub record Scene (R S : ℕ → ℕ → Type 0) : Type 0 where
+  pub setting : Setting
+  pub state : State
+  pub steady : IsSteady state
+  pub w : World
+  pub ready : Ready setting state w
+  pub good : Good setting state w
+  pub n : ℕ
+  pub runs : (w.servers n).life.running ≡ true
+  pub more : (c seq : ℕ) → R c seq → S c seq
+  pub refusals : Refusals R w
+
+-- a job that refuses nothing
+module _ (S : ℕ → ℕ → Type 0) (w : World) (n : ℕ) where
+  abbrev before : Own
+  before = owns_of w n
+
+  -- a job that tells nobody of a want of slots
+  quiet : (new : Own) (posts : List Post)
+      → ((c : ℕ) (last : Finished) → at nat_cmp new.pairs.finished c ≡ Some last → last.ending ≡ ending.Full
+      → (at nat_cmp before.pairs.finished c ≡ Some last) ⊎ S c last.seq)
+      → ((cell : Cell) (op : Pending) → at cell_cmp new.pairs.pending cell ≡ Some op → Was before cell op ⊎ (op.op ≡ before.pairs.next))
+      → before.pairs.next ≤ new.pairs.next → ((post : Post) → In post posts → is_full post.body ≡ false) → JobRefuses S w n new posts
+  quiet new posts finished pending next unsaid = record {
+    finished = finished;
+    pending = pending;
+    next = next;
+    letters = λ post c seq i to says. true_false (ap is_full says) (unsaid post i);
+    numbers = λ post number p cell i says to. true_false (ap is_full says) (unsaid post i);
+    declined = λ post number p cell op i says to is same. true_false (ap is_full says) (unsaid post i);
+  }
+
+  -- and leaves what is pending and finished
+  pub still : (posts : List Post) (new : Own) → new.pairs.finished ≡ before.pairs.finished → new.pairs.pending ≡ before.pairs.pending
+      → new.pairs.next ≡ before.pairs.next → ((post : Post) → In post posts → is_full post.body ≡ false) → JobRefuses S w n new posts
+  still posts new finished pending next unsaid = quiet new posts
+      (λ c last is how. inl (ap (λ t. at nat_cmp t c) (sym finished) ∙ is))
+      (λ cell op is. inl (was_same before cell op (ap (λ t. at cell_cmp t cell) (sym pending) ∙ is))) (omega arith) unsaid
 
 module _ (R S : ℕ → ℕ → Type 0) (scene : Scene R S)
-    (now : (c seq : ℕ) → HadNoSlot scene.told scene.w (actor.Server scene.n) (Work work_end.Done) c seq → S c seq) where
+    (now : (c seq : ℕ) → HadNoSlot scene.setting scene.w (actor.Server scene.n) (Work work_end.Done) c seq → S c seq) where
   abbrev state : State
   state = scene.state
 
   abbrev steady : IsSteady state
   steady = scene.steady
 
-  abbrev told : State
-  told = scene.told
-
   abbrev w : World
   w = scene.w
 
-  abbrev ready : Ready state w
+  abbrev ready : Ready scene.setting state w
   ready = scene.ready
 
-  abbrev good : Good state w
+  abbrev good : Good scene.setting state w
   good = scene.good
 
   abbrev n : ℕ
   n = scene.n
 
+  abbrev runs : (w.servers n).life.running ≡ true
+  runs = scene.runs
+
   abbrev more : (c seq : ℕ) → R c seq → S c seq
   more = scene.more
 
-  abbrev refusals : Refusals R state w
+  abbrev refusals : Refusals R w
   refusals = scene.refusals
 
   abbrev here : Here
@@ -112,35 +167,13 @@ module _ (R S : ℕ → ℕ → Type 0) (scene : Scene R S)
   own = owns_of w n
 
   abbrev J : Own → List Post → Type 0
-  J new posts = JobRefuses S state w n new posts
+  J new posts = JobRefuses S w n new posts
 
   abbrev hears : Body → Type 0
   hears = Handled w n
 
   abbrev Says : List Post → Type 0
   Says posts = (post : Post) (c seq : ℕ) → In post posts → post.to ≡ actor.Client c → post.body ≡ body.Full seq → S c seq
-
-  -- a job that tells nobody of a want of slots
-  quiet : (new : Own) (posts : List Post)
-      → ((c : ℕ) (last : Finished) → at nat_cmp new.pairs.finished c ≡ Some last → last.ending ≡ ending.Full
-      → (at nat_cmp own.pairs.finished c ≡ Some last) ⊎ S c last.seq)
-      → ((cell : Cell) (op : Pending) → at cell_cmp new.pairs.pending cell ≡ Some op → Was own cell op ⊎ (op.op ≡ own.pairs.next))
-      → own.pairs.next ≤ new.pairs.next → ((post : Post) → In post posts → is_full post.body ≡ false) → J new posts
-  quiet new posts finished pending next unsaid = record {
-    finished = finished;
-    pending = pending;
-    next = next;
-    letters = λ post c seq i to says. true_false (ap is_full says) (unsaid post i);
-    numbers = λ post number p cell i says leads. true_false (ap is_full says) (unsaid post i);
-    declined = λ post number p cell op i says leads is same. true_false (ap is_full says) (unsaid post i);
-  }
-
-  -- and leaves what is pending and finished
-  still : (posts : List Post) (new : Own) → new.pairs.finished ≡ own.pairs.finished → new.pairs.pending ≡ own.pairs.pending
-      → new.pairs.next ≡ own.pairs.next → ((post : Post) → In post posts → is_full post.body ≡ false) → J new posts
-  still posts new finished pending next unsaid = quiet new posts
-      (λ c last is how. inl (ap (λ t. at nat_cmp t c) (sym finished) ∙ is))
-      (λ cell op is. inl (was_same own cell op (ap (λ t. at cell_cmp t cell) (sym pending) ∙ is))) (omega arith) unsaid
 
   -- a reply that tells a client of it
   one_full : (c seq : ℕ) → S c seq → Says (record { to = actor.Client c; body = body.Full seq } ∷ [])
@@ -180,117 +213,148 @@ module _ (R S : ℕ → ℕ → Type 0) (scene : Scene R S)
 
   -- an operation that the second server has no slot for
   declined_op : (op : Pending) → hears (body.PairFull op.op op.cell) → at cell_cmp own.pairs.pending op.cell ≡ Some op → S op.client op.seq
-  declined_op op h is =
-      let pair = lead_pair scene.setting state steady w ready good n op.cell ((ready.pending n).staged op.cell op is).lead in
-      more op.client op.seq (refusals.declined h.letter op.op n op.cell op h.sent h.is pair.1.leads is refl)
+  declined_op op h is = more op.client op.seq (refusals.declined h.letter op.op n op.cell op h.sent h.is h.own is refl)
 
-  declines : (number : ℕ) (cell : Cell) → hears (body.Reserve number cell) → is_second told n cell ≡ true → FoundNoSlot own cell number
+  full_cell : {a b : ℕ} {c d : Cell} → body.PairFull a c ≡ body.PairFull b d → (a ≡ b) × (c ≡ d)
+  full_cell {a} {b} {c} {d} e = (cc, cc)
+
+  one_server : {i j : ℕ} → actor.Server i ≡ actor.Server j → i ≡ j
+  one_server e = cc
+
+  declines : (number : ℕ) (cell : Cell) → hears (body.Reserve number cell) → is_second here.state n cell ≡ true → FoundNoSlot own cell number
       → J own (post_to (first here.state cell) (body.PairFull number cell))
   declines number cell h s no_room =
-      let pair = second_pair scene.setting state steady w ready good n cell (second_up told state scene.told_steady steady scene.below n cell s) in
-      let follows : second told cell ≡ Some n = is_the_one _ n s in
-      let one_told = scene.told_steady.followed cell n follows in
+      let old = own_steady scene.setting w ready.firm n in
+      let follows : second here.state cell ≡ Some n = is_the_one _ n s in
+      let b = second_by here.state old cell n follows in
+      let q = b.0.row.primary in
+      let leads : first here.state cell ≡ Some q = both_first here.state cell b.0.row b.0.is b.0.linked b.0.so in
+      let up = below_on _ _ _ (own_below scene.setting w ready.firm n) ready.below in
+      let pair = second_pair scene.setting state steady w ready good n runs cell s in
+      let mine : IsPair state cell q n =
+      record { leads = primary_on here.state state up cell q (first_primary here.state old cell q leads); follows = pair.1.follows } in
+      let together = second_together scene.setting state steady w ready good n runs cell q mine (second_both here.state old cell n follows) in
+      let known : number < ceiling_of (at cell_cmp (owns_of w q).pairs.pending cell) (owns_of w q).pairs.next =
+      heard_known scene.setting state steady w ready good n runs _ h cell q n refl mine together in
+      let fresh = (good.pairs cell q n mine together).fresh in
+      let of = λ (post : Post) (i : In post (post_to (first here.state cell) (body.PairFull number cell))).
+      one_post (actor.Server q) (body.PairFull number cell) post (subst (λ o. In post (post_to o (body.PairFull number cell))) leads i) in
       record {
         finished = λ c last is how. inl is;
-        pending = λ q op is. inl (was_same own q op is);
+        pending = λ x op is. inl (was_same own x op is);
         next = omega arith;
-        letters = λ post c seq i to says. absurd (let e : body.PairFull number cell ≡ body.Full seq = sym (posted _ _ post i) ∙ says in cc);
-        numbers = λ post k p q i says leads.
-            let same = full_cell (sym (posted _ _ post i) ∙ says) in
-            let leads' : first state cell ≡ Some p = ap (first state) same.1 ∙ leads in
-            let one : pair.0 ≡ p = same_some (sym pair.1.leads ∙ leads') in
-            let mine : IsPair state cell p n = subst (λ j. IsPair state cell j n) one pair.1 in
-            let ok = good.pairs cell p n mine in
-            let fresh = ok.fresh in
-            let known : number < ceiling_of (at cell_cmp (owns_of w p).pairs.pending cell) (owns_of w p).pairs.next =
-            heard_known scene.setting state steady w ready good n _ h cell p n refl mine in
+        letters = λ post c seq i to says. absurd (let e : body.PairFull number cell ≡ body.Full seq = sym (of post i).1 ∙ says in cc);
+        numbers = λ post k p x i says to.
+            let same = full_cell (sym (of post i).1 ∙ says) in
+            let one : q ≡ p = one_server (sym (of post i).0 ∙ to) in
             let number_is = same.0 in
-            (apart state steady cell p n mine, omega arith);
-        declined = λ post k p q op i says leads is numbered.
-            let same = full_cell (sym (posted _ _ post i) ∙ says) in
-            let there : at cell_cmp (owns_of w p).pairs.pending cell ≡ Some op = ap (at cell_cmp (owns_of w p).pairs.pending) same.1 ∙ is in
-            let lead_is : one_told.0 ≡ p = same_some (sym (scene.below.firsts cell one_told.0 one_told.1) ∙ ap (first state) same.1 ∙ leads) in
-            now op.client op.seq (At_the_second p n cell op refl refl (one_told.1 ∙ ap Some lead_is) follows there refl refl
+            subst (λ j. (j ≢ n) × (k < (owns_of w j).pairs.next)) one (apart state steady cell q n mine, omega arith);
+        declined = λ post k p x op i says to is numbered.
+            let same = full_cell (sym (of post i).1 ∙ says) in
+            let one : q ≡ p = one_server (sym (of post i).0 ∙ to) in
+            let there : at cell_cmp (owns_of w q).pairs.pending cell ≡ Some op = (λ j. at cell_cmp (owns_of w (one j)).pairs.pending (same.1 j)) ∙ is in
+            now op.client op.seq (At_the_second q n cell op refl refl leads follows there refl refl
             (subst (λ j. hears (body.Reserve j cell)) (same.0 ∙ sym numbered) h) (subst (FoundNoSlot own cell) (same.0 ∙ sym numbered) no_room));
       }
-    where
-      full_cell : {a b : ℕ} {c d : Cell} → body.PairFull a c ≡ body.PairFull b d → (a ≡ b) × (c ≡ d)
-      full_cell {a} {b} {c} {d} e = (cc, cc)
 
   -- a job that leaves the server's own part
   speaks : (posts : List Post) → ((post : Post) → In post posts → is_full post.body ≡ false) → J own posts
-  speaks posts unsaid = still posts own refl refl refl unsaid
+  speaks posts unsaid = still S w n posts own refl refl refl unsaid
 
   talked : (done : Done) → done.own ≡ own → ((post : Post) → In post done.posts → is_full post.body ≡ false) → J done.own done.posts
   talked done same unsaid =
-      still done.posts done.own (ap (λ (o : Own). o.pairs.finished) same) (ap (λ (o : Own). o.pairs.pending) same) (ap (λ (o : Own). o.pairs.next) same) unsaid
+      still S w n done.posts done.own (ap (λ (o : Own). o.pairs.finished) same) (ap (λ (o : Own). o.pairs.pending) same) (ap (λ (o : Own). o.pairs.next) same) unsaid
 
   -- a pending operation goes on to its next stage
   restages_refuses : (done : Done) → Restages own done → J done.own done.posts
-  restages_refuses done r = quiet done.own done.posts (λ c last is how. inl (ap (λ t. at nat_cmp t c) (sym r.finished) ∙ is))
+  restages_refuses done r = quiet S w n done.own done.posts (λ c last is how. inl (ap (λ t. at nat_cmp t c) (sym r.finished) ∙ is))
       (λ cell op is. inl (r.was cell op is)) (let e = r.next in omega arith) (λ post i. absurd (r.silent post i))
 
-  lead_refuses : (done : Done) → DidLead hears here told own done → J done.own done.posts
+  -- a new operation is pending under the next number
+  opens_pending : (t : Table Cell Pending) (cell : Cell) (op : Pending) → ((q : Cell) → q ≢ cell → at cell_cmp t q ≡ at cell_cmp own.pairs.pending q)
+      → op.op ≡ own.pairs.next → (q : Cell) (o : Pending) → at cell_cmp (put cell_cmp t cell op) q ≡ Some o → Was own q o ⊎ (o.op ≡ own.pairs.next)
+  opens_pending t cell op others number q o is = elim (same_cell_or_apart q cell) [
+    | inl e ↦
+        let same : op ≡ o = same_some (sym (cell_same t cell op) ∙ ap (at cell_cmp (put cell_cmp t cell op)) (sym e) ∙ is) in
+        inr (sym (ap (λ (x : Pending). x.op) same) ∙ number)
+    | inr ne ↦ inl (was_same own q o (sym (others q ne) ∙ sym (cell_apart t cell op q ne) ∙ is))
+  ]
+
+  -- an operation is finished as written
+  closes_finished : (t : Table ℕ Finished) (op : Pending) → t ≡ own.pairs.finished → (c : ℕ) (last : Finished)
+      → at nat_cmp (put nat_cmp t op.client (record { seq = op.seq; ending = ending.Written })) c ≡ Some last → last.ending ≡ ending.Full
+      → (at nat_cmp own.pairs.finished c ≡ Some last) ⊎ S c last.seq
+  closes_finished t op same c last there how = elim (same_or_apart c op.client) [
+    | inl e ↦
+        let now_last : Finished = record { seq = op.seq; ending = ending.Written } in
+        let one : now_last ≡ last =
+        same_some (sym (at_same t op.client now_last) ∙ subst (λ i. at nat_cmp (put nat_cmp t op.client now_last) i ≡ Some last) e there) in
+        absurd (let f : ending.Written ≡ ending.Full = ap (λ (x : Finished). x.ending) one ∙ how in cc)
+    | inr ne ↦ inl (ap (λ u. at nat_cmp u c) (sym same) ∙ sym (at_apart t op.client _ c ne) ∙ there)
+  ]
+
+  lead_refuses : (done : Done) → DidLead hears here own done → J done.own done.posts
   unfolding In
-  lead_refuses _ (Asks_for posts h) = speaks _ (λ post i. asks_not_full here told own post (h post i))
+  lead_refuses _ (Asks_for posts h) = speaks _ (λ post i. asks_not_full here own post (h post i))
   lead_refuses _ (Repeats want last h lead is e) = repeats last.ending refl
     where
       repeats : (how : Ending) → last.ending ≡ how → J own (record { to = actor.Client want.client; body = ended want.seq how } ∷ [])
       repeats ending.Written f =
-          still (record { to = actor.Client want.client; body = body.Written want.seq } ∷ []) own refl refl refl
+          still S w n (record { to = actor.Client want.client; body = body.Written want.seq } ∷ []) own refl refl refl
           (λ post i. ap is_full (one_post (actor.Client want.client) (body.Written want.seq) post i).1)
       repeats ending.Full f = record {
         finished = λ c l there how. inl there;
         pending = λ cell op there. inl (was_same own cell op there);
         next = omega arith;
-        letters = one_full want.client want.seq (subst (S want.client) (sym e) (more want.client last.seq (refusals.finished n want.client last is f)));
+        letters = one_full want.client want.seq (subst (S want.client) (sym e) (more want.client last.seq (refusals.finished n want.client last runs is f)));
         numbers = λ post number p cell i says leads. absurd (let g : body.Full want.seq ≡ body.PairFull number cell = sym (one_post _ _ post i).1 ∙ says in cc);
         declined = λ post number p cell op i says leads there same. absurd
             (let g : body.Full want.seq ≡ body.PairFull number cell = sym (one_post _ _ post i).1 ∙ says in cc);
       }
-  lead_refuses _ (Is_full want h lead new none no_room) =
-      fills want.client want.seq _ (now want.client want.seq (At_the_lead n want.cell want.epoch want.bytes refl refl lead h new none no_room)) refl
+  lead_refuses _ (Is_full want new no_room) =
+      fills want.client want.seq _
+      (now want.client want.seq (At_the_lead n want.cell want.epoch want.bytes refl refl new.lead new.wanted new.newer new.none no_room)) refl
       (omega arith) (λ cell op is. inl (was_same own cell op is))
-  lead_refuses _ (Opens want h lead new none) =
-      let op = operation here own.pairs.next want in
-      quiet (opened here own want) (post_to (second here.state want.cell) (body.Reserve own.pairs.next want.cell)) (λ c last is how. inl is)
-      (λ cell o is. elim (same_cell_or_apart cell want.cell) [
-        | inl e ↦ inr (ap (λ (x : Pending). x.op)
-            (sym (same_some {x = op} (sym (cell_same own.pairs.pending want.cell op)
-            ∙ subst (λ (q : Cell). at cell_cmp (put cell_cmp own.pairs.pending want.cell op) q ≡ Some o) e is))))
-        | inr ne ↦ inl (was_same own cell o (sym (cell_apart own.pairs.pending want.cell op cell ne) ∙ is))
-      ]) (omega arith) (λ post i. ap is_full (posted (second here.state want.cell) (body.Reserve own.pairs.next want.cell) post i))
-  lead_refuses _ (Marks op h is stage) = restages_refuses _ (marked own op is)
-  lead_refuses _ (Puts op is stage) = restages_refuses _ (has_put own op is)
-  lead_refuses _ (Gives_up op h is stage) =
+  lead_refuses _ (Gives_up op h is reserved put) =
       fills op.client op.seq _ (declined_op op h is) refl (omega arith) (λ cell o there. inl (was_same own cell o (stood own.pairs.pending op.cell cell o there)))
-  lead_refuses _ (Unmarks op h is stage) = restages_refuses _ (unmarked own op is)
-  lead_refuses _ (Closes op is stage) =
-      quiet _ (record { to = actor.Client op.client; body = body.Written op.seq } ∷ [])
-      (λ c last there how. elim (same_or_apart c op.client) [
-        | inl e ↦
-            let now_last : Finished = record { seq = op.seq; ending = ending.Written } in
-            let same : now_last ≡ last =
-            same_some (sym (at_same own.pairs.finished op.client now_last)
-            ∙ subst (λ i. at nat_cmp (put nat_cmp own.pairs.finished op.client now_last) i ≡ Some last) e there) in
-            absurd (let f : ending.Written ≡ ending.Full = ap (λ (x : Finished). x.ending) same ∙ how in cc)
-        | inr ne ↦ inl (sym (at_apart own.pairs.finished op.client _ c ne) ∙ there)
-      ])
+  lead_refuses _ (Opens want new both) =
+      quiet S w n (opened here own want) (post_to (second here.state want.cell) (body.Reserve own.pairs.next want.cell)) (λ c last is how. inl is)
+      (opens_pending own.pairs.pending want.cell (operation here own.pairs.next want) (λ q ne. refl) refl) (omega arith)
+      (λ post i. ap is_full (posted (second here.state want.cell) (body.Reserve own.pairs.next want.cell) post i))
+  lead_refuses _ (Marks op h is both stage) = restages_refuses _ (marked own op is)
+  lead_refuses _ (Puts op is both stage) = restages_refuses _ (has_put own op is)
+  lead_refuses _ (Unmarks op h is both stage) = restages_refuses _ (unmarked own op is)
+  lead_refuses _ (Closes op is both stage) =
+      quiet S w n _ (record { to = actor.Client op.client; body = body.Written op.seq } ∷ []) (closes_finished own.pairs.finished op refl)
       (λ cell o there. inl (was_same own cell o (stood own.pairs.pending op.cell cell o there))) (omega arith)
       (λ post i. ap is_full (one_post (actor.Client op.client) (body.Written op.seq) post i).1)
+  lead_refuses _ (Opens_alone want new alone) =
+      let op = operation here own.pairs.next want in
+      quiet S w n _ [] (λ c last is how. inl is)
+      (opens_pending (put cell_cmp own.pairs.pending want.cell op) want.cell (with_mark_at op Stale true)
+      (λ q ne. cell_apart own.pairs.pending want.cell op q ne) refl) (omega arith) (λ post i. absurd i)
+  lead_refuses _ (Marks_alone now op taken alone fresh) = restages_refuses _ (marked_alone own now op taken)
+  lead_refuses _ (Puts_alone now op taken alone stale put) = restages_refuses _ (put_alone own now op taken)
+  lead_refuses _ (Unmarks_alone now op taken alone stale put busy) = restages_refuses _ (unmarked_alone own now op taken)
+  lead_refuses _ (Closes_alone now op taken alone stale put free) =
+      let t = taking own now op taken in
+      let e = t.next in
+      quiet S w n _ (record { to = actor.Client op.client; body = body.Written op.seq } ∷ []) (closes_finished now.pairs.finished op t.finished)
+      (λ cell o there. inl (was_before own now op taken cell o (stood now.pairs.pending op.cell cell o there))) (omega arith)
+      (λ post i. ap is_full (one_post (actor.Client op.client) (body.Written op.seq) post i).1)
 
-  second_refuses : (done : Done) → DidSecond hears here told own done → J done.own done.posts
-  second_refuses _ (Sets_apart number cell tickets h s le) = still _ _ refl refl refl (λ post i. tells_not_full here own cell number far.Reserved post i)
+  second_refuses : (done : Done) → DidSecond hears here own done → J done.own done.posts
+  second_refuses _ (Sets_apart number cell tickets h s le) = still S w n _ _ refl refl refl (λ post i. tells_not_full here own cell number far.Reserved post i)
   second_refuses _ (Promises number cell how s is) =
       talked (tells here own cell number how) (told_own here own cell number how) (λ post i. tells_not_full here own cell number how post i)
   second_refuses _ (Declines number cell h s no_room) = declines number cell h s no_room
   second_refuses _ (Follows number key version bytes h s is) =
-      still _ _ refl refl refl (λ post i. tells_not_full here own (cell_of key) number far.Replicated post i)
+      still S w n _ _ refl refl refl (λ post i. tells_not_full here own (cell_of key) number far.Replicated post i)
 
-  read_refuses : (done : Done) → DidRead hears here told own done → J done.own done.posts
-  read_refuses done d = let frame = of_read hears here told own done d in talked done frame.same (λ post i. ap is_full (frame.says post i).is)
+  read_refuses : (done : Done) → DidRead hears here own done → J done.own done.posts
+  read_refuses done d = let frame = of_read hears here own done d in talked done frame.same (λ post i. ap is_full (frame.says post i).is)
 
-  pub job_refuses : (done : Done) → Did hears here told own done → J done.own done.posts
+  pub job_refuses : (done : Done) → Did hears here own done → J done.own done.posts
   unfolding In
   job_refuses _ Ignores = speaks _ (λ post i. absurd i)
   job_refuses _ (Refuses to what is why) = speaks _ (λ post i. ap is_full (one_post to what post i).1 ∙ refusal_not_full what is)
@@ -299,16 +363,7 @@ module _ (R S : ℕ → ℕ → Type 0) (scene : Scene R S)
   job_refuses _ (By_second done d) = second_refuses done d
 
 -- a step that does nothing but ask once more
-pub idle_refuses : (S : ℕ → ℕ → Type 0) (setting : Setting) (told state : State) (w : World) (n : ℕ) (done : Done)
-    → IsIdle (own_place setting w n) told (owns_of w n) done
-    → JobRefuses S state w n done.own done.posts
-idle_refuses S setting told state w n done idle = subst (λ (h : Own). JobRefuses S state w n h done.posts) (sym idle.same) (record {
-  finished = λ c last is how. inl is;
-  pending = λ cell op is. inl (was_same (owns_of w n) cell op is);
-  next = omega arith;
-  letters = λ post c seq i to says. true_false (ap is_full says) (asks_not_full (own_place setting w n) told (owns_of w n) post (idle.asks post i));
-  numbers = λ post number p cell i says leads. true_false (ap is_full says)
-      (asks_not_full (own_place setting w n) told (owns_of w n) post (idle.asks post i));
-  declined = λ post number p cell op i says leads is same. true_false (ap is_full says)
-      (asks_not_full (own_place setting w n) told (owns_of w n) post (idle.asks post i));
-})
+pub idle_refuses : (S : ℕ → ℕ → Type 0) (setting : Setting) (w : World) (n : ℕ) (done : Done) → IsIdle (own_place setting w n) (owns_of w n) done
+    → JobRefuses S w n done.own done.posts
+idle_refuses S setting w n done idle = subst (λ (h : Own). JobRefuses S w n h done.posts) (sym idle.same)
+    (still S w n done.posts (owns_of w n) refl refl refl (λ post i. asks_not_full (own_place setting w n) (owns_of w n) post (idle.asks post i)))

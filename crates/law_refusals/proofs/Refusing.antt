@@ -1,7 +1,17 @@
 -- Over every legal history, each refusal has a reason.
-use Rattle.std.proofs.Common.{◌≡◌, ℕ, List, [], ◌∷◌, ◌++◌, Bool, true, false, Option, Some, None, refl, sym, ap, ◌∙◌, subst, inl, inr, append_assoc}
+use Rattle.std.proofs.Common.{◌≡◌, ℕ, List, [], ◌∷◌, ◌++◌, Bool, true, false, Option, Some, None, refl, sym, ap, ◌∙◌, subst, ◌⊎◌, inl, inr, append_assoc, arith}
+use Rattle.std.proofs.lemmas.List.{append-nil}
+use Rattle.std.specs.Prelude.{if◌then◌else◌, is_some, length, ◌==◌, map}
 use Rattle.std.specs.Ordering.{nat_cmp}
+use Rattle.petal_base.specs.declared.cell.Cell.{Cell}
+use Rattle.petal_command.specs.declared.command.Command.{Command}
+use Rattle.petal_table.specs.Table.{at}
 use Rattle.petal_table.proofs.Rows.{at-empty}
+use Rattle.global_tables.specs.declared.disk.Latest.{Latest}
+use Rattle.global_tables.specs.declared.disk.Verdict.{Verdict}
+use Rattle.global_tables.specs.declared.disk.Verdict.TheVariants as verdict
+use Rattle.petal_msg.specs.Kinds.{Answered, Paired, Logged, Glanced, is_refused, subject_of}
+use Rattle.petal_msg.specs.declared.body.Body.{Body}
 use Rattle.petal_msg.specs.declared.body.Body.TheVariants as body
 use Rattle.petal_msg.specs.declared.letter.Actor.{Actor}
 use Rattle.petal_msg.specs.declared.letter.Actor.TheVariants as actor
@@ -9,69 +19,70 @@ use Rattle.petal_msg.specs.declared.letter.Letter.{Letter}
 use Rattle.petal_msg.specs.declared.operation.Ending.TheVariants as ending
 use Rattle.script_lines.specs.declared.answer.Answer.{Answer}
 use Rattle.script_lines.specs.declared.answer.Answer.TheVariants as answer
+use Rattle.script_lines.specs.declared.request.Request.{Request}
+use Rattle.script_lines.specs.declared.request.Request.TheVariants as request
 use Rattle.script_lines.specs.declared.script.Script.{Script}
-use Rattle.petal_base.specs.declared.cell.Cell.{Cell}
-use Rattle.petal_command.specs.declared.command.Command.{Command}
-use Rattle.global_tables.specs.declared.disk.Latest.{Latest}
-use Rattle.global_tables.specs.declared.disk.Verdict.{Verdict}
-use Rattle.global_tables.specs.declared.disk.Verdict.TheVariants as verdict
-use Rattle.petal_history.specs.Claims.{IsPrefix}
 use Rattle.petal_state.specs.Command.{state_after}
 use Rattle.petal_state.specs.State.{latest}
 use Rattle.petal_state.specs.declared.answer.DiskView.{DiskView}
-use Rattle.script_lines.specs.declared.request.Request.{Request}
-use Rattle.script_lines.specs.declared.request.Request.TheVariants as request
-use Rattle.std.proofs.lemmas.List.{append-nil}
-use Rattle.std.specs.Prelude.{if◌then◌else◌, is_some, length, ◌==◌}
-use Rattle.petal_rules.specs.Lists.{In}
-use Rattle.petal_rules.specs.State.{State, find, lead}
-use Rattle.petal_rules.specs.Server.{sender, letters_of}
-use Rattle.petal_rules.specs.Jobs.{Acted}
+use Rattle.petal_rules.specs.Ballots.{post_of}
 use Rattle.petal_rules.specs.Clients.{Asked, Reaction, client_sender, cell_on, epoch_for, readers, refusal, read_refusal, read_refusal_at, write_refusal, verdict_answer, verdict_for}
-use Rattle.petal_rules.specs.World.{Setting, World, acts, reacts, step, stamped, start, setting_of, client_step, client_state, chosen_log, chosen_state, next_line, MayActor}
+use Rattle.petal_rules.specs.Crossing.{crossed}
+use Rattle.petal_rules.specs.Jobs.{Acted, down_posts}
+use Rattle.petal_rules.specs.Lists.{In}
+use Rattle.petal_rules.specs.Log.{Log}
+use Rattle.petal_rules.specs.Server.{Server, Done, Post, Sender, silent, sender, letters_of}
+use Rattle.petal_rules.specs.State.{State, find, lead, servers_of}
+use Rattle.petal_rules.specs.Store.{cell_cmp}
+use Rattle.petal_rules.specs.World.{Setting, World, reacts, step, stamped, start, setting_of, client_step, client_state, server_state, chosen_log, chosen_state, next_line, MayActor}
+use Rattle.petal_rules.specs.declared.job.Job.{Job}
 use Rattle.petal_rules.specs.declared.step.Step.{Step}
+use Rattle.petal_rules.specs.declared.step.Step.TheVariants.{Work}
+use Rattle.petal_rules.specs.declared.step.WorkEnd.TheVariants as work_end
 use Rattle.petal_rules.proofs.ListLemmas.{in-append}
+use Rattle.petal_rules.proofs.Tests.{same_some, none_some, true_false, by_test}
+use Rattle.petal_history.specs.Claims.{IsPrefix}
 use Rattle.petal_history.specs.Legal.{Follows, IsLegal, IsLegalFrom, stepped, world_after}
 use Rattle.petal_history.specs.Sound.{IsSound}
 use Rattle.petal_history.specs.declared.record.Record.{Record}
 use Rattle.law_state.specs.Below.{IsBelow}
 use Rattle.law_state.specs.Firm.{Firm}
 use Rattle.law_state.specs.Steady.{IsSteady}
-use Rattle.law_steps.specs.Happens.{Heard, Handled, own_place}
-use Rattle.law_steps.specs.Turned.{Turned, Goes_on, Begins, Reads, Ends, Judges, IsReason, By_verdict, By_witness}
+use Rattle.law_steps.specs.Happens.{Heard, Handled, IsIdle, Worked, By_job, By_entry, Serving, Goes as Serves_on, Ends as Stops_so, Stays, own_place, without_rev, served_so, stopped_so, shown_so}
 use Rattle.law_steps.specs.Ready.{AreFirm, Ready, Rests}
+use Rattle.law_steps.specs.Turned.{Turned, Goes_on, Begins, Reads, Ends, Shown, Judges, IsReason, By_verdict, By_witness}
 use Rattle.law_steps.proofs.Fronts.{below_itself, below_on}
-use Rattle.law_steps.proofs.Histories.{own_steady, chosen_steady, chosen_below, ready_at, rests_next, happens, serves_at, firm_now, front_legal, front_firm, world_more, start_rests}
+use Rattle.law_steps.proofs.Histories.{own_steady, chosen_steady, chosen_below, rests_next, happens, firm_now, front_legal, front_firm, world_more, start_rests}
 use Rattle.law_steps.proofs.Letters.{said}
+use Rattle.law_steps.proofs.Restages.{was_same}
 use Rattle.law_steps.proofs.Sending.{is_ask, turned_asks}
 use Rattle.law_steps.proofs.Serving.{server_serves}
 use Rattle.law_steps.proofs.Turning.{client_turns, is_call}
-use Rattle.petal_rules.proofs.Tests.{same_some, none_some, true_false, by_test}
-use Rattle.law_copies.specs.Pair.{Good}
+use Rattle.law_copies.specs.Pair.{Good, owns_of}
 use Rattle.law_copies.proofs.Copying.{happens_good, start_good}
 use Rattle.law_refusals.specs.Reasons.{HadNoSlot, WasRefused, HasReason, FoundBusy, Refusals}
-use Rattle.law_refusals.proofs.Jobs.{job_refuses, idle_refuses}
-use Rattle.law_refusals.proofs.Busy.{did_busy}
-use Rattle.law_refusals.proofs.Frames.{Scene, job_refusals}
+use Rattle.law_refusals.proofs.Busy.{did_busy, is_busy, not_refused}
+use Rattle.law_refusals.proofs.Frames.{StepRefuses, step_refusals}
+use Rattle.law_refusals.proofs.Jobs.{JobRefuses, Scene, is_full, still, job_refuses, idle_refuses}
 
 -- ### Steps
 
-turn_refusals : (R S : ℕ → ℕ → Type 0) (setting : Setting) (state : State) (w : World) (c stamp : ℕ) (in_call : Bool) (reacted : Reaction)
-    → ((c seq : ℕ) → R c seq → S c seq) → Refusals R state w
-    → Turned (Heard w (actor.Client c)) setting.servers setting.lines c (w.clients c) in_call reacted → Refusals S state (reacts w c stamp reacted).world
-turn_refusals R S setting state w c stamp in_call reacted more refusals turned = record {
+turn_refusals : (R S : ℕ → ℕ → Type 0) (setting : Setting) (w : World) (c stamp : ℕ) (in_call : Bool) (reacted : Reaction)
+    → ((c seq : ℕ) → R c seq → S c seq) → Refusals R w
+    → Turned (Heard w (actor.Client c)) setting.servers setting.lines c (w.clients c) in_call reacted → Refusals S (reacts w c stamp reacted).world
+turn_refusals R S setting w c stamp in_call reacted more refusals turned = record {
   letters = λ letter j seq h to says. elim (in-append letter _ w.sent h) [
     | inl new ↦ true_false (asks letter new) (ap is_ask says)
     | inr old ↦ more j seq (refusals.letters letter j seq old to says)
   ];
-  finished = λ n j last is how. more j last.seq (refusals.finished n j last is how);
-  numbers = λ letter number n cell h says leads. elim (in-append letter _ w.sent h) [
+  finished = λ n j last runs is how. more j last.seq (refusals.finished n j last runs is how);
+  numbers = λ letter number n cell h says to. elim (in-append letter _ w.sent h) [
     | inl new ↦ true_false (asks letter new) (ap is_ask says)
-    | inr old ↦ refusals.numbers letter number n cell old says leads
+    | inr old ↦ refusals.numbers letter number n cell old says to
   ];
-  declined = λ letter number n cell op h says leads is same. elim (in-append letter _ w.sent h) [
+  declined = λ letter number n cell op h says to is same. elim (in-append letter _ w.sent h) [
     | inl new ↦ true_false (asks letter new) (ap is_ask says)
-    | inr old ↦ more op.client op.seq (refusals.declined letter number n cell op old says leads is same)
+    | inr old ↦ more op.client op.seq (refusals.declined letter number n cell op old says to is same)
   ];
 }
   where
@@ -80,38 +91,142 @@ turn_refusals R S setting state w c stamp in_call reacted more refusals turned =
         let s = said (client_sender c reacted.client) stamp 0 reacted.posts letter h in ap is_ask s.body
         ∙ turned_asks _ setting.servers setting.lines c (w.clients c) in_call reacted turned s.post s.there
 
+all_down : (me inc : ℕ) (others : List ℕ) (post : Post) → In post (map (post_of (body.Down me inc)) others) → is_full post.body ≡ false
+unfolding In
+all_down me inc [] post h = absurd h
+all_down me inc (n ∷ others) post (inl e) = ap (λ (p : Post). is_full p.body) e
+all_down me inc (n ∷ others) post (inr h) = all_down me inc others post h
+
+glanced_not_full : (said : Body) → subject_of said ≡ Glanced → is_full said ≡ false
+glanced_not_full (body.Full seq) e = absurd (let f : Answered ≡ Glanced = e in cc)
+glanced_not_full (body.PairFull number cell) e = absurd (let f : Paired ≡ Glanced = e in cc)
+glanced_not_full _ e = refl
+
+module _ (R S : ℕ → ℕ → Type 0) (setting : Setting) (w : World) (firm : Firm setting w) (ready : Ready setting (chosen_state setting w) w)
+    (good : Good setting (chosen_state setting w) w) (more : (c seq : ℕ) → R c seq → S c seq) (refusals : Refusals R w) (n stamp : ℕ) where
+  abbrev scene : (T : ℕ → ℕ → Type 0) → ((c seq : ℕ) → R c seq → T c seq) → (w.servers n).life.running ≡ true → Scene R T
+  scene T implied runs = record {
+    setting = setting;
+    state = chosen_state setting w;
+    steady = chosen_steady setting w firm;
+    w = w;
+    ready = ready;
+    good = good;
+    n = n;
+    runs = runs;
+    more = implied;
+    refusals = refusals;
+  }
+
+  -- letters that tell of no want of slots
+  module _ (acted : Acted) (who : Sender) (posts : List Post) (letters : acted.letters ≡ letters_of who 0 posts) where
+    post_in : (letter : Letter) → In letter (stamped stamp acted.letters) → In letter (stamped stamp (letters_of who 0 posts))
+    post_in letter h = subst (λ ls. In letter (stamped stamp ls)) letters h
+
+    of_job : (w.servers n).life.running ≡ true → JobRefuses S w n acted.server.own posts → StepRefuses S w n stamp acted
+    of_job runs job = record {
+      finished = λ c last on is how. elim (job.finished c last is how) [
+        | inl was ↦ more c last.seq (refusals.finished n c last runs was how)
+        | inr now ↦ now
+      ];
+      pending = job.pending;
+      next = job.next;
+      letters = λ letter c seq h to says.
+          let s = said who stamp 0 posts letter (post_in letter h) in
+          job.letters s.post c seq s.there (sym s.to ∙ to) (sym s.body ∙ says);
+      numbers = λ letter number p cell h says to.
+          let s = said who stamp 0 posts letter (post_in letter h) in
+          job.numbers s.post number p cell s.there (sym s.body ∙ says) (sym s.to ∙ to);
+      declined = λ letter number p cell op h says to is same.
+          let s = said who stamp 0 posts letter (post_in letter h) in
+          job.declined s.post number p cell op s.there (sym s.body ∙ says) (sym s.to ∙ to) is same;
+    }
+
+    module _ (unsaid : (post : Post) → In post posts → is_full post.body ≡ false) where
+      no_full : (letter : Letter) → In letter (stamped stamp acted.letters) → is_full letter.body ≡ false
+      no_full letter h = let s = said who stamp 0 posts letter (post_in letter h) in ap is_full s.body ∙ unsaid s.post s.there
+
+      -- the server stops: what it remembered is lost
+      of_end : acted.server.life.running ≡ false → (T : ℕ → ℕ → Type 0) (said_so : List Post) → JobRefuses T w n acted.server.own said_so
+          → StepRefuses S w n stamp acted
+      of_end stopped T said_so job = record {
+        finished = λ c last on is how. true_false on stopped;
+        pending = job.pending;
+        next = job.next;
+        letters = λ letter c seq h to says. true_false (ap is_full says) (no_full letter h);
+        numbers = λ letter number p cell h says to. true_false (ap is_full says) (no_full letter h);
+        declined = λ letter number p cell op h says to is same. true_false (ap is_full says) (no_full letter h);
+      }
+
+      of_still : acted.server ≡ w.servers n → StepRefuses S w n stamp acted
+      of_still same = record {
+        finished = λ c last on is how. more c last.seq (refusals.finished n c last (sym (ap (λ (x : Server). x.life.running) same) ∙ on)
+            (ap (λ (x : Server). at nat_cmp x.own.pairs.finished c) (sym same) ∙ is) how);
+        pending = λ cell op is. inl (was_same (owns_of w n) cell op (ap (λ (x : Server). at cell_cmp x.own.pairs.pending cell) (sym same) ∙ is));
+        next = let e : acted.server.own.pairs.next ≡ (owns_of w n).pairs.next = ap (λ (x : Server). x.own.pairs.next) same in omega arith;
+        letters = λ letter c seq h to says. true_false (ap is_full says) (no_full letter h);
+        numbers = λ letter number p cell h says to. true_false (ap is_full says) (no_full letter h);
+        declined = λ letter number p cell op h says to is same. true_false (ap is_full says) (no_full letter h);
+      }
+
+  -- of a job whose letters are not sent nothing has to be told
+  abbrev Any : ℕ → ℕ → Type 0
+  Any c seq = Unit {0}
+
+  -- what an applied entry leaves
+  entry_refuses : (state : State) (entry : Command) → JobRefuses S w n (crossed state entry (owns_of w n)) []
+  unfolding In
+  entry_refuses state entry = still S w n [] (crossed state entry (owns_of w n)) refl refl refl (λ post i. absurd i)
+
+  module _ (what : Step) (now : (c seq : ℕ) → HadNoSlot setting w (actor.Server n) what c seq → S c seq) where
+    now_work : what ≡ Work work_end.Done → (c seq : ℕ) → HadNoSlot setting w (actor.Server n) (Work work_end.Done) c seq → S c seq
+    now_work works c seq h = now c seq (subst (λ x. HadNoSlot setting w (actor.Server n) x c seq) (sym works) h)
+
+    goes_refuse : (log : Log) (done : Done) (queue : List Job) → (w.servers n).life.running ≡ true → Worked setting w n log done
+        → (what ≡ Work work_end.Done) ⊎ IsIdle (own_place setting w n) (owns_of w n) done
+        → StepRefuses S w n stamp (served_so setting w n log done queue)
+    goes_refuse _ _ queue runs (By_job log done same did) (inl works) =
+        of_job (served_so setting w n log done queue) (sender (own_place setting w n)) done.posts refl runs
+        (job_refuses R S (scene S more runs) (now_work works) done did)
+    goes_refuse _ _ queue runs (By_job log done same did) (inr idle) =
+        of_job (served_so setting w n log done queue) (sender (own_place setting w n)) done.posts refl runs (idle_refuses S setting w n done idle)
+    goes_refuse _ _ queue runs (By_entry log entry plus front) works =
+        of_job (served_so setting w n log (silent (crossed (server_state setting w n) entry (owns_of w n))) queue) (sender (own_place setting w n)) [] refl runs
+        (entry_refuses (server_state setting w n) entry)
+
+    abbrev downs : List Post
+    downs = down_posts n (w.servers n).life.inc (servers_of (server_state setting w n))
+
+    downs_not_full : (post : Post) → In post downs → is_full post.body ≡ false
+    downs_not_full post h = all_down n (w.servers n).life.inc _ post h
+
+    ends_refuse : (log : Log) (done : Done) → (w.servers n).life.running ≡ true → Worked setting w n log done
+        → StepRefuses S w n stamp (stopped_so setting w n log done)
+    ends_refuse _ _ runs (By_job log done same did) =
+        of_end (stopped_so setting w n log done) (without_rev (own_place setting w n)) downs refl downs_not_full refl Any done.posts
+        (job_refuses R Any (scene Any (λ c seq r. tt) runs) (λ c seq h. tt) done did)
+    ends_refuse _ _ runs (By_entry log entry plus front) =
+        of_end (stopped_so setting w n log (silent (crossed (server_state setting w n) entry (owns_of w n)))) (without_rev (own_place setting w n)) downs refl
+        downs_not_full refl S [] (entry_refuses (server_state setting w n) entry)
+
+    serves_refuse : (acted : Acted) → Serving setting w n what acted → StepRefuses S w n stamp acted
+    serves_refuse _ (Serves_on log done queue runs worked queued works) = goes_refuse log done queue runs worked works
+    serves_refuse _ (Stops_so log done runs worked) = ends_refuse log done runs worked
+    serves_refuse _ (Stays who posts from shown) =
+        of_still (shown_so w n who posts) who posts refl (λ post i. glanced_not_full post.body (shown post i)) refl
+
 module _ (setting : Setting) where
-  step_refusals : (R S : ℕ → ℕ → Type 0) (w : World) → Firm setting w → Rests setting w → (state : State) → IsSteady state
-      → IsBelow (chosen_state setting w) state → Ready state w → Good state w → (who : Actor) (what : Step) (stamp : ℕ) → MayActor who what setting w
-      → ((c seq : ℕ) → R c seq → S c seq) → ((c seq : ℕ) → HadNoSlot (chosen_state setting w) w who what c seq → S c seq)
-      → Refusals R state w → Refusals S state (step who what setting w stamp).world
+  step_kept : (R S : ℕ → ℕ → Type 0) (w : World) → Firm setting w → Ready setting (chosen_state setting w) w → Good setting (chosen_state setting w) w
+      → (who : Actor) (what : Step) (stamp : ℕ) → MayActor who what setting w → Firm setting (step who what setting w stamp).world
+      → ((c seq : ℕ) → R c seq → S c seq) → ((c seq : ℕ) → HadNoSlot setting w who what c seq → S c seq)
+      → Refusals R w → Refusals S (step who what setting w stamp).world
   unfolding step
-  step_refusals R S w firm rests state steady below ready good (actor.Server n) what stamp may more now refusals =
-      let told = chosen_state setting w in
-      let told_steady = chosen_steady setting w firm in
-      let scene : Scene R S = record {
-        setting = setting;
-        state = state;
-        steady = steady;
-        told = told;
-        told_steady = told_steady;
-        below = below;
-        w = w;
-        ready = ready;
-        good = good;
-        n = n;
-        more = more;
-        refusals = refusals;
-      } in
-      let s = serves_at setting w firm told told_steady (below_itself told) n what _
-      (server_serves setting w rests n (own_steady setting w firm n) what may.1) in
-      subst (λ (x : Acted). Refusals S state (acts w n stamp x).world) (sym s.is)
-      (job_refusals R S scene stamp s.log s.done s.queue (elim s.works [
-        | inl works ↦ job_refuses R S scene (λ c seq h. now c seq (subst (λ x. HadNoSlot told w (actor.Server n) x c seq) (sym works) h)) s.done s.did
-        | inr idle ↦ idle_refuses S setting told state w n s.done idle
-      ]))
-  step_refusals R S w firm rests state steady below ready good (actor.Client c) what stamp may more now refusals =
-      turn_refusals R S setting state w c stamp (is_call what)
+  step_kept R S w firm ready good (actor.Server n) what stamp may later more now refusals =
+      step_refusals R S w more refusals n stamp what _
+      (serves_refuse R S setting w firm ready good more refusals n stamp what now _
+      (server_serves setting w ready.rests n (own_steady setting w firm n) stamp what may.1 later))
+  step_kept R S w firm ready good (actor.Client c) what stamp may later more now refusals =
+      turn_refusals R S setting w c stamp (is_call what)
       (client_step what (client_state setting w c) c (w.clients c) (next_line setting.lines c (w.clients c))) more refusals
       (client_turns setting w c what may.1).turned
 
@@ -129,7 +244,7 @@ module _ (setting : Setting) where
     reason = r.reason;
   }
 
-  refused_now : (done : List Record) (own : Record) (c seq : ℕ) → HadNoSlot (chosen_state setting (W done)) (W done) own.actor own.step c seq
+  refused_now : (done : List Record) (own : Record) (c seq : ℕ) → HadNoSlot setting (W done) own.actor own.step c seq
       → WasRefused setting (done ++ own ∷ []) c seq
   refused_now done own c seq h = record { front = done; own = own; behind = []; lies = refl; reason = h }
 
@@ -139,8 +254,8 @@ module _ (setting : Setting) where
 
   pub record Kept (done : List Record) : Type 0 where
     pub rests : Rests setting (W done)
-    pub good : Above Good (W done)
-    pub refusals : Above (Refusals (WasRefused setting done)) (W done)
+    pub good : Above (Good setting) (W done)
+    pub refusals : Refusals (WasRefused setting done) (W done)
 
   kept_more : (done : List Record) (own : Record) → Kept done → Firm setting (W done) → Firm setting (stepped setting (W done) own).world
       → IsPrefix (chosen_log setting (W done)) (chosen_log setting (stepped setting (W done) own).world) → Follows setting (W done) own
@@ -149,18 +264,19 @@ module _ (setting : Setting) where
       let w = W done in
       let v = (stepped setting w own).world in
       let up = λ (state : State) (below : IsBelow (chosen_state setting v) state). below_on _ _ _ (chosen_below setting w v later grows) below in
-      let ready = λ (state : State) (steady : IsSteady state) (below : IsBelow (chosen_state setting v) state).
-      ready_at setting w firm kept.rests state steady (up state below) in
+      let ready = λ (state : State) (below : IsBelow (chosen_state setting w) state).
+      let r : Ready setting state w = record { rests = kept.rests; firm = firm; below = below } in r in
       let e = sym (world_more setting (start setting) done own) in
+      let now = below_itself (chosen_state setting w) in
       record {
         rests = subst (Rests setting) e (rests_next setting w own kept.rests firm follows later);
-        good = subst (Above Good) e (λ state steady below.
-            happens_good setting state steady w v (ready state steady below) (kept.good state steady (up state below))
-            (happens setting w own kept.rests firm follows later grows state steady below));
-        refusals = subst (Above (Refusals (WasRefused setting (done ++ own ∷ [])))) e (λ state steady below.
-            step_refusals (WasRefused setting done) (WasRefused setting (done ++ own ∷ [])) w firm kept.rests state steady (up state below)
-            (ready state steady below) (kept.good state steady (up state below)) own.actor own.step own.stamp follows.may.may (refused_more done own)
-            (refused_now done own) (kept.refusals state steady (up state below)));
+        good = subst (Above (Good setting)) e (λ state steady below.
+            happens_good setting state steady w v (ready state (up state below)) (kept.good state steady (up state below))
+            (happens setting w own kept.rests firm follows later state below));
+        refusals = subst (Refusals (WasRefused setting (done ++ own ∷ []))) e
+            (step_kept (WasRefused setting done) (WasRefused setting (done ++ own ∷ [])) w firm (ready (chosen_state setting w) now)
+            (kept.good (chosen_state setting w) (chosen_steady setting w firm) now) own.actor own.step own.stamp follows.may.may later (refused_more done own)
+            (refused_now done own) kept.refusals);
       }
 
   kept_all : (done later : List Record) → Kept done → AreFirm setting (W done) later → IsLegalFrom setting (W done) later → Kept (done ++ later)
@@ -192,7 +308,7 @@ module _ (setting : Setting) where
     asked : Asked
     is : (w.clients c).asked ≡ Some asked
     line : asked.line ≡ number
-    heard : Heard w (actor.Client c) (body.Full asked.seq)
+    heard : Heard w (actor.Client c) asked.rev (body.Full asked.seq)
 
   -- a state that can't serve a request tells of no want of slots, and no verdict does
   verdict_spaced : (o : Option Latest) (seq : ℕ) → verdict_for seq o ≡ Some answer.NoSpace → ⊥
@@ -244,6 +360,7 @@ module _ (setting : Setting) where
   heard_full w c _ _ (Reads asked bytes h is reads) number e = absurd (let g : answer.Data bytes ≡ answer.NoSpace = (answer_is e).1 in cc)
   heard_full w c _ _ (Ends asked ending.Written h is writes) number e = absurd (let g : answer.Ok ≡ answer.NoSpace = (answer_is e).1 in cc)
   heard_full w c _ _ (Ends asked ending.Full h is writes) number e = record { asked = asked; is = is; line = (answer_is e).0; heard = h }
+  heard_full w c _ _ (Shown asked rev round inc running full h is stops) number e = absurd (let g : answer.Ok ≡ answer.NoSpace = (answer_is e).1 in cc)
   heard_full w c _ _ (Judges after asked given is gone seq judged) number e =
       let at = state_after setting.servers (judged.front ++ judged.entry ∷ []) in
       absurd (reason_spaced c asked at judged.entry (subst (λ (x : Answer). IsReason c asked x at judged.entry) (answer_is e).1 judged.reason))
@@ -271,28 +388,49 @@ module _ (setting : Setting) where
       let h = answer_heard (W front) own.actor own.step own.stamp c number who follows.may.may (sym follows.answer ∙ given) in
       record {
         opened = record { asked = h.asked; is = h.is; number = h.line };
-        refused = (kept.refusals (chosen_state setting (W front)) (chosen_steady setting (W front) (firm_now setting (W front) (own ∷ []) firms.1))
-            (below_itself _)).letters h.heard.letter c h.asked.seq h.heard.sent h.heard.own h.heard.is;
+        refused = kept.refusals.letters h.heard.letter c h.asked.seq h.heard.sent h.heard.own h.heard.is;
       }
 
   -- ### A busy block
 
   -- a server that says so found it
-  busy_step : (w : World) → Firm setting w → Rests setting w → (who : Actor) (what : Step) (stamp : ℕ) → MayActor who what setting w
-      → (letter : Letter) (seq : ℕ) → In letter (step who what setting w stamp).letters → letter.body ≡ body.BlockBusy seq → FoundBusy setting w who seq
-  unfolding step
-  busy_step w firm rests (actor.Server n) what stamp may letter seq h says =
-      let told = chosen_state setting w in
-      let s = serves_at setting w firm told (chosen_steady setting w firm) (below_itself told) n what _
-      (server_serves setting w rests n (own_steady setting w firm n) what may.1) in
-      let sent = said (sender (own_place setting w n)) stamp 0 s.done.posts letter
-      (subst (λ (x : Acted). In letter (stamped stamp x.letters)) s.is h) in
+  no_posts : (post : Post) → In post [] → ⊥
+  unfolding In
+  no_posts post i = i
+
+  all_logged : (me inc : ℕ) (others : List ℕ) (post : Post) → In post (map (post_of (body.Down me inc)) others) → subject_of post.body ≡ Logged
+  unfolding In
+  all_logged me inc [] post i = absurd i
+  all_logged me inc (k ∷ others) post (inl e) = ap (λ (p : Post). subject_of p.body) e
+  all_logged me inc (k ∷ others) post (inr i) = all_logged me inc others post i
+
+  serves_busy : (w : World) (n stamp : ℕ) (what : Step) (acted : Acted) → Serving setting w n what acted → (letter : Letter) (seq : ℕ)
+      → In letter (stamped stamp acted.letters) → letter.body ≡ body.BlockBusy seq → FoundBusy setting w (actor.Server n) seq
+  serves_busy w n stamp what _ (Serves_on _ _ queue runs (By_job log done same did) queued works) letter seq h says =
+      let sent = said (sender (own_place setting w n)) stamp 0 done.posts letter h in
       record {
         server = n;
         is = refl;
-        busy = did_busy (Handled w n) (own_place setting w n) told (w.servers n).own s.done s.did sent.post seq sent.there (sym sent.body ∙ says);
+        busy = did_busy (Handled w n) (own_place setting w n) (w.servers n).own done did sent.post seq sent.there (sym sent.body ∙ says);
       }
-  busy_step w firm rests (actor.Client c) what stamp may letter seq h says =
+  serves_busy w n stamp what _ (Serves_on _ _ queue runs (By_entry log entry plus front) queued works) letter seq h says =
+      let sent = said (sender (own_place setting w n)) stamp 0 [] letter h in absurd (no_posts sent.post sent.there)
+  serves_busy w n stamp what _ (Stops_so log done runs worked) letter seq h says =
+      let sent = said (without_rev (own_place setting w n)) stamp 0
+      (down_posts n (w.servers n).life.inc (servers_of (server_state setting w n))) letter h in
+      true_false (ap is_busy (sym sent.body ∙ says)) (not_refused sent.post.body
+      (ap is_refused (all_logged n (w.servers n).life.inc _ sent.post sent.there)))
+  serves_busy w n stamp what _ (Stays who posts from shown) letter seq h says =
+      let sent = said who stamp 0 posts letter h in
+      true_false (ap is_busy (sym sent.body ∙ says)) (not_refused sent.post.body (ap is_refused (shown sent.post sent.there)))
+
+  busy_step : (w : World) → Firm setting w → Rests setting w → (who : Actor) (what : Step) (stamp : ℕ) → MayActor who what setting w
+      → Firm setting (step who what setting w stamp).world
+      → (letter : Letter) (seq : ℕ) → In letter (step who what setting w stamp).letters → letter.body ≡ body.BlockBusy seq → FoundBusy setting w who seq
+  unfolding step
+  busy_step w firm rests (actor.Server n) what stamp may later letter seq h says =
+      serves_busy w n stamp what _ (server_serves setting w rests n (own_steady setting w firm n) stamp what may.1 later) letter seq h says
+  busy_step w firm rests (actor.Client c) what stamp may later letter seq h says =
       let reacted = client_step what (client_state setting w c) c (w.clients c) (next_line setting.lines c (w.clients c)) in
       let s = said (client_sender c reacted.client) stamp 0 reacted.posts letter h in
       true_false (ap is_ask s.body ∙ turned_asks _ setting.servers setting.lines c (w.clients c) (is_call what) reacted
@@ -306,25 +444,25 @@ module _ (setting : Setting) where
       let firms = front_firm setting (start setting) front (own ∷ []) firm in
       let kept = kept_from begun front firms.0 parts.0 in
       let follows = parts.1.0 in
-      busy_step (W front) (firm_now setting (W front) (own ∷ []) firms.1) kept.rests own.actor own.step own.stamp follows.may.may letter seq
+      busy_step (W front) (firm_now setting (W front) (own ∷ []) firms.1) kept.rests own.actor own.step own.stamp follows.may.may firms.1.2 letter seq
       (subst (In letter) follows.sent h) says
 
 -- ### From the start
 
-start_refusals : (R : ℕ → ℕ → Type 0) (state : State) (script : Script) → Refusals R state (start (setting_of script))
+start_refusals : (R : ℕ → ℕ → Type 0) (script : Script) → Refusals R (start (setting_of script))
 unfolding In
-start_refusals R state script = record {
+start_refusals R script = record {
   letters = λ letter c seq h to says. absurd h;
-  finished = λ n c last is how. none_some (at-empty nat_cmp c) is;
-  numbers = λ letter number n cell h says leads. absurd h;
-  declined = λ letter number n cell op h says leads is same. absurd h;
+  finished = λ n c last runs is how. none_some (at-empty nat_cmp c) is;
+  numbers = λ letter number n cell h says to. absurd h;
+  declined = λ letter number n cell op h says to is same. absurd h;
 }
 
 start_kept : (script : Script) → Kept (setting_of script) []
 start_kept script = record {
   rests = start_rests script;
   good = λ state steady below. start_good state script;
-  refusals = λ state steady below. start_refusals (WasRefused (setting_of script) []) state script;
+  refusals = start_refusals (WasRefused (setting_of script) []) script;
 }
 
 pub no_space_reason : (script : Script) (front : List Record) (own : Record) → IsSound script

@@ -11,11 +11,11 @@ use Rattle.petal_msg.specs.declared.operation.Ending.TheVariants as ending
 use Rattle.petal_msg.specs.declared.operation.Finished.{Finished}
 use Rattle.petal_msg.specs.declared.operation.Pending.{Pending}
 use Rattle.petal_rules.specs.Lists.{In}
-use Rattle.petal_rules.specs.State.{State, first, second, is_lead}
+use Rattle.petal_rules.specs.State.{first, second, is_lead}
 use Rattle.petal_rules.specs.Store.{cell_cmp, free_of}
 use Rattle.petal_rules.specs.Writes.{pending_on}
 use Rattle.petal_rules.specs.Clients.{Asked}
-use Rattle.petal_rules.specs.World.{Setting, World, chosen_state, start}
+use Rattle.petal_rules.specs.World.{Setting, World, start, server_state}
 use Rattle.petal_rules.specs.declared.step.Step.{Step}
 use Rattle.petal_rules.specs.declared.step.Step.TheVariants.{Work}
 use Rattle.petal_rules.specs.declared.step.WorkEnd.TheVariants as work_end
@@ -28,17 +28,19 @@ use Rattle.law_steps.specs.Happens.{Handled, own_place}
 
 -- ### No slot
 
--- the actor's job refused this request since there was no slot. At the cell's lead the request is newer than what the lead has
--- finished for its client, nothing is pending on the cell, and no slot is free. At the second server the operation of the
--- request, which is pending at the lead, is newer than the last one on the cell, of which no slot is left over, and none is free
-pub data HadNoSlot (state : State) (w : World) (who : Actor) (what : Step) (client seq : ℕ) : Type 0 where
-  At_the_lead : (n : ℕ) (cell : Cell) (epoch : ℕ) (bytes : List ℕ) → who ≡ actor.Server n → what ≡ Work work_end.Done → is_lead state n cell ≡ true
-      → Handled w n (body.Write client seq cell epoch bytes)
+-- the server's job refused this request since there was no slot. At the cell's lead, by its own state, the request is newer than
+-- what the lead has finished for its client, nothing is pending on the cell, and no slot is free. At the second server, by its
+-- own state, the operation of the request, which is pending at the first one, also where that has stopped, is newer than the
+-- last one on the cell, of which no slot is left over, and none is free
+pub data HadNoSlot (setting : Setting) (w : World) (who : Actor) (what : Step) (client seq : ℕ) : Type 0 where
+  At_the_lead : (n : ℕ) (cell : Cell) (epoch : ℕ) (bytes : List ℕ) → who ≡ actor.Server n → what ≡ Work work_end.Done
+      → is_lead (server_state setting w n) n cell ≡ true → Handled w n (body.Write client seq cell epoch bytes)
       → done_to (at nat_cmp (w.servers n).own.pairs.finished client) ≤ seq → pending_on (w.servers n).own cell ≡ None
-      → free_of (w.servers n).own.store ≡ 0 → HadNoSlot state w who what client seq
-  At_the_second : (n m : ℕ) (cell : Cell) (op : Pending) → who ≡ actor.Server m → what ≡ Work work_end.Done → first state cell ≡ Some n
-      → second state cell ≡ Some m → at cell_cmp (w.servers n).own.pairs.pending cell ≡ Some op → op.client ≡ client → op.seq ≡ seq
-      → Handled w m (body.Reserve op.op cell) → FoundNoSlot (w.servers m).own cell op.op → HadNoSlot state w who what client seq
+      → free_of (w.servers n).own.store ≡ 0 → HadNoSlot setting w who what client seq
+  At_the_second : (n m : ℕ) (cell : Cell) (op : Pending) → who ≡ actor.Server m → what ≡ Work work_end.Done
+      → first (server_state setting w m) cell ≡ Some n → second (server_state setting w m) cell ≡ Some m
+      → at cell_cmp (w.servers n).own.pairs.pending cell ≡ Some op → op.client ≡ client → op.seq ≡ seq
+      → Handled w m (body.Reserve op.op cell) → FoundNoSlot (w.servers m).own cell op.op → HadNoSlot setting w who what client seq
 
 -- one of these records tells of such a step
 pub record WasRefused (setting : Setting) (records : List Record) (client seq : ℕ) : Type 0 where
@@ -46,8 +48,7 @@ pub record WasRefused (setting : Setting) (records : List Record) (client seq : 
   pub own : Record
   pub behind : List Record
   pub lies : records ≡ front ++ own ∷ behind
-  pub reason :
-      HadNoSlot (chosen_state setting (world_after setting (start setting) front)) (world_after setting (start setting) front) own.actor own.step client seq
+  pub reason : HadNoSlot setting (world_after setting (start setting) front) own.actor own.step client seq
 
 -- the request that the client has open, which this line's answer ends
 pub record IsOpenFor (w : World) (client line : ℕ) : Type 0 where
@@ -66,16 +67,17 @@ pub record HasReason (setting : Setting) (records : List Record) (client line : 
 pub record FoundBusy (setting : Setting) (w : World) (who : Actor) (seq : ℕ) : Type 0 where
   pub server : ℕ
   pub is : who ≡ actor.Server server
-  pub busy : IsBusy (Handled w server) (own_place setting w server) (chosen_state setting w) (w.servers server).own seq
+  pub busy : IsBusy (Handled w server) (own_place setting w server) (w.servers server).own seq
 
 -- ### What is kept
 
--- where R holds of each request that was refused so far: of each that a letter tells of, or a lead remembers, and of the
--- operation of which a second server told that it has no slot
-pub record Refusals (R : ℕ → ℕ → Type 0) (state : State) (w : World) : Type 0 where
+-- where R holds of each request that was refused so far: of each that a letter tells of, or a server that runs remembers, and of
+-- the operation of which a second server told its lead that it has no slot
+pub record Refusals (R : ℕ → ℕ → Type 0) (w : World) : Type 0 where
   pub letters : (letter : Letter) (c seq : ℕ) → In letter w.sent → letter.to ≡ actor.Client c → letter.body ≡ body.Full seq → R c seq
-  pub finished : (n c : ℕ) (last : Finished) → at nat_cmp (w.servers n).own.pairs.finished c ≡ Some last → last.ending ≡ ending.Full → R c last.seq
+  pub finished : (n c : ℕ) (last : Finished) → (w.servers n).life.running ≡ true → at nat_cmp (w.servers n).own.pairs.finished c ≡ Some last
+      → last.ending ≡ ending.Full → R c last.seq
   pub numbers : (letter : Letter) (number n : ℕ) (cell : Cell) → In letter w.sent → letter.body ≡ body.PairFull number cell
-      → first state cell ≡ Some n → number < (w.servers n).own.pairs.next
+      → letter.to ≡ actor.Server n → number < (w.servers n).own.pairs.next
   pub declined : (letter : Letter) (number n : ℕ) (cell : Cell) (op : Pending) → In letter w.sent → letter.body ≡ body.PairFull number cell
-      → first state cell ≡ Some n → at cell_cmp (w.servers n).own.pairs.pending cell ≡ Some op → op.op ≡ number → R op.client op.seq
+      → letter.to ≡ actor.Server n → at cell_cmp (w.servers n).own.pairs.pending cell ≡ Some op → op.op ≡ number → R op.client op.seq

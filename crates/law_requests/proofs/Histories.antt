@@ -1,42 +1,33 @@
--- What is known of requests is kept by each step, and holds after every legal history.
-use Rattle.std.proofs.Common.{◌≡◌, ◌<◌, ℕ, List, Option, Some, None, refl, ap, sym, ◌∙◌, subst, inl, inr, arith}
+-- What is known of requests holds after every legal history, and the rule of requests follows.
+use Rattle.std.proofs.Common.{◌≡◌, ◌<◌, ℕ, List, Option, Some, None, true, refl, ap, subst, inl, inr, arith}
 use Rattle.std.specs.Ordering.{nat_cmp}
-use Rattle.petal_base.specs.declared.cell.Cell.{Cell}
 use Rattle.petal_table.proofs.Rows.{at-empty}
 use Rattle.petal_msg.specs.declared.body.Body.{Body}
 use Rattle.petal_msg.specs.declared.letter.Letter.{Letter}
 use Rattle.petal_msg.specs.declared.operation.Finished.{Finished}
+use Rattle.petal_state.specs.Command.{state_after}
 use Rattle.script_lines.specs.declared.script.Script.{Script}
 use Rattle.petal_rules.specs.Lists.{In}
 use Rattle.petal_rules.specs.State.{State, is_lead}
 use Rattle.petal_rules.specs.Store.{cell_cmp}
+use Rattle.petal_rules.specs.Writes.{Wanted}
 use Rattle.petal_rules.specs.World.{Setting, World, start, setting_of, chosen_state, server_state}
+use Rattle.petal_rules.proofs.Tests.{by_bool, none_some}
 use Rattle.petal_history.specs.Claims.{Requests, IsOver, IsLateAt, HasFinished}
 use Rattle.petal_history.specs.Legal.{IsLegal, world_after}
 use Rattle.petal_history.specs.declared.record.Record.{Record}
-use Rattle.law_state.specs.Steady.{IsSteady}
-use Rattle.law_steps.specs.Operations.{done_to}
-use Rattle.law_steps.specs.Happens.{Happens, Serves, Turns}
-use Rattle.law_steps.specs.Ready.{Ready}
 use Rattle.law_state.specs.Below.{IsBelow}
 use Rattle.law_state.specs.Firm.{Firm}
+use Rattle.law_state.specs.Steady.{IsSteady}
+use Rattle.law_steps.specs.Operations.{done_to}
 use Rattle.law_steps.specs.Ready.{AreFirm}
 use Rattle.law_steps.proofs.Fronts.{below_itself}
-use Rattle.law_steps.proofs.Histories.{kept_above, firm_after, chosen_steady, own_steady, own_below, start_rests}
-use Rattle.petal_rules.proofs.Tests.{by_bool, none_some, is_the_one}
+use Rattle.law_steps.proofs.Histories.{kept_above, firm_after, chosen_steady, start_rests}
 use Rattle.law_requests.specs.Asked.{IsOpen}
-use Rattle.law_requests.specs.Known.{seen, done_by, IsPast, WriteKnown, Known, Asking}
-use Rattle.law_requests.proofs.Frames.{job_asking, turn_asking, Scene}
-use Rattle.law_requests.proofs.Jobs.{job_tells}
-use Rattle.law_requests.proofs.Turning.{turn_ok}
-
-pub happens_asking : (setting : Setting) (state : State) → IsSteady state → (w v : World) → Ready state w → Asking setting state w
-    → Happens setting state w v → Asking setting state v
-happens_asking setting state steady w _ ready asking (Serves n stamp log done queue lt did queued) =
-    job_asking setting state w asking n stamp log done queue (job_tells setting state steady w ready asking n done did)
-happens_asking setting state steady w _ ready asking (Turns c stamp in_call reacted lt within turned onward) =
-    let scene : Scene = record { setting = setting; state = state; steady = steady; w = w; ready = ready; asking = asking } in
-    turn_asking scene c stamp reacted (turn_ok setting state w asking c within in_call reacted onward turned) onward
+use Rattle.law_requests.specs.Known.{seen, done_by, WriteKnown, Known, asked_for, Asking}
+use Rattle.law_requests.specs.Still.{AreOpen}
+use Rattle.law_requests.proofs.Running.{own_front, runs_past, open_running, open_led, open_in_both, open_beside}
+use Rattle.law_requests.proofs.Stepping.{happens_asking}
 
 pub start_asking : (state : State) (script : Script) → Asking (setting_of script) state (start (setting_of script))
 unfolding In
@@ -72,28 +63,51 @@ has_finished : (o : Option Finished) (seq : ℕ) → seq < done_to o → HasFini
 has_finished None seq lt = absurd (omega arith)
 has_finished (Some last) seq lt = record { last = last; is = refl; past = omega arith }
 
-module _ (setting : Setting) (w : World) (firm : Firm setting w) where
-  abbrev state : State
-  state = chosen_state setting w
+module _ (setting : Setting) (w : World) (firm : Firm setting w) (state : State) (asking : Asking setting state w) where
+  -- a running server at the revision of a Write letter that leads the cell is past it
+  late_at : (letter : Letter) (want : Wanted) (n : ℕ) → WriteKnown setting state (seen w) want letter.rev → IsOver w want.client want.seq
+      → IsLateAt setting w letter want.client want.seq want.cell n
+  late_at letter want n k over runs rev = elim k.still [
+    | inl open_now ↦ absurd (over_open w want.client want.seq over open_now.now)
+    | inr late ↦ by_bool (is_lead (server_state setting w n) n want.cell)
+        (λ leads.
+        let at = k.sent.at in
+        let then_leads : is_lead (state_after setting.servers at.front) n want.cell ≡ true =
+        subst (λ log. is_lead (state_after setting.servers log) n want.cell ≡ true) (own_front setting w firm want.client n letter.rev at rev) leads in
+        inl (has_finished _ want.seq (runs_past setting w firm want at.front n at.lies then_leads runs (late n then_leads))))
+        (λ none. inr (inl none))
+  ]
 
-  -- a server that leads the cell by its own state leads it by what is chosen
-  late_at : (letter : Letter) (c seq : ℕ) (cell : Cell) (n : ℕ) → IsPast state (seen setting w) cell c seq → IsLateAt setting w letter c seq cell n
-  late_at letter c seq cell n past runs rev = by_bool (is_lead (server_state setting w n) n cell)
-      (λ leads.
-      let first_one = sym ((own_steady setting w firm n).leads cell) ∙ is_the_one _ n leads in
-      inl (has_finished _ seq (past n ((own_below setting w firm n).firsts cell n first_one)))) (λ none. inr (inl none))
-
-  pub rule : Asking setting state w → Requests setting w
-  rule asking = record {
-    pending = λ n cell op runs is over. over_open w op.client op.seq over (asking.pending n cell op is).still;
+  pub rule : Requests setting w
+  rule = record {
+    pending = λ n cell op runs is over.
+        over_open w op.client op.seq over (open_running setting w firm state n (asked_for cell op) op.rev (asking.pending n cell op is) runs);
     late = λ letter c seq epoch cell bytes sent is over n.
-        let k : WriteKnown state setting.lines (seen setting w) c seq cell epoch bytes =
-        subst (λ (b : Body). Known state setting.lines (seen setting w) letter.to b) is (asking.letters letter sent) in
-        late_at letter c seq cell n (elim k.still [ inl still ↦ absurd (over_open w c seq over still) | inr past ↦ past ]);
+        let want : Wanted = record { client = c; seq = seq; cell = cell; epoch = epoch; bytes = bytes } in
+        let k : WriteKnown setting state (seen w) want letter.rev =
+        subst (λ (b : Body). Known setting state (seen w) letter.from letter.to letter.rev b) is (asking.letters letter sent) in
+        late_at letter want n k over;
+  }
+
+  -- the request of a pending operation is open still
+  pub are_open : AreOpen setting w
+  are_open = record {
+    running = λ n cell op is runs. open_running setting w firm state n (asked_for cell op) op.rev (asking.pending n cell op is) runs;
+    led = λ n leader cell op is led no_other.
+        open_led setting w firm state n (asked_for cell op) op.rev (asking.pending n cell op is) leader led no_other;
+    in_both = λ n cell op is both. open_in_both setting w firm state n (asked_for cell op) op.rev (asking.pending n cell op is) both;
+    beside = λ n m leader cell op is one two led apart.
+        open_beside setting w firm state n (asked_for cell op) op.rev (asking.pending n cell op is) m leader one two led apart;
   }
 
 pub requests_after : (script : Script) (records : List Record) → AreFirm (setting_of script) (start (setting_of script)) records → IsLegal script records
     → Requests (setting_of script) (world_after (setting_of script) (start (setting_of script)) records)
 requests_after script records firm legal =
     let setting = setting_of script in
-    rule setting _ (firm_after setting (start setting) records firm) (asking_after script records firm legal)
+    rule setting _ (firm_after setting (start setting) records firm) _ (asking_after script records firm legal)
+
+pub open_after : (script : Script) (records : List Record) → AreFirm (setting_of script) (start (setting_of script)) records → IsLegal script records
+    → AreOpen (setting_of script) (world_after (setting_of script) (start (setting_of script)) records)
+open_after script records firm legal =
+    let setting = setting_of script in
+    are_open setting _ (firm_after setting (start setting) records firm) _ (asking_after script records firm legal)

@@ -1,10 +1,11 @@
 -- Each kind of job keeps what is known of requests.
-use Rattle.std.proofs.Common.{◌≡◌, ◌≤◌, ◌+◌, ℕ, List, [], ◌∷◌, true, Some, None, refl, ap, sym, ◌∙◌, subst, inl, inr, arith, Bool, false}
+use Rattle.std.proofs.Common.{◌≡◌, ◌≢◌, ◌≤◌, ◌+◌, ℕ, List, [], ◌∷◌, true, false, Some, None, refl, ap, sym, ◌∙◌, subst, inl, inr, arith}
 use Rattle.std.specs.Ordering.{nat_cmp}
+use Rattle.busy_marks.specs.declared.marks.MarkKind.TheVariants.{Stale}
 use Rattle.petal_base.specs.declared.cell.Cell.{Cell}
-use Rattle.petal_table.specs.Table.{at, put, without}
+use Rattle.petal_table.specs.Table.{Table, at, put, without}
 use Rattle.petal_table.proofs.Rows.{at_same, at_apart}
-use Rattle.petal_msg.specs.Kinds.{Subject, Answered, Logged, Read_asked, Write_asked, is_logged, subject_of}
+use Rattle.petal_msg.specs.Kinds.{subject_of}
 use Rattle.petal_msg.specs.declared.body.Body.{Body}
 use Rattle.petal_msg.specs.declared.body.Body.TheVariants as body
 use Rattle.petal_msg.specs.declared.letter.Actor.{Actor}
@@ -13,50 +14,55 @@ use Rattle.petal_msg.specs.declared.operation.Ending.{Ending}
 use Rattle.petal_msg.specs.declared.operation.Ending.TheVariants as ending
 use Rattle.petal_msg.specs.declared.operation.Finished.{Finished}
 use Rattle.petal_msg.specs.declared.operation.Pending.{Pending}
-use Rattle.script_lines.specs.declared.request.Line.{Line}
+use Rattle.petal_state.specs.Command.{state_after}
 use Rattle.petal_rules.specs.Lists.{In}
-use Rattle.petal_rules.specs.State.{State, first, second, is_lead}
+use Rattle.petal_rules.specs.Log.{rev_of}
+use Rattle.petal_rules.specs.State.{State, is_lead}
 use Rattle.petal_rules.specs.Store.{cell_cmp}
-use Rattle.petal_rules.specs.Server.{Own, Here, Post, Done, post_to}
-use Rattle.petal_rules.specs.Writes.{Wanted, operation, opened, ended}
-use Rattle.petal_rules.specs.World.{Setting, World, client_state}
+use Rattle.petal_rules.specs.Server.{Own, Here, Post, Done}
+use Rattle.petal_rules.specs.Writes.{Wanted, operation, ended, pending_on, with_mark_at}
+use Rattle.petal_rules.specs.World.{Setting, World}
 use Rattle.petal_rules.proofs.CellTables.{cell_same, cell_apart, cell_gone}
-use Rattle.law_state.specs.Steady.{IsSteady}
+use Rattle.petal_rules.proofs.Tests.{same_or_apart, same_some, true_false}
+use Rattle.law_state.specs.Firm.{Firm}
+use Rattle.law_state.proofs.Steady.{log_rev}
 use Rattle.law_steps.specs.Operations.{done_to}
 use Rattle.law_steps.specs.DidRead.{DidRead}
-use Rattle.law_steps.specs.DidLead.{DidLead, Asks_for, Repeats, Is_full, Opens, Marks, Puts, Gives_up, Unmarks, Closes, Asks, A_slot, A_copy, Of_the_log}
+use Rattle.law_steps.specs.DidLead.{DidLead, IsNew, Asks_for, Repeats, Is_full, Gives_up, Opens, Marks, Puts, Unmarks, Closes, Opens_alone, Marks_alone, Puts_alone, Unmarks_alone, Closes_alone, Asks, A_slot, A_copy, Of_the_log}
 use Rattle.law_steps.specs.DidSecond.{DidSecond}
 use Rattle.law_steps.specs.Did.{Did, Ignores, Refuses, By_read, By_lead, By_second}
 use Rattle.law_steps.specs.Happens.{Handled, own_place}
-use Rattle.law_steps.specs.Ready.{Ready}
-use Rattle.petal_rules.proofs.Tests.{same_or_apart, same_some, is_the_one, true_false}
-use Rattle.law_steps.proofs.Staged.{same_cell_or_apart}
-use Rattle.law_requests.specs.Asked.{IsWrite, IsOpen}
-use Rattle.law_requests.specs.Known.{seen, done_by, Known, PendingFor, Asking}
-use Rattle.law_requests.proofs.Frames.{Ends, Tells, SaysOk, JobTells}
+use Rattle.law_steps.specs.Ready.{Rests}
 use Rattle.law_steps.proofs.Letters.{one_post, posted}
-use Rattle.law_steps.proofs.Restages.{Restages, Was, was_same, stood, marked, has_put, unmarked}
+use Rattle.law_steps.proofs.Restages.{Restages, Was, was_same, stood, marked, has_put, unmarked, was_taken, was_before, marked_alone, put_alone, unmarked_alone}
+use Rattle.law_steps.proofs.Staged.{same_cell_or_apart, put_put}
 use Rattle.law_steps.proofs.Subjects.{of_read, of_second}
+use Rattle.law_steps.proofs.Taking.{taking}
+use Rattle.law_requests.specs.Asked.{IsWrite, IsOpen}
+use Rattle.law_requests.specs.Known.{seen, done_by, WriteKnown, Known, asked_for, PendingFor, Asking}
+use Rattle.law_requests.proofs.Frames.{Ends, Tells, SaysOk, JobTells}
+use Rattle.law_requests.proofs.Later.{tells_request, logged_untold}
+use Rattle.law_requests.proofs.Running.{own_front, open_running, runs_past}
 
 -- the actor is this one, and the letter says this
 abbrev Says : Actor → Body → Post → Type 0
 Says to said post = (post.to ≡ to) × (post.body ≡ said)
 
--- a letter about this tells of a request
-abbrev tells_request : Subject → Bool
-tells_request Read_asked = true
-tells_request Write_asked = true
-tells_request Answered = true
-tells_request _ = false
+-- a job tells what it leaves, and says nothing else of requests
+pub record Shows (setting : Setting) (state : State) (w : World) (n : ℕ) (new : Own) (posts : List Post) : Type 0 where
+  pub tells : JobTells setting state w n new
+  pub says : (post : Post) → In post posts → SaysOk setting state w n new post.to post.body
 
-logged_untold : (subject : Subject) → is_logged subject ≡ true → tells_request subject ≡ false
-logged_untold Logged e = refl
-logged_untold _ e = true_false e refl
+-- what is known of the letter that a server handles
+pub known_of : (setting : Setting) (state : State) (w : World) → Asking setting state w → (n : ℕ) (said : Body) (h : Handled w n said)
+    → Known setting state (seen w) h.letter.from (actor.Server n) (rev_of (w.servers n).log) said
+known_of setting state w asking n said h =
+    subst (λ (b : Body). Known setting state (seen w) h.letter.from (actor.Server n) (rev_of (w.servers n).log) b) h.is
+    (subst (λ (r : ℕ). Known setting state (seen w) h.letter.from (actor.Server n) r h.letter.body) h.at
+    (subst (λ (a : Actor). Known setting state (seen w) h.letter.from a h.letter.rev h.letter.body) h.own (asking.letters h.letter h.sent)))
 
-module _ (setting : Setting) (state : State) (steady : IsSteady state) (w : World) (ready : Ready state w) (asking : Asking setting state w) (n : ℕ) where
-  abbrev lines : List Line
-  lines = setting.lines
-
+module _ (setting : Setting) (state : State) (w : World) (firm : Firm setting w) (asking : Asking setting state w) (n : ℕ)
+    (runs : (w.servers n).life.running ≡ true) (rests : Rests setting w) where
   abbrev here : Here
   here = own_place setting w n
 
@@ -64,36 +70,43 @@ module _ (setting : Setting) (state : State) (steady : IsSteady state) (w : Worl
   own = (w.servers n).own
 
   abbrev J : Own → List Post → Type 0
-  J new posts = JobTells setting state w n new posts
+  J new posts = Shows setting state w n new posts
+
+  abbrev S : Own → Actor → Body → Type 0
+  S new to said = SaysOk setting state w n new to said
 
   abbrev hears : Body → Type 0
   hears = Handled w n
 
-  first_of : (cell : Cell) → is_lead state n cell ≡ true → first state cell ≡ Some n
-  first_of cell e = sym (steady.leads cell) ∙ is_the_one _ n e
+  -- the letter of a write, which has the server's revision
+  wanted_known : (want : Wanted) → hears (body.Write want.client want.seq want.cell want.epoch want.bytes)
+      → WriteKnown setting state (seen w) want here.state.rev
+  wanted_known want h =
+      subst (λ (r : ℕ). WriteKnown setting state (seen w) want r) (sym (log_rev setting.servers (w.servers n).log.applied))
+      (known_of setting state w asking n _ h)
 
-  pub known_of : (said : Body) → hears said → Known state lines (seen setting w) (actor.Server n) said
-  known_of said h =
-      subst (λ (b : Body). Known state lines (seen setting w) (actor.Server n) b) h.is
-      (subst (λ (a : Actor). Known state lines (seen setting w) a h.letter.body) h.own (asking.letters h.letter h.sent))
+  -- the server leads the cell at that revision
+  leads_then : (want : Wanted) (k : WriteKnown setting state (seen w) want here.state.rev) → is_lead here.state n want.cell ≡ true
+      → is_lead (state_after setting.servers k.sent.at.front) n want.cell ≡ true
+  leads_then want k lead =
+      subst (λ log. is_lead (state_after setting.servers log) n want.cell ≡ true)
+      (own_front setting w firm want.client n here.state.rev k.sent.at (sym (log_rev setting.servers (w.servers n).log.applied))) lead
 
-  says_as : (new : Own) (to : Actor) (said : Body) (post : Post) → Says to said post → SaysOk state lines w n new to said
-      → SaysOk state lines w n new post.to post.body
-  says_as new to said post e h =
-      subst (λ (b : Body). SaysOk state lines w n new post.to b) (sym e.1) (subst (λ (a : Actor). SaysOk state lines w n new a said) (sym e.0) h)
+  says_as : (new : Own) (to : Actor) (said : Body) (post : Post) → Says to said post → S new to said → S new post.to post.body
+  says_as new to said post e h = subst (λ (b : Body). S new post.to b) (sym e.1) (subst (λ (a : Actor). S new a said) (sym e.0) h)
 
-  says_any : (new : Own) (said : Body) (post : Post) → post.body ≡ said → ((to : Actor) → SaysOk state lines w n new to said)
-      → SaysOk state lines w n new post.to post.body
-  says_any new said post e h = subst (λ (b : Body). SaysOk state lines w n new post.to b) (sym e) (h post.to)
+  says_any : (new : Own) (said : Body) (post : Post) → post.body ≡ said → ((to : Actor) → S new to said) → S new post.to post.body
+  says_any new said post e h = subst (λ (b : Body). S new post.to b) (sym e) (h post.to)
 
   -- a job that ends no request and opens none
   calm : (new : Own) (posts : List Post) → ((c : ℕ) → done_by new c ≡ done_by own c)
       → ((cell : Cell) (op : Pending) → at cell_cmp new.pairs.pending cell ≡ Some op → Was own cell op)
-      → ((post : Post) → In post posts → SaysOk state lines w n new post.to post.body) → J new posts
-  calm new posts same pending says = record { finished = λ c. inl (same c); pending = λ cell op is. inl (pending cell op is); says = says }
+      → ((post : Post) → In post posts → S new post.to post.body) → J new posts
+  calm new posts same pending says =
+      record { tells = record { finished = λ c. inl (same c); pending = λ cell op is. inl (pending cell op is) }; says = says }
 
   -- what speaks of no request
-  nothing_said : (new : Own) (to : Actor) (said : Body) → tells_request (subject_of said) ≡ false → SaysOk state lines w n new to said
+  nothing_said : (new : Own) (to : Actor) (said : Body) → tells_request (subject_of said) ≡ false → S new to said
   nothing_said new to (body.Read client seq cell epoch) e = true_false refl e
   nothing_said new to (body.Write client seq cell epoch bytes) e = true_false refl e
   nothing_said new to (body.Written seq) e = true_false refl e
@@ -101,47 +114,71 @@ module _ (setting : Setting) (state : State) (steady : IsSteady state) (w : Worl
   nothing_said new to _ e = tt
 
   -- a job that leaves the server's own part
-  speaks : (posts : List Post) → ((post : Post) → In post posts → SaysOk state lines w n own post.to post.body) → J own posts
+  speaks : (posts : List Post) → ((post : Post) → In post posts → S own post.to post.body) → J own posts
   speaks posts says = calm own posts (λ c. refl) (was_same own) says
 
-  talked : (done : Done) → done.own ≡ own → ((post : Post) → In post done.posts → SaysOk state lines w n done.own post.to post.body) → J done.own done.posts
+  talked : (done : Done) → done.own ≡ own → ((post : Post) → In post done.posts → S done.own post.to post.body) → J done.own done.posts
   talked done same says = calm done.own done.posts (λ c. ap (λ (o : Own). done_by o c) same)
       (λ cell op is. was_same own cell op (ap (λ (o : Own). at cell_cmp o.pairs.pending cell) (sym same) ∙ is)) says
 
-  asks_says : (post : Post) → Asks here state own post → SaysOk state lines w n own post.to post.body
+  asks_says : (post : Post) → Asks here own post → S own post.to post.body
   asks_says _ (A_slot op to is stage e) = tt
   asks_says _ (A_copy op to is stage e) = tt
   asks_says _ (Of_the_log post e) = nothing_said own post.to post.body (logged_untold (subject_of post.body) e)
 
-  ended_says : (new : Own) (c seq : ℕ) (how : Ending) → Tells state lines w n new c seq → SaysOk state lines w n new (actor.Client c) (ended seq how)
+  ended_says : (new : Own) (c seq : ℕ) (how : Ending) → Tells setting state w n new c seq → S new (actor.Client c) (ended seq how)
   ended_says new c seq ending.Written t = t
   ended_says new c seq ending.Full t = t
 
   -- a write that is not finished is open still
-  still_open : (want : Wanted) → hears (body.Write want.client want.seq want.cell want.epoch want.bytes) → is_lead state n want.cell ≡ true
-      → done_by own want.client ≤ want.seq → IsOpen (w.clients want.client) want.seq
-  still_open want h lead new = elim (known_of _ h).still [ inl still ↦ still | inr past ↦ let lt = past n (first_of want.cell lead) in absurd (omega arith) ]
+  new_open : (want : Wanted) → IsNew hears here own want → IsOpen (w.clients want.client) want.seq
+  new_open want new =
+      let k = wanted_known want new.wanted in
+      let leads = leads_then want k new.lead in
+      elim k.still [
+        | inl open_now ↦ open_now.now
+        | inr late ↦
+            let lt = runs_past setting w firm want k.sent.at.front n k.sent.at.lies leads runs (late n leads) in
+            let newer = new.newer in
+            absurd (omega arith)
+      ]
+
+  new_pending : (want : Wanted) → IsNew hears here own want → PendingFor setting state (seen w) n want here.state.rev
+  new_pending want new =
+      let k = wanted_known want new.wanted in
+      record { known = k; leads = leads_then want k new.lead; unfinished = new.newer }
 
   -- the server finishes a request
   finish_tells : (new : Own) (c seq : ℕ) (cell : Cell) (epoch : ℕ) (bytes : List ℕ) (how : Ending)
-      → new.pairs.finished ≡ put nat_cmp own.pairs.finished c (record { seq = seq; ending = how }) → first state cell ≡ Some n
-      → IsWrite state lines c seq cell epoch bytes → IsOpen (w.clients c) seq
+      → new.pairs.finished ≡ put nat_cmp own.pairs.finished c (record { seq = seq; ending = how }) → is_lead here.state n cell ≡ true
+      → IsWrite state setting.lines c seq cell epoch bytes → seq ≤ (w.clients c).seq → IsOpen (w.clients c) seq
       → done_by own c ≤ seq → at cell_cmp new.pairs.pending cell ≡ None
-      → ((q : Cell) (op : Pending) → at cell_cmp new.pairs.pending q ≡ Some op → at cell_cmp own.pairs.pending q ≡ Some op)
+      → ((q : Cell) (op : Pending) → at cell_cmp new.pairs.pending q ≡ Some op → Was own q op)
       → J new (record { to = actor.Client c; body = ended seq how } ∷ [])
-  finish_tells new c seq cell epoch bytes how finished leads write still before gone pending =
+  finish_tells new c seq cell epoch bytes how finished leads write old still before gone pending =
       let last : Finished = record { seq = seq; ending = how } in
       let after : done_by new c ≡ seq + 1 = ap (λ t. done_to (at nat_cmp t c)) finished ∙ ap done_to (at_same own.pairs.finished c last) in
-      let a = asking.asked c still.asked still.is in
-      let number = still.same in
-      let top = a.last in
+      let ends : Ends state setting.lines w n new c = record {
+        seq = seq;
+        cell = cell;
+        epoch = epoch;
+        bytes = bytes;
+        write = write;
+        runs = runs;
+        still = still;
+        old = old;
+        before = before;
+        after = after;
+        gone = gone;
+      } in
       record {
-        finished = λ j. elim (same_or_apart j c) [
-          | inl e ↦ inr (subst (λ i. Ends state lines w n new i) (sym e)
-              (record { seq = seq; cell = cell; epoch = epoch; bytes = bytes; write = write; still = still; before = before; after = after; gone = gone }))
-          | inr ne ↦ inl (ap (λ t. done_to (at nat_cmp t j)) finished ∙ ap done_to (at_apart own.pairs.finished c last j ne))
-        ];
-        pending = λ q op is. inl (was_same own q op (pending q op is));
+        tells = record {
+          finished = λ j. elim (same_or_apart j c) [
+            | inl e ↦ inr (subst (λ i. Ends state setting.lines w n new i) (sym e) ends)
+            | inr ne ↦ inl (ap (λ t. done_to (at nat_cmp t j)) finished ∙ ap done_to (at_apart own.pairs.finished c last j ne))
+          ];
+          pending = λ q op is. inl (pending q op is);
+        };
         says = λ post i. says_as new _ _ post (one_post _ _ post i)
             (ended_says new c seq how (record {
               cell = cell;
@@ -149,30 +186,33 @@ module _ (setting : Setting) (state : State) (steady : IsSteady state) (w : Worl
               bytes = bytes;
               write = write;
               leads = leads;
-              old = omega arith;
+              old = old;
               past = omega arith;
             }));
       }
 
-  opens_tells : (want : Wanted) → hears (body.Write want.client want.seq want.cell want.epoch want.bytes) → is_lead state n want.cell ≡ true
-      → done_by own want.client ≤ want.seq → J (opened here own want) (post_to (second here.state want.cell) (body.Reserve own.pairs.next want.cell))
-  opens_tells want h lead new =
-      let op = operation here own.pairs.next want in
-      let t = own.pairs.pending in
-      let k = known_of _ h in
-      record {
-        finished = λ c. inl refl;
-        pending = λ cell o is. elim (same_cell_or_apart cell want.cell) [
-          | inl e ↦
-              let same : op ≡ o =
-              same_some (sym (cell_same t want.cell op) ∙ subst (λ (q : Cell). at cell_cmp (put cell_cmp t want.cell op) q ≡ Some o) e is) in
-              inr (subst (λ (q : Cell). PendingFor state (client_state setting w o.client) lines (w.clients o.client) (done_by own o.client) q o) (sym e)
-              (subst (λ (x : Pending). PendingFor state (client_state setting w x.client) lines (w.clients x.client) (done_by own x.client) want.cell x) same
-              (record { write = k.write; served = k.served; still = still_open want h lead new; unfinished = new })))
-          | inr ne ↦ inl (was_same own cell o (sym (cell_apart t want.cell op cell ne) ∙ is))
-        ];
-        says = λ post i. says_any _ _ post (posted _ _ post i) (λ to. tt);
-      }
+  -- an operation is opened
+  opens_tells : (want : Wanted) (new : Own) (posts : List Post) (op : Pending) → IsNew hears here own want → asked_for want.cell op ≡ want
+      → op.rev ≡ here.state.rev
+      → ((c : ℕ) → done_by new c ≡ done_by own c) → at cell_cmp new.pairs.pending want.cell ≡ Some op
+      → ((q : Cell) → q ≢ want.cell → at cell_cmp new.pairs.pending q ≡ at cell_cmp own.pairs.pending q)
+      → ((post : Post) → In post posts → S new post.to post.body) → J new posts
+  opens_tells want new posts op fresh for rev finished there others says = record {
+    tells = record {
+      finished = λ c. inl (finished c);
+      pending = λ cell o is. elim (same_cell_or_apart cell want.cell) [
+        | inl e ↦
+            let same : op ≡ o = same_some (sym there ∙ ap (at cell_cmp new.pairs.pending) (sym e) ∙ is) in
+            let p : PendingFor setting state (seen w) n (asked_for want.cell op) op.rev =
+            subst (λ (r : ℕ). PendingFor setting state (seen w) n (asked_for want.cell op) r) (sym rev)
+            (subst (λ (x : Wanted). PendingFor setting state (seen w) n x here.state.rev) (sym for) (new_pending want fresh)) in
+            inr (subst (λ (q : Cell). PendingFor setting state (seen w) n (asked_for q o) o.rev) (sym e)
+            (subst (λ (x : Pending). PendingFor setting state (seen w) n (asked_for want.cell x) x.rev) same p))
+        | inr ne ↦ inl (was_same own cell o (sym (others cell ne) ∙ is))
+      ];
+    };
+    says = says;
+  }
 
   -- a pending operation goes on to its next stage
   restages_tells : (done : Done) → Restages own done → J done.own done.posts
@@ -180,57 +220,86 @@ module _ (setting : Setting) (state : State) (steady : IsSteady state) (w : Worl
       calm done.own done.posts (λ c. ap (λ t. done_to (at nat_cmp t c)) r.finished) r.was (λ post i. absurd (r.silent post i))
 
   -- the operation is done with
-  done_tells : (op : Pending) (new : Own) (how : Ending) → at cell_cmp own.pairs.pending op.cell ≡ Some op
+  done_tells : (op : Pending) (new : Own) (how : Ending) → Was own op.cell op
       → new.pairs.finished ≡ put nat_cmp own.pairs.finished op.client (record { seq = op.seq; ending = how })
-      → new.pairs.pending ≡ without cell_cmp own.pairs.pending op.cell → J new (record { to = actor.Client op.client; body = ended op.seq how } ∷ [])
-  done_tells op new how is finished pending =
-      let p = asking.pending n op.cell op is in
-      let lead = ((ready.pending n).staged op.cell op is).lead in
-      finish_tells new op.client op.seq op.cell op.key.epoch op.bytes how finished (first_of op.cell lead) p.write p.still p.unfinished
-      (ap (λ t. at cell_cmp t op.cell) pending ∙ cell_gone own.pairs.pending op.cell)
-      (λ q o there. stood own.pairs.pending op.cell q o (ap (λ t. at cell_cmp t q) (sym pending) ∙ there))
+      → at cell_cmp new.pairs.pending op.cell ≡ None
+      → ((q : Cell) (o : Pending) → at cell_cmp new.pairs.pending q ≡ Some o → Was own q o)
+      → J new (record { to = actor.Client op.client; body = ended op.seq how } ∷ [])
+  done_tells op new how was finished gone others =
+      let old = was.was in
+      let e = was.same in
+      let p = asking.pending n op.cell old was.is in
+      let still = open_running setting w firm state n (asked_for op.cell old) old.rev p runs in
+      let lead = ((rests.pending n).staged op.cell old was.is).lead in
+      finish_tells new op.client op.seq op.cell old.key.epoch old.bytes how finished lead (rw (← e.client, ← e.seq) p.known.sent.write)
+      (rw (← e.client, ← e.seq) p.known.sent.old) (rw (← e.client, ← e.seq) still) (rw (← e.client, ← e.seq) p.unfinished) gone others
+
+  pub finished_here : (op : Pending) (now : Own) (t : Table Cell Pending) → t ≡ without cell_cmp now.pairs.pending op.cell
+      → ((q : Cell) (o : Pending) → pending_on now q ≡ Some o → Was own q o) → (q : Cell) (o : Pending) → at cell_cmp t q ≡ Some o → Was own q o
+  finished_here op now t e was q o there = was q o (stood now.pairs.pending op.cell q o (ap (λ t. at cell_cmp t q) (sym e) ∙ there))
+
+  closed_tells : (op : Pending) (new now : Own) (how : Ending) → Was own op.cell op → ((q : Cell) (o : Pending) → pending_on now q ≡ Some o → Was own q o)
+      → now.pairs.finished ≡ own.pairs.finished
+      → new.pairs.finished ≡ put nat_cmp now.pairs.finished op.client (record { seq = op.seq; ending = how })
+      → new.pairs.pending ≡ without cell_cmp now.pairs.pending op.cell → J new (record { to = actor.Client op.client; body = ended op.seq how } ∷ [])
+  closed_tells op new now how was others same finished pending =
+      done_tells op new how was (finished ∙ ap (λ t. put nat_cmp t op.client (record { seq = op.seq; ending = how })) same)
+      (ap (λ t. at cell_cmp t op.cell) pending ∙ cell_gone now.pairs.pending op.cell) (finished_here op now new.pairs.pending pending others)
 
   -- each kind of job
-  lead_tells : (done : Done) → DidLead hears here state own done → J done.own done.posts
+  lead_tells : (done : Done) → DidLead hears here own done → J done.own done.posts
+  unfolding In
   lead_tells _ (Asks_for posts h) = speaks _ (λ post i. asks_says post (h post i))
   lead_tells _ (Repeats want last h lead is e) =
-      let k = known_of _ h in
+      let k = wanted_known want h in
       let number = e in
       let above : done_by own want.client ≡ last.seq + 1 = ap done_to is in
       speaks _ (λ post i. says_as own _ _ post (one_post _ _ post i) (ended_says own want.client want.seq last.ending (record {
         cell = want.cell;
         epoch = want.epoch;
         bytes = want.bytes;
-        write = k.write;
-        leads = first_of want.cell lead;
-        old = k.old;
+        write = k.sent.write;
+        leads = lead;
+        old = k.sent.old;
         past = omega arith;
       })))
-  lead_tells _ (Is_full want h lead new none no_room) =
-      let k = known_of _ h in
-      finish_tells _ want.client want.seq want.cell want.epoch want.bytes ending.Full refl (first_of want.cell lead) k.write
-      (still_open want h lead new) new none
-      (λ q op is. is)
-  lead_tells _ (Opens want h lead new none) = opens_tells want h lead new
-  lead_tells _ (Marks op h is stage) = restages_tells _ (marked own op is)
-  lead_tells _ (Puts op is stage) = restages_tells _ (has_put own op is)
-  lead_tells _ (Gives_up op h is stage) = done_tells op _ ending.Full is refl refl
-  lead_tells _ (Unmarks op h is stage) = restages_tells _ (unmarked own op is)
-  lead_tells _ (Closes op is stage) = done_tells op _ ending.Written is refl refl
+  lead_tells _ (Is_full want new no_room) =
+      let k = wanted_known want new.wanted in
+      finish_tells _ want.client want.seq want.cell want.epoch want.bytes ending.Full refl new.lead k.sent.write k.sent.old (new_open want new) new.newer new.none
+      (λ q op is. was_same own q op is)
+  lead_tells _ (Gives_up op h is reserved put) = closed_tells op _ own ending.Full (was_same own op.cell op is) (was_same own) refl refl refl
+  lead_tells _ (Opens want new both) =
+      let op = operation here own.pairs.next want in
+      opens_tells want _ _ op new refl refl (λ c. refl) (cell_same own.pairs.pending want.cell op) (λ q ne. cell_apart own.pairs.pending want.cell op q ne)
+      (λ post i. says_any _ _ post (posted _ _ post i) (λ to. tt))
+  lead_tells _ (Marks op h is both stage) = restages_tells _ (marked own op is)
+  lead_tells _ (Puts op is both stage) = restages_tells _ (has_put own op is)
+  lead_tells _ (Unmarks op h is both stage) = restages_tells _ (unmarked own op is)
+  lead_tells _ (Closes op is both stage) = closed_tells op _ own ending.Written (was_same own op.cell op is) (was_same own) refl refl refl
+  lead_tells _ (Opens_alone want new alone) =
+      let op = operation here own.pairs.next want in
+      let two = with_mark_at op Stale true in
+      opens_tells want _ _ two new refl refl (λ c. refl) (cell_same (put cell_cmp own.pairs.pending want.cell op) want.cell two)
+      (λ q ne. put_put own.pairs.pending want.cell op two q ne) (λ post i. absurd i)
+  lead_tells _ (Marks_alone now op taken alone fresh) = restages_tells _ (marked_alone own now op taken)
+  lead_tells _ (Puts_alone now op taken alone stale put) = restages_tells _ (put_alone own now op taken)
+  lead_tells _ (Unmarks_alone now op taken alone stale put busy) = restages_tells _ (unmarked_alone own now op taken)
+  lead_tells _ (Closes_alone now op taken alone stale put free) =
+      closed_tells op _ now ending.Written (was_taken own now op taken) (was_before own now op taken) (taking own now op taken).finished refl refl
 
-  read_tells : (done : Done) → DidRead hears here state own done → J done.own done.posts
+  read_tells : (done : Done) → DidRead hears here own done → J done.own done.posts
   read_tells done d =
-      let frame = of_read hears here state own done d in
+      let frame = of_read hears here own done d in
       talked done frame.same (λ post i. says_any done.own _ post (frame.says post i).is (λ to. tt))
 
-  second_tells : (done : Done) → DidSecond hears here state own done → J done.own done.posts
+  second_tells : (done : Done) → DidSecond hears here own done → J done.own done.posts
   second_tells done d =
-      let frame = of_second hears here state own done d in
+      let frame = of_second hears here own done d in
       calm done.own done.posts (λ c. ap (λ t. done_to (at nat_cmp t c)) frame.finished)
       (λ cell op is. was_same own cell op (ap (λ t. at cell_cmp t cell) (sym frame.pending) ∙ is))
       (λ post i. nothing_said done.own post.to post.body (ap tells_request (frame.says post i)))
 
-  pub job_tells : (done : Done) → Did hears here state own done → J done.own done.posts
+  pub job_tells : (done : Done) → Did hears here own done → J done.own done.posts
   unfolding In
   job_tells _ Ignores = speaks _ (λ post i. absurd i)
   job_tells _ (Refuses to said is why) =
@@ -238,3 +307,9 @@ module _ (setting : Setting) (state : State) (steady : IsSteady state) (w : Worl
   job_tells _ (By_read done d) = read_tells done d
   job_tells _ (By_lead done d) = lead_tells done d
   job_tells _ (By_second done d) = second_tells done d
+
+  -- an entry that is applied leaves what the server leads
+  pub crossed_tells : (new : Own) → new.pairs.pending ≡ own.pairs.pending → new.pairs.finished ≡ own.pairs.finished → J new []
+  unfolding In
+  crossed_tells new pending finished = calm new [] (λ c. ap (λ t. done_to (at nat_cmp t c)) finished)
+      (λ cell op is. was_same own cell op (ap (λ t. at cell_cmp t cell) (sym pending) ∙ is)) (λ post i. absurd i)

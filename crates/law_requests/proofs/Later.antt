@@ -1,6 +1,8 @@
 -- What was known of requests is known later.
-use Rattle.std.proofs.Common.{◌≡◌, ◌≤◌, ℕ, List, Option, ap, sym, ◌∙◌, ◌⊎◌, inl, inr, arith}
+use Rattle.std.proofs.Common.{◌≡◌, ◌≤◌, ℕ, Bool, true, false, List, Option, ap, sym, ◌∙◌, ◌⊎◌, inl, inr, arith, refl}
 use Rattle.petal_base.specs.declared.cell.Cell.{Cell}
+use Rattle.petal_command.specs.declared.command.Command.{Command}
+use Rattle.petal_msg.specs.Kinds.{Subject, Answered, Logged, Read_asked, Write_asked, is_logged, subject_of}
 use Rattle.petal_msg.specs.declared.body.Body.{Body}
 use Rattle.petal_msg.specs.declared.body.Body.TheVariants as body
 use Rattle.petal_msg.specs.declared.letter.Actor.{Actor}
@@ -9,12 +11,20 @@ use Rattle.script_lines.specs.Requests.{names}
 use Rattle.script_lines.specs.declared.request.Line.{Line}
 use Rattle.script_lines.specs.declared.request.Request.{Request}
 use Rattle.script_lines.specs.declared.request.Request.TheVariants as request
-use Rattle.petal_rules.specs.State.{State, find}
+use Rattle.petal_history.specs.Claims.{IsPrefix}
+use Rattle.petal_state.specs.Command.{state_after}
+use Rattle.petal_rules.specs.State.{State, find, is_lead}
+use Rattle.petal_rules.specs.Writes.{Wanted}
 use Rattle.petal_rules.specs.Clients.{Client, Asked, cell_on}
-use Rattle.petal_rules.proofs.Tests.{same_some}
+use Rattle.petal_rules.specs.World.{Setting}
+use Rattle.petal_rules.proofs.Tests.{same_some, true_false}
 use Rattle.law_state.specs.Below.{IsBelow}
-use Rattle.law_requests.specs.Asked.{IsWrite, IsOpen}
-use Rattle.law_requests.specs.Known.{Seen, IsPast, EndKnownAt, Known}
+use Rattle.law_state.specs.Plain.{IsPlainLog}
+use Rattle.law_state.proofs.Steady.{front_plain}
+use Rattle.law_steps.proofs.Fronts.{front_on}
+use Rattle.law_requests.specs.Asked.{IsWrite, IsOpen, IsOpenFrom}
+use Rattle.law_requests.specs.Known.{Seen, IsLate, Is_past, Has_no_lead, Has_another, AreLate, IsSent, WriteKnown, EndKnownAt, Known, PendingFor}
+use Rattle.law_requests.proofs.Leads.{alone_stays, none_on, row_on}
 
 disk_named : Request → Option (List ℕ)
 disk_named asked = (names asked).disk
@@ -56,40 +66,101 @@ write_up earlier later below lines client seq cell epoch bytes one = record {
   bytes_is = one.bytes_is;
 }
 
--- time goes on: numbers rise, states say more, and a write that is no longer open is one that its lead is past
-pub record Later (state : State) (lines : List Line) (v u : Seen) : Type 0 where
+-- ### Letters that tell of no request
+
+-- a letter about this tells of a request
+abbrev pub tells_request : Subject → Bool
+tells_request Read_asked = true
+tells_request Write_asked = true
+tells_request Answered = true
+tells_request _ = false
+
+pub logged_untold : (subject : Subject) → is_logged subject ≡ true → tells_request subject ≡ false
+logged_untold Logged e = refl
+logged_untold _ e = true_false e refl
+
+pub untold : (setting : Setting) (state : State) (v : Seen) (from to : Actor) (rev : ℕ) (said : Body) → tells_request (subject_of said) ≡ false
+    → Known setting state v from to rev said
+untold setting state v from to rev (body.Read client seq cell epoch) e = true_false refl e
+untold setting state v from to rev (body.Write client seq cell epoch bytes) e = true_false refl e
+untold setting state v from to rev (body.Written seq) e = true_false refl e
+untold setting state v from to rev (body.Full seq) e = true_false refl e
+untold setting state v from to rev _ e = tt
+
+-- ### Time goes on
+
+-- numbers and logs grow, and a write that is no longer open is one that comes too late
+pub record Later (setting : Setting) (state : State) (v u : Seen) : Type 0 where
   pub seqs : (c : ℕ) → (v.clients c).seq ≤ (u.clients c).seq
-  pub states : (c : ℕ) → IsBelow (v.states c) (u.states c)
+  pub clients : (c : ℕ) → IsPrefix (v.clients c).applied (u.clients c).applied
+  pub clients_plain : (c : ℕ) → IsPlainLog setting.servers (u.clients c).applied
+  pub logs : (n : ℕ) → IsPrefix (v.logs n) (u.logs n)
+  pub logs_plain : (n : ℕ) → IsPlainLog setting.servers (u.logs n)
   pub dones : (n c : ℕ) → v.done n c ≤ u.done n c
-  pub closes : (c seq : ℕ) → IsOpen (v.clients c) seq
-      → IsOpen (u.clients c) seq ⊎ ((cell : Cell) (epoch : ℕ) (bytes : List ℕ) → IsWrite state lines c seq cell epoch bytes
-      → IsWrite (v.states c) lines c seq cell epoch bytes → IsPast state u cell c seq)
+  pub closes : (want : Wanted) (rev : ℕ) → (sent : IsSent setting state v want rev) → IsOpenFrom (v.clients want.client) want.seq rev
+      → IsOpenFrom (u.clients want.client) want.seq rev ⊎ AreLate setting.servers u want sent.at.front
 
-module _ (state : State) (lines : List Line) (v u : Seen) (later : Later state lines v u) where
-  past_later : (cell : Cell) (c seq : ℕ) → IsPast state v cell c seq → IsPast state u cell c seq
-  past_later cell c seq h n leads = let lt = h n leads in let le = later.dones n c in omega arith
+module _ (setting : Setting) (state : State) (v u : Seen) (later : Later setting state v u) where
+  late_later : (c seq : ℕ) (cell : Cell) (n : ℕ) (front : List Command) → IsPrefix front (v.clients c).applied
+      → is_lead (state_after setting.servers front) n cell ≡ true → IsLate setting.servers v c seq cell n → IsLate setting.servers u c seq cell n
+  late_later c seq cell n front lies leads (Is_past lt) = let le = later.dones n c in Is_past (omega arith)
+  late_later c seq cell n front lies leads (Has_no_lead none) =
+      let plain = front_plain setting.servers _ _ (later.clients_plain c) (later.clients c) in
+      let row = row_on setting.servers front (v.clients c).applied plain lies n cell leads in
+      Has_no_lead (none_on setting.servers (v.clients c).applied (u.clients c).applied (later.clients_plain c) (later.clients c) cell row.0 row.1 none)
+  late_later c seq cell n front lies leads (Has_another other ne alone) =
+      Has_another other ne (alone_stays setting.servers (v.logs other) (u.logs other) (later.logs_plain other) (later.logs other) other cell alone)
 
-  end_later : (seq : ℕ) (to : Actor) → EndKnownAt state lines v seq to → EndKnownAt state lines u seq to
-  end_later seq (actor.Server n) h = h
-  end_later seq (actor.Client c) h =
+  sent_later : (want : Wanted) (rev : ℕ) → IsSent setting state v want rev → IsSent setting state u want rev
+  sent_later want rev s =
+      let up = later.seqs want.client in
+      let old = s.old in
+      record {
+        write = s.write;
+        at = record { front = s.at.front; lies = front_on s.at.front _ _ s.at.lies (later.clients want.client); long = s.at.long };
+        served = s.served;
+        old = omega arith;
+      }
+
+  pub write_later : (want : Wanted) (rev : ℕ) → WriteKnown setting state v want rev → WriteKnown setting state u want rev
+  unfolding sent_later
+  write_later want rev k = record {
+    sent = sent_later want rev k.sent;
+    still = elim k.still [
+      | inl open_now ↦ later.closes want rev k.sent open_now
+      | inr late ↦ inr (λ n leads. late_later want.client want.seq want.cell n k.sent.at.front k.sent.at.lies leads (late n leads))
+    ];
+  }
+
+  pub pending_later : (n : ℕ) (want : Wanted) (rev : ℕ) → PendingFor setting state v n want rev → u.done n want.client ≤ want.seq
+      → PendingFor setting state u n want rev
+  unfolding write_later sent_later
+  pending_later n want rev p le = record { known = write_later want rev p.known; leads = p.leads; unfinished = le }
+
+  end_later : (seq rev : ℕ) (from to : Actor) → EndKnownAt setting state v seq rev from to → EndKnownAt setting state u seq rev from to
+  end_later seq rev (actor.Server n) (actor.Client c) h =
       let up = later.seqs c in
       let old = h.old in
-      record { cell = h.cell; epoch = h.epoch; bytes = h.bytes; write = h.write; old = omega arith; past = past_later h.cell c seq h.past }
-
-  pub known_later : (to : Actor) (said : Body) → Known state lines v to said → Known state lines u to said
-  known_later to (body.Write client seq cell epoch bytes) h =
-      let up = later.seqs client in
-      let old = h.old in
+      let le = later.dones n c in
+      let lt = h.past in
       record {
+        cell = h.cell;
+        epoch = h.epoch;
+        bytes = h.bytes;
         write = h.write;
-        served = write_up (v.states client) (u.states client) (later.states client) lines client seq cell epoch bytes h.served;
         old = omega arith;
-        still = elim h.still [
-          | inl open_now ↦ elim (later.closes client seq open_now) [ inl open_then ↦ inl open_then | inr past ↦ inr (past cell epoch bytes h.write h.served) ]
-          | inr past ↦ inr (past_later cell client seq past)
-        ];
+        at = record { front = h.at.front; lies = front_on h.at.front _ _ h.at.lies (later.logs n); long = h.at.long };
+        leads = h.leads;
+        past = omega arith;
       }
-  known_later to (body.Read client seq cell epoch) h = h
-  known_later to (body.Written seq) h = end_later seq to h
-  known_later to (body.Full seq) h = end_later seq to h
-  known_later to _ h = tt
+  end_later seq rev (actor.Server n) (actor.Server m) h = h
+  end_later seq rev (actor.Client c) (actor.Client d) h = h
+  end_later seq rev (actor.Client c) (actor.Server m) h = h
+
+  pub known_later : (from to : Actor) (rev : ℕ) (said : Body) → Known setting state v from to rev said → Known setting state u from to rev said
+  known_later from to rev (body.Write client seq cell epoch bytes) h =
+      write_later (record { client = client; seq = seq; cell = cell; epoch = epoch; bytes = bytes }) rev h
+  known_later from to rev (body.Read client seq cell epoch) h = h
+  known_later from to rev (body.Written seq) h = end_later seq rev from to h
+  known_later from to rev (body.Full seq) h = end_later seq rev from to h
+  known_later from to rev _ h = tt

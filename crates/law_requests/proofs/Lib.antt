@@ -1,5 +1,10 @@
+pub mod Fronts
+pub mod Leads
 pub mod Later
+pub mod Running
 pub mod Frames
 pub mod Jobs
+pub mod Turns
 pub mod Turning
+pub mod Stepping
 pub mod Histories

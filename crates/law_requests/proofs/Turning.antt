@@ -1,11 +1,9 @@
 -- Each kind of step of a client keeps what is known of requests.
-use Rattle.std.proofs.Common.{◌≡◌, ◌≤◌, ◌<◌, ◌+◌, ◌-◌, ◌++◌, ℕ, List, [], ◌∷◌, Bool, true, Option, Some, None, refl, ap, sym, ◌∙◌, subst, inl, inr, arith, append_assoc}
+use Rattle.std.proofs.Common.{◌≡◌, ◌≤◌, ◌<◌, ◌+◌, ◌-◌, ◌++◌, ℕ, List, [], ◌∷◌, Bool, true, Option, Some, None, length, refl, ap, sym, ◌∙◌, subst, inl, inr, arith, append_assoc}
 use Rattle.std.specs.Prelude.{slice_get, if◌then◌else◌, is_some}
 use Rattle.petal_base.specs.declared.cell.Cell.{Cell}
-use Rattle.petal_command.specs.declared.command.Command.{Command}
-use Rattle.petal_msg.specs.Kinds.{is_logged, subject_of}
+use Rattle.petal_msg.specs.Kinds.{subject_of}
 use Rattle.petal_msg.specs.declared.body.Body.{Body}
-use Rattle.petal_msg.specs.declared.body.Body.TheVariants as body
 use Rattle.petal_msg.specs.declared.letter.Actor.{Actor}
 use Rattle.petal_msg.specs.declared.letter.Actor.TheVariants as actor
 use Rattle.petal_msg.specs.declared.operation.Ending.{Ending}
@@ -15,40 +13,33 @@ use Rattle.script_lines.specs.declared.answer.Answer.{Answer}
 use Rattle.script_lines.specs.declared.answer.Answer.TheVariants as answer
 use Rattle.script_lines.specs.declared.request.Line.{Line}
 use Rattle.script_lines.specs.declared.request.Pattern.{Pattern}
-use Rattle.script_lines.specs.declared.request.Request.{Request}
 use Rattle.script_lines.specs.declared.request.Request.TheVariants as request
 use Rattle.petal_state.specs.Command.{state_after}
 use Rattle.petal_state.specs.declared.answer.DiskView.{DiskView}
 use Rattle.petal_history.specs.Claims.{IsPrefix}
 use Rattle.petal_rules.specs.Lists.{In}
-use Rattle.petal_rules.specs.State.{State, find, lead}
+use Rattle.petal_rules.specs.State.{State, find, lead, is_lead}
 use Rattle.petal_rules.specs.Server.{Post}
 use Rattle.petal_rules.specs.Writes.{ended}
-use Rattle.petal_rules.specs.Clients.{Client, Asked, Reaction, epoch_for, cell_on, is_read, command_of, refusal, write_refusal}
-use Rattle.petal_rules.specs.World.{Setting, World, client_state, lines_of}
-use Rattle.law_state.specs.Plain.{IsPlainLog}
+use Rattle.petal_rules.specs.Clients.{Client, Asked, Reaction, epoch_for, cell_on, is_read, is_stop, command_of, refusal, write_refusal}
+use Rattle.petal_rules.specs.World.{Setting, World, lines_of, chosen_log}
+use Rattle.petal_rules.proofs.ListLemmas.{put_same}
+use Rattle.petal_rules.proofs.Tests.{same_or_apart, same_some, some_or_none, none_some, true_false}
+use Rattle.law_state.specs.Firm.{Firm}
 use Rattle.law_state.specs.Steady.{IsSteady}
-use Rattle.law_state.proofs.Steady.{log_below, log_steady, front_plain}
+use Rattle.law_state.proofs.Steady.{log_below, log_rev, log_steady, front_plain}
 use Rattle.law_steps.specs.Happens.{Heard, IsOnward}
-use Rattle.law_steps.specs.Turned.{Turned, Says, Of_the_log, A_write, A_read, OnlySays, IsSame, StaysOpen, IsCalled, IsReason, By_verdict, By_witness, IsJudged, Goes_on, Begins, Reads, Judges, line_by}
+use Rattle.law_steps.specs.Turned.{Turned, Says, Of_the_log, A_write, A_read, OnlySays, IsSame, StaysOpen, IsCalled, IsReason, By_verdict, By_witness, IsJudged, Goes_on, Begins, Reads, Shown, Judges, line_by}
 use Rattle.law_steps.specs.Turned as turns
-use Rattle.law_steps.proofs.Fronts.{front_on, front_more}
-use Rattle.petal_rules.proofs.Tests.{same_some, none_some, true_false}
-use Rattle.law_requests.specs.Asked.{IsWrite, IsAsked, IsOpen}
-use Rattle.law_requests.specs.Known.{Seen, seen, IsPast, EndKnown, Known, Asking}
-use Rattle.law_requests.proofs.Later.{one_cell, write_up}
-use Rattle.law_requests.proofs.Frames.{Closed, TurnOk}
-
-not_read : (asked : Request) (name : List ℕ) (block : ℕ) (pattern : Pattern) → asked ≡ request.Write name block pattern → is_read asked ≡ true → ⊥
-not_read asked name block pattern e f = true_false f (ap is_read e)
-
--- what speaks of the agreed log tells of no request
-logged_known : (state : State) (lines : List Line) (v : Seen) (to : Actor) (said : Body) → is_logged (subject_of said) ≡ true → Known state lines v to said
-logged_known state lines v to (body.Write client seq cell epoch bytes) e = true_false e refl
-logged_known state lines v to (body.Read client seq cell epoch) e = true_false e refl
-logged_known state lines v to (body.Written seq) e = true_false e refl
-logged_known state lines v to (body.Full seq) e = true_false e refl
-logged_known state lines v to _ e = tt
+use Rattle.law_steps.proofs.Fronts.{front_itself, front_more, front_on}
+use Rattle.law_steps.proofs.Histories.{own_plain}
+use Rattle.law_requests.specs.Asked.{IsWrite, IsAsked, IsOpenFrom}
+use Rattle.law_requests.specs.Known.{Seen, seen, Is_past, Has_no_lead, Has_another, IsSent, EndKnown, EndKnownAt, Known, Asking}
+use Rattle.law_requests.proofs.Fronts.{front_long, front_within}
+use Rattle.law_requests.proofs.Later.{one_cell, write_up, logged_untold, untold}
+use Rattle.law_requests.proofs.Leads.{alone_stays, left_to, none_on, row_on}
+use Rattle.law_requests.proofs.Running.{chosen_front}
+use Rattle.law_requests.proofs.Turns.{Closed, TurnOk, seen_with}
 
 -- a state without snapshots reads a disk at its own epoch alone
 epoch_up : (earlier later : State) → IsSteady earlier → (disk : DiskView) (snap : Option (List ℕ)) (epoch : ℕ)
@@ -56,33 +47,20 @@ epoch_up : (earlier later : State) → IsSteady earlier → (disk : DiskView) (s
 epoch_up earlier later steady disk None epoch e = e
 epoch_up earlier later steady disk (Some snap) epoch e = none_some (steady.no_snapshots disk.disk snap) e
 
--- a disk that is found serves each write
-not_refused : (state : State) → IsSteady state → (name : List ℕ) (block : ℕ) (pattern : Pattern) (disk : DiskView) → find state name ≡ Some disk
-    → refusal state (request.Write name block pattern) ≡ None
+-- a write of a disk that is found is refused only where its cell has no lead
+refused_unled : (state : State) (name : List ℕ) (block : ℕ) (pattern : Pattern) (disk : DiskView) (given : Answer) → find state name ≡ Some disk
+    → refusal state (request.Write name block pattern) ≡ Some given → lead state (cell_on disk block) ≡ None
 unfolding refusal
-not_refused state steady name block pattern disk found =
-    let leads = steady.served name disk block found in
-    let one : lead state (cell_on disk block) ≡ Some leads.0 = steady.leads (cell_on disk block) ∙ leads.1 in
-    ap (λ o. write_refusal state o block) found ∙ ap (λ o. if is_some o then None else Some answer.Unavailable) one
+refused_unled state name block pattern disk given found refused = elim (some_or_none (lead state (cell_on disk block))) [
+  | inr none ↦ none
+  | inl some ↦ none_some (ap (λ o. write_refusal state o block) found
+      ∙ ap (λ (o : Option ℕ). if is_some o then None else Some answer.Unavailable) some.1) refused
+]
 
--- in a later state too, so no entry answers a write whose disk is found
-not_judged : (servers c : ℕ) (before after : List Command) → IsPlainLog servers after → (asked : Asked) (given : Answer)
-    → IsJudged servers c before after asked given → (name : List ℕ) (block : ℕ) (pattern : Pattern) (disk : DiskView)
-    → asked.request ≡ request.Write name block pattern → find (state_after servers before) name ≡ Some disk → ⊥
-not_judged servers c before after plain asked given judged name block pattern disk asks found =
-    let log = judged.front ++ judged.entry ∷ [] in
-    let front : IsPrefix log after =
-    record { later = judged.rest; is = judged.lies ∙ sym (append_assoc judged.front (judged.entry ∷ []) judged.rest) } in
-    let plain_log = front_plain servers log after plain front in
-    let below = log_below servers before log plain_log (front_on before judged.front log judged.new (front_more judged.front judged.entry)) in
-    by (log_steady servers log plain_log) (below.finds name disk found) judged.reason
-  where
-    by : IsSteady (state_after servers (judged.front ++ judged.entry ∷ [])) → find (state_after servers (judged.front ++ judged.entry ∷ [])) name ≡ Some disk
-        → IsReason c asked given (state_after servers (judged.front ++ judged.entry ∷ [])) judged.entry → ⊥
-    by steady there (By_verdict command own so) = none_some (ap (command_of c asked.seq) asks) own
-    by steady there (By_witness none is so) = none_some (ap (refusal _) asks ∙ not_refused _ steady name block pattern disk there) so
+counted : (n : ℕ) → (n + 1) - 1 ≡ n
+counted n = omega arith
 
-module _ (setting : Setting) (state : State) (w : World) (asking : Asking setting state w) (c : ℕ) (within : c < 9) where
+module _ (setting : Setting) (state : State) (w : World) (firm : Firm setting w) (asking : Asking setting state w) (c : ℕ) (within : c < 9) where
   abbrev lines : List Line
   lines = setting.lines
 
@@ -90,10 +68,7 @@ module _ (setting : Setting) (state : State) (w : World) (asking : Asking settin
   client = w.clients c
 
   abbrev T : Client → List Post → Type 0
-  T to posts = TurnOk setting state w c to posts
-
-  abbrev Closes : ℕ → Type 0
-  Closes seq = Closed setting state w c seq
+  T to posts = TurnOk setting state w (seen_with w c to) c to posts
 
   -- ### What a client sends for its open request
 
@@ -101,10 +76,16 @@ module _ (setting : Setting) (state : State) (w : World) (asking : Asking settin
     abbrev own : State
     own = state_after setting.servers to.applied
 
-    says_known : ((asked : Asked) → to.asked ≡ Some asked → IsAsked lines c to asked) → (v : Seen) → v.clients c ≡ to → v.states c ≡ own
-        → (post : Post) → Says own c to.asked post → Known state lines v post.to post.body
-    says_known known v now at _ (Of_the_log post e) = logged_known state lines v post.to post.body e
-    says_known known v now at _ (A_write asked name block pattern disk who is asks found) =
+    abbrev after : Seen
+    after = seen_with w c to
+
+    now : after.clients c ≡ to
+    now = put_same w.clients c to
+
+    says_known : ((asked : Asked) → to.asked ≡ Some asked → IsAsked lines c to asked) → (from : Actor) (post : Post) → Says own c to.asked post
+        → Known setting state after from post.to (length to.applied) post.body
+    says_known known from _ (Of_the_log post e) = untold setting state after from post.to (length to.applied) post.body (logged_untold (subject_of post.body) e)
+    says_known known from _ (A_write asked name block pattern disk who is asks found rev) =
         let a = known asked is in
         let write : IsWrite own lines c asked.seq (cell_on disk block) disk.epoch (pattern_block pattern) = record {
           line = a.line;
@@ -119,13 +100,23 @@ module _ (setting : Setting) (state : State) (w : World) (asking : Asking settin
           epoch_is = refl;
           bytes_is = refl;
         } in
+        let long : asked.rev ≡ length to.applied = rev ∙ log_rev setting.servers to.applied in
+        let still : IsOpenFrom to asked.seq (length to.applied) =
+        record { now = record { asked = asked; is = is; same = refl }; sent = omega arith } in
         record {
-          write = write_up own state onward.below lines c asked.seq _ _ _ write;
-          served = subst (λ (s : State). IsWrite s lines c asked.seq (cell_on disk block) disk.epoch (pattern_block pattern)) (sym at) write;
-          old = subst (λ (x : Client). asked.seq ≤ x.seq) (sym now) (let last = a.last in omega arith);
-          still = inl (subst (λ (x : Client). IsOpen x asked.seq) (sym now) (record { asked = asked; is = is; same = refl }));
+          sent = record {
+            write = write_up own state onward.below lines c asked.seq _ _ _ write;
+            at = record {
+              front = to.applied;
+              lies = subst (λ (x : Client). IsPrefix to.applied x.applied) (sym now) (front_itself to.applied);
+              long = refl;
+            };
+            served = write;
+            old = subst (λ (x : Client). asked.seq ≤ x.seq) (sym now) (let last = a.last in omega arith);
+          };
+          still = inl (subst (λ (x : Client). IsOpenFrom x asked.seq (length to.applied)) (sym now) still);
         }
-    says_known known v now at _ (A_read asked name snap block disk epoch who is asks found e) =
+    says_known known from _ (A_read asked name snap block disk epoch who is asks found e) =
         let a = known asked is in
         record {
           line = a.line;
@@ -140,13 +131,8 @@ module _ (setting : Setting) (state : State) (w : World) (asking : Asking settin
           epoch_is = epoch_up own state (log_steady setting.servers to.applied onward.plain) disk snap epoch e;
         }
 
-  known_of : (said : Body) → Heard w (actor.Client c) said → Known state lines (seen setting w) (actor.Client c) said
-  known_of said h =
-      subst (λ (b : Body). Known state lines (seen setting w) (actor.Client c) b) h.is
-      (subst (λ (a : Actor). Known state lines (seen setting w) a h.letter.body) h.own (asking.letters h.letter h.sent))
-
-  same_known : (to : Client) (old new : Asked) → client.asked ≡ Some old → IsSame old new → to.seq ≡ client.seq → IsAsked lines c to new
-  same_known to old new is same seq =
+  same_known : (to : Client) (rev : ℕ) (old new : Asked) → client.asked ≡ Some old → IsSame rev old new → to.seq ≡ client.seq → IsAsked lines c to new
+  same_known to rev old new is same seq =
       let a = asking.asked c old is in
       record {
         line = a.line;
@@ -158,33 +144,38 @@ module _ (setting : Setting) (state : State) (w : World) (asking : Asking settin
       }
 
   -- what stays open is what was
-  stays_known : (to : Client) → to.seq ≡ client.seq → (o : Option Asked) → client.asked ≡ o → (new : Asked) → StaysOpen o (Some new) → IsAsked lines c to new
-  stays_known to seq None is new stays = absurd stays
-  stays_known to seq (Some old) is new stays = same_known to old new is stays seq
+  stays_known : (to : Client) (rev : ℕ) → to.seq ≡ client.seq → (o : Option Asked) → client.asked ≡ o → (new : Asked) → StaysOpen rev o (Some new)
+      → IsAsked lines c to new
+  stays_known to rev seq None is new stays = absurd stays
+  stays_known to rev seq (Some old) is new stays = same_known to rev old new is stays seq
 
-  stays_open : (to : Client) (seq : ℕ) (old : Asked) → old.seq ≡ seq → (o : Option Asked) → to.asked ≡ o → StaysOpen (Some old) o → IsOpen to seq
-  stays_open to seq old same None is stays = absurd stays
-  stays_open to seq old same (Some new) is stays = record { asked = new; is = is; same = stays.seq ∙ same }
+  -- and its latest send is no earlier
+  stays_open : (to : Client) (seq rev : ℕ) (old : Asked) → old.seq ≡ seq → rev ≤ old.rev → rev ≤ length to.applied → (o : Option Asked) → to.asked ≡ o
+      → StaysOpen (length to.applied) (Some old) o → IsOpenFrom to seq rev
+  stays_open to seq rev old same le far None is stays = absurd stays
+  stays_open to seq rev old same le far (Some new) is stays = record {
+    now = record { asked = new; is = is; same = stays.seq ∙ same };
+    sent = elim stays.sent [ inl e ↦ omega arith | inr latest ↦ omega arith ];
+  }
 
   goes_ok : (reacted : Reaction) → IsOnward setting.servers state client.applied reacted.client.applied → reacted.client.seq ≡ client.seq
-      → StaysOpen client.asked reacted.client.asked → OnlySays setting.servers c reacted → T reacted.client reacted.posts
+      → StaysOpen (length reacted.client.applied) client.asked reacted.client.asked → OnlySays setting.servers c reacted
+      → T reacted.client reacted.posts
   goes_ok reacted onward seq stays only =
-      let known : (asked : Asked) → reacted.client.asked ≡ Some asked → IsAsked lines c reacted.client asked =
-      λ asked is. stays_known reacted.client seq client.asked refl asked (subst (StaysOpen client.asked) is stays) in
+      let to = reacted.client in
+      let rev = length to.applied in
+      let known : (asked : Asked) → to.asked ≡ Some asked → IsAsked lines c to asked =
+      λ asked is. stays_known to rev seq client.asked refl asked (subst (StaysOpen rev client.asked) is stays) in
+      let longer = front_long client.applied to.applied onward.grows in
       record {
         seqs = omega arith;
         asked = known;
-        closes = λ s h. inl (stays_open reacted.client s h.asked h.same reacted.client.asked refl (subst (λ o. StaysOpen o reacted.client.asked) h.is stays));
-        says = λ v now at post i. says_known reacted.client onward known v now at post (only.says post i);
+        closes = λ s sent le h. inl (stays_open to s sent h.now.asked h.now.same h.sent (omega arith) to.asked refl
+            (subst (λ o. StaysOpen rev o to.asked) h.now.is stays));
+        says = λ post i from. says_known to onward known from post (only.says post i);
       }
 
   -- nothing was open
-  none_open : client.asked ≡ None → (seq : ℕ) → {B : Type 0} → IsOpen client seq → B
-  none_open free seq h = none_some free h.is
-
-  counted : (n : ℕ) → (n + 1) - 1 ≡ n
-  counted n = omega arith
-
   begins_ok : (reacted : Reaction) → IsOnward setting.servers state client.applied reacted.client.applied → (line : Line) (asked : Asked)
       → line_by lines c (client.seq + 1) ≡ Some line → client.asked ≡ None → reacted.client.seq ≡ client.seq + 1 → reacted.client.asked ≡ Some asked
       → IsCalled line (client.seq + 1) asked → OnlySays setting.servers c reacted → T reacted.client reacted.posts
@@ -202,18 +193,25 @@ module _ (setting : Setting) (state : State) (w : World) (asking : Asking settin
       record {
         seqs = omega arith;
         asked = known;
-        closes = λ s h. none_open free s h;
-        says = λ v now at post i. says_known reacted.client onward known v now at post (only.says post i);
+        closes = λ s sent le h. none_some free h.now.is;
+        says = λ post i from. says_known reacted.client onward known from post (only.says post i);
       }
 
-  -- the open request is answered
-  answers_ok : (asked : Asked) → client.asked ≡ Some asked → Closes asked.seq → (to : Client) → to.seq ≡ client.seq → to.asked ≡ None → T to []
+  -- ### The open request is answered
+
+  abbrev Closes : Client → Asked → Type 0
+  Closes to asked = (rev : ℕ) → rev ≤ asked.rev → Closed setting state w (seen_with w c to) c asked.seq rev
+
+  answers_ok : (asked : Asked) → client.asked ≡ Some asked → (to : Client) → Closes to asked → to.seq ≡ client.seq → to.asked ≡ None → T to []
   unfolding In
-  answers_ok asked is closed to last gone = record {
+  answers_ok asked is to closed last gone = record {
     seqs = omega arith;
     asked = λ other e. none_some gone e;
-    closes = λ s h. inr (subst Closes (ap (λ (x : Asked). x.seq) (same_some (sym is ∙ h.is)) ∙ h.same) closed);
-    says = λ v now at post h. absurd h;
+    closes = λ s rev le h. inr (
+        let same : h.now.asked ≡ asked = same_some (sym h.now.is ∙ is) in
+        let before : rev ≤ asked.rev = subst (λ (x : Asked). rev ≤ x.rev) same h.sent in
+        subst (λ (i : ℕ). Closed setting state w (seen_with w c to) c i rev) (ap (λ (x : Asked). x.seq) (sym same) ∙ h.now.same) (closed rev before));
+    says = λ post h. absurd h;
   }
 
   -- the open request is the one that its line asks for
@@ -222,29 +220,94 @@ module _ (setting : Setting) (state : State) (w : World) (asking : Asking settin
   write_asked asked is at cell epoch bytes write =
       let a = asking.asked c asked is in a.asks ∙ ap (λ (l : Line). l.request) (same_some (sym a.is ∙ write.is)) ∙ write.asks
 
-  read_closed : (asked : Asked) → client.asked ≡ Some asked → is_read asked.request ≡ true → Closes asked.seq
-  read_closed asked is reads cell epoch bytes write served =
-      absurd (not_read asked.request write.name write.block write.pattern (write_asked asked is state cell epoch bytes write) reads)
+  -- one that is no write has sent none
+  read_closed : (to : Client) (asked : Asked) → client.asked ≡ Some asked → is_read asked.request ≡ true → Closes to asked
+  read_closed to asked is reads rev le cell epoch bytes sent =
+      true_false reads (ap is_read (write_asked asked is state cell epoch bytes sent.write))
 
-  judged_closed : (after : Client) → IsOnward setting.servers state client.applied after.applied → (asked : Asked) (given : Answer)
-      → client.asked ≡ Some asked → IsJudged setting.servers c client.applied after.applied asked given → Closes asked.seq
-  judged_closed after onward asked given is judged cell epoch bytes write served =
-      absurd (not_judged setting.servers c client.applied after.applied onward.plain asked given judged served.name served.block served.pattern served.disk
-      (write_asked asked is (client_state setting w c) cell epoch bytes served) served.found)
+  stop_closed : (to : Client) (asked : Asked) → client.asked ≡ Some asked → is_stop asked.request ≡ true → Closes to asked
+  stop_closed to asked is stops rev le cell epoch bytes sent =
+      true_false stops (ap is_stop (write_asked asked is state cell epoch bytes sent.write))
 
-  end_closed : (seq : ℕ) → EndKnown state lines (seen setting w) c seq → Closes seq
-  end_closed seq k cell epoch bytes write served =
-      subst (λ (q : Cell). IsPast state (seen setting w) q c seq) (one_cell state lines c seq k.cell cell k.epoch epoch k.bytes bytes k.write write) k.past
+  -- an entry that answers a write finds its cell without a lead
+  judged_unled : (to : Client) → IsOnward setting.servers state client.applied to.applied → (asked : Asked) (given : Answer)
+      → client.asked ≡ Some asked → IsJudged setting.servers c client.applied to.applied asked given
+      → (rev : ℕ) (cell : Cell) (epoch : ℕ) (bytes : List ℕ)
+      → (sent : IsSent setting state (seen w) (record { client = c; seq = asked.seq; cell = cell; epoch = epoch; bytes = bytes }) rev)
+      → (n : ℕ) → is_lead (state_after setting.servers sent.at.front) n cell ≡ true → lead (state_after setting.servers to.applied) cell ≡ None
+  judged_unled to onward asked given is judged rev cell epoch bytes sent n leads = by judged.reason
+    where
+      by : IsReason c asked given (state_after setting.servers (judged.front ++ judged.entry ∷ [])) judged.entry
+          → lead (state_after setting.servers to.applied) cell ≡ None
+      by (By_verdict command its so) =
+          none_some (ap (command_of c asked.seq) (write_asked asked is (state_after setting.servers sent.at.front) cell epoch bytes sent.served)) its
+      by (By_witness none witness so) =
+          let served = sent.served in
+          let asks = write_asked asked is (state_after setting.servers sent.at.front) cell epoch bytes served in
+          let log = judged.front ++ judged.entry ∷ [] in
+          let lies : IsPrefix log to.applied =
+          record { later = judged.rest; is = judged.lies ∙ sym (append_assoc judged.front (judged.entry ∷ []) judged.rest) } in
+          let plain = front_plain setting.servers log to.applied onward.plain lies in
+          let before : IsPrefix sent.at.front log =
+          front_on sent.at.front client.applied log sent.at.lies (front_on client.applied judged.front log judged.new (front_more judged.front judged.entry)) in
+          let found = (log_below setting.servers sent.at.front log plain before).finds served.name served.disk served.found in
+          let row = row_on setting.servers sent.at.front log plain before n cell leads in
+          let unled : lead (state_after setting.servers log) cell ≡ None =
+          ap (lead (state_after setting.servers log)) served.cell_is
+          ∙ refused_unled (state_after setting.servers log) served.name served.block served.pattern served.disk given found
+          (ap (refusal (state_after setting.servers log)) (sym asks) ∙ so) in
+          none_on setting.servers log to.applied onward.plain lies cell row.0 row.1 unled
 
-  ended_closed : (seq : ℕ) (how : Ending) → Heard w (actor.Client c) (ended seq how) → Closes seq
-  ended_closed seq ending.Written h = end_closed seq (known_of _ h)
-  ended_closed seq ending.Full h = end_closed seq (known_of _ h)
+  judged_closed : (to : Client) → IsOnward setting.servers state client.applied to.applied → (asked : Asked) (given : Answer)
+      → client.asked ≡ Some asked → IsJudged setting.servers c client.applied to.applied asked given → Closes to asked
+  judged_closed to onward asked given is judged rev le cell epoch bytes sent n leads =
+      Has_no_lead (subst (λ (x : Client). lead (state_after setting.servers x.applied) cell ≡ None) (sym (put_same w.clients c to))
+      (judged_unled to onward asked given is judged rev cell epoch bytes sent n leads))
+
+  end_closed : (to : Client) (asked : Asked) (server : ℕ) → EndKnown setting state (seen w) c asked.seq server asked.rev → Closes to asked
+  end_closed to asked server end rev le cell epoch bytes sent n leads =
+      let same : end.cell ≡ cell = one_cell state lines c asked.seq end.cell cell end.epoch epoch end.bytes bytes end.write sent.write in
+      let own = (w.servers server).log.applied in
+      let plain = own_plain setting w firm server in
+      let then_plain = front_plain setting.servers end.at.front own plain end.at.lies in
+      let then_leads : is_lead (state_after setting.servers end.at.front) server cell ≡ true =
+      subst (λ (q : Cell). is_lead (state_after setting.servers end.at.front) server q ≡ true) same end.leads in
+      let one = sent.at.long in
+      let two = end.at.long in
+      let before : IsPrefix sent.at.front end.at.front =
+      front_within sent.at.front end.at.front (chosen_log setting w) (chosen_front setting w firm c rev sent.at)
+      (front_on end.at.front own (chosen_log setting w) end.at.lies (firm.servers server)) (omega arith) in
+      elim (same_or_apart server n) [
+        | inl e ↦ Is_past (subst (λ (i : ℕ). asked.seq < (seen w).done i c) e end.past)
+        | inr ne ↦ Has_another server ne
+            (alone_stays setting.servers end.at.front own plain end.at.lies server cell
+            (left_to setting.servers sent.at.front end.at.front then_plain before n server cell leads then_leads ne))
+      ]
+
+  known_end : (seq rev : ℕ) (from : Actor) → EndKnownAt setting state (seen w) seq rev from (actor.Client c)
+      → (server : ℕ) × EndKnown setting state (seen w) c seq server rev
+  known_end seq rev (actor.Server n) k = (n, k)
+  known_end seq rev (actor.Client d) k = absurd k
+
+  ended_known : (seq rev : ℕ) (how : Ending) → Heard w (actor.Client c) rev (ended seq how) → (server : ℕ) × EndKnown setting state (seen w) c seq server rev
+  ended_known seq rev how h =
+      by how (subst (λ (b : Body). Known setting state (seen w) h.letter.from (actor.Client c) rev b) h.is
+      (subst (λ (r : ℕ). Known setting state (seen w) h.letter.from (actor.Client c) r h.letter.body) h.at
+      (subst (λ (a : Actor). Known setting state (seen w) h.letter.from a h.letter.rev h.letter.body) h.own (asking.letters h.letter h.sent))))
+    where
+      by : (how : Ending) → Known setting state (seen w) h.letter.from (actor.Client c) rev (ended seq how)
+          → (server : ℕ) × EndKnown setting state (seen w) c seq server rev
+      by ending.Written k = known_end seq rev h.letter.from k
+      by ending.Full k = known_end seq rev h.letter.from k
 
   pub turn_ok : (in_call : Bool) (reacted : Reaction) → IsOnward setting.servers state client.applied reacted.client.applied
       → Turned (Heard w (actor.Client c)) setting.servers lines c client in_call reacted → T reacted.client reacted.posts
   turn_ok _ _ onward (Goes_on reacted seq stays only) = goes_ok reacted onward seq stays only
   turn_ok _ _ onward (Begins reacted line asked is free seq there called only) =
       begins_ok reacted onward line asked (ap (slice_get (lines_of lines c)) (counted client.seq) ∙ is) free seq there called only
-  turn_ok _ _ onward (Reads asked bytes h is reads) = answers_ok asked is (read_closed asked is reads) _ refl refl
-  turn_ok _ _ onward (turns.Ends asked how h is writes) = answers_ok asked is (ended_closed asked.seq how h) _ refl refl
-  turn_ok _ _ onward (Judges after asked given is gone seq judged) = answers_ok asked is (judged_closed after onward asked given is judged) after seq gone
+  turn_ok _ _ onward (Reads asked bytes h is reads) = answers_ok asked is _ (read_closed _ asked is reads) refl refl
+  turn_ok _ _ onward (turns.Ends asked how h is writes) =
+      let end = ended_known asked.seq asked.rev how h in answers_ok asked is _ (end_closed _ asked end.0 end.1) refl refl
+  turn_ok _ _ onward (Shown asked rev round inc running full h is stops) = answers_ok asked is _ (stop_closed _ asked is stops) refl refl
+  turn_ok _ _ onward (Judges after asked given is gone seq judged) =
+      answers_ok asked is after (judged_closed after onward asked given is judged) seq gone

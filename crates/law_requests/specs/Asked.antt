@@ -1,5 +1,5 @@
 -- What a client's request of a number is: it follows from the script alone.
-use Rattle.std.specs.Prelude.{◌≡◌, ◌<◌, ℕ, List, Option, Some}
+use Rattle.std.specs.Prelude.{◌≡◌, ◌≤◌, ◌<◌, ℕ, List, Option, Some}
 use Rattle.petal_base.specs.declared.cell.Cell.{Cell}
 use Rattle.script_lines.specs.Pattern.{pattern_block}
 use Rattle.script_lines.specs.declared.request.Line.{Line}
@@ -51,3 +51,8 @@ pub record IsOpen (client : Client) (seq : ℕ) : Type 0 where
   pub asked : Asked
   pub is : client.asked ≡ Some asked
   pub same : asked.seq ≡ seq
+
+-- it is open, and its latest send is of this revision or a later one
+pub record IsOpenFrom (client : Client) (seq rev : ℕ) : Type 0 where
+  pub now : IsOpen client seq
+  pub sent : rev ≤ now.asked.rev

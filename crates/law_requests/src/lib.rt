@@ -1,9 +1,9 @@
-//! The rule of requests: after every legal history, a request that its client has answered is pending at no server, and its
-//! Write letters come too late everywhere.
+//! The rule of requests: after every legal history, a request that its client has answered is pending at no running server,
+//! and its Write letters come too late everywhere.
 //!
-//! To the laws above it promises this and what goes with it: a client's request of a number follows from the script, a
-//! pending operation is its client's open write, and a reply that ends a write is remembered by the cell's lead. It knows
-//! nothing of copies or of the plain machine.
+//! To the laws above it promises this and what goes with it: a client's request of a number follows from the script; a pending
+//! operation is of its client's write, which is open while its server runs; and a reply that ends a write is remembered by
+//! its sender, which led the cell at the reply's revision. It knows nothing of copies or of the plain machine.
 #![tactic(auto)]
 
 ghost use Rattle.std.specs.Prelude.{List};
@@ -14,14 +14,22 @@ ghost use Rattle.petal_history.specs.Legal.{IsLegal, world_after};
 ghost use Rattle.petal_history.specs.Sound.{IsSound};
 ghost use Rattle.petal_history.specs.declared.record.Record.{Record};
 ghost use Rattle.law_requests.specs.Known.{Asking};
+ghost use Rattle.law_requests.specs.Still.{AreOpen};
 
-/// After every legal history of a sound script, an answered request is pending nowhere, and its letters come too late.
+/// After every legal history of a sound script, an answered request is pending at no running server, and its letters come too
+/// late.
 pub fn answered_requests_are_over()
     ensures { (script : Script) (records : List Record) → IsSound script → IsLegal script records → Requests (setting_of script) (world_after (setting_of script) (start (setting_of script)) records) }
 {}
 
-/// And what goes with it: open requests are those of their lines, a pending operation is its client's open write that its
-/// server is not past, and each letter that was ever sent tells of a request of its line.
+/// And what goes with it: open requests are those of their lines, a pending operation is of its client's write that its server
+/// is not past, and each letter that was ever sent tells of a request of its line.
 pub fn letters_of_clients_and_replies()
     ensures { (script : Script) (records : List Record) → IsSound script → IsLegal script records → Asking (setting_of script) (chosen_state (setting_of script) (world_after (setting_of script) (start (setting_of script)) records)) (world_after (setting_of script) (start (setting_of script)) records) }
+{}
+
+/// The request of a pending operation is open while its server runs; and, also after it stopped, while the cell has a lead by
+/// what is chosen and no other server knows that it holds the cell alone.
+pub fn pending_writes_are_open()
+    ensures { (script : Script) (records : List Record) → IsSound script → IsLegal script records → AreOpen (setting_of script) (world_after (setting_of script) (start (setting_of script)) records) }
 {}

@@ -1,92 +1,64 @@
 -- A server puts only what is of a disk that it knows.
-use Rattle.std.proofs.Common.{◌≡◌, ℕ, List, [], ◌∷◌, true, Some, None, refl, sym, ap, ◌∙◌, subst}
+use Rattle.std.proofs.Common.{◌≡◌, ℕ, Some, None, refl, ap, ◌∙◌}
 use Rattle.petal_base.specs.declared.cell.Cell.{Cell}
 use Rattle.petal_base.specs.Cells.{cell_of}
-use Rattle.petal_msg.specs.declared.body.Body.{Body}
-use Rattle.petal_msg.specs.declared.body.Body.TheVariants as body
-use Rattle.petal_msg.specs.declared.letter.Letter.{Letter}
-use Rattle.petal_rules.specs.Lists.{In}
-use Rattle.petal_rules.specs.State.{State, first, readable}
-use Rattle.petal_rules.specs.Store.{chain_in}
-use Rattle.petal_rules.specs.Server.{Own, Here, Post, Done}
-use Rattle.petal_rules.specs.World.{World}
-use Rattle.petal_rules.specs.declared.job.Job.{Job}
-use Rattle.petal_rules.specs.declared.job.Job.TheVariants as job
-use Rattle.petal_rules.proofs.Tests.{is_the_one, none_some, true_false}
+use Rattle.petal_table.specs.Table.{put}
+use Rattle.petal_state.specs.CellState.{cell_link}
+use Rattle.petal_rules.specs.State.{State}
+use Rattle.petal_rules.specs.Store.{Chain, cell_cmp, chain_in}
+use Rattle.petal_rules.specs.Server.{Own, Done}
+use Rattle.petal_rules.specs.World.{Setting, World, server_state}
+use Rattle.petal_rules.proofs.Tests.{is_the_one, none_some}
+use Rattle.global_tables.specs.declared.link.LinkRow.{LinkRow}
+use Rattle.law_state.specs.Firm.{Firm}
 use Rattle.law_state.specs.Steady.{IsSteady}
-use Rattle.law_steps.specs.DidRead.{Shows}
-use Rattle.law_steps.specs.DidLead.{DidLead, Asks_for, Repeats, Is_full, Opens, Marks, Puts, Gives_up, Unmarks, Closes}
-use Rattle.law_steps.specs.DidSecond.{DidSecond, Sets_apart, Promises, Declines, Follows}
-use Rattle.law_steps.specs.Did.{Did, Ignores, Refuses, By_read, By_lead, By_second}
-use Rattle.law_steps.specs.Happens.{Handled}
-use Rattle.law_steps.specs.Ready.{IsReady}
-use Rattle.law_steps.proofs.Subjects.{of_read, told_own}
+use Rattle.law_state.proofs.Alone.{led_row}
+use Rattle.law_state.proofs.Cells.{second_by}
+use Rattle.law_steps.specs.Happens.{Handled, Worked, By_job, By_entry, Serving, Goes, Ends, Stays, own_place}
+use Rattle.law_steps.specs.Ready.{Rests}
+use Rattle.law_steps.proofs.Histories.{own_steady}
+use Rattle.petal_rules.specs.Jobs.{Acted}
+use Rattle.petal_rules.specs.Log.{Log}
+use Rattle.petal_rules.specs.declared.step.Step.{Step}
+use Rattle.law_copies.specs.Pair.{owns_of}
 use Rattle.law_copies.proofs.Jobs.{chain_apart}
-use Rattle.law_run.proofs.Looks.{is_data}
-use Rattle.law_run.proofs.Quiet.{quiet_data}
+use Rattle.law_run.proofs.Chains.{StoresSo, Nothing_new, An_own, An_asked, did_stores}
 
-module _ (hears : Body → Type 0) (here : Here) (state : State) (steady : IsSteady state) (own : Own) (ready : IsReady state here.me own.pairs.pending) where
-  lead_born : (done : Done) → DidLead hears here state own done → (cell : Cell) → first state cell ≡ None
-      → chain_in done.own.store.chains cell ≡ chain_in own.store.chains cell
-  lead_born _ (Puts op is stage) cell none =
-      let s = ready.staged op.cell op is in
-      let leads : first state op.cell ≡ Some here.me = sym (steady.leads op.cell) ∙ is_the_one _ here.me s.lead in
-      chain_apart own.store.chains (cell_of op.key) _ cell
-      (λ e. none_some none (subst (λ (c : Cell). first state c ≡ Some here.me) (sym s.keyed ∙ sym e) leads))
-  lead_born _ (Asks_for posts h) cell none = refl
-  lead_born _ (Repeats want last h lead is e) cell none = refl
-  lead_born _ (Is_full want h lead new free no_room) cell none = refl
-  lead_born _ (Opens want h lead new free) cell none = refl
-  lead_born _ (Marks op h is stage) cell none = refl
-  lead_born _ (Gives_up op h is stage) cell none = refl
-  lead_born _ (Unmarks op h is stage) cell none = refl
-  lead_born _ (Closes op is stage) cell none = refl
+module _ (setting : Setting) (w : World) (firm : Firm setting w) (rests : Rests setting w) (n : ℕ) where
+  abbrev state : State
+  state = server_state setting w n
 
-  second_born : (done : Done) → DidSecond hears here state own done → (cell : Cell) → first state cell ≡ None
+  abbrev own : Own
+  own = owns_of w n
+
+  steady : IsSteady state
+  steady = own_steady setting w firm n
+
+  -- the chain of another cell
+  apart_from : (cell q : Cell) (link : LinkRow) (chain : Chain) → cell_link state q ≡ Some link → cell_link state cell ≡ None
+      → chain_in (put cell_cmp own.store.chains q chain) cell ≡ chain_in own.store.chains cell
+  apart_from cell q link chain is none =
+      chain_apart own.store.chains q chain cell (λ e. none_some none (ap (cell_link state) e ∙ is))
+
+  stored_born : (new : Own) → StoresSo (Handled w n) (own_place setting w n) own new → (cell : Cell) → cell_link state cell ≡ None
+      → chain_in new.store.chains cell ≡ chain_in own.store.chains cell
+  stored_born new (Nothing_new same) cell none = ap (λ c. chain_in c cell) same
+  stored_born new (An_own p) cell none =
+      let s = (rests.pending n).staged p.op.cell p.op p.is in
+      let link = led_row state steady n p.op.cell s.lead in
+      ap (λ c. chain_in c cell) p.chains ∙ apart_from cell (cell_of p.op.key) link.0 _ (ap (cell_link state) s.keyed ∙ link.1) none
+  stored_born new (An_asked p) cell none =
+      let b = second_by state steady (cell_of p.key) n (is_the_one _ n p.seconds) in
+      ap (λ c. chain_in c cell) p.chains ∙ apart_from cell (cell_of p.key) b.0.row _ b.0.is none
+
+  worked_born : (log : Log) (done : Done) → Worked setting w n log done → (cell : Cell) → cell_link state cell ≡ None
       → chain_in done.own.store.chains cell ≡ chain_in own.store.chains cell
-  second_born _ (Sets_apart number c tickets h s le) cell none = refl
-  second_born _ (Promises number c how s is) cell none = ap (λ (o : Own). chain_in o.store.chains cell) (told_own here own c number how)
-  second_born _ (Declines number c h s no_room) cell none = refl
-  second_born _ (Follows number key version bytes h s is) cell none =
-      let one = steady.followed (cell_of key) here.me (is_the_one _ here.me s) in
-      chain_apart own.store.chains (cell_of key) _ cell
-      (λ e. none_some none (subst (λ (c : Cell). first state c ≡ Some one.0) (sym e) one.1))
+  worked_born _ _ (By_job log done same did) cell none = stored_born done.own (did_stores (Handled w n) (own_place setting w n) own done did) cell none
+  worked_born _ _ (By_entry log entry more front) cell none = refl
 
   -- the chain of a cell that is of no disk that the server knows stays
-  pub did_born : (done : Done) → Did hears here state own done → (cell : Cell) → first state cell ≡ None
-      → chain_in done.own.store.chains cell ≡ chain_in own.store.chains cell
-  did_born _ Ignores cell none = refl
-  did_born _ (Refuses to said is why) cell none = refl
-  did_born _ (By_read done d) cell none = ap (λ (o : Own). chain_in o.store.chains cell) (of_read hears here state own done d).same
-  did_born _ (By_lead done d) cell none = lead_born done d cell none
-  did_born _ (By_second done d) cell none = second_born done d cell none
-
--- data are sent for a read that was heard, of a cell that the server may read
-pub record HasRead (hears : Body → Type 0) (state : State) (me : ℕ) : Type 0 where
-  pub client : ℕ
-  pub seq : ℕ
-  pub cell : Cell
-  pub epoch : ℕ
-  pub heard : hears (body.Read client seq cell epoch)
-  pub may : readable state me cell ≡ true
-
-pub data_read : (hears : Body → Type 0) (here : Here) (state : State) (own : Own) (done : Done) → Did hears here state own done → (post : Post)
-    → In post done.posts → is_data post.body ≡ true → HasRead hears state here.me
-data_read hears here state own _ (By_read _ (Shows client seq cell epoch h r none)) post i e =
-    record { client = client; seq = seq; cell = cell; epoch = epoch; heard = h; may = r }
-data_read hears here state own _ Ignores post i e = true_false e (quiet_data hears here state own _ Ignores tt post i)
-data_read hears here state own _ (Refuses to said is why) post i e = true_false e (quiet_data hears here state own _ (Refuses to said is why) tt post i)
-data_read hears here state own _ (By_lead done d) post i e = true_false e (quiet_data hears here state own _ (By_lead done d) tt post i)
-data_read hears here state own _ (By_second done d) post i e = true_false e (quiet_data hears here state own _ (By_second done d) tt post i)
-
--- the next job of a server is one letter
-pub one_heard : (w : World) (n : ℕ) (said other : Body) → Handled w n said → Handled w n other → said ≡ other
-one_heard w n said other h g = sym h.is ∙ ap (λ (l : Letter). l.body) (first_job (sym h.next ∙ g.next)) ∙ g.is
-  where
-    letter_of : List Job → Letter → Letter
-    letter_of [] other = other
-    letter_of (job.Letter letter ∷ rest) other = letter
-    letter_of _ other = other
-
-    first_job : {one two : Letter} {rest more : List Job} → job.Letter one ∷ rest ≡ job.Letter two ∷ more → one ≡ two
-    first_job {one} e = ap (λ jobs. letter_of jobs one) e
+  pub serves_born : (what : Step) (acted : Acted) → Serving setting w n what acted → (cell : Cell) → cell_link state cell ≡ None
+      → chain_in acted.server.own.store.chains cell ≡ chain_in own.store.chains cell
+  serves_born what _ (Goes log done queue runs worked queued works) cell none = worked_born log done worked cell none
+  serves_born what _ (Ends log done runs worked) cell none = worked_born log done worked cell none
+  serves_born what _ (Stays who posts from shown) cell none = refl

@@ -15,27 +15,27 @@ use Rattle.petal_msg.specs.declared.operation.Ending.TheVariants as ending
 use Rattle.petal_msg.specs.declared.operation.Finished.{Finished}
 use Rattle.petal_msg.specs.declared.operation.Pending.{Pending}
 use Rattle.script_lines.specs.declared.request.Line.{Line}
-use Rattle.petal_rules.specs.Lists.{In, put_at}
+use Rattle.petal_rules.specs.Lists.{In}
 use Rattle.petal_rules.specs.State.{State}
 use Rattle.petal_rules.specs.Store.{cell_cmp}
 use Rattle.petal_rules.specs.Server.{Post, letters_of}
 use Rattle.petal_rules.specs.Clients.{Client, Reaction, client_sender}
 use Rattle.petal_rules.specs.World.{Setting, World, reacts, stamped, chosen_state}
-use Rattle.petal_rules.proofs.ListLemmas.{put_same, in-append}
+use Rattle.petal_rules.proofs.ListLemmas.{in-append}
 use Rattle.petal_history.specs.Contents.{content_where}
 use Rattle.petal_history.specs.Events.{open_write, write_asked, change_by, takes, makes, make_of, looks, look_of}
 use Rattle.petal_history.specs.declared.record.Record.{Record}
-use Rattle.law_steps.specs.Operations.{progress, done_to}
+use Rattle.law_steps.specs.Operations.{done_to}
 use Rattle.law_steps.specs.Happens.{Heard}
 use Rattle.law_steps.specs.Turned.{Turned}
 use Rattle.law_steps.proofs.Letters.{said}
 use Rattle.law_steps.proofs.Sending.{is_ask, turned_asks}
-use Rattle.petal_rules.proofs.Tests.{same_or_apart, true_false, all_put_apart}
-use Rattle.law_copies.specs.Pair.{IsPair, owns_of}
+use Rattle.petal_rules.proofs.Tests.{true_false, all_put_apart}
+use Rattle.law_copies.specs.Pair.{owns_of}
 use Rattle.law_requests.specs.Asked.{IsOpen}
-use Rattle.law_requests.specs.Known.{Known, seen, Asking}
+use Rattle.law_requests.specs.Known.{Known, EndKnownAt, seen}
 use Rattle.law_run.specs.Onward.{IsMindful, held_in, is_held, Seat}
-use Rattle.law_run.specs.Follow.{Ground, Follow}
+use Rattle.law_run.specs.Follow.{Ground, HasCounted, Is_told, Is_followed, Is_counted, Follow}
 use Rattle.law_run.proofs.Along.{Along, rows_in, disks_now}
 use Rattle.law_run.proofs.Looks.{is_data, no_look}
 use Rattle.law_run.proofs.Members.{all_empty}
@@ -46,6 +46,9 @@ use Rattle.law_run.proofs.Takes.{no_takes}
 ask_data : (said : Body) → is_ask said ≡ true → is_data said ≡ false
 ask_data (body.Data seq bytes) e = let f : false ≡ true = e in absurd cc
 ask_data _ e = refl
+
+one_client : {c d : ℕ} → actor.Client c ≡ actor.Client d → c ≡ d
+one_client e = cc
 
 -- ### What a client's step has to show
 
@@ -65,7 +68,7 @@ pub record ClientStep : Type 0 where
   pub m : Plain
   pub along : Along setting state w
   pub ground : Ground setting state w
-  pub follow : Follow state (rows_in setting w) w m
+  pub follow : Follow setting state (rows_in setting w) w m
   pub c : ℕ
   pub stamp : ℕ
   pub later : List Record
@@ -117,13 +120,17 @@ module _ (this : ClientStep) where
 
   -- ### The frame
 
-  seq_open : (seq : ℕ) → IsOpen client seq → seq ≤ client.seq
-  seq_open seq h = let a = this.ground.asking.asked this.c h.asked h.is in let last = a.last in let same = h.same in omega arith
-
   -- a reply was to a request of a number that the client had reached
+  reply_old : (letter : Letter) (from to : Actor) (seq : ℕ) → EndKnownAt this.setting this.state (seen this.w) seq letter.rev from to
+      → to ≡ actor.Client this.c → seq ≤ client.seq
+  reply_old letter (actor.Server n) (actor.Client c) seq known e = subst (λ i. seq ≤ (this.w.clients i).seq) (one_client e) known.old
+  reply_old letter (actor.Server n) (actor.Server k) seq known e = absurd known
+  reply_old letter (actor.Client c) to seq known e = absurd known
+
   written_old : (letter : Letter) (seq : ℕ) → In letter this.w.sent → letter.to ≡ actor.Client this.c → letter.body ≡ body.Written seq → seq ≤ client.seq
-  written_old letter seq h to says = (subst (λ (b : Body). Known this.state lines (seen this.setting this.w) (actor.Client this.c) b) says
-      (subst (λ (a : Actor). Known this.state lines (seen this.setting this.w) a letter.body) to (this.ground.asking.letters letter h))).old
+  written_old letter seq h to says =
+      reply_old letter letter.from letter.to seq
+      (subst (λ (b : Body). Known this.setting this.state (seen this.w) letter.from letter.to letter.rev b) says (this.ground.asking.letters letter h)) to
 
   finished_old : (n : ℕ) (last : Finished) → at nat_cmp (owns_of this.w n).pairs.finished this.c ≡ Some last → last.seq ≤ client.seq
   finished_old n last is =
@@ -150,23 +157,29 @@ module _ (this : ClientStep) where
         (λ i ne is still. ap held_in (turn.others i ne) ∙ this.follow.finished n i last is how still)
         (λ is still. held_still last.seq (finished_old n last is) still (this.follow.finished n this.c last is how)) j is
 
-    pending : Asking this.setting this.state (after_turn reacted) → (cell : Cell) (p q : ℕ) (op : Pending) → IsPair this.state cell p q
-        → at cell_cmp (owns_of this.w p).pairs.pending cell ≡ Some op → op.op + op.op + 1 ≤ progress (at cell_cmp (owns_of this.w q).pairs.last cell)
-        → is_held k op.client ≡ true
-    pending next cell p q op pair is past = elim (same_or_apart op.client this.c) [
-      | inr ne ↦ ap held_in (turn.others op.client ne) ∙ this.follow.pending cell p q op pair is past
-      | inl e ↦
-          let before : IsOpen client op.seq = subst (λ i. IsOpen (this.w.clients i) op.seq) e (this.ground.asking.pending p cell op is).still in
-          let now : IsOpen reacted.client op.seq =
-          subst (λ (x : Client). IsOpen x op.seq) (ap (put_at this.w.clients this.c reacted.client) e
-          ∙ put_same this.w.clients this.c reacted.client) (next.pending p cell op is).still in
-          let was : is_held this.m this.c ≡ true = subst (λ i. is_held this.m i ≡ true) e (this.follow.pending cell p q op pair is past) in
-          subst (λ i. is_held k i ≡ true) (sym e) (held_still op.seq (seq_open op.seq before) now (λ o. was))
-    ]
+    pending : (n : ℕ) (cell : Cell) (op : Pending) → at cell_cmp (owns_of this.w n).pairs.pending cell ≡ Some op
+        → HasCounted this.setting this.state this.w n cell op → IsOpen ((after_turn reacted).clients op.client) op.seq → is_held k op.client ≡ true
+    pending n cell op is counted still =
+        all_put_apart this.w.clients this.c reacted.client
+        (λ i x. op.client ≡ i → IsOpen x op.seq → is_held k i ≡ true)
+        (λ i ne e open_now. ap held_in (turn.others i ne)
+        ∙ subst (λ j. is_held this.m j ≡ true) e (this.follow.pending n cell op is counted (subst (λ j. IsOpen (this.w.clients j) op.seq) (sym e) open_now)))
+        (λ e open_now.
+        let old : op.seq ≤ client.seq = subst (λ j. op.seq ≤ (this.w.clients j).seq) e (this.ground.asking.pending n cell op is).known.sent.old in
+        held_still op.seq old open_now (λ was. subst (λ j. is_held this.m j ≡ true) e
+        (this.follow.pending n cell op is counted (subst (λ j. IsOpen (this.w.clients j) op.seq) (sym e) was))))
+        op.client refl still
 
-    pub turn_follow : Asking this.setting this.state (after_turn reacted)
-        → ((post : Post) → In post reacted.posts → (seq : ℕ) → post.body ≢ body.Written seq) → Follow this.state rows (after_turn reacted) k
-    turn_follow next unwritten = record {
+    -- the servers' part is as before, and so is what is chosen
+    counted_back : (n : ℕ) (cell : Cell) (op : Pending) → HasCounted this.setting this.state (after_turn reacted) n cell op
+        → HasCounted this.setting this.state this.w n cell op
+    counted_back n cell op (Is_told off paired) = Is_told off paired
+    counted_back n cell op (Is_followed q pair together past) = Is_followed q pair (record { one = together.one; other = together.other }) past
+    counted_back n cell op (Is_counted put here) = Is_counted put here
+
+    pub turn_follow : ((post : Post) → In post reacted.posts → (seq : ℕ) → post.body ≢ body.Written seq)
+        → Follow this.setting this.state rows (after_turn reacted) k
+    turn_follow unwritten = record {
       stores = record {
         known = λ row h.
             let own = this.follow.stores.known row h in
@@ -181,6 +194,6 @@ module _ (this : ClientStep) where
             said (client_sender this.c reacted.client) this.stamp 0 reacted.posts letter new in absurd (unwritten s.post s.there seq (sym s.body ∙ says))
         | inr old ↦ letters letter j seq old to says still
       ];
-      pending = pending next;
+      pending = λ n cell op is counted still. pending n cell op is (counted_back n cell op counted) still;
       finished = finished;
     }

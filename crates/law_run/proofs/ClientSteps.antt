@@ -1,6 +1,6 @@
 -- What the machine is told of a client's step is allowed, and keeps it tied to the world.
 use Rattle.std.proofs.Common.{◌≡◌, ◌<◌, ◌+◌, ℕ, List, [], ◌∷◌, ◌++◌, Bool, true, false, Option, Some, None, refl, sym, ap, ◌∙◌, subst, ◌⊎◌, inl, inr, arith, is_some}
-use Rattle.std.specs.Prelude.{if◌then◌else◌}
+use Rattle.std.specs.Prelude.{if◌then◌else◌, length}
 use Rattle.petal_machine.specs.declared.event.Event.{Event}
 use Rattle.petal_machine.specs.declared.event.Event.TheVariants.{Begin, End}
 use Rattle.petal_machine.specs.declared.event.Write.{Write}
@@ -20,16 +20,15 @@ use Rattle.script_lines.specs.declared.request.Request.{Request}
 use Rattle.script_lines.specs.declared.request.Request.TheVariants as request
 use Rattle.petal_rules.specs.State.{State, find, lead}
 use Rattle.petal_rules.specs.Writes.{ended}
-use Rattle.petal_rules.specs.Clients.{Client, Asked, Reaction, answers, is_read, is_write, cell_on, command_of, refusal, write_refusal}
+use Rattle.petal_rules.specs.Clients.{Client, Asked, Reaction, answers, is_read, is_stop, is_write, cell_on, command_of, refusal, write_refusal}
 use Rattle.petal_rules.specs.World.{World, reacts, next_line}
 use Rattle.petal_rules.proofs.ListLemmas.{put_same}
 use Rattle.petal_history.specs.Events as events
 use Rattle.petal_history.specs.Events.{open_write, write_asked, write_by, begun, end_of, change_by, takes, makes, looks, told_with}
 use Rattle.law_steps.specs.Happens.{Heard}
-use Rattle.law_steps.specs.Turned.{StaysOpen, IsCalled, OnlySays, IsReason, By_verdict, By_witness, IsJudged, Goes_on, Begins, Reads, Ends, Judges, answer_of}
+use Rattle.law_steps.specs.Turned.{StaysOpen, IsCalled, OnlySays, IsReason, By_verdict, By_witness, IsJudged, Goes_on, Begins, Reads, Ends, Shown, Judges, answer_of}
 use Rattle.petal_rules.proofs.Tests.{by_bool, same_some, none_some}
 use Rattle.law_requests.specs.Asked.{IsOpen}
-use Rattle.law_requests.specs.Known.{Asking}
 use Rattle.law_run.specs.Onward.{held_in, is_held, Seat}
 use Rattle.law_run.specs.Follow.{Follow}
 use Rattle.law_run.proofs.Along.{rows_in}
@@ -42,6 +41,10 @@ not_write : (c seq : ℕ) (asked : Request) → is_read asked ≡ true → write
 not_write c seq (request.Write name block pattern) e = let f : false ≡ true = e in absurd cc
 not_write c seq _ e = refl
 
+stop_no_write : (c seq : ℕ) (asked : Request) → is_stop asked ≡ true → write_by c seq asked ≡ None
+stop_no_write c seq (request.Write name block pattern) e = let f : false ≡ true = e in absurd cc
+stop_no_write c seq _ e = refl
+
 a_write : (c seq : ℕ) (asked : Request) → is_write asked ≡ true → (write : Write) × (write_by c seq asked ≡ Some write)
 a_write c seq (request.Write name block pattern) e = (_, refl)
 a_write c seq _ e = let f : false ≡ true = e in absurd cc
@@ -52,16 +55,16 @@ begins_by c true next = begun (open_write next c)
 begins_by c false next = []
 
 -- a request that stays open is of the same write
-stays_write : (c : ℕ) (old new : Option Asked) → StaysOpen old new → write_asked c new ≡ write_asked c old
-stays_write c None None s = refl
-stays_write c (Some old) (Some new) s = λ i. write_by c (s.seq i) (s.request i)
-stays_write c None (Some new) s = absurd s
-stays_write c (Some old) None s = absurd s
+stays_write : (rev c : ℕ) (old new : Option Asked) → StaysOpen rev old new → write_asked c new ≡ write_asked c old
+stays_write rev c None None s = refl
+stays_write rev c (Some old) (Some new) s = λ i. write_by c (s.seq i) (s.request i)
+stays_write rev c None (Some new) s = absurd s
+stays_write rev c (Some old) None s = absurd s
 
-stays_back : (old new : Client) (seq : ℕ) → StaysOpen old.asked new.asked → IsOpen new seq → IsOpen old seq
-stays_back old new seq stays h = by old.asked new.asked refl refl stays
+stays_back : (rev : ℕ) (old new : Client) (seq : ℕ) → StaysOpen rev old.asked new.asked → IsOpen new seq → IsOpen old seq
+stays_back rev old new seq stays h = by old.asked new.asked refl refl stays
   where
-    by : (o n : Option Asked) → old.asked ≡ o → new.asked ≡ n → StaysOpen o n → IsOpen old seq
+    by : (o n : Option Asked) → old.asked ≡ o → new.asked ≡ n → StaysOpen rev o n → IsOpen old seq
     by None None e f s = none_some f h.is
     by (Some one) (Some two) e f s =
         record { asked = one; is = e; same = sym s.seq ∙ ap (λ (a : Asked). a.seq) (same_some (sym f ∙ h.is)) ∙ h.same }
@@ -102,7 +105,7 @@ module _ (this : ClientStep) where
         (makes (change_by this.setting this.w (after_turn this reacted)) ++ looks lines this.later (reacts this.w this.c this.stamp reacted).letters
         ++ events.ended (open_write this.w this.c) reacted.answer) ≡ Some es
     pub may : Obeys this.m es
-    pub follows : Follow this.state (rows_in this.setting this.w) (after_turn this reacted) (replay this.m es)
+    pub follows : Follow this.setting this.state (rows_in this.setting this.w) (after_turn this reacted) (replay this.m es)
 
   ended_none : (o : Option Write) → events.ended o None ≡ []
   ended_none None = refl
@@ -110,13 +113,13 @@ module _ (this : ClientStep) where
 
   -- nothing is told
   silent : (in_call : Bool) (reacted : Reaction) → Turn this in_call reacted
-      → Asking this.setting this.state (after_turn this reacted) → begins_by this.c in_call (after_turn this reacted) ≡ []
+      → begins_by this.c in_call (after_turn this reacted) ≡ []
       → events.ended (open_write this.w this.c) reacted.answer ≡ [] → TurnFollow this.w this.m this.m this.c reacted.client → ClientTold in_call reacted
-  silent in_call reacted turned next begins ends turn = record {
+  silent in_call reacted turned begins ends turn = record {
     es = [];
     is = (λ i. told_with (begins i) (nothing_taken this reacted i) (nothing_made this reacted i ++ no_looks this in_call reacted turned i ++ ends i));
     may = tt;
-    follows = turn_follow this this.m reacted turn next (unwritten this in_call reacted turned);
+    follows = turn_follow this this.m reacted turn (unwritten this in_call reacted turned);
   }
 
   quiet_turn : (to : Client) → Seat (write_asked this.c to.asked) (open_of this.m.opened this.c)
@@ -127,13 +130,13 @@ module _ (this : ClientStep) where
   unanswered : (reacted : Reaction) → OnlySays this.setting.servers this.c reacted → events.ended (open_write this.w this.c) reacted.answer ≡ []
   unanswered reacted only = ap (events.ended (open_write this.w this.c)) only.unanswered ∙ ended_none (open_write this.w this.c)
 
-  goes_on_told : (reacted : Reaction) (seq : reacted.client.seq ≡ client.seq) (stays : StaysOpen client.asked reacted.client.asked)
-      (only : OnlySays this.setting.servers this.c reacted) → Asking this.setting this.state (after_turn this reacted) → ClientTold false reacted
-  goes_on_told reacted seq stays only next =
-      silent false reacted (Goes_on reacted seq stays only) next refl (unanswered reacted only)
+  goes_on_told : (reacted : Reaction) (seq : reacted.client.seq ≡ client.seq) (stays : StaysOpen (length reacted.client.applied) client.asked reacted.client.asked)
+      (only : OnlySays this.setting.servers this.c reacted) → ClientTold false reacted
+  goes_on_told reacted seq stays only =
+      silent false reacted (Goes_on reacted seq stays only) refl (unanswered reacted only)
       (quiet_turn reacted.client
-      (subst (λ o. Seat o (open_of this.m.opened this.c)) (sym (stays_write this.c client.asked reacted.client.asked stays)) (this.follow.seats this.c))
-      (λ seq h. inl (stays_back client reacted.client seq stays h, λ t. t)))
+      (subst (λ o. Seat o (open_of this.m.opened this.c)) (sym (stays_write (length reacted.client.applied) this.c client.asked reacted.client.asked stays)) (this.follow.seats this.c))
+      (λ seq h. inl (stays_back (length reacted.client.applied) client reacted.client seq stays h, λ t. t)))
 
   -- nothing was open
   no_write : client.asked ≡ None → open_write this.w this.c ≡ None
@@ -147,8 +150,8 @@ module _ (this : ClientStep) where
 
   begins_told : (reacted : Reaction) (line : Line) (asked : Asked) (is : next_line lines this.c client ≡ Some line) (free : client.asked ≡ None)
       (seq : reacted.client.seq ≡ client.seq + 1) (there : reacted.client.asked ≡ Some asked) (called : IsCalled line (client.seq + 1) asked)
-      (only : OnlySays this.setting.servers this.c reacted) → Asking this.setting this.state (after_turn this reacted) → ClientTold true reacted
-  begins_told reacted line asked is free seq there called only next = by (write_by this.c (client.seq + 1) line.request) refl
+      (only : OnlySays this.setting.servers this.c reacted) → ClientTold true reacted
+  begins_told reacted line asked is free seq there called only = by (write_by this.c (client.seq + 1) line.request) refl
     where
       turned : Turn this true reacted
       turned = Begins reacted line asked is free seq there called only
@@ -161,7 +164,7 @@ module _ (this : ClientStep) where
           let f : client.seq + 1 ≡ number = sym called.seq_is ∙ ap (λ (a : Asked). a.seq) (same_some (sym there ∙ h.is)) ∙ h.same in omega arith
 
       by : (o : Option Write) → write_by this.c (client.seq + 1) line.request ≡ o → ClientTold true reacted
-      by None e = silent true reacted turned next (ap begun (open_now reacted ∙ asked_is ∙ e)) (unanswered reacted only)
+      by None e = silent true reacted turned (ap begun (open_now reacted ∙ asked_is ∙ e)) (unanswered reacted only)
           (quiet_turn reacted.client
           (subst (λ o. Seat o (open_of this.m.opened this.c)) (sym (asked_is ∙ e)) (empty_seat (no_write free)))
           (λ number h. inr (newer number h)))
@@ -181,21 +184,31 @@ module _ (this : ClientStep) where
               seat = subst (λ o. Seat o (open_of k.opened this.c)) (sym (asked_is ∙ e))
                   (subst (λ i. Seat (Some write) (open_of k.opened i)) own (begin_seat this.m write none));
               helds = λ number h. inr (newer number h);
-            }) next (unwritten this true reacted turned);
+            }) (unwritten this true reacted turned);
           }
 
-  reads_told : (asked : Asked) (bytes : List ℕ) (h : Heard this.w (actor.Client this.c) (body.Data asked.seq bytes)) (is : client.asked ≡ Some asked)
-      (reads : is_read asked.request ≡ true) → Asking this.setting this.state (after_turn this (answers client asked (answer.Data bytes)))
+  reads_told : (asked : Asked) (bytes : List ℕ) (h : Heard this.w (actor.Client this.c) asked.rev (body.Data asked.seq bytes)) (is : client.asked ≡ Some asked)
+      (reads : is_read asked.request ≡ true)
       → ClientTold false (answers client asked (answer.Data bytes))
-  reads_told asked bytes h is reads next =
+  reads_told asked bytes h is reads =
       let none : open_write this.w this.c ≡ None = ap (write_asked this.c) is ∙ not_write this.c asked.seq asked.request reads in
-      silent false (answers client asked (answer.Data bytes)) (Reads asked bytes h is reads) next refl
+      silent false (answers client asked (answer.Data bytes)) (Reads asked bytes h is reads) refl
       (ap (λ o. events.ended o (Some (asked.line, answer.Data bytes))) none)
       (quiet_turn (answers client asked (answer.Data bytes)).client (empty_seat none) (λ seq o. none_some refl o.is))
 
+  -- a line of the operator is no write
+  shown_told : (asked : Asked) (rev round inc : ℕ) (running full : Bool)
+      (h : Heard this.w (actor.Client this.c) rev (body.Seen asked.line round running inc full)) (is : client.asked ≡ Some asked)
+      (stops : is_stop asked.request ≡ true) → ClientTold false (answers client asked answer.Ok)
+  shown_told asked rev round inc running full h is stops =
+      let none : open_write this.w this.c ≡ None = ap (write_asked this.c) is ∙ stop_no_write this.c asked.seq asked.request stops in
+      silent false (answers client asked answer.Ok) (Shown asked rev round inc running full h is stops) refl
+      (ap (λ o. events.ended o (Some (asked.line, answer.Ok))) none)
+      (quiet_turn (answers client asked answer.Ok).client (empty_seat none) (λ seq o. none_some refl o.is))
+
   -- a write ends as its reply says
   may_end : (write : Write) (how : Ending) (asked : Asked) → write.client ≡ this.c → open_write this.w this.c ≡ Some write → client.asked ≡ Some asked
-      → Heard this.w (actor.Client this.c) (ended asked.seq how) → May this.m (End write (end_of (answer_of how)))
+      → Heard this.w (actor.Client this.c) asked.rev (ended asked.seq how) → May this.m (End write (end_of (answer_of how)))
   may_end write ending.Written asked own is there h =
       let seat : Seat (Some write) (open_of this.m.opened this.c) = subst (λ o. Seat o (open_of this.m.opened this.c)) is (this.follow.seats this.c) in
       let held : is_held this.m this.c ≡ true =
@@ -205,10 +218,10 @@ module _ (this : ClientStep) where
       let seat : Seat (Some write) (open_of this.m.opened this.c) = subst (λ o. Seat o (open_of this.m.opened this.c)) is (this.follow.seats this.c) in
       record { held = seat.0; is = ap (open_of this.m.opened) own ∙ seat.1 }
 
-  ends_told : (asked : Asked) (how : Ending) (h : Heard this.w (actor.Client this.c) (ended asked.seq how)) (is : client.asked ≡ Some asked)
-      (writes : is_write asked.request ≡ true) → Asking this.setting this.state (after_turn this (answers client asked (answer_of how)))
+  ends_told : (asked : Asked) (how : Ending) (h : Heard this.w (actor.Client this.c) asked.rev (ended asked.seq how)) (is : client.asked ≡ Some asked)
+      (writes : is_write asked.request ≡ true)
       → ClientTold false (answers client asked (answer_of how))
-  ends_told asked how h is writes next =
+  ends_told asked how h is writes =
       let reacted = answers client asked (answer_of how) in
       let wr = a_write this.c asked.seq asked.request writes in
       let there : open_write this.w this.c ≡ Some wr.0 = ap (write_asked this.c) is ∙ wr.1 in
@@ -227,15 +240,14 @@ module _ (this : ClientStep) where
           others = λ j ne. end_others this.m wr.0 (end_of (answer_of how)) j this.follow.stores.mindful (λ f. ne (f ∙ own));
           seat = subst (λ i. open_of k.opened i ≡ None) own (end_seat this.m wr.0 (end_of (answer_of how)));
           helds = λ seq o. none_some refl o.is;
-        }) next (unwritten this false reacted (Ends asked how h is writes));
+        }) (unwritten this false reacted (Ends asked how h is writes));
       }
 
   -- an entry of the log answers: a write ends as one that could not be served
   judges_told : (later : Client) (asked : Asked) (given : Answer) (is : client.asked ≡ Some asked) (gone : later.asked ≡ None) (seq : later.seq ≡ client.seq)
       (judged : IsJudged this.setting.servers this.c client.applied later.applied asked given)
-      → Asking this.setting this.state (after_turn this (record { client = later; posts = []; answer = Some (asked.line, given) }))
       → ClientTold false (record { client = later; posts = []; answer = Some (asked.line, given) })
-  judges_told later asked given is gone seq judged next = by (write_by this.c asked.seq asked.request) refl
+  judges_told later asked given is gone seq judged = by (write_by this.c asked.seq asked.request) refl
     where
       reacted : Reaction
       reacted = record { client = later; posts = []; answer = Some (asked.line, given) }
@@ -253,7 +265,7 @@ module _ (this : ClientStep) where
       by : (o : Option Write) → write_by this.c asked.seq asked.request ≡ o → ClientTold false reacted
       by None e =
           let none : open_write this.w this.c ≡ None = ap (write_asked this.c) is ∙ e in
-          silent false reacted turned next refl (ap (λ o. events.ended o (Some (asked.line, given))) none)
+          silent false reacted turned refl (ap (λ o. events.ended o (Some (asked.line, given))) none)
           (quiet_turn later (subst (λ o. Seat (write_asked this.c o) (open_of this.m.opened this.c)) (sym gone) (empty_seat none))
           (λ number o. none_some gone o.is))
       by (Some write) e =
@@ -275,13 +287,14 @@ module _ (this : ClientStep) where
               seat = subst (λ o. Seat (write_asked this.c o) (open_of k.opened this.c)) (sym gone)
                   (subst (λ i. open_of k.opened i ≡ None) own (end_seat this.m write (end_of given)));
               helds = λ number o. none_some gone o.is;
-            }) next (unwritten this false reacted turned);
+            }) (unwritten this false reacted turned);
           }
 
-  pub turn_told : (in_call : Bool) (reacted : Reaction) → Turn this in_call reacted → Asking this.setting this.state (after_turn this reacted)
+  pub turn_told : (in_call : Bool) (reacted : Reaction) → Turn this in_call reacted
       → ClientTold in_call reacted
-  turn_told _ _ (Goes_on reacted seq stays only) next = goes_on_told reacted seq stays only next
-  turn_told _ _ (Begins reacted line asked is free seq there called only) next = begins_told reacted line asked is free seq there called only next
-  turn_told _ _ (Reads asked bytes h is reads) next = reads_told asked bytes h is reads next
-  turn_told _ _ (Ends asked how h is writes) next = ends_told asked how h is writes next
-  turn_told _ _ (Judges later asked given is gone seq judged) next = judges_told later asked given is gone seq judged next
+  turn_told _ _ (Goes_on reacted seq stays only) = goes_on_told reacted seq stays only
+  turn_told _ _ (Begins reacted line asked is free seq there called only) = begins_told reacted line asked is free seq there called only
+  turn_told _ _ (Reads asked bytes h is reads) = reads_told asked bytes h is reads
+  turn_told _ _ (Ends asked how h is writes) = ends_told asked how h is writes
+  turn_told _ _ (Shown asked rev round inc running full h is stops) = shown_told asked rev round inc running full h is stops
+  turn_told _ _ (Judges later asked given is gone seq judged) = judges_told later asked given is gone seq judged

@@ -8,32 +8,32 @@ use Rattle.petal_base.specs.Cells.{cell_of}
 use Rattle.petal_table.specs.Table.{Table, at, put}
 use Rattle.petal_table.proofs.Rows.{at-empty}
 use Rattle.petal_msg.specs.declared.body.Body.{Body}
-use Rattle.petal_msg.specs.declared.body.Body.TheVariants as body
-use Rattle.petal_msg.specs.declared.operation.Far.TheVariants as far
+use Rattle.petal_msg.specs.declared.operation.Pending.{Pending}
 use Rattle.script_lines.specs.declared.request.Line.{Line}
 use Rattle.script_lines.specs.declared.script.Script.{Script}
-use Rattle.petal_rules.specs.State.{State, is_second}
+use Rattle.petal_rules.specs.State.{State}
 use Rattle.petal_rules.specs.Store.{Chain, Stored, cell_cmp, chain_in}
 use Rattle.petal_rules.specs.Server.{Own, Here, Done}
+use Rattle.petal_rules.specs.Jobs.{Acted}
+use Rattle.petal_rules.specs.Log.{Log}
 use Rattle.petal_rules.specs.World.{Setting, World, start, setting_of}
+use Rattle.petal_rules.specs.declared.step.Step.{Step}
+use Rattle.petal_rules.proofs.Tests.{all_put, is_the_one}
 use Rattle.law_state.specs.Steady.{IsSteady}
-use Rattle.law_steps.specs.DidLead.{DidLead, Asks_for, Repeats, Is_full, Opens, Marks, Puts, Gives_up, Unmarks, Closes}
-use Rattle.law_steps.specs.DidSecond.{DidSecond, Sets_apart, Promises, Declines, Follows}
-use Rattle.law_steps.specs.Did.{Did, Ignores, Refuses, By_read, By_lead, By_second}
-use Rattle.law_steps.specs.Happens.{Handled, Happens, Serves, Turns, served, own_place}
+use Rattle.law_state.proofs.Alone.{second_both}
+use Rattle.law_steps.specs.Happens.{Handled, Happens, Serves, Turns, Worked, By_job, By_entry, Serving, Goes, Ends, Stays, own_place}
 use Rattle.law_steps.specs.Ready.{Ready}
-use Rattle.law_steps.proofs.Histories.{start_rests}
+use Rattle.law_steps.proofs.Histories.{own_steady}
 use Rattle.law_steps.proofs.Staged.{same_cell_or_apart}
-use Rattle.petal_rules.proofs.Tests.{all_put}
-use Rattle.law_copies.specs.Pair.{pair_of, IsPair, IsPutting, owns_of, Good}
-use Rattle.law_copies.proofs.Jobs.{chain_put, chain_apart, asked, heard_known, second_pair}
+use Rattle.law_copies.specs.Pair.{pair_of, IsPair, IsPutting, AreTogether, alone_in, owns_of, Good}
+use Rattle.law_copies.proofs.Jobs.{chain_put, chain_apart, asked, heard_known, second_pair, second_together}
 use Rattle.law_copies.proofs.Copying.{start_good}
 use Rattle.law_requests.specs.Asked.{IsWrite}
 use Rattle.law_requests.specs.Known.{Asking}
 use Rattle.law_requests.proofs.Histories.{start_asking}
 use Rattle.law_run.specs.Follow.{IsShort, Ground}
+use Rattle.law_run.proofs.Chains.{PutsAsked, StoresSo, Nothing_new, An_own, An_asked, did_stores}
 use Rattle.law_run.proofs.Names.{start_named}
-use Rattle.law_steps.proofs.Subjects.{of_read, told_own}
 
 short_put : (chain : Chain) (epoch : ℕ) (entry : Stored) → epoch ≡ 0 → IsShort chain → IsShort (put nat_cmp chain epoch entry)
 unfolding put
@@ -44,97 +44,90 @@ pub write_epoch : (state : State) → IsSteady state → (lines : List Line) (cl
     → IsWrite state lines client seq cell epoch bytes → epoch ≡ 0
 write_epoch state steady lines client seq cell epoch bytes w = w.epoch_is ∙ steady.newest w.name w.disk w.found
 
-module _ (setting : Setting) (state : State) (steady : IsSteady state) where
-  abbrev lines : List Line
-  lines = setting.lines
+-- a second server that follows was asked to by an operation that is pending at the first
+pub record Followed (setting : Setting) (state : State) (w : World) (n number : ℕ) (key : Key) (bytes : List ℕ) : Type 0 where
+  pub p : ℕ
+  pub pair : IsPair state (cell_of key) p n
+  pub together : AreTogether (alone_in setting w) (cell_of key) p n
+  pub putting : IsPutting (at cell_cmp (owns_of w p).pairs.pending (cell_of key)) number key bytes
 
-  module _ (w : World) (ready : Ready state w) (good : Good state w) (asking : Asking setting state w) (n : ℕ) where
-    abbrev here : Here
-    here = own_place setting w n
+module _ (setting : Setting) (state : State) (steady : IsSteady state) (w : World) (ready : Ready setting state w) (asking : Asking setting state w) (n : ℕ) where
+  abbrev here : Here
+  here = own_place setting w n
 
-    abbrev own : Own
-    own = owns_of w n
+  abbrev own : Own
+  own = owns_of w n
 
-    abbrev hears : Body → Type 0
-    hears = Handled w n
+  abbrev hears : Body → Type 0
+  hears = Handled w n
 
-    -- a second server that follows was asked to by an operation that is pending at the first
-    pub record Followed (number : ℕ) (key : Key) (bytes : List ℕ) : Type 0 where
-      pub p : ℕ
-      pub pair : IsPair state (cell_of key) p n
-      pub putting : IsPutting (at cell_cmp (owns_of w p).pairs.pending (cell_of key)) number key bytes
+  pub pending_epoch : (p : ℕ) (cell : Cell) (op : Pending)
+      → at cell_cmp (owns_of w p).pairs.pending cell ≡ Some op → op.key.epoch ≡ 0
+  pending_epoch p cell op is =
+      let a = asking.pending p cell op is in
+      write_epoch state steady setting.lines op.client op.seq cell op.key.epoch op.bytes a.known.sent.write
 
-    pub followed : (number : ℕ) (key : Key) (version : ℕ) (bytes : List ℕ) → hears (body.Replicate number key version bytes)
-        → is_second state n (cell_of key) ≡ true → at cell_cmp own.pairs.last (cell_of key) ≡ Some (record { op = number; far = far.Reserved })
-        → Followed number key bytes
-    followed number key version bytes h s is =
-        let pair = second_pair setting state steady w ready good n (cell_of key) s in
-        record {
-          p = pair.0;
-          pair = pair.1;
-          putting = asked setting state steady w ready good n number key bytes
-              (pair_of (owns_of w pair.0) own (cell_of key)) is (heard_known setting state steady w ready good n _ h (cell_of key) pair.0 n refl pair.1);
-        }
+  pub followed : Good setting state w → (w.servers n).life.running ≡ true → (new : Own) (a : PutsAsked hears here own new)
+      → Followed setting state w n a.number a.key a.bytes
+  followed good runs new a =
+      let cell = cell_of a.key in
+      let pair = second_pair setting state steady w ready good n runs cell a.seconds in
+      let both = second_both here.state (own_steady setting w ready.firm n) cell n (is_the_one _ n a.seconds) in
+      let together = second_together setting state steady w ready good n runs cell pair.0 pair.1 both in
+      record {
+        p = pair.0;
+        pair = pair.1;
+        together = together;
+        putting = asked setting state steady w ready good n runs a.number a.key a.bytes (pair_of (owns_of w pair.0) own cell) a.last
+            (heard_known setting state steady w ready good n runs _ a.asked cell pair.0 n refl pair.1 together);
+      }
 
-    pub key_epoch : (number : ℕ) (key : Key) (bytes : List ℕ) → Followed number key bytes → key.epoch ≡ 0
-    key_epoch number key bytes f =
-        let op = f.putting.op in
-        let p = asking.pending f.p (cell_of key) op f.putting.is in
-        ap (λ (k : Key). k.epoch) (sym f.putting.key_is) ∙ write_epoch state steady lines op.client op.seq (cell_of key) op.key.epoch op.bytes p.write
+  pub followed_epoch : (number : ℕ) (key : Key) (bytes : List ℕ) → Followed setting state w n number key bytes → key.epoch ≡ 0
+  followed_epoch number key bytes f =
+      ap (λ (k : Key). k.epoch) (sym f.putting.key_is) ∙ pending_epoch f.p (cell_of key) f.putting.op f.putting.is
 
-    short_at : (chains : Table Cell Chain) (cell q : Cell) (chain : Chain) → IsShort chain → IsShort (chain_in chains q)
-        → IsShort (chain_in (put cell_cmp chains cell chain) q)
-    short_at chains cell q chain new old = elim (same_cell_or_apart q cell) [
-      | inl e ↦ subst (λ (c : Cell). IsShort (chain_in (put cell_cmp chains cell chain) c)) (sym e) (subst IsShort (sym (chain_put chains cell chain)) new)
-      | inr ne ↦ subst IsShort (sym (chain_apart chains cell chain q ne)) old
-    ]
+  short_at : (chains : Table Cell Chain) (cell q : Cell) (chain : Chain) → IsShort chain → IsShort (chain_in chains q)
+      → IsShort (chain_in (put cell_cmp chains cell chain) q)
+  short_at chains cell q chain new old = elim (same_cell_or_apart q cell) [
+    | inl e ↦ subst (λ (c : Cell). IsShort (chain_in (put cell_cmp chains cell chain) c)) (sym e) (subst IsShort (sym (chain_put chains cell chain)) new)
+    | inr ne ↦ subst IsShort (sym (chain_apart chains cell chain q ne)) old
+  ]
 
-    lead_short : ((cell : Cell) → IsShort (chain_in own.store.chains cell)) → (done : Done) → DidLead hears here state own done
-        → (cell : Cell) → IsShort (chain_in done.own.store.chains cell)
-    lead_short short _ (Puts op is stage) cell =
-        let p = asking.pending n op.cell op is in
-        short_at own.store.chains (cell_of op.key) cell _
-        (short_put (chain_in own.store.chains (cell_of op.key)) op.key.epoch _
-        (write_epoch state steady lines op.client op.seq op.cell op.key.epoch op.bytes p.write) (short (cell_of op.key))) (short cell)
-    lead_short short _ (Asks_for posts h) cell = short cell
-    lead_short short _ (Repeats want last h lead is e) cell = short cell
-    lead_short short _ (Is_full want h lead new none no_room) cell = short cell
-    lead_short short _ (Opens want h lead new none) cell = short cell
-    lead_short short _ (Marks op h is stage) cell = short cell
-    lead_short short _ (Gives_up op h is stage) cell = short cell
-    lead_short short _ (Unmarks op h is stage) cell = short cell
-    lead_short short _ (Closes op is stage) cell = short cell
+  module _ (good : Good setting state w) (short : (cell : Cell) → IsShort (chain_in own.store.chains cell)) where
+    stored_short : (w.servers n).life.running ≡ true → (new : Own) → StoresSo hears here own new → (cell : Cell) → IsShort (chain_in new.store.chains cell)
+    stored_short runs new (Nothing_new same) cell = subst (λ c. IsShort (chain_in c cell)) (sym same) (short cell)
+    stored_short runs new (An_own p) cell =
+        subst (λ c. IsShort (chain_in c cell)) (sym p.chains)
+        (short_at own.store.chains (cell_of p.op.key) cell _
+        (short_put (chain_in own.store.chains (cell_of p.op.key)) p.op.key.epoch p.entry (pending_epoch n p.op.cell p.op p.is) (short (cell_of p.op.key)))
+        (short cell))
+    stored_short runs new (An_asked p) cell =
+        subst (λ c. IsShort (chain_in c cell)) (sym p.chains)
+        (short_at own.store.chains (cell_of p.key) cell _
+        (short_put (chain_in own.store.chains (cell_of p.key)) p.key.epoch p.entry
+        (followed_epoch p.number p.key p.bytes (followed good runs new p)) (short (cell_of p.key)))
+        (short cell))
 
-    second_short : ((cell : Cell) → IsShort (chain_in own.store.chains cell)) → (done : Done) → DidSecond hears here state own done
-        → (cell : Cell) → IsShort (chain_in done.own.store.chains cell)
-    second_short short _ (Sets_apart number c tickets h s le) cell = short cell
-    second_short short _ (Promises number c how s is) cell =
-        subst (λ (o : Own). IsShort (chain_in o.store.chains cell)) (sym (told_own here own c number how)) (short cell)
-    second_short short _ (Declines number c h s no_room) cell = short cell
-    second_short short _ (Follows number key version bytes h s is) cell =
-        short_at own.store.chains (cell_of key) cell _
-        (short_put (chain_in own.store.chains (cell_of key)) key.epoch _ (key_epoch number key bytes (followed number key version bytes h s is))
-        (short (cell_of key))) (short cell)
+    worked_short : (w.servers n).life.running ≡ true → (log : Log) (done : Done) → Worked setting w n log done → (cell : Cell)
+        → IsShort (chain_in done.own.store.chains cell)
+    worked_short runs _ _ (By_job log done same did) cell = stored_short runs done.own (did_stores hears here own done did) cell
+    worked_short runs _ _ (By_entry log entry more front) cell = short cell
 
-    did_short : ((cell : Cell) → IsShort (chain_in own.store.chains cell)) → (done : Done) → Did hears here state own done
-        → (cell : Cell) → IsShort (chain_in done.own.store.chains cell)
-    did_short short _ Ignores cell = short cell
-    did_short short _ (Refuses to said is why) cell = short cell
-    did_short short _ (By_read done d) cell =
-        subst (λ (o : Own). IsShort (chain_in o.store.chains cell)) (sym (of_read hears here state own done d).same) (short cell)
-    did_short short _ (By_lead done d) cell = lead_short short done d cell
-    did_short short _ (By_second done d) cell = second_short short done d cell
+    pub serves_short : (what : Step) (acted : Acted) → Serving setting w n what acted → (cell : Cell) → IsShort (chain_in acted.server.own.store.chains cell)
+    serves_short what _ (Goes log done queue runs worked queued works) cell = worked_short runs log done worked cell
+    serves_short what _ (Ends log done runs worked) cell = worked_short runs log done worked cell
+    serves_short what _ (Stays who posts from shown) cell = short cell
 
-  pub short_later : (w v : World) → Ground setting state w → Happens setting state w v → (n : ℕ) (cell : Cell)
-      → IsShort (chain_in (owns_of v n).store.chains cell)
-  short_later w _ ground (Serves n stamp log done queue lt did queued) =
-      all_put w.servers n (served (w.servers n) log done queue) (λ k server. (cell : Cell) → IsShort (chain_in server.own.store.chains cell)) ground.short
-      (did_short w ground.ready ground.good ground.asking n (ground.short n) done did)
-  short_later w _ ground (Turns c stamp in_call reacted lt within turned onward) = ground.short
+pub short_later : (setting : Setting) (state : State) → IsSteady state → (w v : World) → Ground setting state w → Happens setting state w v
+    → (n : ℕ) (cell : Cell) → IsShort (chain_in (owns_of v n).store.chains cell)
+short_later setting state steady w _ ground (Serves n stamp what acted lt within serving) =
+    all_put w.servers n acted.server (λ k server. (cell : Cell) → IsShort (chain_in server.own.store.chains cell)) ground.short
+    (serves_short setting state steady w ground.ready ground.asking n ground.good (ground.short n) what acted serving)
+short_later setting state steady w _ ground (Turns c stamp in_call reacted lt within turned onward) = ground.short
 
-pub start_ground : (state : State) (script : Script) → Ready state (start (setting_of script)) → Ground (setting_of script) state (start (setting_of script))
+pub start_ground : (state : State) (script : Script) → Ready (setting_of script) state (start (setting_of script))
+    → Ground (setting_of script) state (start (setting_of script))
 start_ground state script ready = record {
-  rests = start_rests script;
   ready = ready;
   good = start_good state script;
   asking = start_asking state script;

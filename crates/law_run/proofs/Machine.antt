@@ -1,5 +1,5 @@
 -- What each event does to the machine.
-use Rattle.std.proofs.Common.{◌≡◌, ◌≢◌, ℕ, List, [], ◌∷◌, ◌++◌, Bool, true, false, not, ◌||◌, ◌==◌, cond, Option, Some, None, refl, sym, ap, ◌∙◌, subst, inl, inr}
+use Rattle.std.proofs.Common.{◌≡◌, ◌≢◌, ℕ, List, [], ◌∷◌, ◌++◌, Bool, true, false, not, ◌||◌, ◌==◌, cond, Option, Some, None, refl, sym, ap, ◌∙◌, subst, ◌⊎◌, inl, inr}
 use Rattle.std.specs.Prelude.{map, find, option_map, unwrap_or}
 use Rattle.std.specs.Option.{option_or}
 use Rattle.std.specs.Cmp.Lexicographic.{nat_list_eq_equiv}
@@ -8,6 +8,7 @@ use Rattle.std.proofs.lemmas.List.Folds.{find-append}
 use Rattle.petal_base.specs.Block.{zero_block}
 use Rattle.petal_table.specs.Table.{Table, put}
 use Rattle.petal_table.proofs.Rows.{at_same, at_apart}
+use Rattle.global_tables.specs.declared.disk.DiskRow.{DiskRow}
 use Rattle.petal_machine.specs.declared.event.Event.{Event}
 use Rattle.petal_machine.specs.declared.event.Event.TheVariants.{Make, Begin, Take, End, Look}
 use Rattle.petal_machine.specs.declared.event.Write.{Write}
@@ -16,7 +17,9 @@ use Rattle.petal_machine.specs.declared.state.Disk.{Disk}
 use Rattle.petal_machine.specs.declared.state.Open.{Open}
 use Rattle.petal_machine.specs.Machine.{Plain, same_bytes, is_named, content, disk_of, open_of, is_of, but_of, stands, has_content, remembers, with_disk}
 use Rattle.petal_machine.specs.Run.{IsOpen, Obeys, after, changed, written, replay}
-use Rattle.petal_rules.proofs.Tests.{by_bool, same_some, none_some, some_or_none, same_numbers, number_itself, nat_lists_same, true_false}
+use Rattle.petal_rules.specs.Lists.{In}
+use Rattle.petal_rules.proofs.Tests.{by_bool, same_or_apart, same_some, none_some, some_or_none, same_numbers, number_itself, nat_lists_same, true_false}
+use Rattle.petal_history.specs.Claims.{Holds}
 use Rattle.law_run.specs.Onward.{IsMindful, held_in, Onward, Seat}
 
 pub Obeys-append : (m : Plain) (es fs : List Event) → Obeys m es → Obeys (replay m es) fs → Obeys m (es ++ fs)
@@ -256,25 +259,6 @@ stands_held m disk c w is mindful seat has =
     ap held_in seat.1 ∙ mindful c (record { write = w; held = seat.0 }) seat.1
     (stands_there m disk w is ∙ ap (λ b. same_bytes b w.bytes) has ∙ nat_list_eq_equiv.refl w.bytes)
 
--- the machine after a list of takes of one write
-pub record Taken (m : Plain) (disk : Disk) (w : Write) (es : List Event) : Type 0 where
-  pub may : Obeys m es
-  pub later : Disk
-  pub is : disk_of (replay m es).disks w.disk ≡ Some later
-  pub has : content later.now w.block ≡ w.bytes
-  pub blocks : (other : ℕ) → other ≢ w.block → content later.now other ≡ content disk.now other
-  pub others : (name : List ℕ) → name ≢ w.disk → disk_of (replay m es).disks name ≡ disk_of m.disks name
-  pub mindful : IsMindful (replay m es)
-  pub onward : Onward m (replay m es)
-
-seat_open : (m : Plain) (w : Write) → Seat (Some w) (open_of m.opened w.client) → IsOpen m.opened w
-seat_open m w s = record { held = s.0; is = s.1 }
-
--- each event is the same take
-abbrev pub AllTakes : Write → List Event → Type 0
-AllTakes w [] = Unit {0}
-AllTakes w (e ∷ es) = (e ≡ Take w) × AllTakes w es
-
 take_same : (m : Plain) (disk : Disk) (w : Write) → disk_of m.disks w.disk ≡ Some disk
     → disk_of (after m (Take w)).disks w.disk ≡ Some (written w.block w.bytes disk)
 take_same m disk w is = ap (λ ds. disk_of ds w.disk) (disks_after m (Take w)) ∙ with_same m.disks w.disk (written w.block w.bytes) disk (λ d. refl) is
@@ -286,42 +270,137 @@ take_others m w name ne =
 take_onward : (m : Plain) (w : Write) → Onward m (after m (Take w))
 take_onward m w = onward_by m (after m (Take w)) (changed m (Take w)).disks (opened_after m (Take w))
 
--- the first take, and those after it
-taken_on : (m : Plain) (disk : Disk) (w : Write) → disk_of m.disks w.disk ≡ Some disk → Seat (Some w) (open_of m.opened w.client) → (es : List Event)
-    → Taken (after m (Take w)) (written w.block w.bytes disk) w es → Taken m disk w (Take w ∷ es)
-taken_on m disk w is seat es rest = record {
-  may = ((seat_open m w seat, record { disk = disk; is = is }), rest.may);
-  later = rest.later;
-  is = rest.is;
-  has = rest.has;
-  blocks = λ other ne. rest.blocks other ne ∙ content_apart disk.now w.block w.bytes other ne;
-  others = λ name ne. rest.others name ne ∙ take_others m w name ne;
-  mindful = rest.mindful;
-  onward = onward_joined m (after m (Take w)) (replay (after m (Take w)) es) (take_onward m w) rest.onward;
-}
+-- takes that give blocks of these disks the contents that they are to have
+module _ (rows : List DiskRow) (apart : (one other : DiskRow) → In one rows → In other rows → one.name ≡ other.name → one ≡ other)
+    (to : DiskRow → ℕ → List ℕ) where
+  -- the event takes a write under way of what the block is to have
+  pub record IsTake (m : Plain) (e : Event) : Type 0 where
+    pub row : DiskRow
+    pub there : In row rows
+    pub block : ℕ
+    pub write : Write
+    pub is : e ≡ Take write
+    pub seat : IsOpen m.opened write
+    pub disk_is : write.disk ≡ row.name
+    pub block_is : write.block ≡ block
+    pub bytes_is : write.bytes ≡ to row block
 
--- takes of a write whose block has its bytes
-more_taken : (m : Plain) (disk : Disk) (w : Write) → disk_of m.disks w.disk ≡ Some disk → IsMindful m → Seat (Some w) (open_of m.opened w.client)
-    → content disk.now w.block ≡ w.bytes → (es : List Event) → AllTakes w es → Taken m disk w es
-more_taken m disk w is mindful seat has [] all = record {
-  may = tt;
-  later = disk;
-  is = is;
-  has = has;
-  blocks = λ other ne. refl;
-  others = λ name ne. refl;
-  mindful = mindful;
-  onward = onward_itself m;
-}
-more_taken m disk w is mindful seat has (x ∷ es) all =
-    subst (λ y. Taken m disk w (y ∷ es)) (sym all.0) (taken_on m disk w is seat es
-    (more_taken (after m (Take w)) (written w.block w.bytes disk) w (take_same m disk w is) (after_mindful m (Take w))
-    (seat_onward m (after m (Take w)) w.client (Some w) (take_onward m w) seat) (content_same disk.now w.block w.bytes) es all.1))
+  -- a take of the block is among these
+  pub record IsToCome (es : List Event) (row : DiskRow) (block : ℕ) : Type 0 where
+    pub write : Write
+    pub there : In (Take write) es
+    pub disk_is : write.disk ≡ row.name
+    pub block_is : write.block ≡ block
 
--- at least one take of a write
-pub takes_taken : (m : Plain) (disk : Disk) (w : Write) → disk_of m.disks w.disk ≡ Some disk → Seat (Some w) (open_of m.opened w.client)
-    → (e : Event) (es : List Event) → AllTakes w (e ∷ es) → Taken m disk w (e ∷ es)
-takes_taken m disk w is seat x es all =
-    subst (λ y. Taken m disk w (y ∷ es)) (sym all.0) (taken_on m disk w is seat es
-    (more_taken (after m (Take w)) (written w.block w.bytes disk) w (take_same m disk w is) (after_mindful m (Take w))
-    (seat_onward m (after m (Take w)) w.client (Some w) (take_onward m w) seat) (content_same disk.now w.block w.bytes) es all.1))
+  -- each block of the disk has what it is to have, or a take of it is to come
+  pub record Nearly (m : Plain) (es : List Event) (row : DiskRow) : Type 0 where
+    pub disk : Disk
+    pub is : disk_of m.disks row.name ≡ Some disk
+    pub same : (b : ℕ) → (content disk.now b ≡ to row b) ⊎ IsToCome es row b
+
+  -- the machine after the takes
+  pub record AllTaken (m : Plain) (es : List Event) : Type 0 where
+    pub may : Obeys m es
+    pub known : (row : DiskRow) → In row rows → Holds (replay m es).disks row.name (to row)
+    pub others : (name : List ℕ) → ((row : DiskRow) → In row rows → name ≢ row.name) → disk_of (replay m es).disks name ≡ disk_of m.disks name
+    pub mindful : IsMindful (replay m es)
+    pub onward : Onward m (replay m es)
+
+  same_write : {one two : Write} → Take one ≡ Take two → one ≡ two
+  same_write e = cc
+
+  -- a take of another block is still to come
+  left : (es : List Event) (row : DiskRow) (b : ℕ) (e : Event) (write : Write) → e ≡ Take write → ((write.disk ≡ row.name) → (write.block ≡ b) → ⊥)
+      → IsToCome (e ∷ es) row b → IsToCome es row b
+  unfolding In
+  left es row b e write is ne c = elim c.there [
+    | inl same ↦
+        let one : c.write ≡ write = same_write (same ∙ is) in
+        absurd (ne (ap (λ (x : Write). x.disk) (sym one) ∙ c.disk_is) (ap (λ (x : Write). x.block) (sym one) ∙ c.block_is))
+    | inr later ↦ record { write = c.write; there = later; disk_is = c.disk_is; block_is = c.block_is }
+  ]
+
+  -- the first take
+  module _ (m : Plain) (e : Event) (es : List Event) (t : IsTake m e) (near : (row : DiskRow) → In row rows → Nearly m (e ∷ es) row) where
+    abbrev k : Plain
+    k = after m (Take t.write)
+
+    on_disk : (row : DiskRow) → In row rows → row.name ≡ t.write.disk → Nearly k es row
+    on_disk row h e' =
+        let one : row ≡ t.row = apart row t.row h t.there (e' ∙ t.disk_is) in
+        let old = near row h in
+        record {
+          disk = written t.write.block t.write.bytes old.disk;
+          is = ap (disk_of k.disks) e' ∙ take_same m old.disk t.write (ap (disk_of m.disks) (sym e') ∙ old.is);
+          same = λ b. elim (same_or_apart b t.write.block) [
+            | inl here ↦ inl (ap (content (put nat_cmp old.disk.now t.write.block t.write.bytes)) here
+                ∙ content_same old.disk.now t.write.block t.write.bytes ∙ t.bytes_is ∙ (λ i. to (sym one i) ((sym t.block_is ∙ sym here) i)))
+            | inr ne ↦ elim (old.same b) [
+              | inl has ↦ inl (content_apart old.disk.now t.write.block t.write.bytes b ne ∙ has)
+              | inr come ↦ inr (left es row b e t.write t.is (λ d f. ne (sym f)) come)
+            ]
+          ];
+        }
+
+    beside : (row : DiskRow) → In row rows → row.name ≢ t.write.disk → Nearly k es row
+    beside row h ne =
+        let old = near row h in
+        record {
+          disk = old.disk;
+          is = take_others m t.write row.name ne ∙ old.is;
+          same = λ b. elim (old.same b) [
+            | inl has ↦ inl has
+            | inr come ↦ inr (left es row b e t.write t.is (λ d f. ne (sym d)) come)
+          ];
+        }
+
+    nearer : (row : DiskRow) → In row rows → Nearly k es row
+    nearer row h = by_bool (same_bytes row.name t.write.disk)
+        (λ same. on_disk row h (nat_lists_same row.name t.write.disk same))
+        (λ no. beside row h (λ f. true_false (ap (λ x. same_bytes x t.write.disk) f ∙ nat_list_eq_equiv.refl t.write.disk) no))
+
+  -- a take is allowed later, too
+  take_later : (m k : Plain) → Onward m k → (e : Event) → IsTake m e → IsTake k e
+  take_later m k onward e t =
+      let g = onward.some t.write.client (record { write = t.write; held = t.seat.held }) t.seat.is in
+      record {
+        row = t.row;
+        there = t.there;
+        block = t.block;
+        write = t.write;
+        is = t.is;
+        seat = record { held = g.now.held; is = g.is ∙ (λ i. Some (record { write = g.same i; held = g.now.held })) };
+        disk_is = t.disk_is;
+        block_is = t.block_is;
+        bytes_is = t.bytes_is;
+      }
+
+  none_left : (row : DiskRow) (b : ℕ) → IsToCome [] row b → ⊥
+  unfolding In
+  none_left row b c = c.there
+
+  pub all_taken : (es : List Event) (m : Plain) → IsMindful m → ((e : Event) → In e es → IsTake m e)
+      → ((row : DiskRow) → In row rows → Nearly m es row) → AllTaken m es
+  unfolding In
+  all_taken [] m mindful each near = record {
+    may = tt;
+    known = λ row h.
+        let n = near row h in
+        record { disk = n.disk; is = n.is; same = λ b. elim (n.same b) [ inl has ↦ has | inr come ↦ absurd (none_left row b come) ] };
+    others = λ name ne. refl;
+    mindful = mindful;
+    onward = onward_itself m;
+  }
+  all_taken (e ∷ es) m mindful each near =
+      let t = each e (inl refl) in
+      let k = after m (Take t.write) in
+      let on = take_onward m t.write in
+      let rest = all_taken es k (after_mindful m (Take t.write)) (λ x h. take_later m k on x (each x (inr h))) (nearer m e es t near) in
+      let n = near t.row t.there in
+      subst (λ x. AllTaken m (x ∷ es)) (sym t.is) (record {
+        may = ((t.seat, record { disk = n.disk; is = ap (disk_of m.disks) t.disk_is ∙ n.is }), rest.may);
+        known = rest.known;
+        others = λ name ne. rest.others name ne ∙ take_others m t.write name (λ f. ne t.row t.there (f ∙ t.disk_is));
+        mindful = rest.mindful;
+        onward = onward_joined m k (replay k es) on rest.onward;
+      })

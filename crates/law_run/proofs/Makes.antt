@@ -38,14 +38,14 @@ unlike_named rows name row none h e =
     true_false (ap (λ n. same_name n name) e ∙ text_itself name) (none_find (λ row. same_name row.name name) rows at.0 row none at.1)
 
 -- the machine after the disks were made
-pub record Made (state : State) (rows : List DiskRow) (v : World) (m : Plain) (es : List Event) : Type 0 where
+pub record Made (chosen : State) (rows : List DiskRow) (v : World) (m : Plain) (es : List Event) : Type 0 where
   pub may : Obeys m es
-  pub stores : Stores state rows v (replay m es)
+  pub stores : Stores chosen rows v (replay m es)
   pub onward : Onward m (replay m es)
 
-module _ (state : State) (v : World) where
-  made_stores : (rows : List DiskRow) (row : DiskRow) (m : Plain) → named rows row.name ≡ None → Stores state rows v m
-      → ((b : ℕ) → kept_at state v row b ≡ zero_block) → Stores state (rows ++ row ∷ []) v (after m (Make row.name))
+module _ (chosen : State) (v : World) where
+  made_stores : (rows : List DiskRow) (row : DiskRow) (m : Plain) → named rows row.name ≡ None → Stores chosen rows v m
+      → ((b : ℕ) → kept_at chosen v row b ≡ zero_block) → Stores chosen (rows ++ row ∷ []) v (after m (Make row.name))
   unfolding In
   made_stores rows row m fresh stores zeros = record {
     known = λ other h. elim (in-append other rows (row ∷ []) h) [
@@ -53,7 +53,7 @@ module _ (state : State) (v : World) where
           let k = stores.known other old in
           record { disk = k.disk; is = make_others m row.name other.name (unlike_named rows row.name other fresh old) ∙ k.is; same = k.same }
       | inr new ↦ elim new [
-        | inl e ↦ subst (λ (r : DiskRow). Holds (after m (Make row.name)).disks r.name (kept_at state v r)) (sym e) (record {
+        | inl e ↦ subst (λ (r : DiskRow). Holds (after m (Make row.name)).disks r.name (kept_at chosen v r)) (sym e) (record {
           disk = new_disk row.name;
           is = make_same m row.name (stores.unknown row.name fresh);
           same = λ b. empty_content b ∙ sym (zeros b);
@@ -70,17 +70,17 @@ module _ (state : State) (v : World) where
     mindful = after_mindful m (Make row.name);
   }
 
-  pub made_all : (rows more : List DiskRow) (m : Plain) → AreFresh rows more → Stores state rows v m
-      → ((row : DiskRow) → In row more → (b : ℕ) → kept_at state v row b ≡ zero_block) → Made state (rows ++ more) v m (map make_of more)
+  pub made_all : (rows more : List DiskRow) (m : Plain) → AreFresh rows more → Stores chosen rows v m
+      → ((row : DiskRow) → In row more → (b : ℕ) → kept_at chosen v row b ≡ zero_block) → Made chosen (rows ++ more) v m (map make_of more)
   unfolding In
   made_all rows [] m fresh stores zeros =
-      record { may = tt; stores = subst (λ rs. Stores state rs v m) (sym (append-nil rows)) stores; onward = onward_itself m }
+      record { may = tt; stores = subst (λ rs. Stores chosen rs v m) (sym (append-nil rows)) stores; onward = onward_itself m }
   made_all rows (row ∷ more) m fresh stores zeros =
       let k = after m (Make row.name) in
       let now = made_stores rows row m fresh.0 stores (zeros row (inl refl)) in
       let rest = made_all (rows ++ row ∷ []) more k fresh.1 now (λ other h. zeros other (inr h)) in
       record {
         may = (stores.unknown row.name fresh.0, rest.may);
-        stores = subst (λ rs. Stores state rs v (replay k (map make_of more))) (append_assoc rows (row ∷ []) more) rest.stores;
+        stores = subst (λ rs. Stores chosen rs v (replay k (map make_of more))) (append_assoc rows (row ∷ []) more) rest.stores;
         onward = onward_joined m k (replay k (map make_of more)) (make_onward m row.name) rest.onward;
       }

@@ -8,10 +8,12 @@ use Rattle.petal_rules.specs.Lists.{In}
 use Rattle.petal_rules.specs.State.{State}
 use Rattle.petal_rules.specs.Server.{Post, Sender, letters_of, sender}
 use Rattle.petal_rules.specs.Clients.{client_sender}
-use Rattle.petal_rules.specs.World.{Setting, World, stamped, clock_of, start, setting_of, reacts}
+use Rattle.petal_rules.specs.Jobs.{Acted}
+use Rattle.petal_rules.specs.World.{Setting, World, stamped, clock_of, start, setting_of, acts, reacts}
+use Rattle.petal_rules.specs.declared.step.Step.{Step}
 use Rattle.petal_rules.proofs.ListLemmas.{in-append, put_same}
 use Rattle.petal_history.specs.Events.{same_actor, same_name}
-use Rattle.law_steps.specs.Happens.{Happens, Serves, Turns, server_moves, own_place}
+use Rattle.law_steps.specs.Happens.{Happens, Serves, Turns, Serving, Goes, Ends, Stays, served_so, stopped_so, shown_so, without_rev, own_place}
 use Rattle.law_steps.proofs.Letters.{said}
 use Rattle.petal_rules.proofs.Tests.{both_true, same_numbers, all_put}
 use Rattle.law_run.specs.Follow.{Named}
@@ -84,23 +86,39 @@ named_more w v who stamp posts named joined before now rises = record {
         let le : old.stamp ≤ clock_of w who.from = subst (λ (a : Actor). old.stamp ≤ clock_of w a) (sym n.from ∙ s.from) (named.early old g) in
         omega arith
 
-pub happens_named : (setting : Setting) (state : State) (w v : World) → Named w → Happens setting state w v → Named v
-happens_named setting state w _ named (Serves n stamp log done queue lt did queued) =
-    let v = server_moves setting w n stamp log done queue in
-    named_more w v (sender (own_place setting w n)) stamp done.posts named refl lt
-    (subst (λ k. stamp ≤ k) (sym (put_same w.server_clocks n stamp)) (omega arith)) rises
-  where
-    rises : (a : Actor) → clock_of w a ≤ clock_of (server_moves setting w n stamp log done queue) a
-    rises (actor.Server k) = all_put w.server_clocks n stamp (λ j t. w.server_clocks j ≤ t) (λ j. omega arith) (omega arith) k
-    rises (actor.Client c) = omega arith
-happens_named setting state w _ named (Turns c stamp in_call reacted lt within turned onward) =
-    let v = (reacts w c stamp reacted).world in
-    named_more w v (client_sender c reacted.client) stamp reacted.posts named refl lt
-    (subst (λ k. stamp ≤ k) (sym (put_same w.client_clocks c stamp)) (omega arith)) rises
-  where
-    rises : (a : Actor) → clock_of w a ≤ clock_of (reacts w c stamp reacted).world a
-    rises (actor.Server k) = omega arith
-    rises (actor.Client d) = all_put w.client_clocks c stamp (λ j t. w.client_clocks j ≤ t) (λ j. omega arith) (omega arith) d
+module _ (setting : Setting) (state : State) (w : World) (named : Named w) where
+  -- a server's step sends letters of the server
+  server_named : (n stamp : ℕ) (what : Step) (acted : Acted) (who : Sender) (posts : List Post) → w.server_clocks n < stamp → who.from ≡ actor.Server n
+      → acted.letters ≡ letters_of who 0 posts → Named (acts w n what stamp acted).world
+  server_named n stamp what acted who posts lt from letters =
+      let v = (acts w n what stamp acted).world in
+      named_more w v who stamp posts named (ap (λ ls. stamped stamp ls ++ w.sent) letters)
+      (subst (λ (a : Actor). clock_of w a < stamp) (sym from) lt)
+      (subst (λ (a : Actor). stamp ≤ clock_of v a) (sym from)
+      (subst (λ k. stamp ≤ k) (sym (put_same w.server_clocks n stamp)) (omega arith))) rises
+    where
+      rises : (a : Actor) → clock_of w a ≤ clock_of (acts w n what stamp acted).world a
+      rises (actor.Server k) = all_put w.server_clocks n stamp (λ j t. w.server_clocks j ≤ t) (λ j. omega arith) (omega arith) k
+      rises (actor.Client c) = omega arith
+
+  serves_named : (n stamp : ℕ) (what : Step) (acted : Acted) → w.server_clocks n < stamp → Serving setting w n what acted
+      → Named (acts w n what stamp acted).world
+  serves_named n stamp what _ lt (Goes log done queue runs worked queued works) =
+      server_named n stamp what (served_so setting w n log done queue) (sender (own_place setting w n)) done.posts lt refl refl
+  serves_named n stamp what _ lt (Ends log done runs worked) =
+      server_named n stamp what (stopped_so setting w n log done) (without_rev (own_place setting w n)) _ lt refl refl
+  serves_named n stamp what _ lt (Stays who posts from shown) = server_named n stamp what (shown_so w n who posts) who posts lt from refl
+
+  pub happens_named : (v : World) → Happens setting state w v → Named v
+  happens_named _ (Serves n stamp what acted lt within serving) = serves_named n stamp what acted lt serving
+  happens_named _ (Turns c stamp in_call reacted lt within turned onward) =
+      let v = (reacts w c stamp reacted).world in
+      named_more w v (client_sender c reacted.client) stamp reacted.posts named refl lt
+      (subst (λ k. stamp ≤ k) (sym (put_same w.client_clocks c stamp)) (omega arith)) rises
+    where
+      rises : (a : Actor) → clock_of w a ≤ clock_of (reacts w c stamp reacted).world a
+      rises (actor.Server k) = omega arith
+      rises (actor.Client d) = all_put w.client_clocks c stamp (λ j t. w.client_clocks j ≤ t) (λ j. omega arith) (omega arith) d
 
 pub start_named : (script : Script) → Named (start (setting_of script))
 unfolding In

@@ -1,5 +1,5 @@
--- A pending operation is its client's open write of a block of a disk that is chosen.
-use Rattle.std.proofs.Common.{◌≡◌, ◌<◌, ℕ, List, Some, refl, sym, ap, ◌∙◌}
+-- A pending operation whose request is open is its client's write of a block of a disk that is chosen.
+use Rattle.std.proofs.Common.{◌≡◌, ◌<◌, ℕ, Some, refl, sym, ap, ◌∙◌}
 use Rattle.petal_base.specs.declared.cell.Cell.{Cell}
 use Rattle.petal_table.specs.Table.{at}
 use Rattle.global_tables.specs.declared.disk.DiskRow.{DiskRow}
@@ -9,61 +9,57 @@ use Rattle.script_lines.specs.Pattern.{pattern_block}
 use Rattle.script_lines.specs.declared.request.Line.{Line}
 use Rattle.script_lines.specs.declared.request.Request.TheVariants as request
 use Rattle.petal_rules.specs.Lists.{In}
-use Rattle.petal_rules.specs.State.{first}
 use Rattle.petal_rules.specs.Store.{cell_cmp}
-use Rattle.petal_rules.specs.World.{chosen_state}
+use Rattle.petal_rules.specs.World.{server_state}
 use Rattle.petal_history.specs.Contents.{cell_of_block}
 use Rattle.petal_history.specs.Events.{open_write, write_asked, write_by}
+use Rattle.law_state.proofs.Alone.{led_row}
 use Rattle.law_steps.specs.Turned.{line_by}
 use Rattle.law_steps.proofs.Histories.{own_steady}
-use Rattle.petal_rules.proofs.Tests.{same_some, is_the_one}
+use Rattle.petal_rules.proofs.Tests.{same_some}
 use Rattle.law_copies.specs.Pair.{owns_of}
-use Rattle.law_run.proofs.Along.{rows_in, row_here, own_first}
-use Rattle.law_run.proofs.Calm.{ServerStep}
+use Rattle.law_requests.specs.Asked.{IsOpen}
+use Rattle.law_run.proofs.Along.{rows_in, row_here, own_link}
+use Rattle.law_run.proofs.Steps.{ServerStep}
 
 module _ (this : ServerStep) where
-  -- the client's open write is of this block
-  pub record Writes (op : Pending) (row : DiskRow) (block : ℕ) (bytes : List ℕ) : Type 0 where
-    pub write : Write
-    pub is : open_write this.w op.client ≡ Some write
-    pub within : op.client < 9
-    pub own : write.client ≡ op.client
-    pub disk_is : write.disk ≡ row.name
-    pub block_is : write.block ≡ block
-    pub bytes_is : write.bytes ≡ bytes
-
-  pub record Placed (op : Pending) (cell : Cell) (bytes : List ℕ) : Type 0 where
+  -- the operation's write is its client's open one, of this block
+  pub record Placed (op : Pending) (cell : Cell) : Type 0 where
     pub row : DiskRow
     pub there : In row (rows_in this.setting this.w)
     pub block : ℕ
     pub at_block : cell ≡ cell_of_block row block
-    pub writes : Writes op row block bytes
+    pub write : Write
+    pub under_way : open_write this.w op.client ≡ Some write
+    pub within : op.client < 9
+    pub own : write.client ≡ op.client
+    pub disk_is : write.disk ≡ row.name
+    pub block_is : write.block ≡ block
+    pub bytes_is : write.bytes ≡ op.bytes
 
-  pub placed : (p : ℕ) (cell : Cell) (op : Pending) → at cell_cmp (owns_of this.w p).pairs.pending cell ≡ Some op → Placed op cell op.bytes
-  placed p cell op is =
-      let k = this.ground.asking.pending p cell op is in
-      let a = this.ground.asking.asked op.client k.still.asked k.still.is in
-      let wr = k.write in
-      let lead = ((this.ground.rests.pending p).staged cell op is).lead in
-      let leads : first (chosen_state this.setting this.w) cell ≡ Some p =
-      own_first this.setting this.state this.w this.along p cell p
-      (sym ((own_steady this.setting this.w this.along.firm p).leads cell) ∙ is_the_one _ p lead) in
+  pub placed : (p : ℕ) (cell : Cell) (op : Pending) → at cell_cmp (owns_of this.w p).pairs.pending cell ≡ Some op
+      → IsOpen (this.w.clients op.client) op.seq → Placed op cell
+  placed p cell op is still =
+      let a = this.ground.asking.asked op.client still.asked still.is in
+      let wr = (this.ground.asking.pending p cell op is).known.sent.write in
+      let firm = this.along.firm in
+      let s = (this.ground.ready.rests.pending p).staged cell op is in
+      let link = led_row (server_state this.setting this.w p) (own_steady this.setting this.w firm p) p cell s.lead in
+      let now = own_link this.setting this.w firm p cell link.0 link.1 in
       let under : wr.disk.map ≡ cell.map = sym (ap (λ (c : Cell). c.map) wr.cell_is) in
-      let has = row_here this.setting this.state this.w this.along cell p leads wr.name wr.disk wr.found under in
-      let line : a.line ≡ wr.line = same_some (sym a.is ∙ ap (λ i. line_by this.setting.lines op.client i) k.still.same ∙ wr.is) in
-      let asks : k.still.asked.request ≡ request.Write wr.name wr.block wr.pattern = a.asks ∙ ap (λ (l : Line). l.request) line ∙ wr.asks in
+      let has = row_here this.setting this.state this.w this.along cell now.0 now.1 wr.name wr.disk wr.found under in
+      let line : a.line ≡ wr.line = same_some (sym a.is ∙ ap (λ i. line_by this.setting.lines op.client i) still.same ∙ wr.is) in
+      let asks : still.asked.request ≡ request.Write wr.name wr.block wr.pattern = a.asks ∙ ap (λ (l : Line). l.request) line ∙ wr.asks in
       record {
         row = has.row;
         there = has.there;
         block = wr.block;
         at_block = wr.cell_is ∙ (λ i. record { map = (under ∙ sym has.map_is) i; block = wr.block });
-        writes = record {
-          write = record { client = op.client; seq = k.still.asked.seq; disk = wr.name; block = wr.block; bytes = pattern_block wr.pattern };
-          is = ap (write_asked op.client) k.still.is ∙ ap (write_by op.client k.still.asked.seq) asks;
-          within = a.within;
-          own = refl;
-          disk_is = sym has.name_is;
-          block_is = refl;
-          bytes_is = sym wr.bytes_is;
-        };
+        write = record { client = op.client; seq = still.asked.seq; disk = wr.name; block = wr.block; bytes = pattern_block wr.pattern };
+        under_way = ap (write_asked op.client) still.is ∙ ap (write_by op.client still.asked.seq) asks;
+        within = a.within;
+        own = refl;
+        disk_is = sym has.name_is;
+        block_is = refl;
+        bytes_is = sym wr.bytes_is;
       }

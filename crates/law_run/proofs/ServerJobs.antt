@@ -1,330 +1,342 @@
--- Each kind of job but a second server's put leaves contents as they are, and shows what a job has to.
-use Rattle.std.proofs.Common.{◌≡◌, ◌≤◌, ◌<◌, ◌+◌, ℕ, List, [], ◌∷◌, Bool, true, false, Option, Some, None, refl, sym, ap, ◌∙◌, subst, ◌⊎◌, inl, inr, arith}
+-- Each kind of job shows what it has to, where the write of what it has put where it counts has had its bytes.
+use Rattle.std.proofs.Common.{◌≡◌, ◌≢◌, ◌≤◌, ◌<◌, ◌+◌, ℕ, true, false, Some, None, refl, sym, ap, ◌∙◌, subst, inl, inr, arith}
 use Rattle.std.specs.Ordering.{nat_cmp}
+use Rattle.busy_marks.specs.declared.marks.MarkKind.TheVariants.{Busy, Stale}
 use Rattle.petal_base.specs.declared.cell.Cell.{Cell}
+use Rattle.petal_base.specs.Cells.{cell_of}
 use Rattle.petal_table.specs.Table.{Table, at, put}
-use Rattle.global_tables.specs.declared.disk.DiskRow.{DiskRow}
 use Rattle.petal_table.proofs.Rows.{at_same, at_apart}
 use Rattle.petal_machine.specs.Machine.{Plain}
-use Rattle.petal_msg.specs.Kinds.{Answered, Refused, about, is_logged, subject_of}
 use Rattle.petal_msg.specs.declared.body.Body.{Body}
 use Rattle.petal_msg.specs.declared.body.Body.TheVariants as body
-use Rattle.petal_msg.specs.declared.letter.Actor.{Actor}
-use Rattle.petal_msg.specs.declared.letter.Actor.TheVariants as actor
 use Rattle.petal_msg.specs.declared.operation.Ending.{Ending}
 use Rattle.petal_msg.specs.declared.operation.Ending.TheVariants as ending
-use Rattle.petal_msg.specs.declared.operation.Far.{Far}
 use Rattle.petal_msg.specs.declared.operation.Far.TheVariants as far
 use Rattle.petal_msg.specs.declared.operation.Finished.{Finished}
+use Rattle.petal_msg.specs.declared.operation.LastOp.{LastOp}
 use Rattle.petal_msg.specs.declared.operation.Pending.{Pending}
 use Rattle.petal_msg.specs.declared.operation.Stage.{Stage}
-use Rattle.petal_rules.specs.Lists.{In}
-use Rattle.petal_rules.specs.State.{State, first, second}
-use Rattle.petal_rules.specs.Store.{cell_cmp}
-use Rattle.petal_rules.specs.Server.{Own, Here, Post, Done, post_to}
-use Rattle.petal_rules.specs.Writes.{Wanted, operation, opened, ended, tells}
-use Rattle.petal_rules.specs.World.{Setting, World}
+use Rattle.petal_rules.specs.State.{State, authority, in_both, is_second, is_alone_on}
+use Rattle.petal_rules.specs.Store.{Stored, cell_cmp, chain_in, version_of}
+use Rattle.petal_rules.specs.Server.{Own, Here, Done}
+use Rattle.petal_rules.specs.Writes.{follows, operation, with_reserved, with_paired, with_mark_at}
+use Rattle.petal_rules.specs.World.{chosen_state}
 use Rattle.petal_rules.proofs.CellTables.{cell_same, cell_apart}
-use Rattle.law_state.specs.Steady.{IsSteady}
-use Rattle.law_steps.specs.Operations.{answering, progress}
-use Rattle.law_steps.specs.DidRead.{DidRead}
-use Rattle.law_steps.specs.DidLead.{DidLead, Asks_for, Repeats, Is_full, Opens, Marks, Puts, Gives_up, Unmarks, Closes, Asks, A_slot, A_copy, Of_the_log}
-use Rattle.law_steps.specs.DidSecond.{DidSecond, Sets_apart, Promises, Declines, Follows}
-use Rattle.law_steps.specs.Did.{Did, Ignores, Refuses, IsRefusal, By_read, By_lead, By_second}
-use Rattle.law_steps.specs.Happens.{Handled, own_place}
-use Rattle.law_steps.specs.Ready.{Ready}
 use Rattle.petal_rules.proofs.Tests.{same_or_apart, same_some, true_false}
+use Rattle.law_state.specs.Steady.{IsSteady}
+use Rattle.law_state.proofs.Alone.{alone_row, alone_on, both_not_alone}
+use Rattle.law_state.proofs.Cells.{alone_authority}
+use Rattle.law_steps.specs.Operations.{answering, progress}
+use Rattle.law_steps.specs.DidLead.{DidLead, Taken, Asks_for, Repeats, Is_full, Gives_up, Opens, Marks, Puts, Unmarks, Closes, Opens_alone, Marks_alone, Puts_alone, Unmarks_alone, Closes_alone}
+use Rattle.law_steps.specs.DidSecond.{DidSecond, Sets_apart, Promises, Declines, Follows}
+use Rattle.law_steps.specs.Did.{Did, Ignores, Refuses, By_read, By_lead, By_second}
+use Rattle.law_steps.specs.Happens.{Handled, own_place}
+use Rattle.law_steps.proofs.Histories.{chosen_steady, own_below}
+use Rattle.law_steps.proofs.Restages.{stood}
 use Rattle.law_steps.proofs.Staged.{same_cell_or_apart}
-use Rattle.law_copies.specs.Pair.{Pair, pair_of, IsPair, PairOk, AreCopies, Working, IsAhead, far as far_of, ceiling_of, owns_of, Good}
-use Rattle.law_copies.proofs.Jobs.{heard_known, lead_pair}
+use Rattle.law_steps.proofs.Subjects.{of_lead, of_read, told_own}
+use Rattle.law_steps.proofs.Taking.{taking}
+use Rattle.law_copies.specs.Pair.{IsPair, AreTogether, alone_in, ceiling_of, owns_of}
+use Rattle.law_copies.proofs.Frames.{same_first}
+use Rattle.law_copies.proofs.Jobs.{first_together, heard_known, lead_pair}
 use Rattle.law_requests.specs.Asked.{IsOpen}
 use Rattle.law_run.specs.Onward.{is_held, Onward}
-use Rattle.law_run.specs.Follow.{Follow}
+use Rattle.law_run.specs.Follow.{HasCounted, Is_told, Is_followed, Is_counted}
+use Rattle.law_run.proofs.Chains.{PutsAsked, StoresSo, Nothing_new, An_own, An_asked, did_stores, lead_stores, second_stores}
+use Rattle.law_run.proofs.Frames.{OwnFollow, kept_finished, kept_pending, kept_own}
+use Rattle.law_run.proofs.Grounds.{Followed, followed}
 use Rattle.law_run.proofs.Machine.{held_onward}
-use Rattle.law_run.proofs.ServerFrames.{JobFollow, Scene}
-use Rattle.law_steps.proofs.Letters.{one_post, posted}
-use Rattle.law_steps.proofs.Restages.{Restages, was_same, stood, marked, has_put, unmarked}
-use Rattle.law_steps.proofs.Subjects.{of_read, told_own}
+use Rattle.law_run.proofs.Steps.{ServerStep}
 
--- an operation whose second server said that it followed is past by what is kept of its pair
-paired_past : (pair : Pair) (op : Pending) → PairOk pair → pair.pending ≡ Some op → op.stage.put ≡ true → op.stage.paired ≡ true → op.op + op.op + 1 ≤ far_of pair
-paired_past pair op ok is put paired =
-    let copies : AreCopies pair.first pair.second (far_of pair) (Some op) = subst (AreCopies pair.first pair.second (far_of pair)) is ok.copies in
-    let ahead : IsAhead pair.first pair.second (far_of pair) op = subst (Working pair.first pair.second (far_of pair) op) put copies in
-    ahead.paired paired
+-- the copy of a server that holds a cell alone counts
+pub alone_counts : (state : State) → IsSteady state → (n : ℕ) (cell : Cell) → is_alone_on state n cell ≡ true → authority state cell ≡ Some n
+alone_counts state steady n cell e =
+    let a = alone_row state n cell e in
+    alone_authority state cell a.row a.is (steady.linked cell a.row a.is) n a.whole a.alone
 
--- all kinds of job but one: a second server puts
-abbrev pub IsCalmSecond : {heard : Body → Type 0} {here : Here} {state : State} {own : Own} {done : Done} → DidSecond heard here state own done → Type 0
-IsCalmSecond (Follows number key version bytes h s is) = ⊥
-IsCalmSecond _ = Unit {0}
-
-abbrev pub IsCalm : {heard : Body → Type 0} {here : Here} {state : State} {own : Own} {done : Done} → Did heard here state own done → Type 0
-IsCalm (By_second done d) = IsCalmSecond d
-IsCalm _ = Unit {0}
-
--- the letter ends no write as written
-abbrev is_written : Body → Bool
-is_written (body.Written seq) = true
-is_written _ = false
-
-refusal_unwritten : (said : Body) → IsRefusal said → is_written said ≡ false
-refusal_unwritten (body.Written seq) h = let f : Answered ≡ Refused = h in absurd cc
-refusal_unwritten _ h = refl
-
-logged_unwritten : (said : Body) → is_logged (subject_of said) ≡ true → is_written said ≡ false
-logged_unwritten (body.Written seq) h = let f : false ≡ true = h in absurd cc
-logged_unwritten _ h = refl
-
-asks_unwritten : (here : Here) (state : State) (own : Own) (post : Post) → Asks here state own post → is_written post.body ≡ false
-asks_unwritten here state own _ (A_slot op to is stage e) = refl
-asks_unwritten here state own _ (A_copy op to is stage e) = refl
-asks_unwritten here state own _ (Of_the_log post e) = logged_unwritten post.body e
-
-tells_unwritten : (here : Here) (new : Own) (cell : Cell) (number : ℕ) (how : Far) (post : Post) → In post (tells here new cell number how).posts
-    → is_written post.body ≡ false
-tells_unwritten here new cell number far.Reserved post i = ap is_written (posted _ _ post i)
-tells_unwritten here new cell number far.Replicated post i = ap is_written (posted _ _ post i)
-
-module _ (scene : Scene) where
-  abbrev state : State
-  state = scene.state
-
-  abbrev steady : IsSteady state
-  steady = scene.steady
-
-  abbrev setting : Setting
-  setting = scene.setting
-
-  abbrev rows : List DiskRow
-  rows = scene.rows
-
-  abbrev w : World
-  w = scene.w
-
-  abbrev ready : Ready state w
-  ready = scene.ready
-
-  abbrev good : Good state w
-  good = scene.good
-
-  abbrev n : ℕ
-  n = scene.n
-
-  abbrev m : Plain
-  m = scene.m
-
-  abbrev k : Plain
-  k = scene.k
-
-  abbrev follow : Follow state rows w m
-  follow = scene.follow
-
-  abbrev onward : Onward m k
-  onward = scene.onward
-
+module _ (this : ServerStep) (k : Plain) where
   abbrev here : Here
-  here = own_place setting w n
+  here = own_place this.setting this.w this.n
 
   abbrev own : Own
-  own = owns_of w n
-
-  abbrev J : Own → List Post → Type 0
-  J new posts = JobFollow state w k n new posts
+  own = owns_of this.w this.n
 
   abbrev hears : Body → Type 0
-  hears = Handled w n
+  hears = Handled this.w this.n
 
-  abbrev SaysOk : List Post → Type 0
-  SaysOk posts = (post : Post) (c seq : ℕ) → In post posts → post.to ≡ actor.Client c → post.body ≡ body.Written seq → IsOpen (w.clients c) seq
-      → is_held k c ≡ true
+  abbrev Held : Pending → Type 0
+  Held op = IsOpen (this.w.clients op.client) op.seq → is_held k op.client ≡ true
 
-  unwritten : (posts : List Post) → ((post : Post) → In post posts → is_written post.body ≡ false) → SaysOk posts
-  unwritten posts h post c seq i to says still = true_false (ap is_written says) (h post i)
+  abbrev Counted : Cell → Pending → Type 0
+  Counted cell op = HasCounted this.setting this.state this.w this.n cell op
 
-  says_one : (to : Actor) (said : Body) → is_written said ≡ false → SaysOk (record { to = to; body = said } ∷ [])
-  says_one to said e = unwritten (record { to = to; body = said } ∷ []) (λ post i. ap is_written (one_post to said post i).1 ∙ e)
+  -- what was put where it counts has had its bytes
+  abbrev pub PutHeld : {new : Own} → StoresSo hears here own new → Type 0
+  PutHeld (Nothing_new same) = Unit {0}
+  PutHeld (An_own p) = authority (chosen_state this.setting this.w) p.op.cell ≡ Some this.n → is_held k p.op.client ≡ true
+  PutHeld (An_asked a) = (f : Followed this.setting this.state this.w this.n a.number a.key a.bytes) → is_held k f.putting.op.client ≡ true
 
-  says_to : (to : Option ℕ) (said : Body) → is_written said ≡ false → SaysOk (post_to to said)
-  says_to to said e = unwritten (post_to to said) (λ post i. ap is_written (posted to said post i) ∙ e)
+  module _ (runs : (this.w.servers this.n).life.running ≡ true) (onward : Onward this.m k) where
+    -- an operation that was pending
+    was_held : (cell : Cell) (op : Pending) → at cell_cmp own.pairs.pending cell ≡ Some op → Counted cell op → Held op
+    was_held cell op is counted still = held_onward this.m k op.client onward (this.follow.pending this.n cell op is counted still)
 
-  pub says_far : (new : Own) (cell : Cell) (number : ℕ) (how : Far) → SaysOk (tells here new cell number how).posts
-  says_far new cell number how = unwritten (tells here new cell number how).posts (λ post i. tells_unwritten here new cell number how post i)
+    -- the same in another stage
+    recounted : (cell : Cell) (old now : Pending) → old.op ≡ now.op
+        → (alone_in this.setting this.w this.n cell ≡ false → now.stage.paired ≡ true → old.stage.paired ≡ true)
+        → (now.stage.put ≡ true → old.stage.put ≡ true) → Counted cell now → Counted cell old
+    recounted cell old now number paired put (Is_told off e) = Is_told off (paired off e)
+    recounted cell old now number paired put (Is_followed q pair together past) = Is_followed q pair together (omega arith)
+    recounted cell old now number paired put (Is_counted e counts) = Is_counted (put e) counts
 
-  -- a job that leaves operations as they are
-  same : (new : Own) (posts : List Post) → ((c : ℕ) → at nat_cmp new.pairs.finished c ≡ at nat_cmp own.pairs.finished c)
-      → ((cell : Cell) → at cell_cmp new.pairs.pending cell ≡ at cell_cmp own.pairs.pending cell)
-      → ((cell : Cell) → at cell_cmp new.pairs.last cell ≡ at cell_cmp own.pairs.last cell) → SaysOk posts → J new posts
-  same new posts finished pending last says = record {
-    finished = λ c l is how still. inl (sym (finished c) ∙ is);
-    as_first = λ cell q op pair is. inl (was_same own cell op (sym (pending cell) ∙ is));
-    as_second = λ cell p op pair is past. inl (subst (λ o. op.op + op.op + 1 ≤ progress o) (last cell) past);
-    says = says;
-  }
-
-  ended_full : (c seq : ℕ) → SaysOk (record { to = actor.Client c; body = ended seq ending.Full } ∷ [])
-  ended_full c seq = says_one (actor.Client c) (ended seq ending.Full) refl
-
-  -- a request of this client is finished, for want of a slot
-  finish_full : (t : Table ℕ Finished) (client seq : ℕ) (c : ℕ) (last : Finished)
-      → at nat_cmp (put nat_cmp t client (record { seq = seq; ending = ending.Full })) c ≡ Some last → last.ending ≡ ending.Written
-      → (at nat_cmp t c ≡ Some last) ⊎ (is_held k c ≡ true)
-  finish_full t client seq c last is how = elim (same_or_apart c client) [
-    | inl e ↦
-        let now : Finished = record { seq = seq; ending = ending.Full } in
-        let same : now ≡ last = same_some (sym (at_same t client now) ∙ subst (λ i. at nat_cmp (put nat_cmp t client now) i ≡ Some last) e is) in
-        let no : ending.Full ≡ ending.Written = ap (λ (f : Finished). f.ending) same ∙ how in
-        absurd cc
-    | inr ne ↦ inl (sym (at_apart t client _ c ne) ∙ is)
-  ]
-
-  full_job : (want : Wanted)
-      → J (record own {
-        pairs = record own.pairs {
-          finished = put nat_cmp own.pairs.finished want.client
-              (record { seq = want.seq; ending = ending.Full });
-        };
-      }) (record { to = actor.Client want.client; body = ended want.seq ending.Full } ∷ [])
-  full_job want = record {
-    finished = λ c last is how still. finish_full own.pairs.finished want.client want.seq c last is how;
-    as_first = λ cell q op pair is. inl (was_same own cell op is);
-    as_second = λ cell p op pair is past. inl past;
-    says = ended_full want.client want.seq;
-  }
-
-  opens_job : (want : Wanted) → at cell_cmp own.pairs.pending want.cell ≡ None
-      → J (opened here own want) (post_to (second here.state want.cell) (body.Reserve own.pairs.next want.cell))
-  opens_job want none =
-      let op = operation here own.pairs.next want in
-      let t = own.pairs.pending in
-      record {
-        finished = λ c last is how still. inl is;
-        as_first = λ cell q o pair is. elim (same_cell_or_apart cell want.cell) [
-          | inl e ↦
-              let same : op ≡ o =
-              same_some (sym (cell_same t want.cell op) ∙ subst (λ (x : Cell). at cell_cmp (put cell_cmp t want.cell op) x ≡ Some o) e is) in
-              let ok = good.pairs cell n q pair in
-              let top : ceiling_of (at cell_cmp t cell) own.pairs.next ≡ own.pairs.next = ap (λ x. ceiling_of x own.pairs.next) (ap (at cell_cmp t) e ∙ none) in
-              let below = ok.below in
-              let number : own.pairs.next ≡ o.op = ap (λ (x : Pending). x.op) same in
-              inr (omega arith)
-          | inr ne ↦ inl (was_same own cell o (sym (cell_apart t want.cell op cell ne) ∙ is))
-        ];
-        as_second = λ cell p o pair is past. inl past;
-        says = says_to (second here.state want.cell) (body.Reserve own.pairs.next want.cell) refl;
-      }
-
-  -- a pending operation goes on to its next stage
-  restages_job : (done : Done) → Restages own done → J done.own done.posts
-  restages_job done r = record {
-    finished = λ c last is how still. inl (ap (λ t. at nat_cmp t c) (sym r.finished) ∙ is);
-    as_first = λ cell q op pair is. inl (r.was cell op is);
-    as_second = λ cell p op pair is past. inl (subst (λ t. op.op + op.op + 1 ≤ progress (at cell_cmp t cell)) r.last past);
-    says = λ post c seq i to says still. absurd (r.silent post i);
-  }
-
-  -- an operation that is to answer was put by the second server
-  answers_held : (op : Pending) → at cell_cmp own.pairs.pending op.cell ≡ Some op → op.stage ≡ answering → is_held k op.client ≡ true
-  answers_held op is stage =
-      let pair = lead_pair setting state steady w ready good n op.cell ((ready.pending n).staged op.cell op is).lead in
-      held_onward m k op.client onward (follow.pending op.cell n pair.0 op pair.1 is
-      (paired_past (pair_of own (owns_of w pair.0) op.cell) op (good.pairs op.cell n pair.0 pair.1) is
-      (ap (λ (s : Stage). s.put) stage) (ap (λ (s : Stage). s.paired) stage)))
-
-  one_client : {c d : ℕ} → actor.Client c ≡ actor.Client d → c ≡ d
-  one_client e = cc
-
-  reserves_job : (number : ℕ) (cell : Cell) (new : Own) → hears (body.Reserve number cell) → new.pairs.finished ≡ own.pairs.finished
-      → new.pairs.pending ≡ own.pairs.pending → new.pairs.last ≡ put cell_cmp own.pairs.last cell (record { op = number; far = far.Reserved })
-      → J new (tells here new cell number far.Reserved).posts
-  reserves_job number cell new h finished pending last = record {
-    finished = λ c l is how still. inl (ap (λ t. at nat_cmp t c) (sym finished) ∙ is);
-    as_first = λ q j op pair is. inl (was_same own q op (ap (λ t. at cell_cmp t q) (sym pending) ∙ is));
-    as_second = λ q p op pair is past. elim (same_cell_or_apart q cell) [
+    -- one that is put in the table
+    put_lead : (t : Table Cell Pending) (cell : Cell) (now : Pending) → ((q : Cell) → q ≢ cell → at cell_cmp t q ≡ at cell_cmp own.pairs.pending q)
+        → (Counted cell now → Held now) → (q : Cell) (op : Pending) → at cell_cmp (put cell_cmp t cell now) q ≡ Some op → Counted q op → Held op
+    put_lead t cell now others held q op is = elim (same_cell_or_apart q cell) [
       | inl e ↦
-          let there : progress (at cell_cmp new.pairs.last q) ≡ number + number =
-          ap (λ t. progress (at cell_cmp t q)) last
-          ∙ ap (λ (x : Cell). progress (at cell_cmp (put cell_cmp own.pairs.last cell (record { op = number; far = far.Reserved })) x)) e
-          ∙ ap progress (cell_same own.pairs.last cell (record { op = number; far = far.Reserved })) in
-          let known : number < ceiling_of (at cell_cmp (owns_of w p).pairs.pending q) (owns_of w p).pairs.next =
-          subst (λ (x : Cell). number < ceiling_of (at cell_cmp (owns_of w p).pairs.pending x) (owns_of w p).pairs.next) (sym e)
-          (heard_known setting state steady w ready good n _ h cell p n refl (subst (λ (x : Cell). IsPair state x p n) e pair)) in
-          let top : ceiling_of (at cell_cmp (owns_of w p).pairs.pending q) (owns_of w p).pairs.next ≡ op.op + 1 =
-          ap (λ o. ceiling_of o (owns_of w p).pairs.next) is in
-          absurd (omega arith)
-      | inr ne ↦ inl (subst (λ o. op.op + op.op + 1 ≤ progress o) (ap (λ t. at cell_cmp t q) last ∙ cell_apart own.pairs.last cell _ q ne) past)
-    ];
-    says = says_far new cell number far.Reserved;
-  }
+          let same : now ≡ op = same_some (sym (cell_same t cell now) ∙ ap (at cell_cmp (put cell_cmp t cell now)) (sym e) ∙ is) in
+          subst (λ (c : Cell). Counted c op → Held op) (sym e) (subst (λ (o : Pending). Counted cell o → Held o) same held)
+      | inr ne ↦ was_held q op (sym (others q ne) ∙ sym (cell_apart t cell now q ne) ∙ is)
+    ]
 
-  ended_written : (seq : ℕ) (how : Ending) (other : ℕ) → ended seq how ≡ body.Written other → how ≡ ending.Written
-  ended_written seq ending.Written other e = refl
-  ended_written seq ending.Full other e = true_false {b = is_written (body.Written other)} refl (ap is_written (sym e))
+    beside : (t : Table Cell Pending) (cell : Cell) (one : Pending) (q : Cell) → q ≢ cell → at cell_cmp (put cell_cmp t cell one) q ≡ at cell_cmp t q
+    beside t cell one q ne = cell_apart t cell one q ne
 
-  ended_seq : (seq : ℕ) (how : Ending) (other : ℕ) → ended seq how ≡ body.Written other → seq ≡ other
-  ended_seq seq ending.Written other e = same_some (ap (λ b. (about b).seq) e)
-  ended_seq seq ending.Full other e = true_false {b = is_written (body.Written other)} refl (ap is_written (sym e))
+    -- ### In Both
 
-  -- a job that leaves the server's own part
-  speaks : (posts : List Post) → SaysOk posts → J own posts
-  speaks posts says = same own posts (λ c. refl) (λ cell. refl) (λ cell. refl) says
+    paired_held : (op : Pending) → hears (body.Replicated op.op op.cell) → at cell_cmp own.pairs.pending op.cell ≡ Some op
+        → in_both here.state op.cell ≡ true → Held op
+    paired_held op h is both =
+        let ready = this.ground.ready in
+        let s = (ready.rests.pending this.n).staged op.cell op is in
+        let pair = lead_pair this.setting this.state this.along.steady this.w ready this.ground.good this.n runs op.cell s.lead both in
+        let together =
+        first_together this.setting this.state this.along.steady this.w ready this.ground.good this.n runs op.cell pair.0 pair.1 both in
+        was_held op.cell op is (Is_followed pair.0 pair.1 together
+        (heard_known this.setting this.state this.along.steady this.w ready this.ground.good this.n runs _ h op.cell this.n pair.0 refl pair.1 together))
 
-  talked : (done : Done) → done.own ≡ own → SaysOk done.posts → J done.own done.posts
-  talked done same_own says = same done.own done.posts
-      (λ c. ap (λ (o : Own). at nat_cmp o.pairs.finished c) same_own) (λ cell. ap (λ (o : Own). at cell_cmp o.pairs.pending cell) same_own)
-      (λ cell. ap (λ (o : Own). at cell_cmp o.pairs.last cell) same_own) says
+    -- a new operation
+    fresh_held : (cell : Cell) (op : Pending) → at cell_cmp own.pairs.pending cell ≡ None → op.op ≡ own.pairs.next → op.stage.paired ≡ false
+        → op.stage.put ≡ false → Counted cell op → Held op
+    fresh_held cell op none number unpaired unput (Is_told off e) = true_false e unpaired
+    fresh_held cell op none number unpaired unput (Is_counted e counts) = true_false e unput
+    fresh_held cell op none number unpaired unput (Is_followed q pair together past) =
+        let ok = this.ground.good.pairs cell this.n q pair together in
+        let top : ceiling_of (at cell_cmp own.pairs.pending cell) own.pairs.next ≡ own.pairs.next = ap (λ x. ceiling_of x own.pairs.next) none in
+        let below = ok.below in
+        absurd (omega arith)
 
-  lead_job : (done : Done) → DidLead hears here state own done → J done.own done.posts
-  unfolding In
-  lead_job _ (Asks_for posts h) = speaks _ (unwritten posts (λ post i. asks_unwritten here state own post (h post i)))
-  lead_job _ (Repeats want last h lead is e) = same own _ (λ c. refl) (λ cell. refl) (λ cell. refl)
-      (λ post c seq i to says still.
-      let p = one_post _ _ post i in
-      let same_client : want.client ≡ c = one_client (sym p.0 ∙ to) in
-      let said : ended want.seq last.ending ≡ body.Written seq = sym p.1 ∙ says in
-      let how = ended_written want.seq last.ending seq said in
-      let number : seq ≡ last.seq = sym (ended_seq want.seq last.ending seq said) ∙ e in
-      held_onward m k c onward (follow.finished n c last (ap (at nat_cmp own.pairs.finished) (sym same_client) ∙ is) how
-      (subst (IsOpen (w.clients c)) number still)))
-  lead_job _ (Is_full want h lead new none no_room) = full_job want
-  lead_job _ (Opens want h lead new none) = opens_job want none
-  lead_job _ (Marks op h is stage) = restages_job _ (marked own op is)
-  lead_job _ (Puts op is stage) = restages_job _ (has_put own op is)
-  lead_job _ (Gives_up op h is stage) = record {
-    finished = λ c last is how still. finish_full own.pairs.finished op.client op.seq c last is how;
-    as_first = λ cell q o pair there. inl (was_same own cell o (stood own.pairs.pending op.cell cell o there));
-    as_second = λ cell p o pair is past. inl past;
-    says = ended_full op.client op.seq;
-  }
-  lead_job _ (Unmarks op h is stage) = restages_job _ (unmarked own op is)
-  lead_job _ (Closes op is stage) =
-      let held = answers_held op is stage in
-      record {
-        finished = λ c last there how still. elim (same_or_apart c op.client) [
-          | inl e ↦ inr (subst (λ i. is_held k i ≡ true) (sym e) held)
-          | inr ne ↦ inl (sym (at_apart own.pairs.finished op.client _ c ne) ∙ there)
-        ];
-        as_first = λ cell q o pair there. inl (was_same own cell o (stood own.pairs.pending op.cell cell o there));
-        as_second = λ cell p o pair is past. inl past;
-        says = λ post c seq i to says still. subst (λ i. is_held k i ≡ true) (one_client (sym (one_post _ _ post i).0 ∙ to)) held;
-      }
+    -- ### Alone
 
-  second_job : (done : Done) (d : DidSecond hears here state own done) → IsCalmSecond d → J done.own done.posts
-  second_job _ (Sets_apart number cell tickets h s le) calm = reserves_job number cell _ h refl refl refl
-  second_job _ (Promises number cell how s is) calm =
-      talked (tells here own cell number how) (told_own here own cell number how) (says_far own cell number how)
-  second_job _ (Declines number cell h s no_room) calm = speaks _ (says_to (first here.state cell) (body.PairFull number cell) refl)
-  second_job _ (Follows number key version bytes h s is) calm = absurd calm
+    counts_alone : (cell : Cell) → is_alone_on here.state this.n cell ≡ true → authority (chosen_state this.setting this.w) cell ≡ Some this.n
+    counts_alone cell alone =
+        let firm = this.along.firm in
+        alone_counts (chosen_state this.setting this.w) (chosen_steady this.setting this.w firm) this.n cell
+        (alone_on here.state (chosen_state this.setting this.w) (own_below this.setting this.w firm this.n) this.n cell alone)
 
-  read_job : (done : Done) → DidRead hears here state own done → J done.own done.posts
-  read_job done d =
-      let frame = of_read hears here state own done d in
-      talked done frame.same (unwritten done.posts (λ post i. ap is_written (frame.says post i).is))
+    -- an operation that is taken up has had its bytes once it is put
+    taken_held : (now : Own) (op new : Pending) → Taken own now op → is_alone_on here.state this.n op.cell ≡ true → new.client ≡ op.client → new.seq ≡ op.seq
+        → (new.stage.put ≡ true → op.stage.put ≡ true) → Counted op.cell new → Held new
+    taken_held now op new taken alone client seq put (Is_told off e) still = true_false alone off
+    taken_held now op new taken alone client seq put (Is_followed q pair together past) still = true_false alone together.one
+    taken_held now op new taken alone client seq put (Is_counted e counts) still =
+        let t = taking own now op taken in
+        let old_put : t.old.stage.put ≡ true = ap (λ (o : Pending). o.stage.put) (sym t.is) ∙ put e in
+        let c : new.client ≡ t.old.client = client ∙ ap (λ (o : Pending). o.client) t.is in
+        let s : new.seq ≡ t.old.seq = seq ∙ ap (λ (o : Pending). o.seq) t.is in
+        let still' : IsOpen (this.w.clients t.old.client) t.old.seq = subst (IsOpen (this.w.clients t.old.client)) s
+        (subst (λ i. IsOpen (this.w.clients i) new.seq) c still) in
+        subst (λ i. is_held k i ≡ true) (sym c) (was_held op.cell t.old t.was (Is_counted old_put counts) still')
 
-  -- each kind of job but a second server's put
-  pub calm_job : (done : Done) (d : Did hears here state own done) → IsCalm d → J done.own done.posts
-  unfolding In
-  calm_job _ Ignores calm = speaks _ (λ post c seq i to says still. absurd i)
-  calm_job _ (Refuses to said is why) calm = speaks _ (says_one to said (refusal_unwritten said is))
-  calm_job _ (By_read done d) calm = read_job done d
-  calm_job _ (By_lead done d) calm = lead_job done d
-  calm_job _ (By_second done d) calm = second_job done d calm
+    others_taken : (now : Own) (op : Pending) (taken : Taken own now op) (q : Cell) → q ≢ op.cell
+        → at cell_cmp now.pairs.pending q ≡ at cell_cmp own.pairs.pending q
+    others_taken now op taken q ne = (taking own now op taken).others q ne
+
+    -- ### What is pending
+
+    lead_pending : (done : Done) (d : DidLead hears here own done) → PutHeld (lead_stores hears here own done d) → (cell : Cell) (o : Pending)
+        → at cell_cmp done.own.pairs.pending cell ≡ Some o → Counted cell o → Held o
+    lead_pending _ (Asks_for posts h) held = λ cell o is. was_held cell o is
+    lead_pending _ (Repeats want last h lead there e) held = λ cell o is. was_held cell o is
+    lead_pending _ (Is_full want new no_room) held = λ cell o is. was_held cell o is
+    lead_pending _ (Gives_up op h there reserved put) held = λ cell o is. was_held cell o (stood own.pairs.pending op.cell cell o is)
+    lead_pending _ (Opens want new both) held =
+        put_lead own.pairs.pending want.cell (operation here own.pairs.next want) (λ q ne. refl)
+        (fresh_held want.cell (operation here own.pairs.next want) new.none refl refl refl)
+    lead_pending _ (Marks op h there both stage) held =
+        put_lead (put cell_cmp own.pairs.pending op.cell (with_reserved op)) op.cell (with_mark_at (with_reserved op) Busy true)
+        (beside own.pairs.pending op.cell (with_reserved op))
+        (λ counted. was_held op.cell op there
+        (recounted op.cell op (with_mark_at (with_reserved op) Busy true) refl (λ off e. e) (λ e. e) counted))
+    lead_pending _ (Puts op there both stage) held =
+        put_lead own.pairs.pending op.cell (record op { version = _; stage = record op.stage { put = true } }) (λ q ne. refl)
+        (λ counted still. elim counted [
+          | Is_told off e ↦ was_held op.cell op there (Is_told off e) still
+          | Is_followed q pair together past ↦ was_held op.cell op there (Is_followed q pair together past) still
+          | Is_counted e counts ↦ held counts
+        ])
+    lead_pending _ (Unmarks op h there both stage) held =
+        put_lead (put cell_cmp own.pairs.pending op.cell (with_paired op)) op.cell (with_mark_at (with_paired op) Busy false)
+        (beside own.pairs.pending op.cell (with_paired op))
+        (λ counted. paired_held op h there both)
+    lead_pending _ (Closes op there both stage) held = λ cell o is. was_held cell o (stood own.pairs.pending op.cell cell o is)
+    lead_pending _ (Opens_alone want new alone) held =
+        let op = operation here own.pairs.next want in
+        put_lead (put cell_cmp own.pairs.pending want.cell op) want.cell (with_mark_at op Stale true)
+        (beside own.pairs.pending want.cell op)
+        (fresh_held want.cell (with_mark_at op Stale true) new.none refl refl refl)
+    lead_pending _ (Marks_alone now op taken alone fresh) held =
+        put_lead now.pairs.pending op.cell (with_mark_at op Stale true) (others_taken now op taken)
+        (taken_held now op (with_mark_at op Stale true) taken alone refl refl (λ e. e))
+    lead_pending _ (Puts_alone now op taken alone stale put) held =
+        put_lead now.pairs.pending op.cell (record op { version = _; stage = record op.stage { put = true } }) (others_taken now op taken)
+        (λ counted still. elim counted [
+          | Is_told off e ↦ true_false alone off
+          | Is_followed q pair together past ↦ true_false alone together.one
+          | Is_counted e counts ↦
+              let t = taking own now op taken in
+              subst (λ i. is_held k i ≡ true) (sym (ap (λ (o : Pending). o.client) t.is))
+              (held (ap (λ (o : Pending). authority (chosen_state this.setting this.w) o.cell) (sym t.is) ∙ counts))
+        ])
+    lead_pending _ (Unmarks_alone now op taken alone stale put busy) held =
+        put_lead now.pairs.pending op.cell (with_mark_at op Busy false) (others_taken now op taken)
+        (taken_held now op (with_mark_at op Busy false) taken alone refl refl (λ e. e))
+    lead_pending _ (Closes_alone now op taken alone stale put free) held = λ cell o is.
+        let there : at cell_cmp now.pairs.pending cell ≡ Some o = stood now.pairs.pending op.cell cell o is in
+        elim (same_cell_or_apart cell op.cell) [
+          | inl e ↦
+              let t = taking own now op taken in
+              let same : op ≡ o = same_some (sym t.there ∙ ap (at cell_cmp now.pairs.pending) (sym e) ∙ there) in
+              subst (λ (c : Cell). Counted c o → Held o) (sym e)
+              (subst (λ (x : Pending). Counted op.cell x → Held x) same (taken_held now op op taken alone refl refl (λ e. e)))
+          | inr ne ↦ was_held cell o (sym (others_taken now op taken cell ne) ∙ there)
+        ]
+
+    -- ### What is finished
+
+    old_finished : (c : ℕ) (last : Finished) → at nat_cmp own.pairs.finished c ≡ Some last → last.ending ≡ ending.Written → IsOpen (this.w.clients c) last.seq
+        → is_held k c ≡ true
+    old_finished = kept_finished this k onward own refl
+
+    -- a request of this client is finished, for want of a slot, or as written
+    finish : (t : Table ℕ Finished) (client seq : ℕ) (how : Ending) → t ≡ own.pairs.finished
+        → (how ≡ ending.Written → IsOpen (this.w.clients client) seq → is_held k client ≡ true)
+        → (c : ℕ) (last : Finished) → at nat_cmp (put nat_cmp t client (record { seq = seq; ending = how })) c ≡ Some last
+        → last.ending ≡ ending.Written → IsOpen (this.w.clients c) last.seq → is_held k c ≡ true
+    finish t client seq how same held c last is written still = elim (same_or_apart c client) [
+      | inl e ↦
+          let now : Finished = record { seq = seq; ending = how } in
+          let one : now ≡ last = same_some (sym (at_same t client now) ∙ subst (λ i. at nat_cmp (put nat_cmp t client now) i ≡ Some last) e is) in
+          subst (λ i. is_held k i ≡ true) (sym e)
+          (held (ap (λ (f : Finished). f.ending) one ∙ written)
+          (subst (IsOpen (this.w.clients client)) (sym (ap (λ (f : Finished). f.seq) one)) (subst (λ i. IsOpen (this.w.clients i) last.seq) e still)))
+      | inr ne ↦ old_finished c last (ap (λ u. at nat_cmp u c) (sym same) ∙ sym (at_apart t client _ c ne) ∙ is) written still
+    ]
+
+    full_unwritten : {B : Type 0} → ending.Full ≡ ending.Written → B
+    full_unwritten e = cc
+
+    -- an operation that is closed has had its bytes
+    pub closed_held : (op : Pending) → at cell_cmp own.pairs.pending op.cell ≡ Some op → in_both here.state op.cell ≡ true → op.stage ≡ answering → Held op
+    closed_held op is both stage =
+        was_held op.cell op is (Is_told (both_not_alone here.state this.n op.cell both) (ap (λ (s : Stage). s.paired) stage))
+
+    pub closed_alone : (now : Own) (op : Pending) → Taken own now op → is_alone_on here.state this.n op.cell ≡ true → op.stage.put ≡ true → Held op
+    closed_alone now op taken alone put =
+        taken_held now op op taken alone refl refl (λ e. e) (Is_counted put (counts_alone op.cell alone))
+
+    lead_finished : (done : Done) → DidLead hears here own done → (c : ℕ) (last : Finished) → at nat_cmp done.own.pairs.finished c ≡ Some last
+        → last.ending ≡ ending.Written → IsOpen (this.w.clients c) last.seq → is_held k c ≡ true
+    lead_finished _ (Asks_for posts h) = old_finished
+    lead_finished _ (Repeats want last h lead there e) = old_finished
+    lead_finished _ (Is_full want new no_room) = finish own.pairs.finished want.client want.seq ending.Full refl full_unwritten
+    lead_finished _ (Gives_up op h there reserved put) = finish own.pairs.finished op.client op.seq ending.Full refl full_unwritten
+    lead_finished _ (Opens want new both) = old_finished
+    lead_finished _ (Marks op h there both stage) = old_finished
+    lead_finished _ (Puts op there both stage) = old_finished
+    lead_finished _ (Unmarks op h there both stage) = old_finished
+    lead_finished _ (Closes op there both stage) =
+        finish own.pairs.finished op.client op.seq ending.Written refl (λ e. closed_held op there both stage)
+    lead_finished _ (Opens_alone want new alone) = old_finished
+    lead_finished _ (Marks_alone now op taken alone fresh) = kept_finished this k onward now (taking own now op taken).finished
+    lead_finished _ (Puts_alone now op taken alone stale put) = kept_finished this k onward now (taking own now op taken).finished
+    lead_finished _ (Unmarks_alone now op taken alone stale put busy) = kept_finished this k onward now (taking own now op taken).finished
+    lead_finished _ (Closes_alone now op taken alone stale put free) =
+        finish now.pairs.finished op.client op.seq ending.Written (taking own now op taken).finished (λ e. closed_alone now op taken alone put)
+
+    -- ### As a second server
+
+    sets_apart : (number : ℕ) (cell : Cell) → hears (body.Reserve number cell) → is_second here.state this.n cell ≡ true
+        → (q : Cell) (p : ℕ) (op : Pending) → IsPair this.state q p this.n → AreTogether (alone_in this.setting this.w) q p this.n
+        → at cell_cmp (owns_of this.w p).pairs.pending q ≡ Some op
+        → op.op + op.op + 1 ≤ progress (at cell_cmp (put cell_cmp own.pairs.last cell (record { op = number; far = far.Reserved })) q)
+        → op.op + op.op + 1 ≤ progress (at cell_cmp own.pairs.last q)
+    sets_apart number cell h s q p op pair together is past =
+        let now : LastOp = record { op = number; far = far.Reserved } in
+        elim (same_cell_or_apart q cell) [
+          | inl e ↦
+              let there : progress (at cell_cmp (put cell_cmp own.pairs.last cell now) q) ≡ number + number =
+              ap (λ (x : Cell). progress (at cell_cmp (put cell_cmp own.pairs.last cell now) x)) e ∙ ap progress (cell_same own.pairs.last cell now) in
+              let known : number < ceiling_of (at cell_cmp (owns_of this.w p).pairs.pending q) (owns_of this.w p).pairs.next =
+              subst (λ (x : Cell). number < ceiling_of (at cell_cmp (owns_of this.w p).pairs.pending x) (owns_of this.w p).pairs.next) (sym e)
+              (heard_known this.setting this.state this.along.steady this.w this.ground.ready this.ground.good this.n runs _ h cell p this.n refl
+              (subst (λ (x : Cell). IsPair this.state x p this.n) e pair)
+              (subst (λ (x : Cell). AreTogether (alone_in this.setting this.w) x p this.n) e together)) in
+              let top : ceiling_of (at cell_cmp (owns_of this.w p).pairs.pending q) (owns_of this.w p).pairs.next ≡ op.op + 1 =
+              ap (λ o. ceiling_of o (owns_of this.w p).pairs.next) is in
+              absurd (omega arith)
+          | inr ne ↦ subst (λ o. op.op + op.op + 1 ≤ progress o) (cell_apart own.pairs.last cell now q ne) past
+        ]
+
+    second_job : (done : Done) (d : DidSecond hears here own done) → PutHeld (second_stores hears here own done d) → OwnFollow this k done.own
+    second_job _ (Sets_apart number cell tickets h s le) held =
+        record {
+          finished = old_finished;
+          as_lead = kept_pending this k onward own refl refl;
+          as_second = λ q p op pair together is still past. inl (sets_apart number cell h s q p op pair together is past);
+        }
+    second_job _ (Promises number cell how s is) held =
+        subst (OwnFollow this k) (sym (told_own here own cell number how)) (kept_own this k onward own refl refl (λ q. omega arith))
+    second_job _ (Declines number cell h s no_room) held = kept_own this k onward own refl refl (λ q. omega arith)
+    second_job _ (Follows number key version bytes h s is) held =
+        let new = (follows here own number key bytes).own in
+        let entry : Stored = record { version = version_of (chain_in own.store.chains (cell_of key)) + 1; bytes = bytes } in
+        let a : PutsAsked hears here own new =
+        record {
+          number = number;
+          key = key;
+          version = version;
+          bytes = bytes;
+          asked = h;
+          seconds = s;
+          last = is;
+          entry = entry;
+          put = refl;
+          chains = refl;
+        } in
+        let f = followed this.setting this.state this.along.steady this.w this.ground.ready this.ground.asking this.n this.ground.good runs new a in
+        record {
+          finished = old_finished;
+          as_lead = kept_pending this k onward own refl refl;
+          as_second = λ q p op pair together there still past. elim (same_cell_or_apart q (cell_of key)) [
+            | inl e ↦
+                let pair' : IsPair this.state (cell_of key) p this.n = subst (λ (c : Cell). IsPair this.state c p this.n) e pair in
+                let same : p ≡ f.p = same_first this.state this.along.steady (cell_of key) p this.n f.p this.n pair' f.pair in
+                let one : op ≡ f.putting.op = same_some (sym there ∙ (λ i. at cell_cmp (owns_of this.w (same i)).pairs.pending (e i)) ∙ f.putting.is) in
+                inr (ap (λ (o : Pending). is_held k o.client) one ∙ held f)
+            | inr ne ↦ inl (subst (λ o. op.op + op.op + 1 ≤ progress o) (cell_apart own.pairs.last (cell_of key) _ q ne) past)
+          ];
+        }
+
+    pub did_job : (done : Done) (d : Did hears here own done) → PutHeld (did_stores hears here own done d) → OwnFollow this k done.own
+    did_job _ Ignores held = kept_own this k onward own refl refl (λ q. omega arith)
+    did_job _ (Refuses to said is why) held = kept_own this k onward own refl refl (λ q. omega arith)
+    did_job _ (By_read done d) held =
+        subst (OwnFollow this k) (sym (of_read hears here own done d).same) (kept_own this k onward own refl refl (λ q. omega arith))
+    did_job _ (By_lead done d) held = record {
+      finished = lead_finished done d;
+      as_lead = λ cell op is counted still. lead_pending done d held cell op is counted still;
+      as_second = λ cell p op pair together is still past.
+          inl (subst (λ t. op.op + op.op + 1 ≤ progress (at cell_cmp t cell)) (of_lead hears here own done d).last past);
+    }
+    did_job _ (By_second done d) held = second_job done d held

@@ -1,44 +1,220 @@
 -- What the machine is told of a server's step is allowed, and keeps it tied to the world.
-use Rattle.std.proofs.Common.{◌≡◌, ◌<◌, ℕ, List, Some}
+use Rattle.std.proofs.Common.{◌≡◌, ◌<◌, ℕ, List, [], true, Some, refl, sym, ap, ◌∙◌, subst, inl, arith}
+use Rattle.petal_machine.specs.Machine.{Plain}
 use Rattle.petal_msg.specs.declared.body.Body.{Body}
 use Rattle.petal_msg.specs.declared.body.Body.TheVariants as body
+use Rattle.petal_msg.specs.declared.letter.Actor.TheVariants as actor
 use Rattle.petal_msg.specs.declared.letter.Letter.{Letter}
 use Rattle.script_lines.specs.declared.request.Line.{Line}
+use Rattle.petal_rules.specs.Jobs.{Acted, down_posts}
 use Rattle.petal_rules.specs.Lists.{In}
-use Rattle.petal_rules.specs.Server.{Own, Here, Done}
-use Rattle.petal_rules.specs.World.{server_state}
+use Rattle.petal_rules.specs.Log.{Log}
+use Rattle.petal_rules.specs.Server.{Own, Here, Post, Sender, Done, sender, letters_of}
+use Rattle.petal_rules.specs.State.{State, servers_of}
+use Rattle.petal_rules.specs.World.{Setting, World, acts, stamped, chosen_log, chosen_state, server_state}
 use Rattle.petal_rules.specs.declared.job.Job.{Job}
+use Rattle.petal_rules.specs.declared.step.Step.{Step}
+use Rattle.petal_rules.proofs.Tests.{true_false}
 use Rattle.petal_history.specs.Events.{accepted}
+use Rattle.petal_history.specs.declared.record.Record.{Record}
+use Rattle.law_state.specs.Tables.{IsGrown}
 use Rattle.law_steps.specs.DidRead.{Shows}
-use Rattle.law_steps.specs.DidSecond.{Follows}
-use Rattle.law_steps.specs.Did.{Did, By_read, By_second}
-use Rattle.law_steps.specs.Happens.{Handled, own_place, served_so}
+use Rattle.law_steps.specs.Did.{Did, By_read}
+use Rattle.law_steps.specs.Happens.{Handled, Worked, By_job, By_entry, Serving, Goes, Ends, Stays, own_place, without_rev, served_so, stopped_so}
+use Rattle.law_steps.proofs.Letters.{said}
+use Rattle.law_steps.proofs.Serving.{chosen_same}
 use Rattle.law_copies.specs.Pair.{owns_of}
-use Rattle.law_run.proofs.Looks.{Accepts}
-use Rattle.law_run.proofs.Calm.{ServerStep, ServerTold, Next, moves, calm_told}
-use Rattle.law_run.proofs.Shows.{show_told}
-use Rattle.law_run.proofs.Puts.{put_told}
+use Rattle.law_run.specs.Follow.{Ground, Follow}
+use Rattle.law_run.specs.Onward.{Onward}
+use Rattle.law_run.proofs.Along.{Along, rows_in}
+use Rattle.law_run.proofs.Chains.{did_stores}
+use Rattle.law_run.proofs.Entries.{entry_job}
+use Rattle.law_run.proofs.Frames.{OwnFollow, SaysOk, kept_own}
+use Rattle.law_run.proofs.LogSteps.{IsOfKind, Of_the_log, Of_the_rest}
+use Rattle.law_run.proofs.Looks.{Accepts, is_data}
+use Rattle.law_run.proofs.Puts.{calm_told, stored_told, unchanged}
+use Rattle.law_run.proofs.Says.{IsUnended, is_written, did_says, downs_unended, glances_unended, quiet_data, unended_no_data, unended_no_end}
+use Rattle.law_run.proofs.ServerJobs.{did_job}
+use Rattle.law_run.proofs.Shows.{data_of, show_told}
+use Rattle.law_run.proofs.Steps.{ServerStep, ServerTold, LooksTold, letters, assembled, quiet_looks}
+use Rattle.law_run.proofs.Votes.{votes_told}
 
-module _ (this : ServerStep) where
-  abbrev own : Own
-  own = owns_of this.w this.n
+-- letters that end no request
+module _ (this : ServerStep) (who : Sender) (posts : List Post) (is : letters this ≡ stamped this.stamp (letters_of who 0 posts))
+    (unended : (post : Post) → In post posts → IsUnended post) where
+  unended_says : (k : Plain) → SaysOk this k
+  unended_says k letter h c seq to says still =
+      true_false (ap is_written says)
+      (unended_no_end who this.stamp posts unended letter (subst (In letter) is h))
 
-  abbrev hears : Body → Type 0
-  hears = Handled this.w this.n
+  unended_looks : LooksTold this
+  unended_looks = quiet_looks this (λ letter h. unended_no_data who this.stamp posts unended letter (subst (In letter) is h))
+
+-- a server of this world
+pub record ServesAt : Type 0 where
+  pub setting : Setting
+  pub state : State
+  pub w : World
+  pub m : Plain
+  pub along : Along setting state w
+  pub ground : Ground setting state w
+  pub follow : Follow setting state (rows_in setting w) w m
+  pub n : ℕ
+  pub within : n < setting.servers
+  pub stamp : ℕ
+  pub what : Step
+  pub later : List Record
+
+module _ (at : ServesAt) where
+  abbrev pub after_step : Acted → World
+  after_step acted = (acts at.w at.n at.what at.stamp acted).world
+
+  -- what is chosen after the step
+  pub record Next (acted : Acted) : Type 0 where
+    pub along : Along at.setting at.state (after_step acted)
+    pub grown : IsGrown (chosen_state at.setting at.w) (chosen_state at.setting (after_step acted))
+
+  abbrev pub step_of : (acted : Acted) → Serving at.setting at.w at.n at.what acted → Next acted → ServerStep
+  step_of acted serving next = record {
+    setting = at.setting;
+    state = at.state;
+    w = at.w;
+    m = at.m;
+    along = at.along;
+    ground = at.ground;
+    follow = at.follow;
+    n = at.n;
+    within = at.within;
+    stamp = at.stamp;
+    what = at.what;
+    acted = acted;
+    serving = serving;
+    next = next.along;
+    grown = next.grown;
+    later = at.later;
+  }
 
   abbrev here : Here
-  here = own_place this.setting this.w this.n
+  here = own_place at.setting at.w at.n
 
-  -- the job is one at the state from what is chosen on, and at the server's own
-  pub did_told : this.n < this.setting.servers
-      → ((one other : Line) → In one this.setting.lines → In other this.setting.lines → one.number ≡ other.number → one ≡ other)
-      → (done : Done) (queue : List Job) → Did hears here this.state own done → Did hears here (server_state this.setting this.w this.n) own done
-      → Next this done queue
-      → ((letter : Letter) (seq : ℕ) (bytes : List ℕ) (number : ℕ) → In letter (moves this done queue).sent
-      → letter.body ≡ body.Data seq bytes → accepted this.later letter ≡ Some number → Accepts this.setting.lines letter seq number)
-      → ServerTold this (served_so this.setting this.w this.n this.log done queue)
-  did_told lt numbered _ queue (By_read _ (Shows client seq cell epoch h r none)) own_did next accepts =
-      show_told this numbered queue client seq cell epoch h r none own_did next (λ letter number sent says e. accepts letter seq _ number sent says e)
-  did_told lt numbered _ queue (By_second _ (Follows number key version bytes h s is)) own_did next accepts =
-      put_told this (record { number = number; key = key; version = version; bytes = bytes; heard = h; seconds = s; last = is; queue = queue }) lt next
-  did_told lt numbered _ queue d own_did next accepts = calm_told this _ queue d tt tt next
+  abbrev own : Own
+  own = owns_of at.w at.n
+
+  abbrev hears : Body → Type 0
+  hears = Handled at.w at.n
+
+  abbrev downs : List Post
+  downs = down_posts at.n (at.w.servers at.n).life.inc (servers_of (server_state at.setting at.w at.n))
+
+  downs_end : (post : Post) → In post downs → IsUnended post
+  downs_end = downs_unended at.n (at.w.servers at.n).life.inc (servers_of (server_state at.setting at.w at.n))
+
+  module _ (numbered : (one other : Line) → In one at.setting.lines → In other at.setting.lines → one.number ≡ other.number → one ≡ other) where
+    -- a letter with data that is accepted was asked for
+    abbrev AreAccepted : World → Type 0
+    AreAccepted v = (letter : Letter) (seq : ℕ) (bytes : List ℕ) (number : ℕ) → In letter v.sent → letter.body ≡ body.Data seq bytes
+        → accepted at.later letter ≡ Some number → Accepts at.setting.lines letter seq number
+
+    abbrev IsSame : Acted → Type 0
+    IsSame acted = chosen_log at.setting (after_step acted) ≡ chosen_log at.setting at.w
+
+    -- a job of the pairs
+    module _ (log : Log) (runs : (at.w.servers at.n).life.running ≡ true) where
+      job_looks : (done : Done) (did : Did hears here own done) (queue : List Job)
+          (serving : Serving at.setting at.w at.n at.what (served_so at.setting at.w at.n log done queue))
+          (next : Next (served_so at.setting at.w at.n log done queue)) → IsSame (served_so at.setting at.w at.n log done queue)
+          → AreAccepted (after_step (served_so at.setting at.w at.n log done queue))
+          → LooksTold (step_of (served_so at.setting at.w at.n log done queue) serving next)
+      unfolding In
+      job_looks _ (By_read _ (Shows client seq cell epoch h r none)) queue serving next same accepts =
+          let this = step_of _ serving next in
+          let letter : Letter =
+          record {
+            from = actor.Server at.n;
+            inc = (at.w.servers at.n).life.inc;
+            to = actor.Client client;
+            rev = (server_state at.setting at.w at.n).rev;
+            stamp = at.stamp;
+            nth = 0;
+            body = body.Data seq (data_of this cell epoch);
+          } in
+          show_told this numbered runs client seq cell epoch h r none letter refl refl refl (λ row b. unchanged this same row b (λ mine. refl))
+          (λ number e. accepts letter seq _ number (inl refl) refl e)
+      job_looks done d queue serving next same accepts =
+          let this = step_of _ serving next in
+          quiet_looks this (λ letter i.
+          let s = said (sender here) at.stamp 0 done.posts letter i in
+          ap is_data s.body ∙ quiet_data hears here own done d tt s.post s.there)
+
+      job_told : (done : Done) (did : Did hears here own done) (queue : List Job)
+          (serving : Serving at.setting at.w at.n at.what (served_so at.setting at.w at.n log done queue))
+          (next : Next (served_so at.setting at.w at.n log done queue)) → IsSame (served_so at.setting at.w at.n log done queue)
+          → AreAccepted (after_step (served_so at.setting at.w at.n log done queue))
+          → ServerTold (step_of (served_so at.setting at.w at.n log done queue) serving next)
+      job_told done did queue serving next same accepts =
+          let this = step_of _ serving next in
+          let says : (k : Plain) → Onward at.m k → SaysOk this k = λ k onward letter i c seq to says still.
+          let s = said (sender here) at.stamp 0 done.posts letter i in
+          did_says this k runs onward done did s.post s.there c seq (sym s.to ∙ to) (sym s.body ∙ says) still in
+          assembled this (stored_told this same runs says (did_stores hears here own done did) (λ k onward held. did_job this k runs onward done did held))
+          (job_looks done did queue serving next same accepts)
+
+      -- the server stops once its commit is made
+      job_stopped : (done : Done) (did : Did hears here own done)
+          (serving : Serving at.setting at.w at.n at.what (stopped_so at.setting at.w at.n log done))
+          (next : Next (stopped_so at.setting at.w at.n log done)) → IsSame (stopped_so at.setting at.w at.n log done)
+          → ServerTold (step_of (stopped_so at.setting at.w at.n log done) serving next)
+      job_stopped done did serving next same =
+          let this = step_of _ serving next in
+          let says : (k : Plain) → Onward at.m k → SaysOk this k = λ k onward. unended_says this (without_rev here) downs refl downs_end k in
+          assembled this (stored_told this same runs says (did_stores hears here own done did) (λ k onward held. did_job this k runs onward done did held))
+          (unended_looks this (without_rev here) downs refl downs_end)
+
+    no_posts : (post : Post) → In post [] → IsUnended post
+    unfolding In
+    no_posts post i = absurd i
+
+    -- a step that changes no chain, and ends no request
+    calm_step : (acted : Acted) (serving : Serving at.setting at.w at.n at.what acted) (next : Next acted) → IsSame acted
+        → acted.server.own.store.chains ≡ own.store.chains
+        → ((k : Plain) → Onward at.m k → OwnFollow (step_of acted serving next) k acted.server.own)
+        → (who : Sender) (posts : List Post) → acted.letters ≡ letters_of who 0 posts → ((post : Post) → In post posts → IsUnended post)
+        → ServerTold (step_of acted serving next)
+    calm_step acted serving next same chains job who posts letters_are unended =
+        let this = step_of acted serving next in
+        let is : letters this ≡ stamped at.stamp (letters_of who 0 posts) = ap (stamped at.stamp) letters_are in
+        assembled this (calm_told this same chains job (λ k onward. unended_says this who posts is unended k)) (unended_looks this who posts is unended)
+
+    goes_told : (log : Log) (done : Done) (queue : List Job) (runs : (at.w.servers at.n).life.running ≡ true)
+        → Worked at.setting at.w at.n log done → (serving : Serving at.setting at.w at.n at.what (served_so at.setting at.w at.n log done queue))
+        (next : Next (served_so at.setting at.w at.n log done queue)) → IsSame (served_so at.setting at.w at.n log done queue)
+        → AreAccepted (after_step (served_so at.setting at.w at.n log done queue))
+        → ServerTold (step_of (served_so at.setting at.w at.n log done queue) serving next)
+    goes_told _ _ queue runs (By_job log done applied did) serving next same accepts = job_told log runs done did queue serving next same accepts
+    goes_told _ _ queue runs (By_entry log entry more front) serving next same accepts =
+        calm_step _ serving next same refl (λ k onward. entry_job (step_of _ serving next) k onward (server_state at.setting at.w at.n) entry)
+        (sender here) [] refl no_posts
+
+    ends_told : (log : Log) (done : Done) (runs : (at.w.servers at.n).life.running ≡ true) → Worked at.setting at.w at.n log done
+        → (serving : Serving at.setting at.w at.n at.what (stopped_so at.setting at.w at.n log done))
+        (next : Next (stopped_so at.setting at.w at.n log done)) → IsSame (stopped_so at.setting at.w at.n log done)
+        → ServerTold (step_of (stopped_so at.setting at.w at.n log done) serving next)
+    ends_told _ _ runs (By_job log done applied did) serving next same = job_stopped log runs done did serving next same
+    ends_told _ _ runs (By_entry log entry more front) serving next same =
+        calm_step _ serving next same refl (λ k onward. entry_job (step_of _ serving next) k onward (server_state at.setting at.w at.n) entry)
+        (without_rev here) downs refl downs_end
+
+    rest_told : (acted : Acted) (serving of_it : Serving at.setting at.w at.n at.what acted) (next : Next acted) → IsSame acted → AreAccepted (after_step acted)
+        → ServerTold (step_of acted of_it next)
+    rest_told _ (Goes log done queue runs worked queued works) of_it next same accepts = goes_told log done queue runs worked of_it next same accepts
+    rest_told _ (Ends log done runs worked) of_it next same accepts = ends_told log done runs worked of_it next same
+    rest_told _ (Stays who posts from shown) of_it next same accepts =
+        calm_step _ of_it next same refl (λ k onward. kept_own (step_of _ of_it next) k onward own refl refl (λ cell. omega arith))
+        who posts refl (λ post i. glances_unended post (shown post i))
+
+    -- each kind of step
+    pub step_told : (acted : Acted) (serving : Serving at.setting at.w at.n at.what acted) (next : Next acted) → IsOfKind (at.w.servers at.n) acted
+        → AreAccepted (after_step acted) → ServerTold (step_of acted serving next)
+    step_told acted serving next (Of_the_log own_same quiet) accepts = votes_told (step_of acted serving next) own_same (quiet at.stamp)
+    step_told acted serving next (Of_the_rest records) accepts =
+        rest_told acted serving serving next (chosen_same at.setting at.w at.n at.stamp at.what acted records) accepts

@@ -1,97 +1,123 @@
 -- A read's data are those that the machine has.
-use Rattle.std.proofs.Common.{◌≡◌, ℕ, List, [], ◌++◌, true, Option, Some, None, refl, sym, ap, ◌∙◌, subst, inl, inr}
+use Rattle.std.proofs.Common.{◌≡◌, ◌==◌, ℕ, List, [], ◌∷◌, ◌++◌, true, false, Option, Some, None, refl, sym, ap, ◌∙◌, subst, inl, inr}
+use Rattle.std.specs.Prelude.{option_map}
 use Rattle.petal_base.specs.declared.cell.Cell.{Cell}
 use Rattle.petal_table.specs.Table.{at}
 use Rattle.global_tables.specs.declared.disk.DiskRow.{DiskRow}
+use Rattle.global_tables.specs.declared.link.LinkRow.{LinkRow}
 use Rattle.petal_machine.specs.Machine.{content}
 use Rattle.petal_msg.specs.declared.body.Body.{Body}
 use Rattle.petal_msg.specs.declared.body.Body.TheVariants as body
 use Rattle.petal_msg.specs.declared.letter.Actor.TheVariants as actor
 use Rattle.petal_msg.specs.declared.letter.Letter.{Letter}
 use Rattle.petal_msg.specs.declared.operation.Pending.{Pending}
-use Rattle.petal_msg.specs.Kinds.{about}
+use Rattle.petal_state.specs.CellState.{cell_link}
 use Rattle.script_lines.specs.declared.request.Line.{Line}
 use Rattle.script_lines.specs.declared.request.Request.TheVariants as request
 use Rattle.petal_rules.specs.Lists.{In}
-use Rattle.petal_rules.specs.State.{first, second, is_lead, readable}
+use Rattle.petal_rules.specs.State.{State, authority, in_both, is_lead, readable}
 use Rattle.petal_rules.specs.Store.{Chain, cell_cmp, chain_in, entry_at, bytes_of}
-use Rattle.petal_rules.specs.Server.{Own, Here, Done, says}
+use Rattle.petal_rules.specs.Server.{Own}
 use Rattle.petal_rules.specs.Clients.{epoch_for}
-use Rattle.petal_rules.specs.World.{chosen_state, server_state}
-use Rattle.petal_rules.specs.declared.job.Job.{Job}
+use Rattle.petal_rules.specs.World.{chosen_state, chosen_log, server_state}
 use Rattle.petal_rules.proofs.ListLemmas.{in-append}
+use Rattle.petal_rules.proofs.Tests.{by_bool, is_the_so, same_some, none_some, same_numbers, true_false}
 use Rattle.petal_history.specs.Contents.{cell_of_block, content_by}
-use Rattle.petal_history.specs.Events.{look_for, accepted}
+use Rattle.petal_history.specs.Events.{look_for, look_of, looks, accepted}
+use Rattle.law_state.proofs.Alone.{alone_not_both, both_before, primary_on, secondary_on, so_alone, so_both}
+use Rattle.law_state.proofs.Cells.{IsInBoth, alone_authority, both_authority, both_lead, read_by}
+use Rattle.law_state.proofs.Leaves.{either_true}
+use Rattle.law_state.proofs.Roles.{log_roles}
 use Rattle.law_state.proofs.Rows.{HasRow}
-use Rattle.law_steps.specs.DidRead.{Shows}
-use Rattle.law_steps.specs.Did.{Did, By_read}
-use Rattle.law_steps.specs.Happens.{Handled, own_place, served_so}
-use Rattle.law_steps.proofs.Histories.{own_steady}
-use Rattle.petal_rules.proofs.Tests.{is_the_so, same_some, none_some}
+use Rattle.law_steps.specs.Happens.{Handled}
+use Rattle.law_steps.proofs.Histories.{chosen_steady, own_below, own_steady}
 use Rattle.law_copies.specs.Pair.{IsPair, AreCopies, owns_of}
+use Rattle.law_copies.proofs.Copying.{together_in_both}
 use Rattle.law_requests.specs.Asked.{IsRead}
-use Rattle.law_requests.proofs.Jobs.{known_of}
-use Rattle.law_run.specs.Follow.{kept_at}
-use Rattle.law_run.proofs.Along.{rows_in, row_here, own_first, later_row}
-use Rattle.law_run.proofs.Born.{data_read, one_heard}
-use Rattle.law_run.proofs.Looks.{AllLooks, looked, Accepts, letter_looks}
-use Rattle.law_run.proofs.Calm.{ServerStep, ServerTold, Next, LooksTold, moves, assembled, calm_kept, calm_takes}
+use Rattle.law_requests.specs.Known.{Known, seen}
+use Rattle.law_run.proofs.Along.{rows_in, row_here, own_link, later_row}
+use Rattle.law_run.proofs.Looks.{AllLooks, Looked, looked, Accepts, letter_looks}
+use Rattle.law_run.proofs.Contents.{was_kept, now_kept}
+use Rattle.law_run.proofs.Steps.{ServerStep, LooksTold, letters, later_world}
 
 module _ (this : ServerStep) where
-  abbrev here : Here
-  here = own_place this.setting this.w this.n
+  abbrev own_state : State
+  own_state = server_state this.setting this.w this.n
+
+  abbrev chosen : State
+  chosen = chosen_state this.setting this.w
 
   abbrev own : Own
   own = owns_of this.w this.n
 
-  abbrev hears : Body → Type 0
-  hears = Handled this.w this.n
-
   abbrev lines : List Line
   lines = this.setting.lines
 
-  -- the bytes of the server's entry, and what it does where it sends them
-  abbrev data_of : Cell → ℕ → List ℕ
+  -- the bytes of the server's entry
+  abbrev pub data_of : Cell → ℕ → List ℕ
   data_of cell epoch = bytes_of (entry_at (chain_in own.store.chains cell) epoch)
 
-  abbrev sends : (client seq : ℕ) → Cell → ℕ → Done
-  sends client seq cell epoch = says own (actor.Client client) (body.Data seq (data_of cell epoch))
+  equal : (one two : Chain) (at : ℕ) (o : Option Pending) → o ≡ None → AreCopies one two at o → one ≡ two
+  equal one two at None e h = h
+  equal one two at (Some op) e h = none_some e refl
+
+  -- the first server of a cell in Both that may read it has what counts
+  first_is : (cell : Cell) → readable own_state this.n cell ≡ true → (is_lead own_state this.n cell ≡ true → at cell_cmp own.pairs.pending cell ≡ None)
+      → (b : IsInBoth chosen cell) → b.row.primary ≡ this.n
+      → content_by this.w cell 0 (authority chosen cell) ≡ bytes_of (entry_at (chain_in own.store.chains cell) 0)
+  first_is cell may none b mine =
+      let firm = this.along.firm in
+      let old = own_steady this.setting this.w firm this.n in
+      let below = own_below this.setting this.w firm this.n in
+      let both : in_both chosen cell ≡ true = so_both chosen cell b.row b.is b.so in
+      let up = this.along.below in
+      let q = b.row.secondary in
+      let pair : IsPair this.state cell this.n q =
+      record {
+        leads = primary_on chosen this.state up cell this.n (ap (option_map (λ (r : LinkRow). r.primary)) b.is ∙ ap Some mine);
+        follows = secondary_on chosen this.state up cell q (ap (option_map (λ (r : LinkRow). r.secondary)) b.is);
+      } in
+      let leads : is_lead own_state this.n cell ≡ true = elim (read_by own_state old cell this.n may).1 [
+        | inl was ↦
+            let now = below.rows cell was.0.row was.0.is in
+            let row : now.now ≡ b.row = same_some (sym now.is ∙ b.is) in
+            let first : was.0.row.primary ≡ this.n = sym now.so.primary ∙ ap (λ (r : LinkRow). r.primary) row ∙ mine in
+            is_the_so _ this.n (both_lead own_state cell was.0.row was.0.is was.0.linked was.0.so ∙ ap Some first)
+        | inr held ↦ true_false (both_before own_state chosen below cell held.row held.is both)
+            (alone_not_both own_state this.n cell (so_alone own_state this.n cell held.row false held.is held.so))
+      ] in
+      let ok = this.ground.good.pairs cell this.n q pair (together_in_both this.setting this.w firm cell this.n q both) in
+      ap (content_by this.w cell 0) (both_authority chosen cell b.row b.is b.linked b.so)
+      ∙ ap (λ c. bytes_of (entry_at c 0)) (sym (equal _ _ _ _ (none leads) ok.copies))
 
   -- what a server that may read a cell has is what counts
-  read_is : (cell : Cell) (row : DiskRow) (block : ℕ) → cell ≡ cell_of_block row block → readable this.state this.n cell ≡ true
-      → (is_lead this.state this.n cell ≡ true → at cell_cmp own.pairs.pending cell ≡ None) → kept_at this.state this.w row block
-      ≡ bytes_of (entry_at (chain_in own.store.chains cell) 0)
-  read_is cell row block is may none =
-      ap (λ (c : Cell). content_by this.w c 0 (second this.state c)) (sym is) ∙ elim (this.along.steady.readers this.n cell may) [
-        | inl leads ↦
-            let two = this.along.steady.pairs cell this.n leads in
-            let pair : IsPair this.state cell this.n two.other = record { leads = leads; follows = two.is } in
-            let lead : is_lead this.state this.n cell ≡ true = is_the_so _ this.n (this.along.steady.leads cell ∙ leads) in
-            let ok = this.ground.good.pairs cell this.n two.other pair in
-            ap (content_by this.w cell 0) two.is ∙ ap (λ c. bytes_of (entry_at c 0)) (sym (equal _ _ _ _ (none lead) ok.copies))
-        | inr follows ↦ ap (content_by this.w cell 0) follows
+  read_is : (this.w.servers this.n).life.running ≡ true → (cell : Cell) → readable own_state this.n cell ≡ true
+      → (is_lead own_state this.n cell ≡ true → at cell_cmp own.pairs.pending cell ≡ None)
+      → content_by this.w cell 0 (authority chosen cell) ≡ bytes_of (entry_at (chain_in own.store.chains cell) 0)
+  read_is runs cell may none =
+      let firm = this.along.firm in
+      let steady = chosen_steady this.setting this.w firm in
+      let roles = log_roles this.setting.servers (this.w.servers this.n).log.applied (chosen_log this.setting this.w) firm.plain (firm.servers this.n) in
+      let now = roles.reads this.n cell (firm.runs this.n runs) may in
+      elim (read_by chosen steady cell this.n now).1 [
+        | inr held ↦ ap (content_by this.w cell 0) (alone_authority chosen cell held.row held.is held.linked this.n false held.so)
+        | inl both ↦
+            let b = both.0 in
+            by_bool (b.row.primary == this.n)
+            (λ t. first_is cell may none b (same_numbers b.row.primary this.n t))
+            (λ f.
+            let mine = same_numbers b.row.secondary this.n (either_true (b.row.primary == this.n) (b.row.secondary == this.n) both.1 f) in
+            ap (content_by this.w cell 0) (both_authority chosen cell b.row b.is b.linked b.so ∙ ap Some mine))
       ]
-    where
-      equal : (one two : Chain) (at : ℕ) (o : Option Pending) → o ≡ None → AreCopies one two at o → one ≡ two
-      equal one two at None e h = h
-      equal one two at (Some op) e h = none_some e refl
 
-  -- the cell of a read that is answered is of a disk that is chosen
-  led : (done : Done) → Did hears here (server_state this.setting this.w this.n) own done → (client seq : ℕ) (cell : Cell) (epoch : ℕ)
-      → hears (body.Read client seq cell epoch) → done ≡ sends client seq cell epoch
-      → (p : ℕ) × (first (chosen_state this.setting this.w) cell ≡ Some p)
-  unfolding In
-  led done did client seq cell epoch h is =
-      let own_state = server_state this.setting this.w this.n in
-      let steady = own_steady this.setting this.w this.along.firm this.n in
-      let read = data_read hears here own_state own _ (subst (Did hears here own_state own) is did) _ (inl refl) refl in
-      let same : read.cell ≡ cell =
-      same_some (ap (λ (b : Body). (about b).cell) (one_heard this.w this.n _ _ read.heard h)) in
-      let leads : (p : ℕ) × (first own_state read.cell ≡ Some p) = elim (steady.readers this.n read.cell read.may) [
-        | inl leads ↦ (this.n, leads)
-        | inr follows ↦ steady.followed read.cell this.n follows
-      ] in
-      (leads.0, own_first this.setting this.state this.w this.along this.n cell leads.0 (ap (first own_state) (sym same) ∙ leads.1))
+  -- the cell of a read that is answered has a link by what is chosen
+  linked : (cell : Cell) → readable own_state this.n cell ≡ true → (link : LinkRow) × (cell_link chosen cell ≡ Some link)
+  linked cell may =
+      let firm = this.along.firm in
+      elim (read_by own_state (own_steady this.setting this.w firm this.n) cell this.n may).1 [
+        | inl both ↦ own_link this.setting this.w firm this.n cell both.0.row both.0.is
+        | inr held ↦ own_link this.setting this.w firm this.n cell held.row held.is
+      ]
 
   -- the data that a server sends, where somebody accepts them
   pub record Shown (cell : Cell) (epoch : ℕ) (letter : Letter) (bytes : List ℕ) : Type 0 where
@@ -104,9 +130,9 @@ module _ (this : ServerStep) where
 
   show_looks : (numbered : (one other : Line) → In one lines → In other lines → one.number ≡ other.number → one ≡ other) (client seq : ℕ)
       (cell : Cell) (epoch : ℕ) (letter : Letter) (bytes : List ℕ) → IsRead this.state lines client seq cell epoch
-      → (p : ℕ) → first (chosen_state this.setting this.w) cell ≡ Some p → letter.to ≡ actor.Client client
+      → (link : LinkRow) → cell_link chosen cell ≡ Some link → letter.to ≡ actor.Client client
       → ((number : ℕ) → accepted this.later letter ≡ Some number → Accepts lines letter seq number) → Shown cell epoch letter bytes
-  show_looks numbered client seq cell epoch letter bytes read p leads to accepts = by read.snap refl
+  show_looks numbered client seq cell epoch letter bytes read link is to accepts = by read.snap refl
     where
       by : (snap : Option (List ℕ)) → read.snap ≡ snap → Shown cell epoch letter bytes
       by (Some snap) e = none_some (this.along.steady.no_snapshots read.disk.disk snap) (ap (epoch_for this.state read.disk) (sym e) ∙ read.epoch_is)
@@ -114,7 +140,7 @@ module _ (this : ServerStep) where
           let number : epoch ≡ read.disk.epoch = sym (same_some (ap (epoch_for this.state read.disk) (sym e) ∙ read.epoch_is)) in
           let under : read.disk.map ≡ cell.map = sym (ap (λ (c : Cell). c.map) read.cell_is) in
           let has : HasRow (rows_in this.setting this.w) read.name cell.map =
-          row_here this.setting this.state this.w this.along cell p leads read.name read.disk read.found under in
+          row_here this.setting this.state this.w this.along cell link is read.name read.disk read.found under in
           record {
             row = has.row;
             there = has.there;
@@ -125,41 +151,30 @@ module _ (this : ServerStep) where
                 (read.asks ∙ λ i. request.Read (sym has.name_is i) (e i) read.block) (accepted this.later letter) accepts;
           }
 
+  -- a server's answer to a read, which is all that the step sends
   pub show_told : (numbered : (one other : Line) → In one lines → In other lines → one.number ≡ other.number → one ≡ other)
-      (queue : List Job) (client seq : ℕ) (cell : Cell) (epoch : ℕ) (h : hears (body.Read client seq cell epoch))
-      (r : readable this.state this.n cell ≡ true) (none : is_lead this.state this.n cell ≡ true → at cell_cmp own.pairs.pending cell ≡ None)
-      → Did hears here (server_state this.setting this.w this.n) own (sends client seq cell epoch)
-      → Next this (sends client seq cell epoch) queue
-      → ((letter : Letter) (number : ℕ) → In letter
-      (moves this (sends client seq cell epoch) queue).sent
-      → letter.body ≡ body.Data seq (data_of cell epoch) → accepted this.later letter ≡ Some number
-      → Accepts lines letter seq number)
-      → ServerTold this (served_so this.setting this.w this.n this.log
-      (sends client seq cell epoch) queue)
+      → (this.w.servers this.n).life.running ≡ true → (client seq : ℕ) (cell : Cell) (epoch : ℕ)
+      → Handled this.w this.n (body.Read client seq cell epoch) → readable own_state this.n cell ≡ true
+      → (is_lead own_state this.n cell ≡ true → at cell_cmp own.pairs.pending cell ≡ None)
+      → (letter : Letter) → letters this ≡ letter ∷ [] → letter.to ≡ actor.Client client → letter.body ≡ body.Data seq (data_of cell epoch)
+      → ((row : DiskRow) (b : ℕ) → was_kept this row b ≡ now_kept this row b)
+      → ((number : ℕ) → accepted this.later letter ≡ Some number → Accepts lines letter seq number)
+      → LooksTold this
   unfolding In
-  show_told numbered queue client seq cell epoch h r none did next accepts =
+  show_told numbered runs client seq cell epoch h r none letter all to says calm accepts k following =
       let bytes = data_of cell epoch in
-      let done = says own (actor.Client client) (body.Data seq bytes) in
-      let d : Did hears here this.state own done = By_read _ (Shows client seq cell epoch h r none) in
-      let letter : Letter =
-      record {
-        from = actor.Server this.n;
-        inc = (this.w.servers this.n).life.inc;
-        to = actor.Client client;
-        rev = (server_state this.setting this.w this.n).rev;
-        stamp = this.stamp;
-        nth = 0;
-        body = body.Data seq bytes;
-      } in
-      let read = known_of this.setting this.state this.along.steady this.w this.ground.ready this.ground.asking this.n (body.Read client seq cell epoch) h in
-      let leads = led done did client seq cell epoch h refl in
-      let shown = show_looks numbered client seq cell epoch letter bytes read leads.0 leads.1 refl (λ number e. accepts letter number (inl refl) refl e) in
-      let look : LooksTold this done queue = λ k following.
+      let v = later_world this in
+      let read : IsRead this.state lines client seq cell epoch =
+      subst (λ (b : Body). Known this.setting this.state (seen this.w) h.letter.from h.letter.to h.letter.rev b) h.is
+      (this.ground.asking.letters h.letter h.sent) in
+      let link = linked cell r in
+      let shown = show_looks numbered client seq cell epoch letter bytes read link.0 link.1 to accepts in
       let kn = following.stores.known shown.row
-      (later_row this.setting this.state this.w (moves this done queue) this.along next.along next.grown shown.row shown.there) in
+      (later_row this.setting this.w v this.along.firm this.next.firm this.grown shown.row shown.there) in
       let has : content kn.disk.now shown.block ≡ bytes =
-      kn.same shown.block ∙ sym (calm_kept this done queue d tt shown.row shown.block) ∙ read_is cell shown.row shown.block shown.at_block r none
-      ∙ ap (λ i. bytes_of (entry_at (chain_in own.store.chains cell) i)) (sym shown.newest) in
-      looked k shown.row.name kn.disk shown.block bytes kn.is following.stores.mindful has (look_for lines (accepted this.later letter) bytes ++ [])
-      (λ e i. elim (in-append e (look_for lines (accepted this.later letter) bytes) [] i) [ inl j ↦ shown.all e j | inr j ↦ absurd j ]) in
-      assembled this done queue next (calm_takes this done queue d tt next) look
+      kn.same shown.block ∙ sym (calm shown.row shown.block) ∙ ap (λ (c : Cell). content_by this.w c 0 (authority chosen c)) (sym shown.at_block)
+      ∙ read_is runs cell r none ∙ ap (λ i. bytes_of (entry_at (chain_in own.store.chains cell) i)) (sym shown.newest) in
+      subst (λ ls. Looked k (looks lines this.later ls)) (sym all)
+      (subst (λ (b : Body). Looked k (look_of lines this.later letter b ++ [])) (sym says)
+      (looked k shown.row.name kn.disk shown.block bytes kn.is following.stores.mindful has (look_for lines (accepted this.later letter) bytes ++ [])
+      (λ e i. elim (in-append e (look_for lines (accepted this.later letter) bytes) [] i) [ inl j ↦ shown.all e j | inr j ↦ absurd j ])))

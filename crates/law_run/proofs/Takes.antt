@@ -1,5 +1,5 @@
 -- What the machine is told of contents that change.
-use Rattle.std.proofs.Common.{◌≡◌, ◌<◌, ◌==◌, ◌&&◌, not, ℕ, List, [], ◌∷◌, true, false, Option, Some, None, refl, sym, ap, ◌∙◌, subst, ◌⊎◌, inl, inr, arith}
+use Rattle.std.proofs.Common.{◌≡◌, ◌<◌, ◌==◌, ◌&&◌, not, Bool, ℕ, List, [], ◌∷◌, true, false, Option, Some, None, refl, sym, ap, ◌∙◌, subst, ◌⊎◌, inl, inr, arith}
 use Rattle.std.specs.Prelude.{map}
 use Rattle.std.specs.List.{range_with_len, filter_map, flat_map}
 use Rattle.std.proofs.lemmas.Cmp.{nat_list_eq_equiv}
@@ -19,9 +19,8 @@ use Rattle.petal_rules.specs.World.{World}
 use Rattle.petal_rules.proofs.CellTables.{cell_cmp_same}
 use Rattle.petal_history.specs.Contents.{cell_of_block}
 use Rattle.petal_history.specs.Events.{Change, before_step, after_step, open_write, write_by, write_asked, blocks_of, blocks_in, changed_blocks, writes_so, taker, taken, takes_on, takes, all_there, with_first}
-use Rattle.petal_rules.proofs.Tests.{both_true, same_numbers, number_itself, nat_lists_same, none_some, same_some}
+use Rattle.petal_rules.proofs.Tests.{by_bool, true_false, both_true, same_numbers, number_itself, nat_lists_same, none_some, same_some}
 use Rattle.law_run.proofs.Members.{all_empty, into_map, of_map, into_flat_map, of_flat_map, into_range, into_filter, of_filter, none_pass, into_filter_map, of_filter_map, found_one, row_at, key_at, put_key}
-use Rattle.law_run.proofs.Machine.{AllTakes}
 
 unlike : (xs ys : List ℕ) → xs ≡ ys → not (same_bytes xs ys) ≡ false
 unlike xs ys e = ap (λ zs. not (same_bytes xs zs)) (sym e) ∙ ap not (nat_list_eq_equiv.refl xs)
@@ -38,22 +37,25 @@ asked_by client (Some asked) write e = written_by client asked.seq asked.request
 pub open_own : (w : World) (c : ℕ) (write : Write) → open_write w c ≡ Some write → write.client ≡ c
 open_own w c write e = asked_by c (w.clients c).asked write e
 
--- where each of a list is the same event, and one is there
-each_there : (e : Event) (write : Write) → e ≡ Take write → (xs : List (Option Event)) → ((x : Option Event) → In x xs → x ≡ Some e)
-    → (es : List Event) × (all_there xs ≡ Some es) × AllTakes write es
-unfolding In
-each_there e write is [] h = ([], refl, tt)
-each_there e write is (x ∷ xs) h =
-    let rest = each_there e write is xs (λ y i. h y (inr i)) in
-    (e ∷ rest.0, (λ i. with_first (h x (inl refl) i) (rest.1 i)), (is, rest.2))
+-- where each of a list is an event
+pub record AreThere (xs : List (Option Event)) : Type 0 where
+  pub es : List Event
+  pub is : all_there xs ≡ Some es
+  pub back : (e : Event) → In e es → In (Some e) xs
+  pub on : (e : Event) → In (Some e) xs → In e es
 
-some_there : (e : Event) (write : Write) → e ≡ Take write → (xs : List (Option Event)) → ((x : Option Event) → In x xs → x ≡ Some e) → (one : Option Event)
-    → In one xs → (first : Event) × (es : List Event) × (all_there xs ≡ Some (first ∷ es)) × AllTakes write (first ∷ es)
+are_there : (xs : List (Option Event)) → ((x : Option Event) → In x xs → (e : Event) × (x ≡ Some e)) → AreThere xs
 unfolding In
-some_there e write is [] h one there = absurd there
-some_there e write is (x ∷ xs) h one there =
-    let rest = each_there e write is xs (λ y i. h y (inr i)) in
-    (e, rest.0, (λ i. with_first (h x (inl refl) i) (rest.1 i)), (is, rest.2))
+are_there [] h = record { es = []; is = refl; back = λ e i. i; on = λ e i. i }
+are_there (x ∷ xs) h =
+    let now = h x (inl refl) in
+    let rest = are_there xs (λ y i. h y (inr i)) in
+    record {
+      es = now.0 ∷ rest.es;
+      is = (λ i. with_first (now.1 i) (rest.is i));
+      back = λ e i. elim i [ inl same ↦ inl (ap Some same ∙ sym now.1) | inr j ↦ inr (rest.back e j) ];
+      on = λ e i. elim i [ inl same ↦ inl (same_some (same ∙ now.1)) | inr j ↦ inr (rest.on e j) ];
+    }
 
 module _ (change : Change) where
   abbrev rows : List DiskRow
@@ -79,66 +81,103 @@ module _ (change : Change) where
       (into_flat_map (λ k. blocks_of (change.next.servers k)) (range_with_len 0 change.setting.servers) n block
       (into_range 0 change.setting.servers n (omega arith) (omega arith)) there))
 
-  -- what a list of takes is
-  pub record OneTaker (row : DiskRow) (block : ℕ) (bytes : List ℕ) : Type 0 where
+  -- a write under way gives a block its new content, and a server has an entry of the block
+  pub record Gives (row : DiskRow) (block : ℕ) : Type 0 where
     pub write : Write
+    pub within : write.client < 9
     pub under_way : open_write change.w write.client ≡ Some write
     pub disk_is : write.disk ≡ row.name
     pub block_is : write.block ≡ block
-    pub bytes_is : write.bytes ≡ bytes
-    pub first : Event
-    pub more : List Event
-    pub told : takes change ≡ Some (first ∷ more)
-    pub all : AllTakes write (first ∷ more)
+    pub bytes_is : write.bytes ≡ after_step change row block
+    pub looked : In block (blocks_in change.setting change.next)
 
-  -- one block's content changes, and a write under way gives it
-  module _ (row : DiskRow) (block : ℕ) (bytes : List ℕ)
-      (others : (other : DiskRow) → In other rows → (b : ℕ) → ((other ≡ row) × (b ≡ block)) ⊎ (before_step change other b ≡ after_step change other b))
-      (now : after_step change row block ≡ bytes) where
-    -- what is told of a block is told of this one
-    only_this : (event : Option Event) → taken (taker change.w row.name block bytes) ≡ event → (x : Option Event) → In x (flat_map (takes_on change) rows)
-        → x ≡ event
-    only_this event is x h =
-        let of_row = of_flat_map (takes_on change) rows x h in
-        let other = of_row.0 in
-        let of_block = of_map (λ b. taken (taker change.w other.name b (after_step change other b))) (changed_blocks change other) x of_row.2 in
-        let b = of_block.0 in
-        let differs = (of_filter (λ b. not (same_bytes (before_step change other b) (after_step change other b)))
-        (blocks_in change.setting change.next) b of_block.1).1 in
-        elim (others other of_row.1 b) [
-          | inl e ↦ of_block.2 ∙ (λ i. taken (taker change.w (e.0 i).name (e.1 i) (after_step change (e.0 i) (e.1 i))))
-              ∙ ap (λ xs. taken (taker change.w row.name block xs)) now ∙ is
-          | inr same ↦ absurd (let f : true ≡ false = sym differs ∙ unlike _ _ same in cc)
-        ]
+  -- the event takes a write under way that gives the block its new content
+  pub record TakesIt (row : DiskRow) (block : ℕ) (e : Event) : Type 0 where
+    pub write : Write
+    pub is : e ≡ Take write
+    pub under_way : open_write change.w write.client ≡ Some write
+    pub disk_is : write.disk ≡ row.name
+    pub block_is : write.block ≡ block
+    pub bytes_is : write.bytes ≡ after_step change row block
 
-    pub one_take : (c : ℕ) (write : Write) → In row rows → c < 9 → open_write change.w c ≡ Some write → write.disk ≡ row.name → write.block ≡ block
-        → write.bytes ≡ bytes → same_bytes (before_step change row block) bytes ≡ false → In block (blocks_in change.setting change.next)
-        → OneTaker row block bytes
-    one_take c write there lt is disk at_block has new looked =
-        let name = row.name in
-        let test = writes_so name block bytes in
-        let fits : test write ≡ true = (λ i. same_bytes (disk i) name && (at_block i == block) && same_bytes (has i) bytes)
-        ∙ (λ i. nat_list_eq_equiv.refl name i && number_itself block i && nat_list_eq_equiv.refl bytes i) in
-        let found = found_one test (filter_map (open_write change.w) (range_with_len 0 9)) write
-        (into_filter_map (open_write change.w) (range_with_len 0 9) c write (into_range 0 9 c (omega arith) (omega arith)) is) fits in
+  pub record TakesOne (e : Event) : Type 0 where
+    pub row : DiskRow
+    pub there : In row rows
+    pub block : ℕ
+    pub it : TakesIt row block e
+
+  -- contents that change are told of by takes, and each take tells of one
+  pub record AreTold : Type 0 where
+    pub es : List Event
+    pub told : takes change ≡ Some es
+    pub each : (e : Event) → In e es → TakesOne e
+    pub all : (row : DiskRow) → In row rows → (b : ℕ) → (before_step change row b ≡ after_step change row b) ⊎ ((e : Event) × In e es × TakesIt row b e)
+
+  -- where a content that changes is that of a write under way
+  module _ (given : (row : DiskRow) → In row rows → (b : ℕ) → (before_step change row b ≡ after_step change row b) ⊎ Gives row b) where
+    abbrev changes : DiskRow → ℕ → Bool
+    changes row b = not (same_bytes (before_step change row b) (after_step change row b))
+
+    abbrev told_of : DiskRow → ℕ → Option Event
+    told_of row b = taken (taker change.w row.name b (after_step change row b))
+
+    -- what is told of a block
+    told_one : (row : DiskRow) (b : ℕ) → Gives row b → (e : Event) × (told_of row b ≡ Some e) × TakesIt row b e
+    told_one row b g =
+        let bytes = after_step change row b in
+        let test = writes_so row.name b bytes in
+        let fits : test g.write ≡ true = (λ i. same_bytes (g.disk_is i) row.name && (g.block_is i == b) && same_bytes (g.bytes_is i) bytes)
+        ∙ (λ i. nat_list_eq_equiv.refl row.name i && number_itself b i && nat_list_eq_equiv.refl bytes i) in
+        let found = found_one test (filter_map (open_write change.w) (range_with_len 0 9)) g.write
+        (into_filter_map (open_write change.w) (range_with_len 0 9) g.write.client g.write
+        (let lt = g.within in into_range 0 9 g.write.client (omega arith) (omega arith)) g.under_way) fits in
         let from = of_filter_map (open_write change.w) (range_with_len 0 9) found.0 found.2 in
-        let outer = both_true (same_bytes found.0.disk name && (found.0.block == block)) (same_bytes found.0.bytes bytes) found.3 in
-        let inner = both_true (same_bytes found.0.disk name) (found.0.block == block) outer.0 in
-        let takes_it : taken (taker change.w name block bytes) ≡ Some (Take found.0) = ap taken found.1 in
-        let changes = λ (b : ℕ). not (same_bytes (before_step change row b) (after_step change row b)) in
-        let changed : changes block ≡ true = ap (λ x. not (same_bytes (before_step change row block) x)) now ∙ ap not new in
-        let in_row = into_map (λ b. taken (taker change.w name b (after_step change row b))) (changed_blocks change row) block
-        (into_filter changes (blocks_in change.setting change.next) block looked changed) in
-        let list = some_there (Take found.0) found.0 refl (flat_map (takes_on change) rows) (only_this (Some (Take found.0)) takes_it) _
-        (into_flat_map (takes_on change) rows row _ there in_row) in
+        let outer = both_true (same_bytes found.0.disk row.name && (found.0.block == b)) (same_bytes found.0.bytes bytes) found.3 in
+        let inner = both_true (same_bytes found.0.disk row.name) (found.0.block == b) outer.0 in (
+          Take found.0,
+          ap taken found.1,
+          record {
+            write = found.0;
+            is = refl;
+            under_way = ap (open_write change.w) (open_own change.w from.0 found.0 from.1) ∙ from.1;
+            disk_is = nat_lists_same found.0.disk row.name inner.0;
+            block_is = same_numbers found.0.block b inner.1;
+            bytes_is = nat_lists_same found.0.bytes bytes outer.1;
+          },
+        )
+
+    -- of a block whose content changes
+    told_changed : (row : DiskRow) → In row rows → (b : ℕ) → changes row b ≡ true → Gives row b
+    told_changed row h b differs = elim (given row h b) [ inl same ↦ true_false differs (unlike _ _ same) | inr g ↦ g ]
+
+    -- each that is told of is so
+    told_so : (x : Option Event) → In x (flat_map (takes_on change) rows) → (e : Event) × (x ≡ Some e) × TakesOne e
+    told_so x h =
+        let of_row = of_flat_map (takes_on change) rows x h in
+        let row = of_row.0 in
+        let of_block = of_map (told_of row) (changed_blocks change row) x of_row.2 in
+        let b = of_block.0 in
+        let differs = (of_filter (changes row) (blocks_in change.setting change.next) b of_block.1).1 in
+        let one = told_one row b (told_changed row of_row.1 b differs) in
+        (one.0, of_block.2 ∙ one.1, record { row = row; there = of_row.1; block = b; it = one.2 })
+
+    pub takes_told : AreTold
+    takes_told =
+        let there = are_there (flat_map (takes_on change) rows) (λ x h. let t = told_so x h in (t.0, t.1)) in
         record {
-          write = found.0;
-          under_way = ap (open_write change.w) (open_own change.w from.0 found.0 from.1) ∙ from.1;
-          disk_is = nat_lists_same found.0.disk name inner.0;
-          block_is = same_numbers found.0.block block inner.1;
-          bytes_is = nat_lists_same found.0.bytes bytes outer.1;
-          first = list.0;
-          more = list.1;
-          told = list.2;
-          all = list.3;
+          es = there.es;
+          told = there.is;
+          each = λ e h. let t = told_so (Some e) (there.back e h) in subst TakesOne (sym (same_some t.1)) t.2;
+          all = λ row h b. by_bool (changes row b)
+              (λ differs.
+              let g = told_changed row h b differs in
+              let one = told_one row b g in
+              let place = into_flat_map (takes_on change) rows row (told_of row b) h
+              (into_map (told_of row) (changed_blocks change row) b (into_filter (changes row) (blocks_in change.setting change.next) b g.looked differs)) in
+              inr (one.0, there.on one.0 (subst (λ (x : Option Event). In x (flat_map (takes_on change) rows)) one.1 place), one.2))
+              (λ same. inl (nat_lists_same _ _ (unchanged _ same)));
         }
+      where
+        unchanged : (b : Bool) → not b ≡ false → b ≡ true
+        unchanged true e = refl
+        unchanged false e = true_false refl e

@@ -1,24 +1,20 @@
--- What a state says of a cell of no disk, and of one whose link is in Both.
-use Rattle.std.proofs.Common.{◌≡◌, ◌≢◌, ◌==◌, ◌&&◌, ℕ, Bool, true, false, not, Option, Some, None, sym, ap, ◌∙◌, subst, ◌⊎◌, inl, inr}
-use Rattle.std.specs.Prelude.{◌||◌, option_map, option_and_then, if◌then◌else◌}
+-- What a state says of a cell, by the row of its link.
+use Rattle.std.proofs.Common.{◌≡◌, ◌==◌, ◌&&◌, ℕ, Bool, true, false, not, Option, Some, None, is_some, sym, ap, ◌∙◌, subst, ◌⊎◌, inl, inr}
+use Rattle.std.specs.Prelude.{option_map, option_and_then, if◌then◌else◌}
 use Rattle.std.specs.Option.{option_map_or}
 use Rattle.petal_base.specs.declared.cell.Cell.{Cell}
 use Rattle.global_tables.specs.declared.link.LinkRow.{LinkRow}
-use Rattle.global_tables.specs.declared.link.LinkState.TheVariants.{Both}
+use Rattle.global_tables.specs.declared.link.LinkState.TheVariants.{Both, Only}
 use Rattle.global_tables.specs.Link.{has_server}
 use Rattle.petal_state.specs.State.{is_up}
 use Rattle.petal_state.specs.CellState.{live, leaving, cell_link, row_lead, state_lead, serves}
-use Rattle.petal_rules.specs.State.{State, lead, first, second, authority, readable, row_in_both, row_authority}
-use Rattle.petal_rules.proofs.Tests.{by_bool, both_true, none_some, same_some, same_numbers, true_false}
-use Rattle.law_state.specs.Steady.{HasSecond}
-use Rattle.law_state.proofs.Links.{IsLinked}
+use Rattle.petal_rules.specs.State.{State, lead, is_lead, leads_link, is_the, both, in_both, first, second, authority, readable, row_in_both, row_authority}
+use Rattle.petal_rules.proofs.Tests.{by_bool, both_true, none_some, same_some, same_numbers, some_or_none, true_false}
+use Rattle.law_state.specs.Rows.{ByBoth, ByOne}
+use Rattle.law_state.specs.Steady.{IsLinked, IsSteady}
 
--- the cell is of no disk, or of a link in Both
-pub data Shape (state : State) (cell : Cell) : Type 0 where
-  Dead : live state cell ≡ false → cell_link state cell ≡ None → Shape state cell
-  Linked : (row : LinkRow) → live state cell ≡ true → leaving state cell ≡ false → cell_link state cell ≡ Some row → IsLinked row → Shape state cell
+-- ### What the readers of a cell stand on
 
--- the readers of a cell, by what they stand on
 abbrev lead_by : State → (lives leaves : Bool) → Option LinkRow → Option ℕ
 lead_by state lives leaves link = if not lives then None else if leaves then None else option_and_then (row_lead state) link
 
@@ -28,57 +24,169 @@ both_by lives link = if lives then option_and_then (λ row. row_in_both row row.
 abbrev authority_by : Bool → Option LinkRow → Option ℕ
 authority_by lives link = if lives then option_and_then (λ row. row_authority row row.state) link else None
 
-pub record Readers (state : State) (cell : Cell) : Type 0 where
-  pub leads : lead state cell ≡ first state cell
-  pub goes_on : option_and_then (row_lead state) (cell_link state cell) ≡ lead state cell
-  pub counts : authority state cell ≡ second state cell
-  pub pairs : (n : ℕ) → first state cell ≡ Some n → HasSecond state cell n
-  pub followed : (m : ℕ) → second state cell ≡ Some m → (n : ℕ) × (first state cell ≡ Some n)
-  pub readers : (n : ℕ) → readable state n cell ≡ true → (first state cell ≡ Some n) ⊎ (second state cell ≡ Some n)
+abbrev readable_by : (lives up : Bool) → ℕ → Option LinkRow → Bool
+readable_by lives up n link = lives && up && option_map_or (λ row. serves n row row.state) link false
 
-pub dead_first : (state : State) (cell : Cell) → live state cell ≡ false → first state cell ≡ None
-dead_first state cell dead = λ i. option_map (λ row. row.primary) (both_by (dead i) (cell_link state cell))
+-- ### A dead cell has nobody
 
-pub dead_second : (state : State) (cell : Cell) → live state cell ≡ false → second state cell ≡ None
-dead_second state cell dead = λ i. option_map (λ row. row.secondary) (both_by (dead i) (cell_link state cell))
+module _ (state : State) (cell : Cell) (dead : live state cell ≡ false) where
+  pub dead_lead : lead state cell ≡ None
+  dead_lead = λ i. lead_by state (dead i) (leaving state cell) (cell_link state cell)
 
-pub linked_first : (state : State) (cell : Cell) (row : LinkRow) → live state cell ≡ true → cell_link state cell ≡ Some row → row.state ≡ Both
-    → first state cell ≡ Some row.primary
-linked_first state cell row lives link is =
-    (λ i. option_map (λ row. row.primary) (both_by (lives i) (link i))) ∙ ap (λ s. option_map (λ row. row.primary) (row_in_both row s)) is
+  pub dead_first : first state cell ≡ None
+  dead_first = λ i. option_map (λ row. row.primary) (both_by (dead i) (cell_link state cell))
 
-pub linked_second : (state : State) (cell : Cell) (row : LinkRow) → live state cell ≡ true → cell_link state cell ≡ Some row → row.state ≡ Both
-    → second state cell ≡ Some row.secondary
-linked_second state cell row lives link is =
-    (λ i. option_map (λ row. row.secondary) (both_by (lives i) (link i))) ∙ ap (λ s. option_map (λ row. row.secondary) (row_in_both row s)) is
+  pub dead_second : second state cell ≡ None
+  dead_second = λ i. option_map (λ row. row.secondary) (both_by (dead i) (cell_link state cell))
 
-pub shape_readers : (state : State) (cell : Cell) → Shape state cell → Readers state cell
-shape_readers state cell (Dead dead link) =
-    let no_first : first state cell ≡ None = dead_first state cell dead in
-    let no_second : second state cell ≡ None = dead_second state cell dead in
-    let no_lead : lead state cell ≡ None = λ i. lead_by state (dead i) (leaving state cell) (cell_link state cell) in
-    record {
-      leads = no_lead ∙ sym no_first;
-      goes_on = ap (option_and_then (row_lead state)) link ∙ sym no_lead;
-      counts = (λ i. authority_by (dead i) (cell_link state cell)) ∙ sym no_second;
-      pairs = λ n e. none_some no_first e;
-      followed = λ m e. none_some no_second e;
-      readers = λ n e. true_false (both_true (live state cell) _ (both_true (live state cell && is_up state n) _ e).0).0 dead;
-    }
-shape_readers state cell (Linked row lives stays link is) =
-    let the_first : first state cell ≡ Some row.primary = linked_first state cell row lives link is.in_both in
-    let the_second : second state cell ≡ Some row.secondary = linked_second state cell row lives link is.in_both in
-    let the_lead : lead state cell ≡ Some row.primary = (λ i. lead_by state (lives i) (stays i) (link i)) ∙ ap (state_lead state row.primary) is.in_both in
-    record {
-      leads = the_lead ∙ sym the_first;
-      goes_on = ap (option_and_then (row_lead state)) link ∙ ap (state_lead state row.primary) is.in_both ∙ sym the_lead;
-      counts = (λ i. authority_by (lives i) (link i)) ∙ ap (row_authority row) is.in_both ∙ sym the_second;
-      pairs = λ n e. record { other = row.secondary; is = the_second; apart = subst (λ i. i ≢ row.secondary) (same_some (sym the_first ∙ e)) is.apart };
-      followed = λ m e. (row.primary, the_first);
-      readers = λ n e.
-          let served : has_server n row ≡ true =
-          sym ((λ i. option_map_or (λ row. serves n row row.state) (link i) false) ∙ ap (serves n row) is.in_both)
-          ∙ (both_true (live state cell && is_up state n) _ e).1 in
-          by_bool (row.primary == n) (λ t. inl (the_first ∙ ap Some (same_numbers row.primary n t)))
-          (λ t. inr (the_second ∙ ap Some (same_numbers row.secondary n (sym (ap (λ b. b || row.secondary == n) t) ∙ served))));
-    }
+  pub dead_authority : authority state cell ≡ None
+  dead_authority = λ i. authority_by (dead i) (cell_link state cell)
+
+  pub dead_reader : (n : ℕ) → readable state n cell ≡ false
+  dead_reader n = λ i. readable_by (dead i) (is_up state n) n (cell_link state cell)
+
+-- ### A cell with a link
+
+module _ (state : State) (cell : Cell) (row : LinkRow) (is : cell_link state cell ≡ Some row) (l : IsLinked state cell row) where
+  pub lead_is : lead state cell ≡ row_lead state row
+  lead_is = λ i. lead_by state (l.lives i) (l.stays i) (is i)
+
+  pub both_is : both state cell ≡ row_in_both row row.state
+  both_is = λ i. both_by (l.lives i) (is i)
+
+  pub in_both_is : in_both state cell ≡ is_some (row_in_both row row.state)
+  in_both_is = ap (λ link. is_some (option_and_then (λ row. row_in_both row row.state) link)) is
+
+  pub authority_is : authority state cell ≡ row_authority row row.state
+  authority_is = λ i. authority_by (l.lives i) (is i)
+
+  pub reader_is : (n : ℕ) → readable state n cell ≡ (is_up state n && serves n row row.state)
+  reader_is n = λ i. readable_by (l.lives i) (is_up state n) n (is i)
+
+  -- both servers of the link serve it
+  module _ (so : row.state ≡ Both) where
+    pub both_lead : lead state cell ≡ Some row.primary
+    both_lead = lead_is ∙ ap (state_lead state row.primary) so
+
+    pub both_first : first state cell ≡ Some row.primary
+    both_first = ap (option_map (λ row. row.primary)) (both_is ∙ ap (row_in_both row) so)
+
+    pub both_second : second state cell ≡ Some row.secondary
+    both_second = ap (option_map (λ row. row.secondary)) (both_is ∙ ap (row_in_both row) so)
+
+    pub both_in : in_both state cell ≡ true
+    both_in = in_both_is ∙ ap (λ s. is_some (row_in_both row s)) so
+
+    pub both_authority : authority state cell ≡ Some row.secondary
+    both_authority = authority_is ∙ ap (row_authority row) so
+
+    pub both_reader : (n : ℕ) → readable state n cell ≡ (is_up state n && has_server n row)
+    both_reader n = reader_is n ∙ ap (λ s. is_up state n && serves n row s) so
+
+  -- one of them serves it alone
+  module _ (holder : ℕ) (whole : Bool) (so : row.state ≡ Only holder whole) where
+    pub alone_lead : is_up state holder ≡ true → lead state cell ≡ Some holder
+    alone_lead up = lead_is ∙ ap (state_lead state row.primary) so ∙ ap (λ b. if b then Some holder else None) up
+
+    pub alone_leads_not : is_up state holder ≡ false → lead state cell ≡ None
+    alone_leads_not out = lead_is ∙ ap (state_lead state row.primary) so ∙ ap (λ b. if b then Some holder else None) out
+
+    pub alone_first : first state cell ≡ None
+    alone_first = ap (option_map (λ row. row.primary)) (both_is ∙ ap (row_in_both row) so)
+
+    pub alone_second : second state cell ≡ None
+    alone_second = ap (option_map (λ row. row.secondary)) (both_is ∙ ap (row_in_both row) so)
+
+    pub alone_in_both : in_both state cell ≡ false
+    alone_in_both = in_both_is ∙ ap (λ s. is_some (row_in_both row s)) so
+
+    pub alone_authority : authority state cell ≡ Some holder
+    alone_authority = authority_is ∙ ap (row_authority row) so
+
+    pub alone_reader : (n : ℕ) → readable state n cell ≡ (is_up state n && holder == n)
+    alone_reader n = reader_is n ∙ ap (λ s. is_up state n && serves n row s) so
+
+-- ### A cell of a steady state
+
+-- the cell has no link and is dead, or it has one
+pub data Shape (state : State) (cell : Cell) : Type 0 where
+  Dead : live state cell ≡ false → cell_link state cell ≡ None → Shape state cell
+  Linked : (row : LinkRow) → cell_link state cell ≡ Some row → IsLinked state cell row → Shape state cell
+
+-- the cell's link has both of its servers
+pub record IsInBoth (state : State) (cell : Cell) : Type 0 where
+  pub row : LinkRow
+  pub is : cell_link state cell ≡ Some row
+  pub linked : IsLinked state cell row
+  pub so : row.state ≡ Both
+
+-- the cell's link is held by this server alone, which is In
+pub record IsHeldBy (state : State) (cell : Cell) (holder : ℕ) : Type 0 where
+  pub row : LinkRow
+  pub is : cell_link state cell ≡ Some row
+  pub linked : IsLinked state cell row
+  pub so : row.state ≡ Only holder false
+  pub up : is_up state holder ≡ true
+
+module _ (state : State) (steady : IsSteady state) (cell : Cell) where
+  pub shape_of : Shape state cell
+  shape_of = elim (some_or_none (cell_link state cell)) [
+    | inl h ↦ Linked h.0 h.1 (steady.linked cell h.0 h.1)
+    | inr none ↦ Dead (steady.dead cell none) none
+  ]
+
+  pub lead_of_link : option_and_then (row_lead state) (cell_link state cell) ≡ lead state cell
+  lead_of_link = elim shape_of [
+    | Dead dead none ↦ ap (option_and_then (row_lead state)) none ∙ sym (dead_lead state cell dead)
+    | Linked row is linked ↦ ap (option_and_then (row_lead state)) is ∙ sym (lead_is state cell row is linked)
+  ]
+
+  pub leads_so : (n : ℕ) → leads_link state n cell ≡ is_lead state n cell
+  leads_so n = ap (λ o. is_the o n) lead_of_link
+
+  -- who leads a cell is the primary of its link in Both, or holds it alone
+  pub led_by : (n : ℕ) → lead state cell ≡ Some n → ((b : IsInBoth state cell) × (b.row.primary ≡ n)) ⊎ IsHeldBy state cell n
+  led_by n leads = elim shape_of [
+    | Dead dead none ↦ none_some (dead_lead state cell dead) leads
+    | Linked row is linked ↦ elim linked.served [
+      | ByBoth so one other ↦ inl (record { row = row; is = is; linked = linked; so = so }, same_some (sym (both_lead state cell row is linked so) ∙ leads))
+      | ByOne holder other so pair out ↦ by_bool (is_up state holder)
+          (λ up. let same : holder ≡ n = same_some (sym (alone_lead state cell row is linked holder false so up) ∙ leads) in
+          inr (subst (IsHeldBy state cell) same (record { row = row; is = is; linked = linked; so = so; up = up })))
+          (λ gone. none_some (alone_leads_not state cell row is linked holder false so gone) leads)
+    ]
+  ]
+
+  -- a cell with a first server, or a second one, is in Both
+  pub first_by : (n : ℕ) → first state cell ≡ Some n → (b : IsInBoth state cell) × (b.row.primary ≡ n)
+  first_by n e = elim shape_of [
+    | Dead dead none ↦ none_some (dead_first state cell dead) e
+    | Linked row is linked ↦ elim linked.served [
+      | ByBoth so one other ↦ (record { row = row; is = is; linked = linked; so = so }, same_some (sym (both_first state cell row is linked so) ∙ e))
+      | ByOne holder other so pair out ↦ none_some (alone_first state cell row is linked holder false so) e
+    ]
+  ]
+
+  pub second_by : (n : ℕ) → second state cell ≡ Some n → (b : IsInBoth state cell) × (b.row.secondary ≡ n)
+  second_by n e = elim shape_of [
+    | Dead dead none ↦ none_some (dead_second state cell dead) e
+    | Linked row is linked ↦ elim linked.served [
+      | ByBoth so one other ↦ (record { row = row; is = is; linked = linked; so = so }, same_some (sym (both_second state cell row is linked so) ∙ e))
+      | ByOne holder other so pair out ↦ none_some (alone_second state cell row is linked holder false so) e
+    ]
+  ]
+
+  -- who may read a cell is In, and one of the two of its link in Both, or holds it alone
+  pub read_by : (n : ℕ) → readable state n cell ≡ true
+      → (is_up state n ≡ true) × (((b : IsInBoth state cell) × (has_server n b.row ≡ true)) ⊎ IsHeldBy state cell n)
+  read_by n e = elim shape_of [
+    | Dead dead none ↦ true_false e (dead_reader state cell dead n)
+    | Linked row is linked ↦ elim linked.served [
+      | ByBoth so one other ↦ (let h = both_true (is_up state n) (has_server n row) (sym (both_reader state cell row is linked so n) ∙ e) in
+          (h.0, inl (record { row = row; is = is; linked = linked; so = so }, h.1)))
+      | ByOne holder other so pair out ↦ (
+          let h = both_true (is_up state n) (holder == n) (sym (alone_reader state cell row is linked holder false so n) ∙ e) in
+          let same = same_numbers holder n h.1 in
+          (h.0, inr (record { row = row; is = is; linked = linked; so = so ∙ ap (λ k. Only k false) same; up = h.0 })))
+    ]
+  ]

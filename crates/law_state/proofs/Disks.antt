@@ -1,23 +1,28 @@
--- In a plain state disks, maps and cells belong together, and every server is In.
-use Rattle.std.proofs.Common.{◌≡◌, ◌≢◌, ℕ, List, true, false, Some, None, sym, ap, ◌∙◌, inl, inr, length}
-use Rattle.std.specs.Prelude.{slice_get}
-use Rattle.std.proofs.lemmas.List.{length-replicate}
+-- In a plain state disks, maps and cells belong together, and each server is In, or has left.
+use Rattle.std.proofs.Common.{◌≡◌, ◌≢◌, ◌<◌, ℕ, List, [], ◌∷◌, true, false, not, Some, None, is_some, refl, sym, ap, ◌∙◌, inl, inr}
+use Rattle.std.specs.Prelude.{fold, slice_get}
+use Rattle.std.specs.Option.{option_map_or}
 use Rattle.petal_base.specs.declared.cell.Cell.{Cell}
 use Rattle.global_tables.specs.Disk.{disk_at, named, is_disk, same_name}
+use Rattle.global_tables.specs.View.{is_in as stands_in}
 use Rattle.global_tables.specs.declared.disk.DiskRow.{DiskRow}
 use Rattle.global_tables.specs.declared.fence.Member.TheVariants as member
 use Rattle.petal_command.specs.declared.command.Command.{Command}
-use Rattle.petal_state.specs.Command.{state_after}
+use Rattle.petal_command.specs.declared.command.Command.TheVariants.{Leave, MakeDisk, Witness}
+use Rattle.global_tables.specs.declared.disk.Verdict.TheVariants as Verdict
+use Rattle.petal_state.specs.Command.{act, after, is_new, state_after, with_disk}
+use Rattle.petal_state.specs.State.{is_up, is_up_as, latest, start, told}
 use Rattle.petal_rules.specs.Lists.{In}
-use Rattle.petal_rules.specs.State.{State, first, second}
-use Rattle.petal_rules.proofs.Tests.{same_some, same_numbers, number_itself, some_or_none, nat_lists_same}
-use Rattle.law_state.specs.Disks.{AreDisks, AreIn, HasServers}
-use Rattle.law_state.specs.Plain.{IsPlainLog}
+use Rattle.petal_rules.specs.State.{State}
+use Rattle.petal_rules.proofs.Tests.{by_bool, by_test, same_some, same_numbers, same_or_apart, number_itself, some_or_none, nat_lists_same, true_false}
+use Rattle.law_state.specs.Disks.{AreDisks, AreInOrOut}
+use Rattle.law_state.specs.Plain.{IsPlain, IsPlainLog}
+use Rattle.law_state.specs.Steady.{HasLink}
 use Rattle.law_state.specs.Tables.{IsPlainState}
-use Rattle.law_state.proofs.Places.{find_here, get_in, in_get, text_itself}
-use Rattle.law_state.proofs.Cells.{Shape, Dead, Linked, dead_first, dead_second, linked_first, linked_second}
-use Rattle.law_state.proofs.Steady.{shape, dead, is_up_now, lives}
-use Rattle.law_state.proofs.Entries.{log_plain}
+use Rattle.law_state.proofs.Places.{find_here, get_in, in_get, get_replicate, text_itself}
+use Rattle.law_state.proofs.Leaves.{left_by, up_beside}
+use Rattle.law_state.proofs.Steady.{in_first, linked, unlinked, up_in}
+use Rattle.law_state.proofs.Entries.{entering, log_plain, settled_act, start_plain}
 
 module _ (servers : ℕ) (s : State) (p : IsPlainState servers s) where
   at : (row : DiskRow) → In row s.disks.rows → disk_at s.disks.rows row.id ≡ Some row
@@ -50,20 +55,12 @@ module _ (servers : ℕ) (s : State) (p : IsPlainState servers s) where
     | inr none ↦ none
   ]
 
-  served : (row : DiskRow) (cell : Cell) → In row s.disks.rows → cell.map ≡ row.map → HasServers s cell
+  served : (row : DiskRow) (cell : Cell) → In row s.disks.rows → cell.map ≡ row.map → HasLink s cell
   served row cell h e =
       let place = get_in s.disks.rows row h in
       let there : slice_get s.disks.rows cell.map ≡ Some row = ap (slice_get s.disks.rows) (e ∙ (p.rows place.0 row place.1).of) ∙ place.1 in
-      by (shape servers s p cell) (lives servers s p cell row there)
-    where
-      by : Shape s cell → Rattle.petal_rules.specs.State.live s cell ≡ true → HasServers s cell
-      by (Dead gone link) alive = let f : true ≡ false = sym alive ∙ gone in absurd cc
-      by (Linked link alive stays is linked) _ = record {
-        one = link.primary;
-        other = link.secondary;
-        leads = linked_first s cell link alive is linked.in_both;
-        follows = linked_second s cell link alive is linked.in_both;
-      }
+      let l = linked servers s p cell row there in
+      record { row = l.0; is = l.1 }
 
   pub plain_disks : AreDisks s
   plain_disks = record {
@@ -72,18 +69,58 @@ module _ (servers : ℕ) (s : State) (p : IsPlainState servers s) where
     apart = apart;
     new = new;
     served = served;
-    empty = λ cell off. dead_first s cell (dead servers s p cell (nowhere cell off));
-    unfollowed = λ cell off. dead_second s cell (dead servers s p cell (nowhere cell off));
+    empty = λ cell off. unlinked servers s p cell (nowhere cell off);
   }
 
-  pub plain_in : AreIn servers s
+  pub plain_in : AreInOrOut servers s
   plain_in = record {
-    many = ap length p.members ∙ length-replicate servers (member.In 1);
-    each = λ n lt. (is_up_now servers s p n lt).1;
+    many = p.many;
+    each = λ n lt. by_bool (is_up s n) (λ up. inl (up_in servers s p n up)) (λ out. inr out);
+    first = λ n inc e. (in_first servers s p n inc e).0;
+    up = up_in servers s p;
+    seated = λ n e. (in_first servers s p n 1 e).1;
   }
 
 pub log_disks : (servers : ℕ) (log : List Command) → IsPlainLog servers log → AreDisks (state_after servers log)
 log_disks servers log all = plain_disks servers (state_after servers log) (log_plain servers log all)
 
-pub log_in : (servers : ℕ) (log : List Command) → IsPlainLog servers log → AreIn servers (state_after servers log)
+pub log_in : (servers : ℕ) (log : List Command) → IsPlainLog servers log → AreInOrOut servers (state_after servers log)
 log_in servers log all = plain_in servers (state_after servers log) (log_plain servers log all)
+
+-- ### Who is Out has left
+
+-- a server that an entry makes Out has this very Leave
+made_out : (servers : ℕ) (s : State) → IsPlainState servers s → (entry : Command) → IsPlain servers entry → (n : ℕ) → is_up s n ≡ true
+    → is_up (act entry s) n ≡ false → Leave n 1 ≡ entry
+made_out servers s p (Leave server inc) plain n up = by_test (λ (t : State). is_up t n ≡ false → Leave n 1 ≡ Leave server inc) (is_up_as s server inc) (left_by s server) s
+    (λ is out. elim (same_or_apart n server) [
+      | inl e ↦ λ i. Leave (e i) (sym (in_first servers s p server inc is).0 i)
+      | inr ne ↦ true_false (up_beside servers s p server inc is n ne ∙ up) out
+    ])
+    (λ no out. true_false up out)
+made_out servers s p (MakeDisk client seq name tuple) plain n up =
+    by_test (λ (t : State). is_up t n ≡ false → Leave n 1 ≡ MakeDisk client seq name tuple) (not (is_new seq (latest s client))) s _
+    (λ old out. true_false up out)
+    (λ new. by_test (λ (t : State). is_up t n ≡ false → Leave n 1 ≡ MakeDisk client seq name tuple) (is_some (named s.disks.rows name))
+    (told s client seq Verdict.Exists) (told (with_disk s name tuple) client seq Verdict.Ok)
+    (λ there out. true_false up out) (λ none out. true_false up out))
+made_out servers s p (Witness client seq turn) plain n up = λ out. true_false up out
+made_out servers s p _ plain n up = absurd plain
+
+out_left : (servers : ℕ) (log : List Command) (s : State) → IsPlainState servers s → IsPlainLog servers log → (n : ℕ) → is_up s n ≡ true
+    → is_up (fold after s log) n ≡ false → In (Leave n 1) log
+unfolding In
+out_left servers [] s p all n up out = true_false up out
+out_left servers (entry ∷ log) s p all n up out =
+    let plain = all entry (inl refl) in
+    let next = (entering servers s entry p plain).plain in
+    by_bool (is_up (after s entry) n)
+    (λ stays. inr (out_left servers log (after s entry) next (λ other h. all other (inr h)) n stays out))
+    (λ gone. inl (made_out servers s p entry plain n up (sym (ap (λ (t : State). is_up t n) (settled_act servers s entry p plain)) ∙ gone)))
+
+up_at_start : (servers n : ℕ) → n < servers → is_up (start servers) n ≡ true
+up_at_start servers n lt = ap (λ o. option_map_or stands_in o false) (get_replicate servers n (member.In 1) lt)
+
+pub who_is_out : (servers : ℕ) (log : List Command) (n : ℕ) → IsPlainLog servers log → n < servers → is_up (state_after servers log) n ≡ false
+    → In (Leave n 1) log
+who_is_out servers log n all lt out = out_left servers log (start servers) (start_plain servers) all n (up_at_start servers n lt) out

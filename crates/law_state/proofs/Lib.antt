@@ -1,7 +1,13 @@
 pub mod Places
 pub mod Links
-pub mod Cells
+pub mod Grown
+pub mod Leaves
+pub mod Making
 pub mod Entries
+pub mod Cells
 pub mod Steady
 pub mod Disks
 pub mod Rows
+pub mod Roles
+pub mod Touching
+pub mod Alone

@@ -1,6 +1,6 @@
 -- What stands at a place of a list, and what is found first.
-use Rattle.std.proofs.Common.{◌≡◌, ℕ, zero, suc, ◌<◌, ◌&&◌, Bool, true, false, cond, List, [], ◌∷◌, ◌++◌, length, Some, None, refl, sym, ap, ◌∙◌, subst, ◌⊎◌, inl, inr, arith}
-use Rattle.std.specs.Prelude.{find, slice_get, replicate, nat_eq}
+use Rattle.std.proofs.Common.{◌≡◌, ◌≢◌, ℕ, zero, suc, ◌<◌, ◌&&◌, Bool, true, false, cond, List, [], ◌∷◌, ◌++◌, length, Some, None, refl, sym, ap, ◌∙◌, subst, ◌⊎◌, inl, inr, arith}
+use Rattle.std.specs.Prelude.{find, map, slice_get, slice_set, option_map, replicate, nat_eq}
 use Rattle.std.specs.Cmp.Lexicographic.{pointwise}
 use Rattle.petal_rules.specs.Lists.{In}
 use Rattle.petal_rules.proofs.Tests.{by_bool, none_some, same_some, number_itself}
@@ -75,6 +75,25 @@ find_behind p [] ys e = refl
 find_behind p (y ∷ xs) ys e = by_bool (p y)
     (λ is. none_some e (ap (λ b. cond b (Some y) (find p xs)) is))
     (λ no. ap (λ b. cond b (Some y) (find p (xs ++ ys))) no ∙ find_behind p xs ys (sym (ap (λ b. cond b (Some y) (find p xs)) no) ∙ e))
+
+pub find_map : {A B : Type 0} (p : B → Bool) (q : A → Bool) (f : A → B) (xs : List A) → ((x : A) → p (f x) ≡ q x) → find p (map f xs) ≡ option_map f (find q xs)
+find_map p q f [] same = refl
+find_map p q f (x ∷ xs) same = by_bool (q x)
+    (λ is. ap (λ b. cond b (Some (f x)) (find p (map f xs))) (same x ∙ is) ∙ sym (ap (λ b. option_map f (cond b (Some x) (find q xs))) is))
+    (λ no. ap (λ b. cond b (Some (f x)) (find p (map f xs))) (same x ∙ no) ∙ find_map p q f xs same
+    ∙ sym (ap (λ b. option_map f (cond b (Some x) (find q xs))) no))
+
+pub get_set_here : {A : Type 0} (xs : List A) (i : ℕ) (x : A) → i < length xs → slice_get (slice_set xs i x) i ≡ Some x
+get_set_here [] i x lt = absurd (omega arith)
+get_set_here (y ∷ xs) zero x lt = refl
+get_set_here (y ∷ xs) (suc i) x lt = get_set_here xs i x (omega arith)
+
+pub get_set_beside : {A : Type 0} (xs : List A) (i j : ℕ) (x : A) → j ≢ i → slice_get (slice_set xs i x) j ≡ slice_get xs j
+get_set_beside [] i j x ne = refl
+get_set_beside (y ∷ xs) zero zero x ne = absurd (ne refl)
+get_set_beside (y ∷ xs) zero (suc j) x ne = refl
+get_set_beside (y ∷ xs) (suc i) zero x ne = refl
+get_set_beside (y ∷ xs) (suc i) (suc j) x ne = get_set_beside xs i j x (λ e. ne (ap suc e))
 
 pub get_replicate : {A : Type 0} (n i : ℕ) (x : A) → i < n → slice_get (replicate n x) i ≡ Some x
 get_replicate zero i x lt = absurd (omega arith)

@@ -1,50 +1,40 @@
 -- A plain state is steady, and what it says stays so in each state that has grown from it.
-use Rattle.std.proofs.Common.{◌≡◌, ◌≤◌, ◌<◌, ◌+◌, ◌==◌, ◌&&◌, ℕ, zero, suc, List, [], ◌∷◌, length, Bool, true, false, cond, Option, Some, None, refl, sym, ap, ◌∙◌, subst, ◌⊎◌, inl, inr, arith}
-use Rattle.std.specs.Prelude.{◌%◌, ◌||◌, fold, nat_le, nat_lt, slice_get, option_map, option_and_then}
+use Rattle.std.proofs.Common.{◌≡◌, ◌≤◌, ◌<◌, ◌+◌, ◌==◌, ℕ, zero, suc, List, [], ◌∷◌, length, Bool, true, false, cond, Option, Some, None, refl, sym, ap, ◌∙◌, subst, inl, inr, arith}
+use Rattle.std.specs.Prelude.{◌%◌, ◌||◌, fold, slice_get, option_map, option_and_then}
 use Rattle.std.specs.Option.{option_map_or}
-use Rattle.std.specs.List.{list_all}
-use Rattle.std.proofs.lemmas.Bool.Decides.{nat_tests}
 use Rattle.std.proofs.lemmas.Option.{slice_get_within}
 use Rattle.std.proofs.lemmas.Grind.{fold-append}
-use Rattle.petal_base.specs.Tuple.{is_tuple, distinct}
 use Rattle.petal_base.specs.declared.cell.Cell.{Cell}
 use Rattle.global_tables.specs.declared.disk.DiskRow.{DiskRow}
+use Rattle.global_tables.specs.declared.fence.Member.{Member}
 use Rattle.global_tables.specs.declared.fence.Member.TheVariants as member
 use Rattle.global_tables.specs.declared.link.LinkRow.{LinkRow}
 use Rattle.global_tables.specs.Disk.{named, same_name, disk_at, is_disk, snapshot_named}
-use Rattle.global_tables.specs.Link.{link_at, new_row, new_rows}
+use Rattle.global_tables.specs.Link.{link_at}
 use Rattle.global_tables.specs.Map.{tuple_of}
 use Rattle.global_tables.specs.Region.{link_of, region_of}
-use Rattle.global_tables.specs.View.{head}
+use Rattle.global_tables.specs.View.{head, inc_in}
+use Rattle.global_tables.specs.View.{is_in as stands_in}
 use Rattle.petal_command.specs.declared.command.Command.{Command}
 use Rattle.petal_state.specs.declared.answer.DiskView.{DiskView}
 use Rattle.petal_state.specs.declared.answer.Hold.TheVariants.{No}
-use Rattle.petal_state.specs.State.{is_up, ups, leaves, mover, start}
-use Rattle.petal_state.specs.CellState.{owner, has_map, live_under, leaving, cell_link, view_of, serves, holds, move_region, live_new, live_old, is_fenced}
+use Rattle.petal_state.specs.State.{is_up, leaves, mover, start}
+use Rattle.petal_state.specs.CellState.{owner, has_map, live_under, leaving, cell_link, view_of, holds, move_region, live_new, live_old, is_fenced}
 use Rattle.petal_state.specs.Command.{after, state_after}
 use Rattle.petal_rules.specs.Lists.{In}
 use Rattle.petal_rules.proofs.ListLemmas.{in_former, in_later}
-use Rattle.petal_rules.specs.State.{State, lead, first, second, authority, readable, live, held, snapshot, servers_of, is_in}
+use Rattle.petal_rules.specs.State.{State, live, servers_of, is_in}
 use Rattle.petal_rules.specs.State as rules
-use Rattle.petal_rules.proofs.Tests.{by_bool, both_true, none_some, same_some, some_or_none, same_numbers, number_itself, true_false, nat_lists_same}
+use Rattle.petal_rules.proofs.Tests.{by_bool, none_some, same_some, some_or_none, same_numbers, number_itself, nat_lists_same}
 use Rattle.petal_history.specs.Claims.{IsPrefix}
 use Rattle.law_state.specs.Plain.{IsPlainLog}
-use Rattle.law_state.specs.Steady.{IsSteady}
+use Rattle.law_state.specs.Steady.{IsLinked, IsSteady}
 use Rattle.law_state.specs.Below.{IsBelow}
 use Rattle.law_state.specs.Tables.{IsNewRow, IsPlainState, IsGrown}
-use Rattle.law_state.proofs.Places.{find_here, find_none, found_at, find_front, get_front, get_within, get_replicate}
-use Rattle.law_state.proofs.Links.{all_in, rows_of, row_linked, link_new}
-use Rattle.law_state.proofs.Cells.{Shape, Dead, Linked, shape_readers, dead_first, dead_second, linked_first, linked_second}
-use Rattle.law_state.proofs.Entries.{ups_in, map_past, folding, log_plain}
-
-at_least_two : (servers : ℕ) (tuple : List ℕ) → is_tuple servers tuple ≡ true → 2 ≤ length tuple
-at_least_two servers tuple h =
-    let one = both_true (nat_le 2 (length tuple) && nat_le (length tuple) 8 && list_all (λ n. nat_lt n servers && nat_lt n 8) tuple) (distinct tuple) h in
-    let two = both_true (nat_le 2 (length tuple) && nat_le (length tuple) 8) (list_all (λ n. nat_lt n servers && nat_lt n 8) tuple) one.0 in
-    low (length tuple) (both_true (nat_le 2 (length tuple)) (nat_le (length tuple) 8) two.0).0
-  where
-    low : (n : ℕ) → nat_le 2 n ≡ true → 2 ≤ n
-    low n e = grind (arith, nat_tests)
+use Rattle.law_state.proofs.Places.{find_here, find_none, found_at, find_front, get_within}
+use Rattle.law_state.proofs.Links.{proper}
+use Rattle.law_state.proofs.Entries.{folding, log_plain}
+use Rattle.law_state.proofs.Making.{map_past}
 
 -- ### Rows of disks
 
@@ -79,20 +69,6 @@ module _ (servers : ℕ) (s : State) (p : IsPlainState servers s) where
   the_owner : (of : ℕ) (row : DiskRow) → slice_get s.disks.rows of ≡ Some row → owner s of ≡ Some row
   the_owner of row is = find_here (has_map of) s.disks.rows of row is (owned of row (p.rows of row is)) (λ j other e t. owns j of other (p.rows j other e) t)
 
-  -- the link of a cell is told by its map's tuple alone
-  pub the_link : (cell : Cell)
-      → cell_link s cell ≡ option_and_then (λ ids. link_at (rows_of servers cell.map ids) cell.map (link_of (length ids) cell.block)) (tuple_of s.maps cell.map)
-  the_link cell = by (tuple_of s.maps cell.map) refl
-    where
-      by : (o : Option (List ℕ)) → tuple_of s.maps cell.map ≡ o
-          → option_and_then (λ ids. link_at s.links cell.map (link_of (length ids) cell.block)) o
-          ≡ option_and_then (λ ids. link_at (rows_of servers cell.map ids) cell.map (link_of (length ids) cell.block)) o
-      by None is = refl
-      by (Some ids) is =
-          p.links cell.map (link_of (length ids) cell.block)
-          ∙ ap (option_and_then (λ tuple. link_at (new_rows cell.map tuple (ups s)) cell.map (link_of (length ids) cell.block))) is
-          ∙ ap (λ u. link_at (new_rows cell.map ids u) cell.map (link_of (length ids) cell.block)) (ups_in servers s p)
-
   pub dead : (cell : Cell) → slice_get s.disks.rows cell.map ≡ None → live s cell ≡ false
   dead cell none = ap (λ o. option_map_or (live_under cell.map (region_of cell.block)) o false) (no_owner cell.map none)
 
@@ -107,14 +83,17 @@ module _ (servers : ℕ) (s : State) (p : IsPlainState servers s) where
       by_le : length s.disks.rows ≤ of → tuple_of s.maps of ≡ None
       by_le le = map_past s.maps of (let e = p.count in omega arith)
 
-  -- the cell of a disk
-  pub linked : (cell : Cell) (row : DiskRow) → slice_get s.disks.rows cell.map ≡ Some row
-      → (ids : List ℕ) × (tuple_of s.maps cell.map ≡ Some ids) × (is_tuple servers ids ≡ true)
-  linked cell row is =
-      let within = slice_get_within s.disks.rows cell.map row is in
-      let there = get_within s.maps cell.map (let e = p.count in omega arith) in
-      let named_so : tuple_of s.maps cell.map ≡ Some there.0.tuple = ap (option_map (λ row. row.tuple)) there.1 in
-      (there.0.tuple, named_so, p.tuples cell.map there.0.tuple named_so)
+  -- ### Cells
+
+  -- the link of a cell is told by its map's tuple
+  link_by : (cell : Cell) (ids : List ℕ) → tuple_of s.maps cell.map ≡ Some ids → cell_link s cell ≡ link_at s.links cell.map (link_of (length ids) cell.block)
+  link_by cell ids is = ap (option_and_then (λ ids. link_at s.links cell.map (link_of (length ids) cell.block))) is
+
+  stays : (cell : Cell) → leaving s cell ≡ false
+  stays cell = ap (λ o. option_map_or (λ row. is_fenced (move_region (region_of cell.block) row.moving)) o false) (no_mover cell.map)
+
+  pub unlinked : (cell : Cell) → slice_get s.disks.rows cell.map ≡ None → cell_link s cell ≡ None
+  unlinked cell none = ap (option_and_then (λ ids. link_at s.links cell.map (link_of (length ids) cell.block))) (past cell.map none)
 
   pub lives : (cell : Cell) (row : DiskRow) → slice_get s.disks.rows cell.map ≡ Some row → live s cell ≡ true
   lives cell row is =
@@ -122,24 +101,29 @@ module _ (servers : ℕ) (s : State) (p : IsPlainState servers s) where
       ap (λ o. option_map_or (live_under cell.map (region_of cell.block)) o false) (the_owner cell.map row is)
       ∙ live_there cell.map (region_of cell.block) row new.moving new.of
 
-  pub the_row : (cell : Cell) (ids : List ℕ) → tuple_of s.maps cell.map ≡ Some ids → is_tuple servers ids ≡ true
-      → cell_link s cell ≡ Some (new_row cell.map ids (all_in servers) (link_of (length ids) cell.block))
-  the_row cell ids is proper =
-      the_link cell ∙ ap (option_and_then (λ ids. link_at (rows_of servers cell.map ids) cell.map (link_of (length ids) cell.block))) is
-      ∙ link_new servers cell.map ids (link_of (length ids) cell.block) (below cell.block (length ids) (at_least_two servers ids proper))
-
-  stays : (cell : Cell) → leaving s cell ≡ false
-  stays cell = ap (λ o. option_map_or (λ row. is_fenced (move_region (region_of cell.block) row.moving)) o false) (no_mover cell.map)
-
-  pub shape : (cell : Cell) → Shape s cell
-  shape cell = elim (some_or_none (slice_get s.disks.rows cell.map)) [
-    | inl h ↦ let l = linked cell h.0 h.1 in
-        Linked (new_row cell.map l.0 (all_in servers) (link_of (length l.0) cell.block)) (lives cell h.0 h.1) (stays cell)
-        (the_row cell l.0 l.1 l.2)
-        (row_linked servers cell.map l.0 (link_of (length l.0) cell.block) l.2 (below cell.block (length l.0) (at_least_two servers l.0 l.2)))
-    | inr none ↦ Dead (dead cell none)
-        (ap (option_and_then (λ ids. link_at s.links cell.map (link_of (length ids) cell.block))) (past cell.map none))
-  ]
+  -- a cell of a disk has a link
+  pub linked : (cell : Cell) (row : DiskRow) → slice_get s.disks.rows cell.map ≡ Some row
+      → (link : LinkRow) × (cell_link s cell ≡ Some link) × IsLinked s cell link
+  linked cell row is =
+      let within = slice_get_within s.disks.rows cell.map row is in
+      let there = get_within s.maps cell.map (let e = p.count in omega arith) in
+      let ids = there.0.tuple in
+      let named_so : tuple_of s.maps cell.map ≡ Some ids = ap (option_map (λ row. row.tuple)) there.1 in
+      let fine = proper servers ids (p.tuples cell.map ids named_so) in
+      let i = link_of (length ids) cell.block in
+      let low : i < length ids = below cell.block (length ids) fine.two in
+      let h = p.links cell.map i ids named_so low in (
+        h.row,
+        link_by cell ids named_so ∙ h.is,
+        record {
+          lives = lives cell row is;
+          stays = stays cell;
+          apart = λ e. fine.apart i low (sym h.asked.primary ∙ e ∙ h.asked.secondary);
+          primary = (let e = h.asked.primary in let f = fine.low i low in let g = p.many in omega arith);
+          secondary = (let e = h.asked.secondary in let f = fine.next i low in let g = p.many in omega arith);
+          served = h.asked.served;
+        },
+      )
 
   -- a disk that is found by name
   pub found : (name : List ℕ) (row : DiskRow) → named s.disks.rows name ≡ Some row → (i : ℕ) × (slice_get s.disks.rows i ≡ Some row) × (row.name ≡ name)
@@ -153,25 +137,40 @@ module _ (servers : ℕ) (s : State) (p : IsPlainState servers s) where
     | inr none ↦ none_some (ap (option_map view_of) none) e
   ]
 
-  has_first : (cell : Cell) (i : ℕ) (row : DiskRow) → slice_get s.disks.rows i ≡ Some row → cell.map ≡ i → (n : ℕ) × (first s cell ≡ Some n)
-  has_first cell i row is e =
-      let is_there : slice_get s.disks.rows cell.map ≡ Some row = ap (slice_get s.disks.rows) e ∙ is in
-      let l = linked cell row is_there in
-      let linked_row = row_linked servers cell.map l.0 (link_of (length l.0) cell.block) l.2 (below cell.block (length l.0) (at_least_two servers l.0 l.2)) in (
-        _,
-        linked_first s cell (new_row cell.map l.0 (all_in servers) (link_of (length l.0) cell.block)) (lives cell row is_there)
-            (the_row cell l.0 l.1 l.2) linked_row.in_both,
-      )
+  -- ### Who is In
+
+  pub in_first : (n inc : ℕ) → is_in s n inc ≡ true → (inc ≡ 1) × (is_up s n ≡ true)
+  in_first n inc e = by (slice_get s.view.members n) refl e
+    where
+      by : (o : Option Member) → slice_get s.view.members n ≡ o → option_map_or (λ present. present == inc) (option_and_then inc_in o) false ≡ true
+          → (inc ≡ 1) × (option_map_or stands_in (slice_get s.view.members n) false ≡ true)
+      by None is e = let f : false ≡ true = e in absurd cc
+      by (Some (member.In i)) is e = (sym (same_numbers i inc e) ∙ p.members n (member.In i) is, ap (λ o. option_map_or stands_in o false) is)
+      by (Some (member.Out i)) is e = let f : false ≡ true = e in absurd cc
+
+  pub up_in : (n : ℕ) → is_up s n ≡ true → is_in s n 1 ≡ true
+  up_in n e = by (slice_get s.view.members n) refl e
+    where
+      by : (o : Option Member) → slice_get s.view.members n ≡ o → option_map_or stands_in o false ≡ true
+          → option_map_or (λ present. present == 1) (option_and_then inc_in (slice_get s.view.members n)) false ≡ true
+      by None is e = let f : false ≡ true = e in absurd cc
+      by (Some (member.In i)) is e = ap (λ o. option_map_or (λ present. present == 1) (option_and_then inc_in o) false) is
+          ∙ ap (λ k. k == 1) (p.members n (member.In i) is)
+      by (Some (member.Out i)) is e = let f : false ≡ true = e in absurd cc
+
+  -- ### The whole
 
   pub plain_steady : IsSteady s
   plain_steady = record {
-    leads = λ cell. (shape_readers s cell (shape cell)).leads;
-    goes_on = λ n cell. ap (λ o. rules.is_the o n) (shape_readers s cell (shape cell)).goes_on;
-    pairs = λ cell. (shape_readers s cell (shape cell)).pairs;
-    followed = λ cell. (shape_readers s cell (shape cell)).followed;
-    counts = λ cell. (shape_readers s cell (shape cell)).counts;
+    linked = λ cell row e. elim (some_or_none (slice_get s.disks.rows cell.map)) [
+      | inl h ↦ (let l = linked cell h.0 h.1 in subst (IsLinked s cell) (same_some (sym l.1 ∙ e)) l.2)
+      | inr none ↦ none_some (unlinked cell none) e
+    ];
+    dead = λ cell none. elim (some_or_none (slice_get s.disks.rows cell.map)) [
+      | inl h ↦ none_some none (linked cell h.0 h.1).1
+      | inr gone ↦ dead cell gone
+    ];
     free = λ cell. ap (λ queue. option_map_or (λ fence. holds s cell fence.kind) (head queue) No) p.queue;
-    readers = λ n cell. (shape_readers s cell (shape cell)).readers n;
     newest = λ name disk e.
         let v = viewed name disk e in
         let at = found name v.0 v.1 in
@@ -179,7 +178,10 @@ module _ (servers : ℕ) (s : State) (p : IsPlainState servers s) where
     served = λ name disk block e.
         let v = viewed name disk e in
         let at = found name v.0 v.1 in
-        has_first (record { map = disk.map; block = block }) at.0 v.0 at.1 (sym (ap (λ d. d.map) v.2) ∙ (p.rows at.0 v.0 at.1).of);
+        let there : slice_get s.disks.rows disk.map ≡ Some v.0 =
+        ap (slice_get s.disks.rows) (sym (ap (λ d. d.map) v.2) ∙ (p.rows at.0 v.0 at.1).of) ∙ at.1 in
+        let l = linked (record { map = disk.map; block = block }) v.0 there in
+        record { row = l.0; is = l.1 };
     no_snapshots = λ disk name. no_snaps disk name (disk_at s.disks.rows disk) refl;
   }
     where
@@ -190,70 +192,24 @@ module _ (servers : ℕ) (s : State) (p : IsPlainState servers s) where
           let at = found_at (is_disk disk) s.disks.rows row is in
           ap (λ snaps. option_map (λ snap. snap.epoch) (snapshot_named snaps name)) (p.rows at.0 row at.1).snaps
 
-  -- ### Facts that other laws cite
-
-  pub is_up_now : (n : ℕ) → n < servers → (is_up s n ≡ true) × (is_in s n 1 ≡ true)
-  is_up_now n lt =
-      let at : slice_get s.view.members n ≡ Some (member.In 1) = ap (λ ms. slice_get ms n) p.members ∙ get_replicate servers n (member.In 1) lt in (
-        ap (λ o. option_map_or Rattle.global_tables.specs.View.is_in o false) at,
-        ap (λ o. option_map_or (λ present. present == 1) (option_and_then Rattle.global_tables.specs.View.inc_in o) false) at,
-      )
-
 -- ### Later states
 
 module _ (servers : ℕ) (s t : State) (p : IsPlainState servers s) (q : IsPlainState servers t) (g : IsGrown s t) where
-  row_stays : (i : ℕ) (row : DiskRow) → slice_get s.disks.rows i ≡ Some row → slice_get t.disks.rows i ≡ Some row
-  row_stays i row e = ap (λ rows. slice_get rows i) g.rows ∙ get_front s.disks.rows g.more i row e
-
-  live_stays : (cell : Cell) → live s cell ≡ true → (row : DiskRow) × (slice_get s.disks.rows cell.map ≡ Some row) × (live t cell ≡ true)
-  live_stays cell e = elim (some_or_none (slice_get s.disks.rows cell.map)) [
-    | inl h ↦ (h.0, h.1, lives servers t q cell h.0 (row_stays cell.map h.0 h.1))
-    | inr none ↦ true_false e (dead servers s p cell none)
-  ]
-
-  link_stays : (cell : Cell) (row : LinkRow) → cell_link s cell ≡ Some row → cell_link t cell ≡ Some row
-  link_stays cell row e = elim (some_or_none (tuple_of s.maps cell.map)) [
-    | inl h ↦
-        the_link servers t q cell
-        ∙ ap (option_and_then (λ ids. link_at (rows_of servers cell.map ids) cell.map (link_of (length ids) cell.block))) (g.maps cell.map h.0 h.1 ∙ sym h.1)
-        ∙ sym (the_link servers s p cell) ∙ e
-    | inr none ↦ none_some (ap (option_and_then (λ ids. link_at s.links cell.map (link_of (length ids) cell.block))) none) e
-  ]
-
-  both_stay : (cell : Cell) → Shape s cell → (live s cell ≡ false) ⊎ ((first t cell ≡ first s cell) × (second t cell ≡ second s cell))
-  both_stay cell (Dead dead link) = inl dead
-  both_stay cell (Linked row alive_then here link is) =
-      let alive = (live_stays cell alive_then).2 in
-      let there = link_stays cell row link in
-      inr (
-        linked_first t cell row alive there is.in_both ∙ sym (linked_first s cell row alive_then link is.in_both),
-        linked_second t cell row alive there is.in_both ∙ sym (linked_second s cell row alive_then link is.in_both),
-      )
-
-  grown_below : IsBelow s t
+  pub grown_below : IsBelow s t
   grown_below = record {
-    firsts = λ cell n e. elim (both_stay cell (shape servers s p cell)) [ inl gone ↦ none_some (dead_first s cell gone) e | inr h ↦ h.0 ∙ e ];
-    seconds = λ cell n e. elim (both_stay cell (shape servers s p cell)) [ inl gone ↦ none_some (dead_second s cell gone) e | inr h ↦ h.1 ∙ e ];
-    reads = λ n cell e. reads n cell e;
+    rows = λ cell row e. elim (some_or_none (tuple_of s.maps cell.map)) [
+      | inl h ↦ (let later = g.links cell.map (link_of (length h.0) cell.block) row (sym (link_by servers s p cell h.0 h.1) ∙ e) in
+          record { now = later.now; is = link_by servers t q cell h.0 (g.maps cell.map h.0 h.1) ∙ later.is; so = later.so })
+      | inr none ↦ none_some (ap (option_and_then (λ ids. link_at s.links cell.map (link_of (length ids) cell.block))) none) e
+    ];
+    ups = g.ups;
+    seated = λ n inc e.
+        let h = in_first servers t q n inc e in
+        subst (λ k. is_in s n k ≡ true) (sym h.0) (up_in servers s p n (g.ups n h.1));
     finds = λ name disk e.
         let v = viewed servers s p name disk e in
         ap (option_map view_of) (ap (λ rows. named rows name) g.rows ∙ find_front (λ row. same_name row.name name) s.disks.rows g.more v.0 v.1) ∙ ap Some v.2;
   }
-    where
-      reads : (n : ℕ) (cell : Cell) → readable s n cell ≡ true → readable t n cell ≡ true
-      reads n cell e =
-          let one = both_true (live s cell && is_up s n) (option_map_or (λ row. serves n row row.state) (cell_link s cell) false) e in
-          let two = both_true (live s cell) (is_up s n) one.0 in
-          let alive : live t cell ≡ true = (live_stays cell two.0).2 in
-          let up : is_up t n ≡ true =
-          ap (λ ms. option_map_or Rattle.global_tables.specs.View.is_in (slice_get ms n) false) (q.members ∙ sym p.members) ∙ two.1 in
-          (λ i. alive i && up i && option_map_or (λ row. serves n row row.state) (cell_link t cell) false)
-          ∙ served (cell_link s cell) refl one.1
-        where
-          served : (o : Option LinkRow) → cell_link s cell ≡ o → option_map_or (λ row. serves n row row.state) (cell_link s cell) false ≡ true
-              → option_map_or (λ row. serves n row row.state) (cell_link t cell) false ≡ true
-          served None is so = true_false so (ap (λ o. option_map_or (λ row. serves n row row.state) o false) is)
-          served (Some row) is so = ap (λ o. option_map_or (λ row. serves n row row.state) o false) (link_stays cell row is ∙ sym is) ∙ so
 
 -- ### Logs
 

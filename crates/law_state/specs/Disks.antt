@@ -1,30 +1,28 @@
 -- How disks and cells belong together in a state that plain entries made, and who is In.
-use Rattle.std.specs.Prelude.{◌≡◌, ◌≢◌, ◌<◌, ℕ, Some, None, true}
+use Rattle.std.specs.Prelude.{◌≡◌, ◌≢◌, ◌<◌, ◌⊎◌, ℕ, Some, None, true, false}
 use Rattle.petal_base.specs.declared.cell.Cell.{Cell}
 use Rattle.global_tables.specs.Disk.{disk_at, named}
 use Rattle.global_tables.specs.declared.disk.DiskRow.{DiskRow}
+use Rattle.petal_state.specs.CellState.{cell_link}
+use Rattle.petal_state.specs.State.{is_up}
 use Rattle.petal_rules.specs.Lists.{In}
-use Rattle.petal_rules.specs.State.{State, first, second, is_in, servers_of}
+use Rattle.petal_rules.specs.State.{State, is_in, servers_of}
+use Rattle.law_state.specs.Steady.{HasLink}
 
--- both copies of the cell have a server
-pub record HasServers (state : State) (cell : Cell) : Type 0 where
-  pub one : ℕ
-  pub other : ℕ
-  pub leads : first state cell ≡ Some one
-  pub follows : second state cell ≡ Some other
-
--- each disk is found by its number and by its name; two disks have two maps; a disk is new, and its cells have servers; and
--- a cell of no disk has none
+-- each disk is found by its number and by its name; two disks have two maps; a disk is new, and its cells have links; and a
+-- cell of no disk has none
 pub record AreDisks (state : State) : Type 0 where
   pub at : (row : DiskRow) → In row state.disks.rows → disk_at state.disks.rows row.id ≡ Some row
   pub named : (row : DiskRow) → In row state.disks.rows → named state.disks.rows row.name ≡ Some row
   pub apart : (one other : DiskRow) → In one state.disks.rows → In other state.disks.rows → one.map ≡ other.map → one ≡ other
   pub new : (row : DiskRow) → In row state.disks.rows → row.epoch ≡ 0
-  pub served : (row : DiskRow) (cell : Cell) → In row state.disks.rows → cell.map ≡ row.map → HasServers state cell
-  pub empty : (cell : Cell) → ((row : DiskRow) → In row state.disks.rows → row.map ≢ cell.map) → first state cell ≡ None
-  pub unfollowed : (cell : Cell) → ((row : DiskRow) → In row state.disks.rows → row.map ≢ cell.map) → second state cell ≡ None
+  pub served : (row : DiskRow) (cell : Cell) → In row state.disks.rows → cell.map ≡ row.map → HasLink state cell
+  pub empty : (cell : Cell) → ((row : DiskRow) → In row state.disks.rows → row.map ≢ cell.map) → cell_link state cell ≡ None
 
--- so many servers, each In with incarnation 1
-pub record AreIn (servers : ℕ) (state : State) : Type 0 where
+-- so many servers, each In with incarnation 1 or Out, and none In with another one
+pub record AreInOrOut (servers : ℕ) (state : State) : Type 0 where
   pub many : servers_of state ≡ servers
-  pub each : (n : ℕ) → n < servers → is_in state n 1 ≡ true
+  pub each : (n : ℕ) → n < servers → (is_in state n 1 ≡ true) ⊎ (is_up state n ≡ false)
+  pub first : (n inc : ℕ) → is_in state n inc ≡ true → inc ≡ 1
+  pub up : (n : ℕ) → is_up state n ≡ true → is_in state n 1 ≡ true
+  pub seated : (n : ℕ) → is_in state n 1 ≡ true → is_up state n ≡ true

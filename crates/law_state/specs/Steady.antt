@@ -1,27 +1,33 @@
 -- What the laws need to know of a state that plain entries made.
-use Rattle.std.specs.Prelude.{◌≡◌, ◌≢◌, ◌⊎◌, ℕ, List, Some, None, true}
+use Rattle.std.specs.Prelude.{◌≡◌, ◌≢◌, ◌<◌, ℕ, List, Some, None, true, false}
 use Rattle.petal_base.specs.declared.cell.Cell.{Cell}
+use Rattle.global_tables.specs.declared.link.LinkRow.{LinkRow}
 use Rattle.petal_state.specs.declared.answer.DiskView.{DiskView}
 use Rattle.petal_state.specs.declared.answer.Hold.TheVariants.{No}
-use Rattle.petal_rules.specs.State.{State, find, lead, is_lead, leads_link, first, second, readable, held, authority, snapshot}
+use Rattle.petal_state.specs.CellState.{cell_link, leaving}
+use Rattle.petal_rules.specs.State.{State, find, live, held, snapshot, servers_of}
+use Rattle.law_state.specs.Rows.{IsServed}
 
--- the cell has another server, that follows
-pub record HasSecond (state : State) (cell : Cell) (n : ℕ) : Type 0 where
-  pub other : ℕ
-  pub is : second state cell ≡ Some other
-  pub apart : n ≢ other
+-- a cell that has a link is live and stays, and its link is between two servers, and served
+pub record IsLinked (state : State) (cell : Cell) (row : LinkRow) : Type 0 where
+  pub lives : live state cell ≡ true
+  pub stays : leaving state cell ≡ false
+  pub apart : row.primary ≢ row.secondary
+  pub primary : row.primary < servers_of state
+  pub secondary : row.secondary < servers_of state
+  pub served : IsServed state row
 
--- the first server of a cell leads it, and has a second one apart from it, whose copy counts; only these two are read; no
--- fence holds a cell; each disk is new, and has no snapshot, and each of its blocks has a first server
+-- the cell's link
+pub record HasLink (state : State) (cell : Cell) : Type 0 where
+  pub row : LinkRow
+  pub is : cell_link state cell ≡ Some row
+
+-- what a state says of a cell, its link says, and a cell without one is dead; no fence holds a cell; each disk is new, and has
+-- no snapshot, and each of its blocks has a link
 pub record IsSteady (state : State) : Type 0 where
-  pub leads : (cell : Cell) → lead state cell ≡ first state cell
-  pub goes_on : (n : ℕ) (cell : Cell) → leads_link state n cell ≡ is_lead state n cell
-  pub pairs : (cell : Cell) (n : ℕ) → first state cell ≡ Some n → HasSecond state cell n
-  pub followed : (cell : Cell) (m : ℕ) → second state cell ≡ Some m → (n : ℕ) × (first state cell ≡ Some n)
-  pub counts : (cell : Cell) → authority state cell ≡ second state cell
+  pub linked : (cell : Cell) (row : LinkRow) → cell_link state cell ≡ Some row → IsLinked state cell row
+  pub dead : (cell : Cell) → cell_link state cell ≡ None → live state cell ≡ false
   pub free : (cell : Cell) → held state cell ≡ No
-  pub readers : (n : ℕ) (cell : Cell) → readable state n cell ≡ true → (first state cell ≡ Some n) ⊎ (second state cell ≡ Some n)
   pub newest : (name : List ℕ) (disk : DiskView) → find state name ≡ Some disk → disk.epoch ≡ 0
-  pub served : (name : List ℕ) (disk : DiskView) (block : ℕ) → find state name ≡ Some disk
-      → (n : ℕ) × (first state (record { map = disk.map; block = block }) ≡ Some n)
+  pub served : (name : List ℕ) (disk : DiskView) (block : ℕ) → find state name ≡ Some disk → HasLink state (record { map = disk.map; block = block })
   pub no_snapshots : (disk : ℕ) (name : List ℕ) → snapshot state disk name ≡ None

@@ -5,6 +5,7 @@ use Rattle.petal_command.specs.declared.command.Command.{Command}
 use Rattle.petal_history.specs.Claims.{IsPrefix}
 use Rattle.petal_rules.specs.State.{State}
 use Rattle.law_state.specs.Below.{IsBelow}
+use Rattle.law_state.proofs.Grown.{later_itself, later_on}
 
 pub front_itself : (log : List Command) → IsPrefix log log
 front_itself log = record { later = []; is = sym (append-nil log) }
@@ -21,11 +22,19 @@ front_on a b c one two =
 
 pub below_on : (a b c : State) → IsBelow a b → IsBelow b c → IsBelow a c
 below_on a b c one two = record {
-  firsts = λ cell n e. two.firsts cell n (one.firsts cell n e);
-  seconds = λ cell n e. two.seconds cell n (one.seconds cell n e);
-  reads = λ n cell e. two.reads n cell (one.reads n cell e);
+  rows = λ cell row e.
+      let middle = one.rows cell row e in
+      let last = two.rows cell middle.now middle.is in
+      record { now = last.now; is = last.is; so = later_on row middle.now last.now middle.so last.so };
+  ups = λ n e. one.ups n (two.ups n e);
+  seated = λ n inc e. one.seated n inc (two.seated n inc e);
   finds = λ name disk e. two.finds name disk (one.finds name disk e);
 }
 
 pub below_itself : (a : State) → IsBelow a a
-below_itself a = record { firsts = λ cell n e. e; seconds = λ cell n e. e; reads = λ n cell e. e; finds = λ name disk e. e }
+below_itself a = record {
+  rows = λ cell row e. record { now = row; is = e; so = later_itself row };
+  ups = λ n e. e;
+  seated = λ n inc e. e;
+  finds = λ name disk e. e;
+}

@@ -1,23 +1,28 @@
 -- Each step that is allowed is of one of the kinds that the relation names, and what each kind keeps holds after every history.
-use Rattle.std.proofs.Common.{◌≡◌, ◌<◌, ◌≤◌, ◌+◌, ℕ, List, [], ◌∷◌, ◌++◌, refl, sym, subst, inl, inr, arith, append_assoc}
+use Rattle.std.proofs.Common.{◌≡◌, true, ◌<◌, ◌≤◌, ◌+◌, ℕ, List, [], ◌∷◌, ◌++◌, refl, sym, subst, arith, append_assoc}
 use Rattle.std.specs.Prelude.{max}
+use Rattle.petal_base.specs.declared.cell.Cell.{Cell}
+use Rattle.petal_command.specs.declared.command.Command.{Command}
+use Rattle.petal_table.specs.Table.{Table}
 use Rattle.petal_table.proofs.Rows.{at-empty}
+use Rattle.petal_msg.specs.declared.operation.Pending.{Pending}
 use Rattle.petal_msg.specs.declared.letter.Actor.{Actor}
 use Rattle.petal_msg.specs.declared.letter.Actor.TheVariants as actor
 use Rattle.petal_msg.specs.declared.letter.Letter.{Letter}
 use Rattle.script_lines.specs.declared.script.Script.{Script}
 use Rattle.petal_state.specs.Command.{state_after}
+use Rattle.petal_state.specs.State.{is_up}
 use Rattle.petal_history.specs.Claims.{IsPrefix, Grows}
 use Rattle.petal_history.specs.Legal.{Follows, IsLegal, IsLegalFrom, stepped, world_after}
 use Rattle.petal_history.specs.declared.record.Record.{Record}
 use Rattle.petal_rules.specs.Lists.{In}
 use Rattle.petal_rules.specs.Clients.{Client}
-use Rattle.petal_rules.specs.Log.{state_in}
-use Rattle.petal_rules.specs.Server.{Server}
+use Rattle.petal_rules.specs.Log.{Log, state_in}
+use Rattle.petal_rules.specs.Server.{Server, Done}
 use Rattle.petal_rules.specs.State.{State}
 use Rattle.petal_rules.specs.Store.{cell_cmp}
 use Rattle.petal_rules.specs.Jobs.{Acted}
-use Rattle.petal_rules.specs.World.{Setting, World, acts, reacts, step, server_step, client_step, next_line, received, clock_of, server_state, client_state, chosen_log, chosen_state, setting_of, start, MayActor}
+use Rattle.petal_rules.specs.World.{Setting, World, acts, reacts, step, server_step, client_step, next_line, received, clock_of, server_state, client_state, chosen_log, chosen_state, setting_of, start, MayServer, MayActor}
 use Rattle.petal_rules.specs.declared.job.Job.{Job}
 use Rattle.petal_rules.specs.declared.step.Step.{Step}
 use Rattle.petal_rules.proofs.ListLemmas.{in_later, put_same}
@@ -26,11 +31,12 @@ use Rattle.law_state.specs.Below.{IsBelow}
 use Rattle.law_state.specs.Firm.{Firm}
 use Rattle.law_state.specs.Plain.{IsPlainLog}
 use Rattle.law_state.specs.Steady.{IsSteady}
+use Rattle.law_state.proofs.Alone.{led_row, both_before}
+use Rattle.law_state.proofs.Roles.{log_roles}
 use Rattle.law_state.proofs.Steady.{log_steady, log_below, front_plain}
-use Rattle.law_steps.specs.Happens.{Handled, AreQueued, Serving, served, own_place, server_moves, Happens, Serves, Turns}
+use Rattle.law_steps.specs.Happens.{Handled, AreQueued, Worked, By_job, By_entry, Serving, Goes, Ends, Stays, served_so, stopped_so, shown_so, own_place, Happens, Serves, Turns}
 use Rattle.law_steps.specs.Ready.{IsReady, Ready, Rests, AreFirm}
-use Rattle.law_steps.proofs.Fronts.{below_itself, below_on}
-use Rattle.law_steps.proofs.Lifting.{asks_up, did_up, ready_up}
+use Rattle.law_steps.proofs.Fronts.{below_on}
 use Rattle.law_steps.proofs.Serving.{server_serves}
 use Rattle.law_steps.proofs.Staged.{did_ready}
 use Rattle.law_steps.proofs.Turning.{is_call, client_turns}
@@ -42,11 +48,31 @@ queues_later : (w v : World) → ((letter : Letter) → In letter w.sent → In 
     → AreQueued v m queue
 queues_later w v later m queue h letter i = let known = h letter i in (later letter known.0, known.1)
 
+-- what rests at an earlier state rests at a later one by which its server is In
+ready_on : (servers : ℕ) (front whole : List Command) → IsPlainLog servers whole → IsPrefix front whole → (n : ℕ)
+    → is_up (state_after servers whole) n ≡ true → (pending : Table Cell Pending) → IsReady (state_after servers front) n pending
+    → IsReady (state_after servers whole) n pending
+ready_on servers front whole plain prefix n up pending ready = record {
+  staged = λ cell op is.
+      let s = ready.staged cell op is in
+      let row = led_row (state_after servers front) (log_steady servers front (front_plain servers front whole plain prefix)) n cell s.lead in
+      record {
+        own = s.own;
+        keyed = s.keyed;
+        lead = (log_roles servers front whole plain prefix).leads n cell up s.lead;
+        stage = λ both. s.stage (both_before _ _ (log_below servers front whole plain prefix) cell row.0 row.1 both);
+      };
+  rising = ready.rising;
+}
+
 -- ### One world
 
 module _ (setting : Setting) (w : World) (firm : Firm setting w) where
+  pub own_plain : (n : ℕ) → IsPlainLog setting.servers (w.servers n).log.applied
+  own_plain n = front_plain setting.servers _ _ firm.plain (firm.servers n)
+
   pub own_steady : (n : ℕ) → IsSteady (server_state setting w n)
-  own_steady n = log_steady setting.servers _ (front_plain setting.servers _ _ firm.plain (firm.servers n))
+  own_steady n = log_steady setting.servers _ (own_plain n)
 
   pub chosen_steady : IsSteady (chosen_state setting w)
   chosen_steady = log_steady setting.servers _ firm.plain
@@ -57,12 +83,19 @@ module _ (setting : Setting) (w : World) (firm : Firm setting w) where
   pub client_below : (c : ℕ) → IsBelow (client_state setting w c) (chosen_state setting w)
   client_below c = log_below setting.servers _ _ firm.plain (firm.clients c)
 
-  -- what rests at each server's own state rests at each later one
-  pub ready_at : Rests setting w → (state : State) → IsSteady state → IsBelow (chosen_state setting w) state → Ready state w
-  ready_at rests state steady below = record {
-    queues = rests.queues;
-    pending = λ n. ready_up (server_state setting w n) state (own_steady n) steady (below_on _ _ _ (own_below n) below) n _ (rests.pending n);
-  }
+  -- a running server is In by the state of any entries that stand at the front of what is chosen
+  pub runs_at : (front : List Command) → IsPrefix front (chosen_log setting w) → (n : ℕ) → (w.servers n).life.running ≡ true
+      → is_up (state_after setting.servers front) n ≡ true
+  runs_at front prefix n runs = (log_below setting.servers _ _ firm.plain prefix).ups n (firm.runs n runs)
+
+  -- by every server's own state
+  pub runs_by : (m n : ℕ) → (w.servers n).life.running ≡ true → is_up (server_state setting w m) n ≡ true
+  runs_by m n runs = runs_at (w.servers m).log.applied (firm.servers m) n runs
+
+  -- what rests where a server is In, rests at what is chosen
+  pub ready_chosen : Rests setting w → (n : ℕ) → (w.servers n).life.running ≡ true → IsReady (chosen_state setting w) n (w.servers n).own.pairs.pending
+  ready_chosen rests n runs =
+      ready_on setting.servers _ _ firm.plain (firm.servers n) n (firm.runs n runs) (w.servers n).own.pairs.pending (rests.pending n)
 
 pub chosen_below : (setting : Setting) (w v : World) → Firm setting v → IsPrefix (chosen_log setting w) (chosen_log setting v)
     → IsBelow (chosen_state setting w) (chosen_state setting v)
@@ -70,53 +103,58 @@ chosen_below setting w v firm grows = log_below setting.servers _ _ firm.plain g
 
 -- ### One step
 
--- the log after the step of a server, and the entries after that of a client, are plain
-served_plain : (setting : Setting) (w v : World) (n : ℕ) (server : Server) → Firm setting v → (v.servers n) ≡ server
-    → IsPlainLog setting.servers server.log.applied
-served_plain setting w v n server firm is =
-    subst (λ (s : Server). IsPlainLog setting.servers s.log.applied) is (front_plain setting.servers _ _ firm.plain (firm.servers n))
-
 module _ (setting : Setting) (w : World) (rests : Rests setting w) (firm : Firm setting w) where
-  serves_rest : (n stamp : ℕ) (what : Step) (acted : Acted) (s : Serving setting (server_state setting w n) w n what acted)
-      → Firm setting (server_moves setting w n stamp s.log s.done s.queue) → Rests setting (server_moves setting w n stamp s.log s.done s.queue)
-  serves_rest n stamp what acted s later =
-      let v = server_moves setting w n stamp s.log s.done s.queue in
-      let server = served (w.servers n) s.log s.done s.queue in
-      let plain : IsPlainLog setting.servers s.log.applied = served_plain setting w v n server later (put_same w.servers n server) in
+  -- what a running server leaves rests at the state that it leaves
+  worked_ready : (n : ℕ) → (w.servers n).life.running ≡ true → (log : Log) (done : Done) → Worked setting w n log done
+      → IsReady (state_in setting.servers log) n done.own.pairs.pending
+  worked_ready n runs _ _ (By_job log done same did) =
+      subst (λ applied. IsReady (state_after setting.servers applied) n done.own.pairs.pending) (sym same)
+      (did_ready (Handled w n) (own_place setting w n) (w.servers n).own (rests.pending n) done did)
+  worked_ready n runs _ _ (By_entry log entry more front) =
+      ready_on setting.servers (w.servers n).log.applied log.applied (front_plain setting.servers _ _ firm.plain front)
+      (record { later = entry ∷ []; is = more }) n (runs_at setting w firm log.applied front n runs) (w.servers n).own.pairs.pending (rests.pending n)
+
+  -- the worlds that a server's step leads to
+  rests_put : (n stamp : ℕ) (what : Step) (acted : Acted) → AreQueued w n acted.server.queue
+      → IsReady (state_in setting.servers acted.server.log) n acted.server.own.pairs.pending → Rests setting (acts w n what stamp acted).world
+  rests_put n stamp what acted queued ready =
+      let v = (acts w n what stamp acted).world in
       record {
-        queues = all_put w.servers n server (λ m (x : Server). AreQueued v m x.queue)
+        queues = all_put w.servers n acted.server (λ m (x : Server). AreQueued v m x.queue)
             (λ m. queues_later w v (λ letter. in_later letter _ w.sent) m (w.servers m).queue (rests.queues m))
-            (queues_later w v (λ letter. in_later letter _ w.sent) n s.queue s.queued);
-        pending = all_put w.servers n server (λ m (x : Server). IsReady (state_in setting.servers x.log) m x.own.pairs.pending) rests.pending
-            (ready_up (server_state setting w n) (state_after setting.servers s.log.applied) (own_steady setting w firm n)
-            (log_steady setting.servers _ plain) (log_below setting.servers _ _ plain s.grows) n _
-            (did_ready (Handled w n) (own_place setting w n) (server_state setting w n) (w.servers n).own (rests.pending n) s.done s.did));
+            (queues_later w v (λ letter. in_later letter _ w.sent) n acted.server.queue queued);
+        pending = all_put w.servers n acted.server (λ m (x : Server). IsReady (state_in setting.servers x.log) m x.own.pairs.pending) rests.pending ready;
       }
+
+  serves_rest : (n stamp : ℕ) (what : Step) (acted : Acted) → Serving setting w n what acted → Rests setting (acts w n what stamp acted).world
+  unfolding In
+  serves_rest n stamp what _ (Goes log done queue runs worked queued works) =
+      rests_put n stamp what (served_so setting w n log done queue) queued (worked_ready n runs log done worked)
+  serves_rest n stamp what _ (Ends log done runs worked) =
+      rests_put n stamp what (stopped_so setting w n log done) (λ letter i. absurd i) (worked_ready n runs log done worked)
+  serves_rest n stamp what _ (Stays who posts from shown) = rests_put n stamp what (shown_so w n who posts) (rests.queues n) (rests.pending n)
+
+  serves_by : (n stamp : ℕ) (what : Step) → MayServer what w n
+      → Firm setting (acts w n what stamp (server_step what (server_state setting w n) n (w.servers n))).world
+      → Serving setting w n what (server_step what (server_state setting w n) n (w.servers n))
+  serves_by n stamp what may later = server_serves setting w rests n (own_steady setting w firm n) stamp what may later
 
   rests_by : (who : Actor) (what : Step) (stamp : ℕ) → MayActor who what setting w → Firm setting (step who what setting w stamp).world
       → Rests setting (step who what setting w stamp).world
   unfolding step
-  rests_by (actor.Server n) what stamp may later =
-      let s = server_serves setting w rests n (own_steady setting w firm n) what may.1 in
-      subst (λ acted. Rests setting (acts w n stamp acted).world) (sym s.is)
-      (serves_rest n stamp what _ s (subst (λ acted. Firm setting (acts w n stamp acted).world) s.is later))
+  rests_by (actor.Server n) what stamp may later = serves_rest n stamp what _ (serves_by n stamp what may.1 later)
   rests_by (actor.Client c) what stamp may later = record {
     queues = λ m letter i. let known = rests.queues m letter i in (in_later letter _ w.sent known.0, known.1);
     pending = rests.pending;
   }
 
   happens_by : (who : Actor) (what : Step) (stamp : ℕ) → MayActor who what setting w → clock_of w who < stamp
-      → Firm setting (step who what setting w stamp).world → IsPrefix (chosen_log setting w) (chosen_log setting (step who what setting w stamp).world)
-      → (state : State) → IsSteady state → IsBelow (chosen_state setting (step who what setting w stamp).world) state
+      → Firm setting (step who what setting w stamp).world
+      → (state : State) → IsBelow (chosen_state setting (step who what setting w stamp).world) state
       → Happens setting state w (step who what setting w stamp).world
   unfolding step
-  happens_by (actor.Server n) what stamp may lt later grows state steady below =
-      let s = server_serves setting w rests n (own_steady setting w firm n) what may.1 in
-      let up : IsBelow (server_state setting w n) state = below_on _ _ _ (own_below setting w firm n)
-      (below_on _ _ _ (chosen_below setting w (acts w n stamp (server_step what (server_state setting w n) n (w.servers n))).world later grows) below) in
-      subst (λ acted. Happens setting state w (acts w n stamp acted).world) (sym s.is)
-      (Serves n stamp s.log s.done s.queue lt (did_up (server_state setting w n) state (own_steady setting w firm n) steady up _ _ _ s.done s.did) s.queued)
-  happens_by (actor.Client c) what stamp may lt later grows state steady below =
+  happens_by (actor.Server n) what stamp may lt later state below = Serves n stamp what _ lt may.0 (serves_by n stamp what may.1 later)
+  happens_by (actor.Client c) what stamp may lt later state below =
       let reacted = client_step what (client_state setting w c) c (w.clients c) (next_line setting.lines c (w.clients c)) in
       let v = (reacts w c stamp reacted).world in
       let t = client_turns setting w c what may.1 in
@@ -136,10 +174,9 @@ module _ (setting : Setting) (w : World) (own : Record) (rests : Rests setting w
   rests_next = rests_by setting w rests firm own.actor own.step own.stamp follows.may.may later
 
   -- a record of a legal history tells of a step of one of these kinds
-  pub happens : IsPrefix (chosen_log setting w) (chosen_log setting (stepped setting w own).world) → (state : State) → IsSteady state
-      → IsBelow (chosen_state setting (stepped setting w own).world) state → Happens setting state w (stepped setting w own).world
-  happens grows = happens_by setting w rests firm own.actor own.step own.stamp follows.may.may
-      (past_max (clock_of w own.actor) (received own.step) own.stamp follows.stamp) later grows
+  pub happens : (state : State) → IsBelow (chosen_state setting (stepped setting w own).world) state → Happens setting state w (stepped setting w own).world
+  happens = happens_by setting w rests firm own.actor own.step own.stamp follows.may.may
+      (past_max (clock_of w own.actor) (received own.step) own.stamp follows.stamp) later
 
 -- ### Histories
 
@@ -150,7 +187,7 @@ firm_now setting w (own ∷ later) firm = firm.0
 module _ (setting : Setting) where
   -- what each kind of step keeps, at each steady state from what is chosen on, holds after every legal history
   pub kept_above : (P : State → World → Type 0)
-      → ((state : State) → IsSteady state → (w v : World) → Ready state w → P state w → Happens setting state w v → P state v)
+      → ((state : State) → IsSteady state → (w v : World) → Ready setting state w → P state w → Happens setting state w v → P state v)
       → (w : World) (records : List Record) → AreFirm setting w records → Rests setting w
       → ((state : State) → IsSteady state → IsBelow (chosen_state setting w) state → P state w) → IsLegalFrom setting w records
       → (state : State) → IsSteady state → IsBelow (chosen_state setting (world_after setting w records)) state → P state (world_after setting w records)
@@ -161,8 +198,8 @@ module _ (setting : Setting) where
       kept_above P keeps v later firm.2 (rests_next setting w own rests firm.0 legal.0 next)
       (λ state steady below.
       let up : IsBelow (chosen_state setting w) state = below_on _ _ _ (chosen_below setting w v next firm.1) below in
-      keeps state steady w v (ready_at setting w firm.0 rests state steady up) (p state steady up)
-      (happens setting w own rests firm.0 legal.0 next firm.1 state steady below)) legal.1
+      keeps state steady w v (record { rests = rests; firm = firm.0; below = up }) (p state steady up)
+      (happens setting w own rests firm.0 legal.0 next state below)) legal.1
 
   pub rests_after : (w : World) (records : List Record) → AreFirm setting w records → Rests setting w → IsLegalFrom setting w records
       → Rests setting (world_after setting w records)
@@ -223,50 +260,27 @@ firm_way script firm grows records legal = by [] records legal
         )
 
 pub ready_after : (script : Script) (records : List Record) → AreFirm (setting_of script) (start (setting_of script)) records → IsLegal script records
-    → Ready (chosen_state (setting_of script) (world_after (setting_of script) (start (setting_of script)) records))
-    (world_after (setting_of script) (start (setting_of script)) records)
-ready_after script records firm legal =
+    → (state : State) → IsBelow (chosen_state (setting_of script) (world_after (setting_of script) (start (setting_of script)) records)) state
+    → Ready (setting_of script) state (world_after (setting_of script) (start (setting_of script)) records)
+ready_after script records firm legal state below =
     let setting = setting_of script in
-    let w = world_after setting (start setting) records in
-    let last = firm_after setting (start setting) records firm in
-    ready_at setting w last (rests_after setting (start setting) records firm (start_rests script) legal) (chosen_state setting w)
-    (chosen_steady setting w last)
-    (below_itself (chosen_state setting w))
+    record {
+      rests = rests_after setting (start setting) records firm (start_rests script) legal;
+      firm = firm_after setting (start setting) records firm;
+      below = below;
+    }
 
--- the last step of a history is of a kind
+-- the last step of a history is of a kind, at each state from the chosen one on
 pub last_happens : (script : Script) (front : List Record) (own : Record) → AreFirm (setting_of script) (start (setting_of script)) (front ++ own ∷ [])
-    → IsLegal script (front ++ own ∷ []) → (state : State) → IsSteady state
+    → IsLegal script (front ++ own ∷ []) → (state : State)
     → IsBelow (chosen_state (setting_of script) (world_after (setting_of script) (start (setting_of script)) (front ++ own ∷ []))) state
     → Happens (setting_of script) state (world_after (setting_of script) (start (setting_of script)) front)
     (world_after (setting_of script) (start (setting_of script)) (front ++ own ∷ []))
-last_happens script front own firm legal state steady =
+last_happens script front own firm legal state =
     let setting = setting_of script in
     let w = world_after setting (start setting) front in
     let firms = front_firm setting (start setting) front (own ∷ []) firm in
     let parts = front_legal setting (start setting) front (own ∷ []) legal in
     let rests = rests_after setting (start setting) front firms.0 (start_rests script) parts.0 in
     subst (λ v. IsBelow (chosen_state setting v) state → Happens setting state w v) (sym (world_more setting (start setting) front own))
-    (happens setting w own rests firms.1.0 parts.1.0 firms.1.2 firms.1.1 state steady)
-
--- what a server did at its own state, seen from a later one
-pub serves_at : (setting : Setting) (w : World) (firm : Firm setting w) (state : State) → IsSteady state → IsBelow (chosen_state setting w) state
-    → (n : ℕ) (what : Step) (acted : Acted) → Serving setting (server_state setting w n) w n what acted → Serving setting state w n what acted
-serves_at setting w firm state steady below n what acted s =
-    let up = below_on _ _ _ (own_below setting w firm n) below in
-    record {
-      log = s.log;
-      done = s.done;
-      queue = s.queue;
-      did = did_up (server_state setting w n) state (own_steady setting w firm n) steady up _ _ _ s.done s.did;
-      grows = s.grows;
-      queued = s.queued;
-      works = elim s.works [
-        | inl e ↦ inl e
-        | inr idle ↦ inr (record {
-          same = idle.same;
-          asks = λ post i. asks_up (server_state setting w n) state (own_steady setting w firm n) steady up (Handled w n) (own_place setting w n)
-              (w.servers n).own post (idle.asks post i);
-        })
-      ];
-      is = s.is;
-    }
+    (happens setting w own rests firms.1.0 parts.1.0 firms.1.2 state)

@@ -17,16 +17,16 @@ use Rattle.petal_rules.specs.declared.job.Job.TheVariants as job
 use Rattle.law_state.specs.Steady.{IsSteady}
 use Rattle.law_steps.specs.Operations.{IsStaged}
 use Rattle.law_steps.specs.Did.{Did, Ignores, Refuses}
-use Rattle.petal_rules.proofs.Tests.{by_test}
+use Rattle.petal_rules.proofs.Tests.{by_test, same_numbers}
 use Rattle.law_steps.proofs.Busy.{not_busy}
 use Rattle.law_steps.proofs.InvertRead.{did_read}
-use Rattle.law_steps.proofs.InvertLead.{did_next, did_write, did_reserved, did_pair_full, did_replicated}
+use Rattle.law_steps.proofs.InvertLead.{not_false, did_next, did_write, did_reserved, did_pair_full, did_replicated}
 use Rattle.law_steps.proofs.InvertSecond.{did_reserve, did_replicate}
 
 module _ (heard : Body → Type 0) (here : Here) (own : Own) (steady : IsSteady here.state)
     (staged : (cell : Cell) (op : Pending) → pending_on own cell ≡ Some op → IsStaged here.state here.me cell op) where
   abbrev D : Done → Type 0
-  D done = Did heard here here.state own done
+  D done = Did heard here own done
 
   did_handle : (said : Body) → heard said → D (handles here own said)
   unfolding handles on_reserve on_reserved on_pair_full on_replicate on_replicated
@@ -50,17 +50,18 @@ module _ (heard : Body → Type 0) (here : Here) (own : Own) (steady : IsSteady 
   other_rev letter (actor.Server n) = Ignores
   other_rev letter (actor.Client c) = told_rev c _
 
-  -- the job is one of the letters that were heard, or a stage
+  -- the job is a letter that is heard where it has the server's revision, or a stage
   abbrev pub IsHeard : Job → Type 0
-  IsHeard (job.Letter letter) = heard letter.body
+  IsHeard (job.Letter letter) = letter.rev ≡ here.state.rev → heard letter.body
   IsHeard _ = Unit {0}
 
   pub did : (what : Job) → IsHeard what → D (does here own what)
   unfolding does goes_on
   did (job.Letter letter) h =
       by_test D (not (is_in here.state here.me here.inc)) _ _ (λ t. Ignores) (λ t.
-      by_test D (not (letter.rev == here.state.rev)) _ _ (λ t. other_rev letter letter.from) (λ t.
-      by_test D (not (is_from_in here.state letter.inc letter.from)) _ _ (λ t. Ignores) (λ t. did_handle letter.body h)))
+      by_test D (not (letter.rev == here.state.rev)) _ _ (λ t. other_rev letter letter.from) (λ same.
+      by_test D (not (is_from_in here.state letter.inc letter.from)) _ _ (λ t. Ignores)
+      (λ t. did_handle letter.body (h (same_numbers letter.rev here.state.rev (not_false (letter.rev == here.state.rev) same))))))
   did (job.Stage cell) h = by_test D (is_in here.state here.me here.inc) _ _ (λ t. did_next heard here own steady staged cell _ refl) (λ t. Ignores)
   did job.Apply h = Ignores
   did job.Start h = Ignores

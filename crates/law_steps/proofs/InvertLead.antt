@@ -1,11 +1,10 @@
 -- What a lead does for a write is one of the kinds that the relation names.
 use Rattle.std.proofs.Common.{◌≡◌, ◌≤◌, ℕ, ◌+◌, ◌==◌, ◌&&◌, not, Bool, true, false, Option, Some, None, refl, ap, sym, ◌∙◌, subst, arith}
-use Rattle.std.specs.Prelude.{nat_lt, if◌then◌else◌, is_some, option_map}
+use Rattle.std.specs.Prelude.{nat_lt, if◌then◌else◌}
 use Rattle.std.proofs.lemmas.Bool.Decides.{nat_tests}
 use Rattle.std.specs.Ordering.{nat_cmp}
 use Rattle.petal_base.specs.declared.cell.Cell.{Cell}
 use Rattle.petal_table.specs.Table.{at}
-use Rattle.global_tables.specs.declared.link.LinkRow.{LinkRow}
 use Rattle.petal_msg.specs.declared.body.Body.{Body}
 use Rattle.petal_msg.specs.declared.body.Body.TheVariants as body
 use Rattle.petal_msg.specs.declared.letter.Actor.TheVariants as actor
@@ -14,17 +13,19 @@ use Rattle.petal_msg.specs.declared.operation.Finished.{Finished}
 use Rattle.petal_msg.specs.declared.operation.Pending.{Pending}
 use Rattle.petal_msg.specs.declared.operation.Stage.{Stage}
 use Rattle.petal_rules.specs.Lists.{In}
-use Rattle.petal_rules.specs.State.{second, is_lead, lead, leads_link, in_both}
+use Rattle.petal_rules.specs.State.{second, is_lead, leads_link, in_both}
 use Rattle.petal_rules.specs.Store.{free_of}
 use Rattle.petal_rules.specs.Server.{Own, Here, Post, Done, post_to}
 use Rattle.petal_rules.specs.Writes.{Wanted, Older, Again, Newer, standing, next_stage, both_action, alone_action, acts, goes_on, goes_on_with, pending_on, with_pending, with_reserved, with_paired, opened, operation, opens, takes, takes_newer, is_pending_for, is_reserving, is_replicating, hears_reserved, hears_pair_full, hears_replicated, on_write}
 use Rattle.petal_rules.specs.Reads.{said}
 use Rattle.petal_rules.proofs.CellTables.{cell_same}
 use Rattle.law_state.specs.Steady.{IsSteady}
+use Rattle.law_state.proofs.Alone.{lead_alone}
+use Rattle.law_state.proofs.Cells.{leads_so}
 use Rattle.law_steps.specs.Operations.{IsStaged, AtRest, Waiting, Putting, Copying, Answering, waiting, putting, copying, answering, done_to}
-use Rattle.law_steps.specs.DidLead.{Asks_for, Repeats, Is_full, Opens, Marks, Puts, Gives_up, Unmarks, Closes, Asks, A_slot, A_copy}
+use Rattle.law_steps.specs.DidLead.{Asks_for, Repeats, Is_full, Opens, Marks, Puts, Gives_up, Unmarks, Closes, Opens_alone, Marks_alone, Puts_alone, Unmarks_alone, Closes_alone, Asks, A_slot, A_copy, IsNew, Taken, As_it_is, As_told}
 use Rattle.law_steps.specs.Did.{Did, Ignores, Refuses, For_a_write, By_lead}
-use Rattle.petal_rules.proofs.Tests.{by_test, by_bool, both_true, not_true, true_false, none_some, is_the_one, same_numbers, only}
+use Rattle.petal_rules.proofs.Tests.{by_test, by_bool, both_true, not_true, true_false, same_numbers, only}
 use Rattle.law_steps.proofs.Busy.{not_busy, busy_seq}
 
 is_waiting : (stage : Stage) → AtRest stage → stage.reserved ≡ false → stage ≡ waiting
@@ -39,11 +40,9 @@ is_copying stage (Putting e) f g = true_false f (ap (λ (s : Stage). s.put) e)
 is_copying stage (Copying e) f g = e
 is_copying stage (Answering e) f g = true_false (ap (λ (s : Stage). s.paired) e) g
 
--- a cell that has a second server is in Both, where its link is looked up by its live region
-there_in_both : (live : Bool) (row : Option LinkRow) (other : ℕ) → option_map (λ r. r.secondary) (if live then row else None) ≡ Some other → is_some row ≡ true
-there_in_both true (Some row) other e = refl
-there_in_both true None other e = none_some refl e
-there_in_both false row other e = none_some refl e
+pub not_false : (a : Bool) → not a ≡ false → a ≡ true
+not_false true e = refl
+not_false false e = true_false refl e
 
 pub no_free : (free : ℕ) → nat_lt 0 free ≡ false → free ≡ 0
 no_free free e = grind (arith, nat_tests)
@@ -54,71 +53,89 @@ newer last seq e f = grind (arith, nat_tests)
 module _ (heard : Body → Type 0) (here : Here) (own : Own) (steady : IsSteady here.state)
     (staged : (cell : Cell) (op : Pending) → pending_on own cell ≡ Some op → IsStaged here.state here.me cell op) where
   abbrev D : Done → Type 0
-  D done = Did heard here here.state own done
+  D done = Did heard here own done
 
   leads : (cell : Cell) → is_lead here.state here.me cell ≡ true → leads_link here.state here.me cell ≡ true
-  leads cell e = steady.goes_on here.me cell ∙ e
-
-  in_pair : (cell : Cell) → is_lead here.state here.me cell ≡ true → in_both here.state cell ≡ true
-  in_pair cell e =
-      let two = steady.pairs cell here.me (sym (steady.leads cell) ∙ is_the_one (lead here.state cell) here.me e) in
-      there_in_both _ _ two.other two.is
+  leads cell e = leads_so here.state steady cell here.me ∙ e
 
   -- ### The next stage
 
-  posts_ask : (o : Option ℕ) (said : Body) → ((to : ℕ) → o ≡ Some to → Asks here here.state own (record { to = actor.Server to; body = said })) → (post : Post)
-      → In post (post_to o said) → Asks here here.state own post
+  posts_ask : (o : Option ℕ) (said : Body) → ((to : ℕ) → o ≡ Some to → Asks here own (record { to = actor.Server to; body = said })) → (post : Post)
+      → In post (post_to o said) → Asks here own post
   unfolding In
   posts_ask None said h post i = absurd i
-  posts_ask (Some to) said h post i = only (Asks here here.state own) _ post i (h to refl)
+  posts_ask (Some to) said h post i = only (Asks here own) _ post i (h to refl)
 
   -- what an operation asks of the second server
   pub asks_slot : (op : Pending) → pending_on own op.cell ≡ Some op → op.stage ≡ waiting → (post : Post)
-      → In post (post_to (second here.state op.cell) (body.Reserve op.op op.cell)) → Asks here here.state own post
+      → In post (post_to (second here.state op.cell) (body.Reserve op.op op.cell)) → Asks here own post
   asks_slot op is stage = posts_ask _ _ (λ to e. A_slot op to is stage e)
 
   pub asks_copy : (op : Pending) → pending_on own op.cell ≡ Some op → op.stage ≡ copying → (post : Post)
-      → In post (post_to (second here.state op.cell) (body.Replicate op.op op.key op.version op.bytes)) → Asks here here.state own post
+      → In post (post_to (second here.state op.cell) (body.Replicate op.op op.key op.version op.bytes)) → Asks here own post
   asks_copy op is stage = posts_ask _ _ (λ to e. A_copy op to is stage e)
 
-  -- the next action of an operation at its lead
-  pub action_is : (op : Pending) (stage : Stage) → is_lead here.state here.me op.cell ≡ true → op.stage ≡ stage
+  -- the next action of an operation at its lead, in Both and where the lead is alone
+  pub both_next : (op : Pending) (stage : Stage) → is_lead here.state here.me op.cell ≡ true → in_both here.state op.cell ≡ true → op.stage ≡ stage
       → next_stage here.state here.me op ≡ both_action stage
-  action_is op stage lead e =
+  both_next op stage lead both e =
       ap (λ b. if b then if in_both here.state op.cell then both_action op.stage else alone_action op.stage else action.Drop) (leads op.cell lead)
-      ∙ ap (λ b. if b then both_action op.stage else alone_action op.stage) (in_pair op.cell lead) ∙ ap both_action e
+      ∙ ap (λ b. if b then both_action op.stage else alone_action op.stage) both ∙ ap both_action e
+
+  pub alone_next : (op : Pending) → is_lead here.state here.me op.cell ≡ true → in_both here.state op.cell ≡ false
+      → next_stage here.state here.me op ≡ alone_action op.stage
+  alone_next op lead apart =
+      ap (λ b. if b then if in_both here.state op.cell then both_action op.stage else alone_action op.stage else action.Drop) (leads op.cell lead)
+      ∙ ap (λ b. if b then both_action op.stage else alone_action op.stage) apart
+
+  -- at a holder that is alone an operation goes on by its flags
+  did_alone : (now : Own) (op : Pending) → Taken own now op → is_lead here.state here.me op.cell ≡ true → in_both here.state op.cell ≡ false
+      → D (acts here now op (next_stage here.state here.me op))
+  did_alone now op taken lead apart =
+      let alone = lead_alone here.state steady here.me op.cell lead apart in
+      subst (λ a. D (acts here now op a)) (sym (alone_next op lead apart))
+      (by_test (λ a. D (acts here now op a)) (not op.stage.stale) _ _ (λ t. By_lead _ (Marks_alone now op taken alone (not_true _ t)))
+      (λ stale. by_test (λ a. D (acts here now op a)) (not op.stage.put) _ _
+      (λ t. By_lead _ (Puts_alone now op taken alone (not_false _ stale) (not_true _ t)))
+      (λ put. by_test (λ a. D (acts here now op a)) op.stage.busy _ _
+      (λ t. By_lead _ (Unmarks_alone now op taken alone (not_false _ stale) (not_false _ put) t))
+      (λ free. By_lead _ (Closes_alone now op taken alone (not_false _ stale) (not_false _ put) free)))))
 
   pub staged_at : (cell : Cell) (op : Pending) → pending_on own cell ≡ Some op → pending_on own op.cell ≡ Some op
   staged_at cell op is = subst (λ (c : Cell). pending_on own c ≡ Some op) (sym (staged cell op is).own) is
 
+  did_staged : (op : Pending) → pending_on own op.cell ≡ Some op → D (acts here own op (next_stage here.state here.me op))
+  did_staged op is =
+      let s = staged op.cell op is in
+      by_bool (in_both here.state op.cell)
+      (λ both. elim (s.stage both) [
+        | Waiting stage ↦ subst (λ a. D (acts here own op a)) (sym (both_next op waiting s.lead both stage)) (By_lead _ (Asks_for _ (asks_slot op is stage)))
+        | Putting stage ↦ subst (λ a. D (acts here own op a)) (sym (both_next op putting s.lead both stage)) (By_lead _ (Puts op is both stage))
+        | Copying stage ↦ subst (λ a. D (acts here own op a)) (sym (both_next op copying s.lead both stage)) (By_lead _ (Asks_for _ (asks_copy op is stage)))
+        | Answering stage ↦ subst (λ a. D (acts here own op a)) (sym (both_next op answering s.lead both stage)) (By_lead _ (Closes op is both stage))
+      ])
+      (λ apart. did_alone own op (As_it_is op is) s.lead apart)
+
   pub did_next : (cell : Cell) (o : Option Pending) → pending_on own cell ≡ o → D (goes_on_with here own o)
   did_next cell None e = Ignores
-  did_next cell (Some op) e =
-      let s = staged cell op e in
-      let lead : is_lead here.state here.me op.cell ≡ true = subst (λ (c : Cell). is_lead here.state here.me c ≡ true) (sym s.own) s.lead in
-      let is = staged_at cell op e in
-      elim s.stage [
-        | Waiting stage ↦ subst (λ a. D (acts here own op a)) (sym (action_is op waiting lead stage)) (By_lead _ (Asks_for _ (asks_slot op is stage)))
-        | Putting stage ↦ subst (λ a. D (acts here own op a)) (sym (action_is op putting lead stage)) (By_lead _ (Puts op is stage))
-        | Copying stage ↦ subst (λ a. D (acts here own op a)) (sym (action_is op copying lead stage)) (By_lead _ (Asks_for _ (asks_copy op is stage)))
-        | Answering stage ↦ subst (λ a. D (acts here own op a)) (sym (action_is op answering lead stage)) (By_lead _ (Closes op is stage))
-      ]
+  did_next cell (Some op) e = did_staged op (staged_at cell op e)
 
   -- ### Writes
 
   abbrev by_write : Wanted → Type 0
   by_write want = heard (body.Write want.client want.seq want.cell want.epoch want.bytes)
 
-  did_opens : (want : Wanted) → by_write want → is_lead here.state here.me want.cell ≡ true
-      → done_to (at nat_cmp own.pairs.finished want.client) ≤ want.seq → pending_on own want.cell ≡ None → (room : Bool)
-      → nat_lt 0 (free_of own.store) ≡ room → D (opens here own want room)
+  did_opens : (want : Wanted) → IsNew heard here own want → (room : Bool) → nat_lt 0 (free_of own.store) ≡ room → D (opens here own want room)
   unfolding goes_on
-  did_opens want h lead new none false full = By_lead _ (Is_full want h lead new none (no_free (free_of own.store) full))
-  did_opens want h lead new none true room =
+  did_opens want new false full = By_lead _ (Is_full want new (no_free (free_of own.store) full))
+  did_opens want new true room =
       let op = operation here own.pairs.next want in
       let there : pending_on (opened here own want) want.cell ≡ Some op = cell_same own.pairs.pending want.cell op in
       subst (λ o. D (goes_on_with here (opened here own want) o)) (sym there)
-      (subst (λ a. D (acts here (opened here own want) op a)) (sym (action_is op waiting lead refl)) (By_lead _ (Opens want h lead new none)))
+      (by_bool (in_both here.state want.cell)
+      (λ both. subst (λ a. D (acts here (opened here own want) op a)) (sym (both_next op waiting new.lead both refl)) (By_lead _ (Opens want new both)))
+      (λ apart. subst (λ a. D (acts here (opened here own want) op a)) (sym (alone_next op new.lead apart))
+      (By_lead _ (Opens_alone want new (lead_alone here.state steady here.me want.cell new.lead apart)))))
 
   did_newer : (want : Wanted) → by_write want → is_lead here.state here.me want.cell ≡ true
       → done_to (at nat_cmp own.pairs.finished want.client) ≤ want.seq → (fenced : Bool) (o : Option Pending) → pending_on own want.cell ≡ o
@@ -126,7 +143,8 @@ module _ (heard : Body → Type 0) (here : Here) (own : Own) (steady : IsSteady 
   did_newer want h lead new true o e other = Refuses (actor.Client want.client) (body.Held want.seq) refl (λ seq f. not_busy (body.Held want.seq) seq f refl)
   did_newer want h lead new false (Some op) e other = Refuses (actor.Client want.client) (body.BlockBusy want.seq) refl
       (λ seq f. For_a_write want op h (busy_seq f) lead e (ap (λ o. is_pending_for o want) (sym e) ∙ other))
-  did_newer want h lead new false None e other = did_opens want h lead new e (nat_lt 0 (free_of own.store)) refl
+  did_newer want h lead new false None e other =
+      did_opens want (record { wanted = h; lead = lead; newer = new; none = e }) (nat_lt 0 (free_of own.store)) refl
 
   did_standing : (want : Wanted) → by_write want → is_lead here.state here.me want.cell ≡ true → (o : Option Finished)
       → at nat_cmp own.pairs.finished want.client ≡ o → D (takes here own want (standing o want.seq))
@@ -150,6 +168,11 @@ module _ (heard : Body → Type 0) (here : Here) (own : Own) (steady : IsSteady 
 
   -- ### The lead hears of the second server
 
+  heard_of : (number : ℕ) (op : Pending) (said : ℕ → Cell → Body) (cell : Cell) → heard (said number cell) → op.cell ≡ cell → (op.op == number) ≡ true
+      → heard (said op.op op.cell)
+  heard_of number op said cell h own same =
+      subst (λ k. heard (said k op.cell)) (sym (same_numbers op.op number same)) (subst (λ (c : Cell). heard (said number c)) (sym own) h)
+
   pub did_reserved : (number : ℕ) (cell : Cell) (o : Option Pending) → heard (body.Reserved number cell) → pending_on own cell ≡ o
       → D (hears_reserved here own number o)
   unfolding goes_on
@@ -157,18 +180,18 @@ module _ (heard : Body → Type 0) (here : Here) (own : Own) (steady : IsSteady 
   did_reserved number cell (Some op) h e = by_test D (is_reserving op number) _ _
       (λ t.
       let tests = both_true (op.op == number) (not op.stage.reserved) t in
-      let s = staged cell op e in
-      let stage = is_waiting op.stage s.stage (not_true _ tests.1) in
-      let lead : is_lead here.state here.me op.cell ≡ true = subst (λ (c : Cell). is_lead here.state here.me c ≡ true) (sym s.own) s.lead in
+      let is = staged_at cell op e in
+      let s = staged op.cell op is in
       let there : pending_on (with_pending own (with_reserved op)) op.cell ≡ Some (with_reserved op) = cell_same own.pairs.pending op.cell (with_reserved op) in
-      let heard_of : heard (body.Reserved op.op op.cell) =
-      subst (λ k. heard (body.Reserved k op.cell)) (sym (same_numbers op.op number tests.0))
-      (subst (λ (c : Cell). heard (body.Reserved number c)) (sym s.own) h) in
       subst (λ o. D (goes_on_with here (with_pending own (with_reserved op)) o)) (sym there)
-      (subst (λ a. D (acts here (with_pending own (with_reserved op)) (with_reserved op) a))
-      (sym (action_is (with_reserved op) (with_reserved (record op { stage = waiting })).stage lead
+      (by_bool (in_both here.state op.cell)
+      (λ both.
+      let stage = is_waiting op.stage (s.stage both) (not_true _ tests.1) in
+      subst (λ a. D (acts here (with_pending own (with_reserved op)) (with_reserved op) a))
+      (sym (both_next (with_reserved op) (with_reserved (record op { stage = waiting })).stage s.lead both
       (ap (λ (x : Stage). (record x { reserved = true })) stage)))
-      (By_lead _ (Marks op heard_of (staged_at cell op e) stage))))
+      (By_lead _ (Marks op (heard_of number op body.Reserved cell h (staged cell op e).own tests.0) is both stage)))
+      (λ apart. did_alone (with_pending own (with_reserved op)) (with_reserved op) (As_told op true op.stage.paired is) s.lead apart)))
       (λ t. Ignores)
 
   pub did_pair_full : (number : ℕ) (cell : Cell) (o : Option Pending) → heard (body.PairFull number cell) → pending_on own cell ≡ o
@@ -178,11 +201,8 @@ module _ (heard : Body → Type 0) (here : Here) (own : Own) (steady : IsSteady 
       (λ t.
       let reserving = both_true (is_reserving op number) (not op.stage.put) t in
       let tests = both_true (op.op == number) (not op.stage.reserved) reserving.0 in
-      let s = staged cell op e in
-      let heard_of : heard (body.PairFull op.op op.cell) =
-      subst (λ k. heard (body.PairFull k op.cell)) (sym (same_numbers op.op number tests.0))
-      (subst (λ (c : Cell). heard (body.PairFull number c)) (sym s.own) h) in
-      By_lead _ (Gives_up op heard_of (staged_at cell op e) (is_waiting op.stage s.stage (not_true _ tests.1))))
+      By_lead _ (Gives_up op (heard_of number op body.PairFull cell h (staged cell op e).own tests.0) (staged_at cell op e) (not_true _ tests.1)
+      (not_true _ reserving.1)))
       (λ t. Ignores)
 
   pub did_replicated : (number : ℕ) (cell : Cell) (o : Option Pending) → heard (body.Replicated number cell) → pending_on own cell ≡ o
@@ -193,15 +213,15 @@ module _ (heard : Body → Type 0) (here : Here) (own : Own) (steady : IsSteady 
       (λ t.
       let tests = both_true (op.op == number && op.stage.put) (not op.stage.paired) t in
       let more = both_true (op.op == number) op.stage.put tests.0 in
-      let s = staged cell op e in
-      let stage = is_copying op.stage s.stage more.1 (not_true _ tests.1) in
-      let lead : is_lead here.state here.me op.cell ≡ true = subst (λ (c : Cell). is_lead here.state here.me c ≡ true) (sym s.own) s.lead in
+      let is = staged_at cell op e in
+      let s = staged op.cell op is in
       let there : pending_on (with_pending own (with_paired op)) op.cell ≡ Some (with_paired op) = cell_same own.pairs.pending op.cell (with_paired op) in
-      let heard_of : heard (body.Replicated op.op op.cell) =
-      subst (λ k. heard (body.Replicated k op.cell)) (sym (same_numbers op.op number more.0))
-      (subst (λ (c : Cell). heard (body.Replicated number c)) (sym s.own) h) in
       subst (λ o. D (goes_on_with here (with_pending own (with_paired op)) o)) (sym there)
-      (subst (λ a. D (acts here (with_pending own (with_paired op)) (with_paired op) a))
-      (sym (action_is (with_paired op) (with_paired (record op { stage = copying })).stage lead (ap (λ (x : Stage). (record x { paired = true })) stage)))
-      (By_lead _ (Unmarks op heard_of (staged_at cell op e) stage))))
+      (by_bool (in_both here.state op.cell)
+      (λ both.
+      let stage = is_copying op.stage (s.stage both) more.1 (not_true _ tests.1) in
+      subst (λ a. D (acts here (with_pending own (with_paired op)) (with_paired op) a))
+      (sym (both_next (with_paired op) (with_paired (record op { stage = copying })).stage s.lead both (ap (λ (x : Stage). (record x { paired = true })) stage)))
+      (By_lead _ (Unmarks op (heard_of number op body.Replicated cell h (staged cell op e).own more.0) is both stage)))
+      (λ apart. did_alone (with_pending own (with_paired op)) (with_paired op) (As_told op op.stage.reserved true is) s.lead apart)))
       (λ t. Ignores)

@@ -23,7 +23,7 @@ is_there (Some x) e = (x, refl)
 
 module _ (heard : Body → Type 0) (here : Here) (own : Own) where
   abbrev D : Done → Type 0
-  D done = Did heard here here.state own done
+  D done = Did heard here own done
 
   shown : (client seq : ℕ) (cell : Cell) (epoch : ℕ) → heard (body.Read client seq cell epoch) → readable here.state here.me cell ≡ true
       → (all lead some : Bool) → is_lead here.state here.me cell ≡ lead → is_some (pending_on own cell) ≡ some

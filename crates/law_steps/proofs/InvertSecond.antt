@@ -41,7 +41,7 @@ record IsPast (own : Own) (cell : Cell) (number : ℕ) (has : Bool) : Type 0 whe
 
 module _ (heard : Body → Type 0) (here : Here) (own : Own) where
   abbrev D : Done → Type 0
-  D done = Did heard here here.state own done
+  D done = Did heard here own done
 
   no_past : (cell : Cell) (number : ℕ) → last_on own cell ≡ None → IsPast own cell number false
   no_past cell number e = record { newer = λ last is. none_some e is; slot = λ last is. none_some e is }

@@ -15,6 +15,7 @@ pub record Said (who : Sender) (stamp : ℕ) (posts : List Post) (letter : Lette
   pub body : letter.body ≡ post.body
   pub from : letter.from ≡ who.from
   pub at : letter.stamp ≡ stamp
+  pub rev : letter.rev ≡ who.rev
 
 pub said : (who : Sender) (stamp nth : ℕ) (posts : List Post) (letter : Letter) → In letter (stamped stamp (letters_of who nth posts))
     → Said who stamp posts letter
@@ -27,10 +28,11 @@ said who stamp nth (post ∷ posts) letter (inl e) = record {
   body = ap (λ (l : Letter). l.body) e;
   from = ap (λ (l : Letter). l.from) e;
   at = ap (λ (l : Letter). l.stamp) e;
+  rev = ap (λ (l : Letter). l.rev) e;
 }
 said who stamp nth (post ∷ posts) letter (inr h) =
     let later = said who stamp (nth + 1) posts letter h in
-    record { post = later.post; there = inr later.there; to = later.to; body = later.body; from = later.from; at = later.at }
+    record { post = later.post; there = inr later.there; to = later.to; body = later.body; from = later.from; at = later.at; rev = later.rev }
 
 -- the one letter that is posted
 pub one_post : (to : Actor) (what : Body) (post : Post) → In post (record { to = to; body = what } ∷ []) → (post.to ≡ to) × (post.body ≡ what)

@@ -5,10 +5,10 @@ pub mod InvertLead
 pub mod InvertSecond
 pub mod Inversion
 pub mod Letters
+pub mod Taking
 pub mod Subjects
 pub mod Staged
 pub mod Restages
-pub mod Lifting
 pub mod Sending
 pub mod Fronts
 pub mod LogJobs

@@ -1,6 +1,6 @@
--- What a job of the agreed log leaves as it is: it speaks of the log alone, takes back no entry, and its own letter alone follows
--- it up.
-use Rattle.std.proofs.Common.{◌≡◌, ℕ, List, [], ◌∷◌, Bool, true, false, Option, Some, None, refl, sym, ◌∙◌, subst, inl, inr}
+-- What a job of the agreed log leaves as it is: it speaks of the log alone, applies an entry only where it is the next one that is
+-- known, and its own letter alone follows it up.
+use Rattle.std.proofs.Common.{◌≡◌, ℕ, List, [], ◌∷◌, ◌++◌, Bool, true, false, Option, Some, None, refl, sym, ap, ◌∙◌, subst, inl, inr}
 use Rattle.std.specs.Prelude.{map, if◌then◌else◌, ◌==◌, ◌||◌, nat_lt, ◌+◌}
 use Rattle.petal_command.specs.Same.{has_command}
 use Rattle.petal_command.specs.declared.command.Command.{Command}
@@ -19,8 +19,7 @@ use Rattle.petal_paxos.specs.declared.phase.Heard.TheVariants.{Nothing, Send, Re
 use Rattle.petal_paxos.specs.declared.phase.Heard.TheVariants.{Chosen as Decided}
 use Rattle.petal_paxos.specs.declared.phase.Phase.{Phase}
 use Rattle.petal_paxos.specs.declared.phase.Phase.TheVariants.{Idle, Collecting, Voting}
-use Rattle.petal_history.specs.Claims.{IsPrefix}
-use Rattle.petal_rules.specs.Ballots.{on_propose, on_pax, hears_of_ballot, comes_out, proposes, to_all, to_unheard, post_of, starts, starts_for, ballot_posts, ask_posts, wanted, greatest_place}
+use Rattle.petal_rules.specs.Ballots.{on_down, on_propose, on_pax, hears_of_ballot, comes_out, proposes, to_all, to_unheard, post_of, starts, starts_for, ballot_posts, ask_posts, wanted, greatest_place}
 use Rattle.petal_rules.specs.Entries.{on_ask, on_news, learns, learns_first, applies, applies_known, applies_then, unknown_from}
 use Rattle.petal_rules.specs.Jobs.{log_does, hears_log}
 use Rattle.petal_rules.specs.Lists.{In}
@@ -30,7 +29,6 @@ use Rattle.petal_rules.specs.declared.job.Job.{Job}
 use Rattle.petal_rules.specs.declared.job.Job.TheVariants as job
 use Rattle.petal_rules.proofs.ListLemmas.{in-append}
 use Rattle.petal_rules.proofs.Tests.{by_test, only}
-use Rattle.law_steps.proofs.Fronts.{front_itself, front_same, front_more}
 
 -- the letter speaks of the agreed log
 abbrev pub IsLogged : Post → Type 0
@@ -38,7 +36,7 @@ IsLogged post = is_logged (subject_of post.body) ≡ true
 
 pub record LogFrame (log : Log) (what : Job) (done : LogDone) : Type 0 where
   pub says : (post : Post) → In post done.posts → IsLogged post
-  pub grows : IsPrefix log.applied done.log.applied
+  pub same : done.log.applied ≡ log.applied
   pub jobs : (letter : Letter) → In (job.Letter letter) done.jobs → what ≡ job.Letter letter
 
 all_map : {A : Type 0} (f : A → Post) (xs : List A) → ((x : A) → IsLogged (f x)) → (post : Post) → In post (map f xs) → IsLogged post
@@ -73,12 +71,12 @@ module _ (voter : Voter) (log : Log) (what : Job) where
   -- the entries applied stay, nothing is sent and no letter follows
   quiet : (later : Log) → later.applied ≡ log.applied → F (keeps later)
   unfolding In
-  quiet later e = record { says = λ post i. absurd i; grows = front_same log.applied later.applied e; jobs = λ letter i. absurd i }
+  quiet later e = record { says = λ post i. absurd i; same = e; jobs = λ letter i. absurd i }
 
   speaks : (later : Log) (posts : List Post) → later.applied ≡ log.applied → ((post : Post) → In post posts → IsLogged post)
       → F (record { log = later; posts = posts; jobs = [] })
   unfolding In
-  speaks later posts e says = record { says = says; grows = front_same log.applied later.applied e; jobs = λ letter i. absurd i }
+  speaks later posts e says = record { says = says; same = e; jobs = λ letter i. absurd i }
 
   no_letter : (o : Option Command) (b : Bool) (letter : Letter) → In (job.Letter letter) (applies_then o b) → what ≡ job.Letter letter
   unfolding In
@@ -91,7 +89,7 @@ module _ (voter : Voter) (log : Log) (what : Job) where
   unfolding In learns
   learns_frame place command = record {
     says = λ post i. absurd i;
-    grows = front_itself log.applied;
+    same = refl;
     jobs = λ letter i. no_letter (known log place) (place == next_place log) letter i;
   }
 
@@ -135,7 +133,7 @@ module _ (voter : Voter) (log : Log) (what : Job) where
       let f = learns_frame first.0 first.1 in
       record {
         says = f.says;
-        grows = f.grows;
+        same = f.same;
         jobs = λ other i. elim (in-append (job.Letter other) (learns log first.0 first.1).jobs (job.Letter letter ∷ []) i) [
           | inl old ↦ f.jobs other old
           | inr new ↦ elim new [ inl e ↦ is ∙ sym e | inr none ↦ absurd none ]
@@ -143,28 +141,17 @@ module _ (voter : Voter) (log : Log) (what : Job) where
       }
 
   letter_frame : (letter : Letter) → what ≡ job.Letter letter → (said : Body) → F (hears_log voter log letter said)
-  unfolding hears_log on_news
+  unfolding hears_log on_down on_news
+  letter_frame letter is (body.Down server inc) = quiet _ refl
   letter_frame letter is (body.Propose command) = propose_frame command
   letter_frame letter is (body.Pax said) = pax_frame letter.from said
   letter_frame letter is (body.Ask rev) = ask_frame letter.from rev
   letter_frame letter is (body.News after commands) = learns_first_frame letter is (unknown_from log (after + 1) commands)
   letter_frame letter is _ = quiet log refl
 
-  applies_frame : F (applies log)
-  unfolding In applies
-  applies_frame = by (known log (next_place log))
-    where
-      by : (o : Option Command) → F (applies_known log o)
-      by None = quiet log refl
-      by (Some entry) = record {
-        says = λ post i. absurd i;
-        grows = front_more log.applied entry;
-        jobs = λ letter i. no_letter None _ letter i;
-      }
-
   starts_frame : F (starts voter log)
   unfolding starts
-  starts_frame = by log.phase (wanted log)
+  starts_frame = by log.phase (wanted voter log)
     where
       by : (phase : Phase) (wants : List Command) → F (starts_for voter log phase wants)
       by Idle [] = quiet log refl
@@ -173,10 +160,39 @@ module _ (voter : Voter) (log : Log) (what : Job) where
       by (Collecting place ballot want heard best) wants = quiet log refl
       by (Voting place ballot command heard) wants = quiet log refl
 
--- each job of the log
-pub log_frame : (voter : Voter) (log : Log) (what : Job) → LogFrame log what (log_does voter log what)
+-- each job of the log but the one that applies an entry
+pub letter_frame_of : (voter : Voter) (log : Log) (letter : Letter) → LogFrame log (job.Letter letter) (log_does voter log (job.Letter letter))
 unfolding log_does
-log_frame voter log (job.Letter letter) = letter_frame voter log (job.Letter letter) letter refl letter.body
-log_frame voter log (job.Stage cell) = quiet voter log (job.Stage cell) log refl
-log_frame voter log job.Apply = applies_frame voter log job.Apply
-log_frame voter log job.Start = starts_frame voter log job.Start
+letter_frame_of voter log letter = letter_frame voter log (job.Letter letter) letter refl letter.body
+
+pub start_frame_of : (voter : Voter) (log : Log) → LogFrame log job.Start (log_does voter log job.Start)
+unfolding log_does
+start_frame_of voter log = starts_frame voter log job.Start
+
+-- ### Applying
+
+-- the next entry is applied, and no letter follows
+pub record IsApplied (log : Log) (entry : Command) (done : LogDone) : Type 0 where
+  pub more : done.log.applied ≡ log.applied ++ entry ∷ []
+  pub records : done.log.records ≡ log.records
+  pub silent : done.posts ≡ []
+  pub no_letters : (letter : Letter) → In (job.Letter letter) done.jobs → ⊥
+
+no_next : (b : Bool) (letter : Letter) → In (job.Letter letter) (applies_then None b) → ⊥
+unfolding In
+no_next true letter (inl e) = let f : job.Letter letter ≡ job.Apply = e in cc
+no_next true letter (inr none) = none
+no_next false letter i = i
+
+pub applied_entry : (log : Log) (entry : Command) → known log (next_place log) ≡ Some entry → IsApplied log entry (applies log)
+unfolding applies
+applied_entry log entry e = subst (λ o. IsApplied log entry (applies_known log o)) (sym e) (record {
+  more = refl;
+  records = refl;
+  silent = refl;
+  no_letters = λ letter i. no_next _ letter i;
+})
+
+pub applied_none : (log : Log) → known log (next_place log) ≡ None → applies log ≡ keeps log
+unfolding applies
+applied_none log e = ap (applies_known log) e

@@ -1,24 +1,40 @@
 -- A pending operation goes on to its next stage: but for its stage and version it stays as it was, and so do all others.
 use Rattle.std.proofs.Common.{◌≡◌, ◌≢◌, ◌+◌, true, false, Some, refl, sym, ap, ◌∙◌, subst, inl, inr}
-use Rattle.busy_marks.specs.declared.marks.MarkKind.TheVariants.{Busy}
+use Rattle.busy_marks.specs.declared.marks.MarkKind.TheVariants.{Busy, Stale}
 use Rattle.petal_base.specs.declared.cell.Cell.{Cell}
 use Rattle.petal_table.specs.Table.{Table, at, put, without}
 use Rattle.petal_msg.specs.declared.operation.Pending.{Pending}
 use Rattle.petal_rules.specs.Lists.{In}
 use Rattle.petal_rules.specs.Store.{cell_cmp, chain_in, version_of}
 use Rattle.petal_rules.specs.Server.{Own, Post, Done}
-use Rattle.petal_rules.specs.Writes.{with_pending, with_reserved, with_paired, with_mark_at, marks, puts, unmarks}
+use Rattle.petal_rules.specs.Writes.{pending_on, with_pending, with_reserved, with_paired, with_mark_at, marks, puts, unmarks}
 use Rattle.petal_rules.proofs.CellTables.{cell_same, cell_apart, cell_gone, cell_gone_apart}
 use Rattle.petal_rules.proofs.Tests.{none_some, same_some}
+use Rattle.law_steps.specs.DidLead.{Taken}
 use Rattle.law_steps.proofs.Staged.{same_cell_or_apart}
+use Rattle.law_steps.proofs.Taking.{taking}
 
 -- two operations differ in stage and version alone
 pub record IsSame (old new : Pending) : Type 0 where
   pub number : old.op ≡ new.op
   pub client : old.client ≡ new.client
   pub seq : old.seq ≡ new.seq
+  pub rev : old.rev ≡ new.rev
   pub key : old.key ≡ new.key
   pub bytes : old.bytes ≡ new.bytes
+
+pub same_itself : (op : Pending) → IsSame op op
+same_itself op = record { number = refl; client = refl; seq = refl; rev = refl; key = refl; bytes = refl }
+
+same_on : (a b c : Pending) → IsSame a b → IsSame b c → IsSame a c
+same_on a b c one two = record {
+  number = one.number ∙ two.number;
+  client = one.client ∙ two.client;
+  seq = one.seq ∙ two.seq;
+  rev = one.rev ∙ two.rev;
+  key = one.key ∙ two.key;
+  bytes = one.bytes ∙ two.bytes;
+}
 
 -- the operation was pending on the cell, in whatever stage
 pub record Was (own : Own) (cell : Cell) (op : Pending) : Type 0 where
@@ -27,7 +43,7 @@ pub record Was (own : Own) (cell : Cell) (op : Pending) : Type 0 where
   pub same : IsSame was op
 
 pub was_same : (own : Own) (cell : Cell) (op : Pending) → at cell_cmp own.pairs.pending cell ≡ Some op → Was own cell op
-was_same own cell op is = record { was = op; is = is; same = record { number = refl; client = refl; seq = refl; key = refl; bytes = refl } }
+was_same own cell op is = record { was = op; is = is; same = same_itself op }
 
 -- what stands at a cell after a removal stood there before
 pub stood : {X : Type 0} (t : Table Cell X) (cell q : Cell) (x : X) → at cell_cmp (without cell_cmp t cell) q ≡ Some x → at cell_cmp t q ≡ Some x
@@ -44,31 +60,30 @@ pub record Restages (own : Own) (done : Done) : Type 0 where
   pub next : done.own.pairs.next ≡ own.pairs.next
   pub silent : (post : Post) → In post done.posts → ⊥
 
-module _ (own : Own) (op : Pending) (is : at cell_cmp own.pairs.pending op.cell ≡ Some op) where
-  abbrev pending : Table Cell Pending
-  pending = own.pairs.pending
+-- ### By a server that has the operation pending
 
+module _ (own : Own) (op : Pending) (is : at cell_cmp own.pairs.pending op.cell ≡ Some op) where
   -- the operation of a cell is put again
   was_put : (t : Table Cell Pending) (now : Pending) → IsSame op now
-      → ((q : Cell) → q ≢ op.cell → at cell_cmp t q ≡ at cell_cmp pending q)
+      → ((q : Cell) → q ≢ op.cell → at cell_cmp t q ≡ at cell_cmp own.pairs.pending q)
       → (cell : Cell) (o : Pending) → at cell_cmp (put cell_cmp t op.cell now) cell ≡ Some o → Was own cell o
   was_put t now same others cell o there = elim (same_cell_or_apart cell op.cell) [
     | inl e ↦
         let one : now ≡ o = same_some (sym (cell_same t op.cell now) ∙ ap (at cell_cmp (put cell_cmp t op.cell now)) (sym e) ∙ there) in
-        record { was = op; is = ap (at cell_cmp pending) e ∙ is; same = subst (IsSame op) one same }
+        record { was = op; is = ap (at cell_cmp own.pairs.pending) e ∙ is; same = subst (IsSame op) one same }
     | inr ne ↦ was_same own cell o (sym (others cell ne) ∙ sym (cell_apart t op.cell now cell ne) ∙ there)
   ]
 
   -- and once more
   was_put_twice : (one now : Pending) → IsSame op now
-      → (cell : Cell) (o : Pending) → at cell_cmp (put cell_cmp (put cell_cmp pending op.cell one) op.cell now) cell ≡ Some o → Was own cell o
-  was_put_twice one now same = was_put (put cell_cmp pending op.cell one) now same (λ q ne. cell_apart pending op.cell one q ne)
+      → (cell : Cell) (o : Pending) → at cell_cmp (put cell_cmp (put cell_cmp own.pairs.pending op.cell one) op.cell now) cell ≡ Some o → Was own cell o
+  was_put_twice one now same = was_put (put cell_cmp own.pairs.pending op.cell one) now same (λ q ne. cell_apart own.pairs.pending op.cell one q ne)
 
   pub marked : Restages own (marks (with_pending own (with_reserved op)) (with_reserved op) Busy)
   unfolding In
   marked = record {
     was = was_put_twice (with_reserved op) (with_mark_at (with_reserved op) Busy true)
-        (record { number = refl; client = refl; seq = refl; key = refl; bytes = refl });
+        (record { number = refl; client = refl; seq = refl; rev = refl; key = refl; bytes = refl });
     finished = refl;
     last = refl;
     next = refl;
@@ -78,8 +93,8 @@ module _ (own : Own) (op : Pending) (is : at cell_cmp own.pairs.pending op.cell 
   pub has_put : Restages own (puts own op)
   unfolding In
   has_put = record {
-    was = was_put pending (record op { version = version_of (chain_in own.store.chains op.cell) + 1; stage = record op.stage { put = true } })
-        (record { number = refl; client = refl; seq = refl; key = refl; bytes = refl }) (λ q ne. refl);
+    was = was_put own.pairs.pending (record op { version = version_of (chain_in own.store.chains op.cell) + 1; stage = record op.stage { put = true } })
+        (record { number = refl; client = refl; seq = refl; rev = refl; key = refl; bytes = refl }) (λ q ne. refl);
     finished = refl;
     last = refl;
     next = refl;
@@ -90,9 +105,84 @@ module _ (own : Own) (op : Pending) (is : at cell_cmp own.pairs.pending op.cell 
   unfolding In
   unmarked = record {
     was = was_put_twice (with_paired op) (with_mark_at (with_paired op) Busy false)
-        (record { number = refl; client = refl; seq = refl; key = refl; bytes = refl });
+        (record { number = refl; client = refl; seq = refl; rev = refl; key = refl; bytes = refl });
     finished = refl;
     last = refl;
     next = refl;
     silent = λ post i. i;
   }
+
+-- ### By a holder that is alone, which takes an operation up
+
+module _ (own now : Own) (op : Pending) (taken : Taken own now op) where
+  -- it was pending
+  pub was_taken : Was own op.cell op
+  was_taken =
+      let k = taking own now op taken in
+      record {
+        was = k.old;
+        is = k.was;
+        same = record {
+          number = ap (λ (o : Pending). o.op) (sym k.is);
+          client = ap (λ (o : Pending). o.client) (sym k.is);
+          seq = ap (λ (o : Pending). o.seq) (sym k.is);
+          rev = ap (λ (o : Pending). o.rev) (sym k.is);
+          key = ap (λ (o : Pending). o.key) (sym k.is);
+          bytes = ap (λ (o : Pending). o.bytes) (sym k.is);
+        };
+      }
+
+  -- and so was whatever is pending then
+  pub was_before : (cell : Cell) (o : Pending) → pending_on now cell ≡ Some o → Was own cell o
+  was_before cell o there =
+      let k = taking own now op taken in
+      elim (same_cell_or_apart cell op.cell) [
+        | inl e ↦ subst (λ (q : Cell). Was own q o) (sym e)
+            (subst (Was own op.cell) (same_some (sym k.there ∙ ap (at cell_cmp now.pairs.pending) (sym e) ∙ there)) was_taken)
+        | inr ne ↦ was_same own cell o (sym (k.others cell ne) ∙ there)
+      ]
+
+  was_alone : (new : Pending) → IsSame op new → (cell : Cell) (o : Pending)
+      → at cell_cmp (put cell_cmp now.pairs.pending op.cell new) cell ≡ Some o → Was own cell o
+  was_alone new same cell o there =
+      let u = now.pairs.pending in
+      elim (same_cell_or_apart cell op.cell) [
+        | inl e ↦
+            let one : new ≡ o = same_some (sym (cell_same u op.cell new) ∙ ap (at cell_cmp (put cell_cmp u op.cell new)) (sym e) ∙ there) in
+            let w = was_taken in
+            subst (λ (q : Cell). Was own q o) (sym e)
+            (record { was = w.was; is = w.is; same = same_on w.was op o w.same (subst (IsSame op) one same) })
+        | inr ne ↦ was_before cell o (sym (cell_apart u op.cell new cell ne) ∙ there)
+      ]
+
+  restaged : (done : Done) (new : Pending) → IsSame op new → done.own.pairs.pending ≡ put cell_cmp now.pairs.pending op.cell new
+      → done.own.pairs.finished ≡ now.pairs.finished → done.own.pairs.last ≡ now.pairs.last → done.own.pairs.next ≡ now.pairs.next
+      → ((post : Post) → In post done.posts → ⊥) → Restages own done
+  restaged done new same pending finished last next silent =
+      let k = taking own now op taken in
+      record {
+        was = λ cell o there. was_alone new same cell o (ap (λ t. at cell_cmp t cell) (sym pending) ∙ there);
+        finished = finished ∙ k.finished;
+        last = last ∙ k.last;
+        next = next ∙ k.next;
+        silent = silent;
+      }
+
+  pub marked_alone : Restages own (marks now op Stale)
+  unfolding In
+  marked_alone =
+      restaged _ (with_mark_at op Stale true) (record { number = refl; client = refl; seq = refl; rev = refl; key = refl; bytes = refl }) refl refl refl refl
+      (λ post i. i)
+
+  pub put_alone : Restages own (puts now op)
+  unfolding In
+  put_alone =
+      restaged _ (record op { version = version_of (chain_in now.store.chains op.cell) + 1; stage = record op.stage { put = true } })
+      (record { number = refl; client = refl; seq = refl; rev = refl; key = refl; bytes = refl }) refl refl refl refl
+      (λ post i. i)
+
+  pub unmarked_alone : Restages own (unmarks now op Busy)
+  unfolding In
+  unmarked_alone =
+      restaged _ (with_mark_at op Busy false) (record { number = refl; client = refl; seq = refl; rev = refl; key = refl; bytes = refl }) refl refl refl refl
+      (λ post i. i)

@@ -1,40 +1,50 @@
--- Each step of a server is a job that the relation names, or idle.
-use Rattle.std.proofs.Common.{◌≡◌, ℕ, List, [], ◌∷◌, ◌++◌, Some, refl, ◌∙◌, sym, ap, subst, inl, inr}
+-- Each step of a server is a job that the relation names, or idle; it ends in the server's stop, or leaves the server as it was.
+use Rattle.std.proofs.Common.{◌≡◌, ℕ, true, List, [], ◌∷◌, ◌++◌, Option, Some, None, refl, ◌∙◌, sym, ap, subst, inl, inr}
+use Rattle.std.specs.Prelude.{map, not}
 use Rattle.std.specs.List.{flat_map}
 use Rattle.petal_base.specs.declared.cell.Cell.{Cell}
 use Rattle.petal_command.specs.declared.command.Command.{Command}
+use Rattle.petal_msg.specs.Kinds.{Glanced, subject_of}
 use Rattle.petal_msg.specs.declared.body.Body.{Body}
 use Rattle.petal_msg.specs.declared.letter.Actor.TheVariants as actor
 use Rattle.petal_msg.specs.declared.letter.Letter.{Letter}
 use Rattle.petal_msg.specs.declared.operation.Pending.{Pending}
+use Rattle.petal_msg.specs.declared.operation.Stage.{Stage}
 use Rattle.petal_paxos.specs.declared.phase.Phase.{Phase}
 use Rattle.petal_paxos.specs.declared.phase.Phase.TheVariants.{Idle, Collecting, Voting}
+use Rattle.petal_history.specs.Claims.{IsPrefix}
 use Rattle.petal_rules.specs.Ballots.{ballot_posts, ask_posts, asks_next, start_jobs, wanted}
-use Rattle.petal_rules.specs.Lists.{In}
-use Rattle.petal_rules.specs.Log.{Log, LogDone}
-use Rattle.petal_rules.specs.Server.{Own, Here, Post, silent}
-use Rattle.petal_rules.specs.Writes.{pending_on}
-use Rattle.petal_rules.specs.Jobs.{Acted, works, entered, worked, is_log_job, voter_of, tick_posts, sent_anew, awaited, does, log_does}
-use Rattle.petal_rules.specs.World.{Setting, World, server_state, server_step, MayServer}
+use Rattle.petal_rules.specs.Crossing.{crossed, stage_jobs}
+use Rattle.petal_rules.specs.Entries.{applies}
+use Rattle.petal_rules.specs.Lists.{In, put_at}
+use Rattle.petal_rules.specs.Log.{Log, LogDone, known, next_place}
+use Rattle.petal_rules.specs.Server.{Own, Server, Here, Post, Sender, Done, silent, sender, letters_of}
+use Rattle.petal_rules.specs.State.{in_both, is_lead}
+use Rattle.petal_rules.specs.Writes.{pending_on, both_action, alone_action}
+use Rattle.petal_rules.specs.Jobs.{Acted, works, job_done, crossing, entered, worked, is_overfull, stops, glances, glance_sender, is_log_job, voter_of, tick_posts, sent_anew, awaited, does, log_does}
+use Rattle.petal_rules.specs.World.{Setting, World, acts, server_state, server_step, chosen_log, MayServer}
 use Rattle.petal_rules.specs.declared.job.Job.{Job}
 use Rattle.petal_rules.specs.declared.job.Job.TheVariants as job
+use Rattle.petal_rules.specs.declared.step.CommitEnd.TheVariants.{Before, After}
 use Rattle.petal_rules.specs.declared.step.Step.{Step}
-use Rattle.petal_rules.specs.declared.step.Step.TheVariants.{Call, Deliver, Tick, Work}
+use Rattle.petal_rules.specs.declared.step.Step.TheVariants.{Call, Deliver, Tick, Work, Stop, Glance}
 use Rattle.petal_rules.specs.declared.step.WorkEnd.TheVariants as work_end
-use Rattle.petal_rules.proofs.ListLemmas.{in-append}
+use Rattle.petal_paxos.specs.Chosen.{chosen_log as chosen_by}
+use Rattle.petal_rules.proofs.ListLemmas.{in-append, put_same}
 use Rattle.petal_rules.proofs.CellTables.{cell_cmp_total}
-use Rattle.petal_rules.proofs.Tests.{by_test}
+use Rattle.petal_rules.proofs.Tests.{by_test, by_bool, all_put, only}
+use Rattle.law_state.specs.Firm.{Firm}
 use Rattle.law_state.specs.Steady.{IsSteady}
+use Rattle.law_state.proofs.Steady.{log_rev}
 use Rattle.law_steps.specs.Operations.{IsStaged, Waiting, Putting, Copying, Answering, waiting, putting, copying, answering}
 use Rattle.law_steps.specs.DidLead.{Asks, Asks_for, Of_the_log}
-use Rattle.law_steps.specs.Did.{Ignores, By_lead}
-use Rattle.law_steps.specs.Happens.{IsIdle, Handled, AreQueued, Serving, own_place}
+use Rattle.law_steps.specs.Did.{Did, Ignores, By_lead}
+use Rattle.law_steps.specs.Happens.{IsIdle, Handled, AreQueued, By_job, By_entry, Serving, Goes, Ends, Stays, served_so, stopped_so, own_place}
 use Rattle.law_steps.specs.Ready.{Rests}
-use Rattle.law_steps.proofs.Fronts.{front_itself}
 use Rattle.law_steps.proofs.Tables.{at_row}
 use Rattle.law_steps.proofs.Inversion.{IsHeard, did}
-use Rattle.law_steps.proofs.InvertLead.{asks_slot, asks_copy, action_is}
-use Rattle.law_steps.proofs.LogJobs.{LogFrame, log_frame, ballot_logged, ask_logged}
+use Rattle.law_steps.proofs.InvertLead.{asks_slot, asks_copy, both_next, alone_next}
+use Rattle.law_steps.proofs.LogJobs.{LogFrame, letter_frame_of, start_frame_of, applied_entry, applied_none, ballot_logged, ask_logged}
 use Rattle.law_steps.proofs.Subjects.{no_letters}
 
 in_flat_map : {A B : Type 0} (f : A → List B) (xs : List A) (y : B) → In y (flat_map f xs) → (x : A) × In x xs × In y (f x)
@@ -55,9 +65,27 @@ no_start Idle (want ∷ wants) letter h = elim h [ inl e ↦ cc | inr none ↦ n
 no_start (Collecting place ballot want heard best) wants letter h = h
 no_start (Voting place ballot command heard) wants letter h = h
 
-module _ (setting : Setting) (w : World) (rests : Rests setting w) (n : ℕ) (steady : IsSteady (server_state setting w n)) where
+-- a list of stages brings no letter
+no_stage : (rows : List (Cell × Pending)) (letter : Letter) → In (job.Letter letter) (map (λ (row : Cell × Pending). job.Stage row.0) rows) → ⊥
+unfolding In
+no_stage [] letter h = h
+no_stage (row ∷ rows) letter (inl e) = cc
+no_stage (row ∷ rows) letter (inr h) = no_stage rows letter h
+
+-- where a server's records stay, what is chosen does
+pub chosen_same : (setting : Setting) (w : World) (n stamp : ℕ) (what : Step) (acted : Acted) → acted.server.log.records ≡ (w.servers n).log.records
+    → chosen_log setting (acts w n what stamp acted).world ≡ chosen_log setting w
+chosen_same setting w n stamp what acted same =
+    let each : (m : ℕ) → (put_at w.servers n acted.server m).log.records ≡ (w.servers m).log.records =
+    all_put w.servers n acted.server (λ m (x : Server). x.log.records ≡ (w.servers m).log.records) (λ m. refl) same in
+    ap (chosen_by setting.servers) (λ i m. each m i)
+
+module _ (setting : Setting) (w : World) (rests : Rests setting w) (n : ℕ) (steady : IsSteady (server_state setting w n)) (stamp : ℕ) where
   abbrev here : Here
   here = own_place setting w n
+
+  abbrev server : Server
+  server = w.servers n
 
   abbrev own : Own
   own = (w.servers n).own
@@ -69,25 +97,36 @@ module _ (setting : Setting) (w : World) (rests : Rests setting w) (n : ℕ) (st
   hears_server = Handled w n
 
   abbrev A : Post → Type 0
-  A post = Asks here here.state own post
+  A post = Asks here own post
 
   staged : (cell : Cell) (op : Pending) → pending_on own cell ≡ Some op → IsStaged here.state n cell op
   staged = (rests.pending n).staged
+
+  -- a holder that is alone waits for no answer
+  alone_sends : (op : Pending) (post : Post) → In post (awaited here own op (alone_action op.stage)) → ⊥
+  unfolding In
+  alone_sends op post =
+      by_test (λ a. In post (awaited here own op a) → ⊥) (not op.stage.stale) _ _ (λ t i. i)
+      (λ t. by_test (λ a. In post (awaited here own op a) → ⊥) (not op.stage.put) _ _ (λ t i. i)
+      (λ t. by_test (λ a. In post (awaited here own op a) → ⊥) op.stage.busy _ _ (λ t i. i) (λ t i. i)))
 
   asked_again : (op : Pending) → pending_on own op.cell ≡ Some op → (post : Post) → In post (sent_anew here own op) → A post
   unfolding In
   asked_again op is post h =
       let s = staged op.cell op is in
-      elim s.stage [
-        | Waiting stage ↦ asks_slot hears_server here own steady staged op is stage post
-            (subst (λ a. In post (awaited here own op a)) (action_is hears_server here own steady staged op waiting s.lead stage) h)
-        | Copying stage ↦ asks_copy hears_server here own steady staged op is stage post
-            (subst (λ a. In post (awaited here own op a)) (action_is hears_server here own steady staged op copying s.lead stage) h)
-        | Putting stage ↦
-            absurd (subst (λ a. In post (awaited here own op a)) (action_is hears_server here own steady staged op putting s.lead stage) h)
-        | Answering stage ↦
-            absurd (subst (λ a. In post (awaited here own op a)) (action_is hears_server here own steady staged op answering s.lead stage) h)
-      ]
+      by_bool (in_both here.state op.cell)
+      (λ both. elim (s.stage both) [
+        | Waiting stage ↦ asks_slot hears_server here own steady staged op is stage post (sent both waiting stage s.lead)
+        | Copying stage ↦ asks_copy hears_server here own steady staged op is stage post (sent both copying stage s.lead)
+        | Putting stage ↦ absurd (sent both putting stage s.lead)
+        | Answering stage ↦ absurd (sent both answering stage s.lead)
+      ])
+      (λ apart. absurd (alone_sends op post
+      (subst (λ a. In post (awaited here own op a)) (alone_next hears_server here own steady staged op s.lead apart) h)))
+    where
+      sent : in_both here.state op.cell ≡ true → (stage : Stage) → op.stage ≡ stage → is_lead here.state n op.cell ≡ true
+          → In post (awaited here own op (both_action stage))
+      sent both stage e lead = subst (λ a. In post (awaited here own op a)) (both_next hears_server here own steady staged op stage lead both e) h
 
   pending_asks : (post : Post) → In post (flat_map (λ (row : Cell × Pending). sent_anew here own row.1) own.pairs.pending) → A post
   pending_asks post h =
@@ -96,7 +135,7 @@ module _ (setting : Setting) (w : World) (rests : Rests setting w) (n : ℕ) (st
       let is : pending_on own row.0 ≡ Some row.1 = at_row cell_cmp_total own.pairs.pending row (rests.pending n).rising found.1 in
       asked_again row.1 (subst (λ (q : Cell). pending_on own q ≡ Some row.1) (sym (staged row.0 row.1 is).own) is) post found.2
 
-  tick_asks : (post : Post) → In post (tick_posts here (w.servers n)) → A post
+  tick_asks : (post : Post) → In post (tick_posts here server) → A post
   tick_asks post h =
       let pairs = flat_map (λ (row : Cell × Pending). sent_anew here own row.1) own.pairs.pending in
       elim (in-append post (ballot_posts (voter_of here) log.phase ++ pairs) (ask_posts (voter_of here) log) h) [
@@ -107,25 +146,33 @@ module _ (setting : Setting) (w : World) (rests : Rests setting w) (n : ℕ) (st
         ]
       ]
 
-  queue_delivered : (letter : Letter) → In letter w.sent → letter.to ≡ actor.Server n → AreQueued w n ((w.servers n).queue ++ job.Letter letter ∷ [])
+  queue_delivered : (letter : Letter) → In letter w.sent → letter.to ≡ actor.Server n → AreQueued w n (server.queue ++ job.Letter letter ∷ [])
   unfolding In
-  queue_delivered letter h own other i = elim (in-append (job.Letter other) (w.servers n).queue (job.Letter letter ∷ []) i) [
+  queue_delivered letter h own other i = elim (in-append (job.Letter other) server.queue (job.Letter letter ∷ []) i) [
     | inl old ↦ rests.queues n other old
     | inr new ↦ elim new [ inl e ↦ (subst (λ (l : Letter). In l w.sent × (l.to ≡ actor.Server n)) (sym (same_letter e)) (h, own)) | inr none ↦ absurd none ]
   ]
 
-  heard_job : (what : Job) (rest : List Job) → (w.servers n).queue ≡ what ∷ rest → (what' : Job) → what' ≡ what
+  heard_job : (what : Job) (rest : List Job) → server.queue ≡ what ∷ rest → (what' : Job) → what' ≡ what
       → IsHeard hears_server here own steady staged what'
   unfolding In
   heard_job what rest e (job.Letter letter) is =
       let known = rests.queues n letter (subst (λ (q : List Job). In (job.Letter letter) q) (sym e) (inl is)) in
-      record { letter = letter; rest = rest; next = e ∙ ap (λ (j : Job). j ∷ rest) (sym is); sent = known.0; own = known.1; is = refl }
+      λ rev. record {
+        letter = letter;
+        rest = rest;
+        next = e ∙ ap (λ (j : Job). j ∷ rest) (sym is);
+        sent = known.0;
+        own = known.1;
+        at = rev ∙ log_rev setting.servers log.applied;
+        is = refl;
+      }
   heard_job what rest e (job.Stage cell) is = tt
   heard_job what rest e job.Apply is = tt
   heard_job what rest e job.Start is = tt
 
   -- what is left of the queue, with jobs that bring no letter but the one that was handled
-  queue_left : (what : Job) (rest jobs : List Job) → (w.servers n).queue ≡ what ∷ rest
+  queue_left : (what : Job) (rest jobs : List Job) → server.queue ≡ what ∷ rest
       → ((letter : Letter) → In (job.Letter letter) jobs → what ≡ job.Letter letter) → AreQueued w n (rest ++ jobs)
   unfolding In
   queue_left what rest jobs e brings letter i = elim (in-append (job.Letter letter) rest jobs i) [
@@ -133,81 +180,145 @@ module _ (setting : Setting) (w : World) (rests : Rests setting w) (n : ℕ) (st
     | inr new ↦ rests.queues n letter (subst (λ (q : List Job). In (job.Letter letter) q) (sym e) (inl (sym (brings letter new))))
   ]
 
+  -- ### What a job leaves
+
+  -- where there is room: what the relation names, or an entry is applied
+  data IsWorked : Acted → Type 0 where
+    A_job : (after : Log) (done : Done) (queue : List Job) → after.applied ≡ log.applied → Did hears_server here own done
+        → AreQueued w n queue
+        → IsWorked (served_so setting w n after done queue)
+    An_entry : (after : Log) (entry : Command) (queue : List Job) → after.applied ≡ log.applied ++ entry ∷ [] → after.records ≡ log.records
+        → AreQueued w n queue
+        → IsWorked (served_so setting w n after (silent (crossed here.state entry own)) queue)
+
+  -- a job of the log
+  entered_worked : (what : Job) (rest : List Job) → server.queue ≡ what ∷ rest → (done : LogDone) → LogFrame log what done
+      → IsWorked (entered here server rest done)
+  entered_worked what rest e done f =
+      A_job done.log (record { own = own; posts = done.posts; jobs = [] }) (rest ++ done.jobs) f.same
+      (By_lead _ (Asks_for done.posts (λ post i. Of_the_log post (f.says post i)))) (queue_left what rest done.jobs e f.jobs)
+
+  -- a job of the pairs
+  worked_worked : (what : Job) (rest : List Job) → server.queue ≡ what ∷ rest → IsWorked (worked here server rest (does here own what))
+  worked_worked what rest e =
+      let d = did hears_server here own steady staged what (heard_job what rest e what refl) in
+      A_job log (does here own what) (rest ++ (does here own what).jobs) refl d
+      (queue_left what rest (does here own what).jobs e (λ letter i. absurd (no_letters hears_server here own (does here own what) d letter i)))
+
+  queue_more : (queue jobs : List Job) → AreQueued w n queue → ((letter : Letter) → In (job.Letter letter) jobs → ⊥) → AreQueued w n (queue ++ jobs)
+  queue_more queue jobs queued none letter i = elim (in-append (job.Letter letter) queue jobs i) [ inl old ↦ queued letter old | inr new ↦ absurd (none letter new) ]
+
+  -- the job that applies the next entry
+  applied_worked : (rest : List Job) → server.queue ≡ job.Apply ∷ rest → (o : Option Command) → known log (next_place log) ≡ o
+      → IsWorked (crossing here server rest o (applies log))
+  unfolding In
+  applied_worked rest e None none =
+      subst (λ done. IsWorked (crossing here server rest None done)) (sym (applied_none log none))
+      (A_job log (silent own) (rest ++ [] ++ []) refl Ignores
+      (queue_more (rest ++ []) [] (queue_left job.Apply rest [] e (λ letter i. absurd i)) (λ letter i. i)))
+  applied_worked rest e (Some entry) is =
+      let a = applied_entry log entry is in
+      let stages = stage_jobs here.state entry own in
+      subst (λ posts. IsWorked (record { server = (crossing here server rest (Some entry) (applies log)).server; letters = letters_of (sender here) 0 posts }))
+      (sym a.silent)
+      (An_entry (applies log).log entry (rest ++ (applies log).jobs ++ stages) a.more a.records
+      (queue_more (rest ++ (applies log).jobs) stages
+      (queue_left job.Apply rest (applies log).jobs e (λ letter i. absurd (a.no_letters letter i))) (λ letter i. no_stage _ letter i)))
+
+  job_worked : (what : Job) (rest : List Job) → server.queue ≡ what ∷ rest → IsWorked (job_done here server what rest)
+  job_worked (job.Letter letter) rest e = by_test IsWorked (is_log_job (job.Letter letter)) _ _
+      (λ t. entered_worked (job.Letter letter) rest e (log_does (voter_of here) log (job.Letter letter)) (letter_frame_of (voter_of here) log letter))
+      (λ t. worked_worked (job.Letter letter) rest e)
+  job_worked (job.Stage cell) rest e = worked_worked (job.Stage cell) rest e
+  job_worked job.Apply rest e = applied_worked rest e (known log (next_place log)) refl
+  job_worked job.Start rest e =
+      entered_worked job.Start rest e (log_does (voter_of here) log job.Start) (start_frame_of (voter_of here) log)
+
+  -- ### The step
+
   abbrev S : Step → Acted → Type 0
-  S what acted = Serving setting here.state w n what acted
+  S what acted = Serving setting w n what acted
+
+  -- the world after it knows its log
+  abbrev F : Step → Acted → Type 0
+  F what acted = Firm setting (acts w n what stamp acted).world
+
+  -- an entry that the server applied stood in what was chosen before
+  front_known : (what : Step) (acted : Acted) → F what acted → acted.server.log.records ≡ log.records
+      → IsPrefix acted.server.log.applied (chosen_log setting w)
+  front_known what acted later same =
+      subst (IsPrefix acted.server.log.applied) (chosen_same setting w n stamp what acted same)
+      (subst (λ (x : Server). IsPrefix x.log.applied (chosen_log setting (acts w n what stamp acted).world)) (put_same w.servers n acted.server)
+      (later.servers n))
+
+  stops_serve : (what : Step) → server.life.running ≡ true → S what (stops here server)
+  stops_serve what runs = Ends log (silent own) runs (By_job log (silent own) refl Ignores)
+
+  -- the job is done, and its letters go
+  goes_on : (acted : Acted) → server.life.running ≡ true → IsWorked acted → F (Work work_end.Done) acted → S (Work work_end.Done) acted
+  goes_on _ runs (A_job after done queue same d queued) later = Goes after done queue runs (By_job after done same d) queued (inl refl)
+  goes_on _ runs (An_entry after entry queue more same queued) later =
+      Goes after (silent (crossed here.state entry own)) queue runs
+      (By_entry after entry more (front_known (Work work_end.Done) (served_so setting w n after (silent (crossed here.state entry own)) queue) later same))
+      queued (inl refl)
+
+  -- its commit is made, and the server stops
+  ends_so : (what : Step) (acted : Acted) → server.life.running ≡ true → IsWorked acted → F what (stops here acted.server) → S what (stops here acted.server)
+  ends_so what _ runs (A_job after done queue same d queued) later = Ends after done runs (By_job after done same d)
+  ends_so what _ runs (An_entry after entry queue more same queued) later =
+      Ends after (silent (crossed here.state entry own)) runs
+      (By_entry after entry more (front_known what (stopped_so setting w n after (silent (crossed here.state entry own))) later same))
+
+  works_serve : (queue : List Job) → server.queue ≡ queue → (queue ≡ [] → ⊥) → server.life.running ≡ true → F (Work work_end.Done) (works here server queue)
+      → S (Work work_end.Done) (works here server queue)
+  works_serve [] e some runs = absurd (some refl)
+  works_serve (what ∷ rest) e some runs =
+      let acted = job_done here server what rest in
+      by_test (λ a. F (Work work_end.Done) a → S (Work work_end.Done) a) (is_overfull acted.server) (stops here server) acted
+      (λ full later. stops_serve (Work work_end.Done) runs) (λ room later. goes_on acted runs (job_worked what rest e) later)
+
+  faults_serve : (queue : List Job) → server.queue ≡ queue → (queue ≡ [] → ⊥) → server.life.running ≡ true
+      → F (Work (work_end.Fault After)) (stops here (works here server queue).server) → S (Work (work_end.Fault After)) (stops here (works here server queue).server)
+  faults_serve [] e some runs = absurd (some refl)
+  faults_serve (what ∷ rest) e some runs =
+      let acted = job_done here server what rest in
+      by_test (λ (a : Acted). F (Work (work_end.Fault After)) (stops here a.server) → S (Work (work_end.Fault After)) (stops here a.server))
+      (is_overfull acted.server) (stops here server) acted
+      (λ full later. stops_serve (Work (work_end.Fault After)) runs)
+      (λ room later. ends_so (Work (work_end.Fault After)) acted runs (job_worked what rest e) later)
 
   -- nothing is done
-  rests_idle : IsIdle here here.state own (silent own)
+  rests_idle : IsIdle here own (silent own)
   unfolding In
   rests_idle = record { same = refl; asks = λ post i. absurd i }
 
-  -- a job of the log
-  entered_serve : (what : Job) (rest : List Job) → (w.servers n).queue ≡ what ∷ rest → (done : LogDone) → LogFrame log what done
-      → S (Work work_end.Done) (entered here (w.servers n) rest done)
-  entered_serve what rest e done f = record {
-    log = done.log;
-    done = record { own = own; posts = done.posts; jobs = [] };
-    queue = rest ++ done.jobs;
-    did = By_lead _ (Asks_for done.posts (λ post i. Of_the_log post (f.says post i)));
-    grows = f.grows;
-    queued = queue_left what rest done.jobs e f.jobs;
-    works = inl refl;
-    is = refl;
-  }
-
-  -- a job of the pairs
-  worked_serve : (what : Job) (rest : List Job) → (w.servers n).queue ≡ what ∷ rest
-      → S (Work work_end.Done) (worked here (w.servers n) rest (does here own what))
-  worked_serve what rest e =
-      let d = did hears_server here own steady staged what (heard_job what rest e what refl) in
-      record {
-        log = log;
-        done = does here own what;
-        queue = rest ++ (does here own what).jobs;
-        did = d;
-        grows = front_itself log.applied;
-        queued = queue_left what rest (does here own what).jobs e
-            (λ letter i. absurd (no_letters hears_server here here.state own (does here own what) d letter i));
-        works = inl refl;
-        is = refl;
-      }
-
-  idles : (what : Step) (queue : List Job) → AreQueued w n queue → S what (record { server = record (w.servers n) { queue = queue }; letters = [] })
-  idles what queue queued = record {
-    log = log;
-    done = silent own;
-    queue = queue;
-    did = Ignores;
-    grows = front_itself log.applied;
-    queued = queued;
-    works = inr rests_idle;
-    is = refl;
-  }
-
-  works_serve : (queue : List Job) → (w.servers n).queue ≡ queue → S (Work work_end.Done) (works here (w.servers n) queue)
-  works_serve [] e = idles (Work work_end.Done) (w.servers n).queue (rests.queues n)
-  works_serve (what ∷ rest) e = by_test (S (Work work_end.Done)) (is_log_job what) _ _
-      (λ t. entered_serve what rest e (log_does (voter_of here) log what) (log_frame (voter_of here) log what)) (λ t. worked_serve what rest e)
-
-  queue_started : AreQueued w n ((w.servers n).queue ++ start_jobs log.phase (wanted log))
-  queue_started letter i = elim (in-append (job.Letter letter) (w.servers n).queue (start_jobs log.phase (wanted log)) i) [
+  queue_started : AreQueued w n (server.queue ++ start_jobs log.phase (wanted (voter_of here) log))
+  queue_started letter i = elim (in-append (job.Letter letter) server.queue (start_jobs log.phase (wanted (voter_of here) log)) i) [
     | inl old ↦ rests.queues n letter old
-    | inr new ↦ absurd (no_start log.phase (wanted log) letter new)
+    | inr new ↦ absurd (no_start log.phase (wanted (voter_of here) log) letter new)
   ]
 
-  pub server_serves : (what : Step) → MayServer what w n → S what (server_step what (server_state setting w n) n (w.servers n))
-  server_serves (Call line) may = absurd may
-  server_serves (Deliver letter) may =
-      by_test (λ server. S (Deliver letter) (record { server = server; letters = [] })) (w.servers n).life.running _ _
-      (λ runs. idles (Deliver letter) _ (queue_delivered letter may.sent may.own)) (λ stopped. idles (Deliver letter) (w.servers n).queue (rests.queues n))
-  server_serves Tick may = record {
-    log = asks_next (voter_of here) log;
-    done = record { own = own; posts = tick_posts here (w.servers n); jobs = [] };
-    queue = (w.servers n).queue ++ start_jobs log.phase (wanted log);
-    did = By_lead _ (Asks_for _ tick_asks);
-    grows = front_itself log.applied;
-    queued = queue_started;
-    works = inr (record { same = refl; asks = tick_asks });
-    is = refl;
-  }
-  server_serves (Work work_end.Done) may = works_serve (w.servers n).queue refl
+  glances_serve : (line round : ℕ) → S (Glance line round) (glances here line round server)
+  glances_serve line round = Stays (glance_sender here server) _
+      (by_test (λ (who : Sender). who.from ≡ actor.Server n) server.life.running _ _ (λ t. refl) (λ t. refl))
+      (λ post i. only (λ (p : Post). subject_of p.body ≡ Glanced) _ post i
+      (by_test (λ (said : Body). subject_of said ≡ Glanced) server.life.running _ _ (λ t. refl) (λ t. refl)))
+
+  pub server_serves : (what : Step) → MayServer what w n → F what (server_step what (server_state setting w n) n server)
+      → S what (server_step what (server_state setting w n) n server)
+  unfolding In
+  server_serves (Call line) may later = absurd may
+  server_serves (Deliver letter) may later =
+      by_test (λ (x : Server). S (Deliver letter) (record { server = x; letters = [] })) server.life.running _ _
+      (λ runs. Goes log (silent own) _ runs (By_job log (silent own) refl Ignores) (queue_delivered letter may.comes.sent may.comes.own) (inr rests_idle))
+      (λ rests. Stays (glance_sender here server) []
+      (by_test (λ (who : Sender). who.from ≡ actor.Server n) server.life.running _ _ (λ t. refl) (λ t. refl)) (λ post i. absurd i))
+  server_serves Tick may later =
+      let done : Done = record { own = own; posts = tick_posts here server; jobs = [] } in
+      Goes (asks_next (voter_of here) log) done _ may (By_job (asks_next (voter_of here) log) done refl (By_lead _ (Asks_for _ tick_asks))) queue_started
+      (inr (record { same = refl; asks = tick_asks }))
+  server_serves (Work work_end.Done) may later = works_serve server.queue refl may.1 may.0 later
+  server_serves (Work (work_end.Fault Before)) may later = stops_serve (Work (work_end.Fault Before)) may.0
+  server_serves (Work (work_end.Fault After)) may later = faults_serve server.queue refl may.1 may.0 later
+  server_serves Stop may later = stops_serve Stop may.runs
+  server_serves (Glance line round) may later = glances_serve line round

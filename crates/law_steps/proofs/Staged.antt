@@ -1,24 +1,26 @@
--- Each job keeps the pending operations in one of the four stages at rest.
+-- After each job the pending operations rest: in one of the four stages, where the link is in Both.
 use Rattle.std.proofs.Common.{◌≡◌, ◌≢◌, ℕ, ◌+◌, true, false, Some, refl, sym, ap, ◌∙◌, subst, ◌⊎◌, inl, inr}
-use Rattle.busy_marks.specs.declared.marks.MarkKind.TheVariants.{Busy}
+use Rattle.busy_marks.specs.declared.marks.MarkKind.TheVariants.{Busy, Stale}
 use Rattle.petal_base.specs.declared.cell.Cell.{Cell}
 use Rattle.petal_base.specs.Cells.{cell_of}
 use Rattle.petal_table.specs.Table.{Table, at, put, without}
 use Rattle.petal_msg.specs.declared.body.Body.{Body}
 use Rattle.petal_msg.specs.declared.operation.Pending.{Pending}
 use Rattle.petal_msg.specs.declared.operation.Stage.{Stage}
-use Rattle.petal_rules.specs.State.{State}
+use Rattle.petal_rules.specs.State.{State, is_lead, is_alone_on}
 use Rattle.petal_rules.specs.Store.{cell_cmp, chain_in, version_of}
 use Rattle.petal_rules.specs.Server.{Own, Here, Done}
 use Rattle.petal_rules.specs.Writes.{operation, with_reserved, with_paired, with_mark_at}
 use Rattle.petal_rules.proofs.CellTables.{cell_cmp_total, cell_same, cell_apart, cell_gone, cell_gone_apart}
 use Rattle.law_steps.specs.Operations.{IsStaged, AtRest, Waiting, Putting, Copying, Answering}
-use Rattle.law_steps.specs.DidLead.{DidLead, Asks_for, Repeats, Is_full, Opens, Marks, Puts, Gives_up, Unmarks, Closes}
+use Rattle.law_state.proofs.Alone.{alone_not_both}
+use Rattle.law_steps.specs.DidLead.{DidLead, Asks_for, Repeats, Is_full, Opens, Marks, Puts, Gives_up, Unmarks, Closes, Opens_alone, Marks_alone, Puts_alone, Unmarks_alone, Closes_alone, Taken}
 use Rattle.law_steps.specs.Did.{Did, Ignores, Refuses, By_read, By_lead, By_second}
 use Rattle.law_steps.specs.Ready.{IsReady, IsRising}
-use Rattle.petal_rules.proofs.Tests.{same_or_apart, same_some, none_some}
+use Rattle.petal_rules.proofs.Tests.{same_or_apart, same_some, none_some, true_false}
 use Rattle.law_steps.proofs.Subjects.{of_read, of_second}
 use Rattle.law_steps.proofs.Tables.{put_rises, without_rises}
+use Rattle.law_steps.proofs.Taking.{taking}
 
 pub same_cell_or_apart : (a b : Cell) → (a ≡ b) ⊎ (a ≢ b)
 same_cell_or_apart a b = elim (same_or_apart a.map b.map) [
@@ -47,60 +49,102 @@ pub put_put : (t : Table Cell Pending) (cell : Cell) (one two : Pending) (q : Ce
     → at cell_cmp (put cell_cmp (put cell_cmp t cell one) cell two) q ≡ at cell_cmp t q
 put_put t cell one two q ne = cell_apart (put cell_cmp t cell one) cell two q ne ∙ cell_apart t cell one q ne
 
-module _ (heard : Body → Type 0) (here : Here) (state : State) (own : Own) (ready : IsReady state here.me own.pairs.pending) where
+module _ (heard : Body → Type 0) (here : Here) (own : Own) (ready : IsReady here.state here.me own.pairs.pending) where
   abbrev t : Table Cell Pending
   t = own.pairs.pending
 
+  abbrev R : Table Cell Pending → Type 0
+  R u = IsReady here.state here.me u
+
   restaged : (op new : Pending) → at cell_cmp t op.cell ≡ Some op → new.cell ≡ op.cell → new.key ≡ op.key → AtRest new.stage
-      → IsStaged state here.me op.cell new
+      → IsStaged here.state here.me op.cell new
   restaged op new is cell key stage =
       let s = ready.staged op.cell op is in
-      record { own = cell; keyed = ap cell_of key ∙ s.keyed; lead = s.lead; stage = stage }
+      record { own = cell; keyed = ap cell_of key ∙ s.keyed; lead = s.lead; stage = λ both. stage }
 
   -- the operation rests in its next stage, and nothing else is changed
-  put_ready : (op new : Pending) → IsStaged state here.me op.cell new → IsReady state here.me (put cell_cmp t op.cell new)
+  put_ready : (op new : Pending) → IsStaged here.state here.me op.cell new → R (put cell_cmp t op.cell new)
   put_ready op new staged =
-      changed_ready state here.me t (put cell_cmp t op.cell new) op.cell ready (put_rises cell_cmp_total t op.cell new ready.rising)
+      changed_ready here.state here.me t (put cell_cmp t op.cell new) op.cell ready (put_rises cell_cmp_total t op.cell new ready.rising)
       (λ q ne. cell_apart t op.cell new q ne)
-      (λ o there. subst (IsStaged state here.me op.cell) (same_some (sym (cell_same t op.cell new) ∙ there)) staged)
+      (λ o there. subst (IsStaged here.state here.me op.cell) (same_some (sym (cell_same t op.cell new) ∙ there)) staged)
 
-  put_twice_ready : (op one new : Pending) → IsStaged state here.me op.cell new → IsReady state here.me (put cell_cmp (put cell_cmp t op.cell one) op.cell new)
+  put_twice_ready : (op one new : Pending) → IsStaged here.state here.me op.cell new → R (put cell_cmp (put cell_cmp t op.cell one) op.cell new)
   put_twice_ready op one new staged =
       let u = put cell_cmp t op.cell one in
-      changed_ready state here.me t (put cell_cmp u op.cell new) op.cell ready
+      changed_ready here.state here.me t (put cell_cmp u op.cell new) op.cell ready
       (put_rises cell_cmp_total u op.cell new (put_rises cell_cmp_total t op.cell one ready.rising))
       (λ q ne. put_put t op.cell one new q ne)
-      (λ o there. subst (IsStaged state here.me op.cell) (same_some (sym (cell_same u op.cell new) ∙ there)) staged)
+      (λ o there. subst (IsStaged here.state here.me op.cell) (same_some (sym (cell_same u op.cell new) ∙ there)) staged)
 
-  gone_ready : (cell : Cell) → IsReady state here.me (without cell_cmp t cell)
+  gone_ready : (cell : Cell) → R (without cell_cmp t cell)
   gone_ready cell =
-      changed_ready state here.me t (without cell_cmp t cell) cell ready (without_rises cell_cmp t cell ready.rising)
+      changed_ready here.state here.me t (without cell_cmp t cell) cell ready (without_rises cell_cmp t cell ready.rising)
       (λ q ne. cell_gone_apart t cell q ne) (λ o there. none_some (cell_gone t cell) there)
 
-  lead_ready : (done : Done) → DidLead heard here state own done → IsReady state here.me done.own.pairs.pending
+  -- ### At a holder that is alone
+
+  alone_staged : (cell : Cell) (op : Pending) → op.cell ≡ cell → cell_of op.key ≡ cell → is_lead here.state here.me cell ≡ true
+      → is_alone_on here.state here.me cell ≡ true → IsStaged here.state here.me cell op
+  alone_staged cell op own keyed lead alone =
+      record { own = own; keyed = keyed; lead = lead; stage = λ both. true_false both (alone_not_both here.state here.me cell alone) }
+
+  taken_staged : (now : Own) (op new : Pending) → Taken own now op → is_alone_on here.state here.me op.cell ≡ true → new.cell ≡ op.cell → new.key ≡ op.key
+      → IsStaged here.state here.me op.cell new
+  taken_staged now op new taken alone cell key =
+      let k = taking own now op taken in
+      let s = ready.staged op.cell k.old k.was in
+      alone_staged op.cell new cell (ap cell_of (key ∙ ap (λ (o : Pending). o.key) k.is) ∙ s.keyed) s.lead alone
+
+  taken_ready : (now : Own) (op new : Pending) → Taken own now op → is_alone_on here.state here.me op.cell ≡ true → new.cell ≡ op.cell → new.key ≡ op.key
+      → R (put cell_cmp now.pairs.pending op.cell new)
+  taken_ready now op new taken alone cell key =
+      let k = taking own now op taken in
+      let u = now.pairs.pending in
+      changed_ready here.state here.me t (put cell_cmp u op.cell new) op.cell ready (put_rises cell_cmp_total u op.cell new (k.rises ready.rising))
+      (λ q ne. cell_apart u op.cell new q ne ∙ k.others q ne)
+      (λ o there. subst (IsStaged here.state here.me op.cell) (same_some (sym (cell_same u op.cell new) ∙ there)) (taken_staged now op new taken alone cell key))
+
+  taken_gone : (now : Own) (op : Pending) → Taken own now op → R (without cell_cmp now.pairs.pending op.cell)
+  taken_gone now op taken =
+      let k = taking own now op taken in
+      let u = now.pairs.pending in
+      changed_ready here.state here.me t (without cell_cmp u op.cell) op.cell ready (without_rises cell_cmp u op.cell (k.rises ready.rising))
+      (λ q ne. cell_gone_apart u op.cell q ne ∙ k.others q ne) (λ o there. none_some (cell_gone u op.cell) there)
+
+  lead_ready : (done : Done) → DidLead heard here own done → R done.own.pairs.pending
   lead_ready _ (Asks_for posts h) = ready
   lead_ready _ (Repeats want last h lead is e) = ready
-  lead_ready _ (Is_full want h lead new none no_room) = ready
-  lead_ready _ (Opens want h lead new none) =
-      let op = operation here own.pairs.next want in put_ready op op (record { own = refl; keyed = refl; lead = lead; stage = Waiting refl })
-  lead_ready _ (Marks op h is stage) =
+  lead_ready _ (Is_full want new no_room) = ready
+  lead_ready _ (Gives_up op h is reserved put) = gone_ready op.cell
+  lead_ready _ (Opens want new both) =
+      let op = operation here own.pairs.next want in
+      put_ready op op (record { own = refl; keyed = refl; lead = new.lead; stage = λ both. Waiting refl })
+  lead_ready _ (Marks op h is both stage) =
       put_twice_ready op (with_reserved op) _ (restaged op (with_mark_at (with_reserved op) Busy true) is refl refl
       (Putting (ap (λ (x : Stage). (record x { reserved = true; busy = true })) stage)))
-  lead_ready _ (Puts op is stage) =
+  lead_ready _ (Puts op is both stage) =
       let two : Pending = record op { version = version_of (chain_in own.store.chains op.cell) + 1; stage = record op.stage { put = true } } in
       put_ready op two (restaged op two is refl refl (Copying (ap (λ (x : Stage). (record x { put = true })) stage)))
-  lead_ready _ (Gives_up op h is stage) = gone_ready op.cell
-  lead_ready _ (Unmarks op h is stage) =
+  lead_ready _ (Unmarks op h is both stage) =
       put_twice_ready op (with_paired op) _ (restaged op (with_mark_at (with_paired op) Busy false) is refl refl
       (Answering (ap (λ (x : Stage). (record x { paired = true; busy = false })) stage)))
-  lead_ready _ (Closes op is stage) = gone_ready op.cell
+  lead_ready _ (Closes op is both stage) = gone_ready op.cell
+  lead_ready _ (Opens_alone want new alone) =
+      let op = operation here own.pairs.next want in
+      put_twice_ready op op (with_mark_at op Stale true) (alone_staged want.cell (with_mark_at op Stale true) refl refl new.lead alone)
+  lead_ready _ (Marks_alone now op taken alone fresh) = taken_ready now op (with_mark_at op Stale true) taken alone refl refl
+  lead_ready _ (Puts_alone now op taken alone stale put) =
+      taken_ready now op (record op { version = version_of (chain_in now.store.chains op.cell) + 1; stage = record op.stage { put = true } }) taken alone refl refl
+  lead_ready _ (Unmarks_alone now op taken alone stale put busy) = taken_ready now op (with_mark_at op Busy false) taken alone refl refl
+  lead_ready _ (Closes_alone now op taken alone stale put free) = taken_gone now op taken
 
-  still : (t : Table Cell Pending) → t ≡ own.pairs.pending → IsReady state here.me t
-  still t same = subst (IsReady state here.me) (sym same) ready
+  still : (t : Table Cell Pending) → t ≡ own.pairs.pending → R t
+  still t same = subst R (sym same) ready
 
-  pub did_ready : (done : Done) → Did heard here state own done → IsReady state here.me done.own.pairs.pending
+  pub did_ready : (done : Done) → Did heard here own done → R done.own.pairs.pending
   did_ready _ Ignores = ready
   did_ready _ (Refuses to said is why) = ready
-  did_ready _ (By_read done d) = still _ (ap (λ (o : Own). o.pairs.pending) (of_read heard here state own done d).same)
+  did_ready _ (By_read done d) = still _ (ap (λ (o : Own). o.pairs.pending) (of_read heard here own done d).same)
   did_ready _ (By_lead done d) = lead_ready done d
-  did_ready _ (By_second done d) = still _ (of_second heard here state own done d).pending
+  did_ready _ (By_second done d) = still _ (of_second heard here own done d).pending

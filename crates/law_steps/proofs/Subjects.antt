@@ -8,16 +8,16 @@ use Rattle.petal_msg.specs.declared.letter.Letter.{Letter}
 use Rattle.petal_msg.specs.declared.operation.Far.{Far}
 use Rattle.petal_msg.specs.declared.operation.Far.TheVariants as far
 use Rattle.petal_rules.specs.Lists.{In}
-use Rattle.petal_rules.specs.State.{State}
 use Rattle.petal_rules.specs.Server.{Own, Here, Post, Done}
 use Rattle.petal_rules.specs.Writes.{tells}
 use Rattle.petal_rules.specs.declared.job.Job.{Job}
 use Rattle.petal_rules.specs.declared.job.Job.TheVariants as job
 use Rattle.law_steps.specs.DidRead.{DidRead, Shows}
-use Rattle.law_steps.specs.DidLead.{DidLead, Asks_for, Repeats, Is_full, Opens, Marks, Puts, Gives_up, Unmarks, Closes}
+use Rattle.law_steps.specs.DidLead.{DidLead, Asks_for, Repeats, Is_full, Opens, Marks, Puts, Gives_up, Unmarks, Closes, Opens_alone, Marks_alone, Puts_alone, Unmarks_alone, Closes_alone}
 use Rattle.law_steps.specs.DidSecond.{DidSecond, Sets_apart, Promises, Declines, Follows}
 use Rattle.law_steps.specs.Did.{Did, Ignores, Refuses, By_read, By_lead, By_second}
 use Rattle.law_steps.proofs.Letters.{one_post, posted}
+use Rattle.law_steps.proofs.Taking.{taking}
 
 -- the letter is a read's answer
 pub record HasData (post : Post) : Type 0 where
@@ -49,25 +49,33 @@ pub told_own : (here : Here) (new : Own) (cell : Cell) (number : ℕ) (how : Far
 told_own here new cell number far.Reserved = refl
 told_own here new cell number far.Replicated = refl
 
-module _ (heard : Body → Type 0) (here : Here) (state : State) (own : Own) where
-  pub of_read : (done : Done) → DidRead heard here state own done → ReadFrame own done
+module _ (heard : Body → Type 0) (here : Here) (own : Own) where
+  pub of_read : (done : Done) → DidRead heard here own done → ReadFrame own done
   of_read _ (Shows client seq cell epoch h r none) = record {
     same = refl;
     no_jobs = refl;
     says = λ post i. record { seq = seq; bytes = _; is = (one_post _ _ post i).1 };
   }
 
-  pub of_lead : (done : Done) → DidLead heard here state own done → LeadFrame own done
+  pub of_lead : (done : Done) → DidLead heard here own done → LeadFrame own done
   unfolding In
   of_lead _ (Asks_for posts h) = record { last = refl; no_letters = λ letter i. i }
   of_lead _ (Repeats want last h lead is e) = record { last = refl; no_letters = λ letter i. i }
-  of_lead _ (Is_full want h lead new none no_room) = record { last = refl; no_letters = λ letter i. i }
-  of_lead _ (Opens want h lead new none) = record { last = refl; no_letters = λ letter i. i }
-  of_lead _ (Marks op h is stage) = record { last = refl; no_letters = λ letter i. elim i [ inl e ↦ cc | inr none ↦ none ] }
-  of_lead _ (Puts op is stage) = record { last = refl; no_letters = λ letter i. elim i [ inl e ↦ cc | inr none ↦ none ] }
-  of_lead _ (Gives_up op h is stage) = record { last = refl; no_letters = λ letter i. i }
-  of_lead _ (Unmarks op h is stage) = record { last = refl; no_letters = λ letter i. elim i [ inl e ↦ cc | inr none ↦ none ] }
-  of_lead _ (Closes op is stage) = record { last = refl; no_letters = λ letter i. i }
+  of_lead _ (Is_full want new no_room) = record { last = refl; no_letters = λ letter i. i }
+  of_lead _ (Gives_up op h is reserved put) = record { last = refl; no_letters = λ letter i. i }
+  of_lead _ (Opens want new both) = record { last = refl; no_letters = λ letter i. i }
+  of_lead _ (Marks op h is both stage) = record { last = refl; no_letters = λ letter i. elim i [ inl e ↦ cc | inr none ↦ none ] }
+  of_lead _ (Puts op is both stage) = record { last = refl; no_letters = λ letter i. elim i [ inl e ↦ cc | inr none ↦ none ] }
+  of_lead _ (Unmarks op h is both stage) = record { last = refl; no_letters = λ letter i. elim i [ inl e ↦ cc | inr none ↦ none ] }
+  of_lead _ (Closes op is both stage) = record { last = refl; no_letters = λ letter i. i }
+  of_lead _ (Opens_alone want new alone) = record { last = refl; no_letters = λ letter i. elim i [ inl e ↦ cc | inr none ↦ none ] }
+  of_lead _ (Marks_alone now op taken alone fresh) =
+      record { last = (taking own now op taken).last; no_letters = λ letter i. elim i [ inl e ↦ cc | inr none ↦ none ] }
+  of_lead _ (Puts_alone now op taken alone stale put) =
+      record { last = (taking own now op taken).last; no_letters = λ letter i. elim i [ inl e ↦ cc | inr none ↦ none ] }
+  of_lead _ (Unmarks_alone now op taken alone stale put busy) =
+      record { last = (taking own now op taken).last; no_letters = λ letter i. elim i [ inl e ↦ cc | inr none ↦ none ] }
+  of_lead _ (Closes_alone now op taken alone stale put free) = record { last = (taking own now op taken).last; no_letters = λ letter i. i }
 
   -- what a second server tells the lead
   told : (new : Own) (cell : Cell) (number : ℕ) (how : Far) → new.pairs.pending ≡ own.pairs.pending → new.pairs.next ≡ own.pairs.next
@@ -78,7 +86,7 @@ module _ (heard : Body → Type 0) (here : Here) (state : State) (own : Own) whe
   told new cell number far.Replicated pending next finished =
       record { pending = pending; next = next; finished = finished; no_jobs = refl; says = λ post i. ap subject_of (posted _ _ post i) }
 
-  pub of_second : (done : Done) → DidSecond heard here state own done → SecondFrame own done
+  pub of_second : (done : Done) → DidSecond heard here own done → SecondFrame own done
   of_second _ (Sets_apart number cell tickets h s le) = told _ cell number far.Reserved refl refl refl
   of_second _ (Promises number cell how s is) = told own cell number how refl refl refl
   of_second _ (Declines number cell h s no_room) =
@@ -86,7 +94,7 @@ module _ (heard : Body → Type 0) (here : Here) (state : State) (own : Own) whe
   of_second _ (Follows number key version bytes h s is) = told _ _ number far.Replicated refl refl refl
 
   -- what follows a job up is a stage, and no letter
-  pub no_letters : (done : Done) → Did heard here state own done → (letter : Letter) → In (job.Letter letter) done.jobs → ⊥
+  pub no_letters : (done : Done) → Did heard here own done → (letter : Letter) → In (job.Letter letter) done.jobs → ⊥
   unfolding In
   no_letters _ Ignores letter i = i
   no_letters _ (Refuses to said is why) letter i = i

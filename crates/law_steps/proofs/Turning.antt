@@ -1,5 +1,5 @@
 -- Each step of a client is one of the kinds that the relation names.
-use Rattle.std.proofs.Common.{◌≡◌, ◌+◌, ◌++◌, ◌==◌, ◌&&◌, ℕ, Bool, true, false, List, [], ◌∷◌, Option, Some, None, refl, ◌∙◌, sym, ap, subst, inl, inr, append_assoc}
+use Rattle.std.proofs.Common.{◌≡◌, ◌+◌, ◌++◌, ◌==◌, ◌&&◌, ℕ, Bool, true, false, List, [], ◌∷◌, Option, Some, None, length, refl, ◌∙◌, sym, ap, subst, inl, inr, append_assoc}
 use Rattle.std.specs.Prelude.{is_some}
 use Rattle.std.proofs.lemmas.Grind.{fold-append}
 use Rattle.petal_command.specs.declared.command.Command.{Command}
@@ -23,14 +23,15 @@ use Rattle.petal_history.specs.Claims.{IsPrefix}
 use Rattle.petal_rules.specs.Lists.{In}
 use Rattle.petal_rules.specs.State.{State, find}
 use Rattle.petal_rules.specs.Server.{Post, post_to}
-use Rattle.petal_rules.specs.Clients.{Client, Asked, Reaction, Learning, rests, posts_for, write_posts, read_posts, read_posts_at, epoch_for, cell_on, to_propose, sends_or_proposes, goes_out, goes_out_where, post_in_turn, asking, asks_and_sends, called, replies, is_read, is_write, hears, hears_of, heard, hears_any, command_of, refusal, verdict_for, answered_where, witnessed, is_witness, judged, judged_by, takes_entry, takes_all, then_goes_out, takes_entries, next_entries, ticked}
+use Rattle.petal_rules.specs.Clients.{Client, Asked, Reaction, Learning, rests, posts_for, write_posts, read_posts, read_posts_at, epoch_for, cell_on, to_propose, sends_or_proposes, goes_out, goes_out_where, post_in_turn, asking, asks_and_sends, called, replies, is_read, is_write, is_stop, hears, hears_of, heard, hears_any, command_of, refusal, verdict_for, answered_where, witnessed, is_witness, judged, judged_by, takes_entry, takes_all, then_goes_out, takes_entries, next_entries, ticked}
 use Rattle.petal_rules.specs.World.{Setting, World, MayClient, client_state, client_step, calls, line_in, next_line}
 use Rattle.petal_rules.specs.declared.step.Step.{Step}
-use Rattle.petal_rules.specs.declared.step.Step.TheVariants.{Call, Deliver, Tick, Work}
+use Rattle.petal_rules.specs.declared.step.Step.TheVariants.{Call, Deliver, Tick, Work, Stop, Glance}
 use Rattle.petal_rules.proofs.ListLemmas.{in-append}
 use Rattle.petal_rules.proofs.Tests.{by_test, both_true, same_numbers, only}
+use Rattle.law_state.proofs.Steady.{log_rev}
 use Rattle.law_steps.specs.Happens.{Heard}
-use Rattle.law_steps.specs.Turned.{Turned, Says, Of_the_log, A_write, A_read, OnlySays, IsSame, StaysOpen, IsReason, By_verdict, By_witness, IsJudged, Goes_on, Begins, Reads, Ends, Judges}
+use Rattle.law_steps.specs.Turned.{Turned, Says, Of_the_log, A_write, A_read, OnlySays, IsSame, StaysOpen, IsReason, By_verdict, By_witness, IsJudged, Goes_on, Begins, Reads, Ends, Shown, Judges}
 use Rattle.law_steps.proofs.Fronts.{front_itself, front_same, front_more, front_on}
 
 -- a client's step is made in a call, or else
@@ -39,36 +40,41 @@ is_call what = is_some (line_in what)
 
 -- ### What stays open
 
-same_itself : (asked : Asked) → IsSame asked asked
-same_itself asked = record { line = refl; seq = refl; request = refl }
+same_itself : (rev : ℕ) (asked : Asked) → IsSame rev asked asked
+same_itself rev asked = record { line = refl; seq = refl; request = refl; sent = inl refl }
 
-same_on : (a b c : Asked) → IsSame a b → IsSame b c → IsSame a c
-same_on a b c one two = record { line = two.line ∙ one.line; seq = two.seq ∙ one.seq; request = two.request ∙ one.request }
+same_on : (rev : ℕ) (a b c : Asked) → IsSame rev a b → IsSame rev b c → IsSame rev a c
+same_on rev a b c one two = record {
+  line = two.line ∙ one.line;
+  seq = two.seq ∙ one.seq;
+  request = two.request ∙ one.request;
+  sent = elim two.sent [ inr now ↦ inr now | inl e ↦ elim one.sent [ inl before ↦ inl (e ∙ before) | inr now ↦ inr (e ∙ now) ] ];
+}
 
-stays_itself : (o : Option Asked) → StaysOpen o o
-stays_itself None = tt
-stays_itself (Some asked) = same_itself asked
+stays_itself : (rev : ℕ) (o : Option Asked) → StaysOpen rev o o
+stays_itself rev None = tt
+stays_itself rev (Some asked) = same_itself rev asked
 
-stays_on : (a b c : Option Asked) → StaysOpen a b → StaysOpen b c → StaysOpen a c
-stays_on None None None one two = tt
-stays_on None None (Some c) one two = absurd two
-stays_on None (Some b) c one two = absurd one
-stays_on (Some a) None c one two = absurd one
-stays_on (Some a) (Some b) None one two = absurd two
-stays_on (Some a) (Some b) (Some c) one two = same_on a b c one two
+stays_on : (rev : ℕ) (a b c : Option Asked) → StaysOpen rev a b → StaysOpen rev b c → StaysOpen rev a c
+stays_on rev None None None one two = tt
+stays_on rev None None (Some c) one two = absurd two
+stays_on rev None (Some b) c one two = absurd one
+stays_on rev (Some a) None c one two = absurd one
+stays_on rev (Some a) (Some b) None one two = absurd two
+stays_on rev (Some a) (Some b) (Some c) one two = same_on rev a b c one two
 
-record StillOpen (old : Asked) (o : Option Asked) : Type 0 where
+record StillOpen (rev : ℕ) (old : Asked) (o : Option Asked) : Type 0 where
   now : Asked
   is : o ≡ Some now
-  same : IsSame old now
+  same : IsSame rev old now
 
-still_open : (old : Asked) (o : Option Asked) → StaysOpen (Some old) o → StillOpen old o
-still_open old None h = absurd h
-still_open old (Some now) h = record { now = now; is = refl; same = h }
+still_open : (rev : ℕ) (old : Asked) (o : Option Asked) → StaysOpen rev (Some old) o → StillOpen rev old o
+still_open rev old None h = absurd h
+still_open rev old (Some now) h = record { now = now; is = refl; same = h }
 
-was_open : (o : Option Asked) (now : Asked) → StaysOpen o (Some now) → (old : Asked) × (o ≡ Some old) × IsSame old now
-was_open None now h = absurd h
-was_open (Some old) now h = (old, refl, h)
+was_open : (rev : ℕ) (o : Option Asked) (now : Asked) → StaysOpen rev o (Some now) → (old : Asked) × (o ≡ Some old) × IsSame rev old now
+was_open rev None now h = absurd h
+was_open rev (Some old) now h = (old, refl, h)
 
 -- ### What is sent
 
@@ -80,12 +86,12 @@ module _ (state : State) (c : ℕ) where
   post_says open_now (Some to) said post h i = only (Says state c open_now) _ post i (h to)
 
   module _ (open_now : Option Asked) (asked : Asked) (is : open_now ≡ Some asked) where
-    write_says : (name : List ℕ) (block : ℕ) (pattern : Pattern) → asked.request ≡ request.Write name block pattern → (o : Option DiskView)
-        → find state name ≡ o → (post : Post) → In post (write_posts state o c asked.seq block (pattern_block pattern)) → Says state c open_now post
+    write_says : asked.rev ≡ state.rev → (name : List ℕ) (block : ℕ) (pattern : Pattern) → asked.request ≡ request.Write name block pattern
+        → (o : Option DiskView) → find state name ≡ o → (post : Post) → In post (write_posts state o c asked.seq block (pattern_block pattern)) → Says state c open_now post
     unfolding In
-    write_says name block pattern asks None found post h = absurd h
-    write_says name block pattern asks (Some disk) found post h =
-        post_says open_now _ _ post (λ to. A_write asked name block pattern disk to is asks found) h
+    write_says rev name block pattern asks None found post h = absurd h
+    write_says rev name block pattern asks (Some disk) found post h =
+        post_says open_now _ _ post (λ to. A_write asked name block pattern disk to is asks found rev) h
 
     read_says : (name : List ℕ) (snap : Option (List ℕ)) (block turn : ℕ) → asked.request ≡ request.Read name snap block → (o : Option DiskView)
         → find state name ≡ o → (post : Post) → In post (read_posts state o snap c asked.seq (block, turn)) → Says state c open_now post
@@ -98,18 +104,18 @@ module _ (state : State) (c : ℕ) where
         at_epoch None e i = absurd i
         at_epoch (Some epoch) e i = post_says open_now _ _ post (λ to. A_read asked name snap block disk epoch to is asks found e) i
 
-    posts_say : (turn : ℕ) (what : Request) → asked.request ≡ what → (post : Post) → In post (posts_for state c asked.seq turn what)
+    posts_say : asked.rev ≡ state.rev → (turn : ℕ) (what : Request) → asked.request ≡ what → (post : Post) → In post (posts_for state c asked.seq turn what)
         → Says state c open_now post
     unfolding In
-    posts_say turn (request.Write name block pattern) e post h = write_says name block pattern e _ refl post h
-    posts_say turn (request.Read name snap block) e post h = read_says name snap block turn e _ refl post h
-    posts_say turn _ e post h = absurd h
+    posts_say rev turn (request.Write name block pattern) e post h = write_says rev name block pattern e _ refl post h
+    posts_say rev turn (request.Read name snap block) e post h = read_says name snap block turn e _ refl post h
+    posts_say rev turn _ e post h = absurd h
 
   -- a reaction that answers nothing and leaves open what was
   record IsQuiet (client : Client) (open_before : Option Asked) (reacted : Reaction) : Type 0 where
     seq : reacted.client.seq ≡ client.seq
     applied : reacted.client.applied ≡ client.applied
-    stays : StaysOpen open_before reacted.client.asked
+    stays : StaysOpen state.rev open_before reacted.client.asked
     says : (post : Post) → In post reacted.posts → Says state c reacted.client.asked post
     unanswered : reacted.answer ≡ None
 
@@ -118,7 +124,7 @@ module _ (state : State) (c : ℕ) where
   rests_quiet client o e = record {
     seq = refl;
     applied = refl;
-    stays = subst (StaysOpen o) (sym e) (stays_itself o);
+    stays = subst (StaysOpen state.rev o) (sym e) (stays_itself state.rev o);
     says = λ post i. absurd i;
     unanswered = refl;
   }
@@ -130,14 +136,14 @@ module _ (state : State) (c : ℕ) where
       by None = record {
         seq = refl;
         applied = refl;
-        stays = record { line = refl; seq = refl; request = refl };
-        says = λ post i. posts_say _ (record asked { turn = asked.turn + 1; rev = state.rev }) refl asked.turn asked.request refl post i;
+        stays = record { line = refl; seq = refl; request = refl; sent = inr refl };
+        says = λ post i. posts_say _ (record asked { turn = asked.turn + 1; rev = state.rev }) refl refl asked.turn asked.request refl post i;
         unanswered = refl;
       }
       by (Some command) = record {
         seq = refl;
         applied = refl;
-        stays = same_itself asked;
+        stays = same_itself state.rev asked;
         says = λ post i. only (Says state c (Some asked)) _ post i (Of_the_log _ refl);
         unanswered = refl;
       }
@@ -183,9 +189,15 @@ module _ (servers : ℕ) (lines : List Line) (w : World) (c : ℕ) where
     unanswered = q.unanswered;
   }
 
+  -- the revision is that of the state
+  stays_at : (before : Client) (o : Option Asked) (reacted : Reaction) → IsQuiet (state_after servers before.applied) c before o reacted
+      → StaysOpen (length reacted.client.applied) o reacted.client.asked
+  stays_at before o reacted q =
+      subst (λ k. StaysOpen k o reacted.client.asked) (log_rev servers before.applied ∙ ap length (sym q.applied)) q.stays
+
   goes_on : (reacted : Reaction) → IsQuiet state c client client.asked reacted → T reacted
   goes_on reacted q = record {
-    turned = Goes_on reacted q.seq q.stays (only_says client client.asked reacted q);
+    turned = Goes_on reacted q.seq (stays_at client client.asked reacted q) (only_says client client.asked reacted q);
     grows = front_same client.applied reacted.client.applied q.applied;
   }
 
@@ -200,7 +212,7 @@ module _ (servers : ℕ) (lines : List Line) (w : World) (c : ℕ) where
       let new : Asked = record { line = line.number; seq = client.seq + 1; request = line.request; turn = 0; rev = state.rev; witnesses = 0 } in
       let reacted = goes_out state c before new in
       let q = goes_quiet state c before new in
-      let still = still_open new reacted.client.asked q.stays in
+      let still = still_open state.rev new reacted.client.asked q.stays in
       record {
         turned = Begins reacted line still.now is free q.seq still.is
             (record { line_is = still.same.line; seq_is = still.same.seq; request_is = still.same.request })
@@ -213,8 +225,8 @@ module _ (servers : ℕ) (lines : List Line) (w : World) (c : ℕ) where
 
   -- ### A reply
 
-  heard_as : (said other : Body) → said ≡ other → Heard w (actor.Client c) said → Heard w (actor.Client c) other
-  heard_as said other e h = subst (Heard w (actor.Client c)) e h
+  heard_as : {said other : Body} {rev rev' : ℕ} → said ≡ other → rev ≡ rev' → Heard w (actor.Client c) rev said → Heard w (actor.Client c) rev' other
+  heard_as {said} {other} {rev} {rev'} e f h = subst (λ k. Heard w (actor.Client c) k other) f (subst (Heard w (actor.Client c) rev) e h)
 
   again : (asked : Asked) → client.asked ≡ Some asked → T (asks_and_sends state c client asked)
   again asked is = goes_on _ (asking_quiet state c client client.asked _
@@ -224,19 +236,23 @@ module _ (servers : ℕ) (lines : List Line) (w : World) (c : ℕ) where
       → Turned (Heard w (actor.Client c)) servers lines c client false reacted → T reacted
   ends_turn {reacted} e t = record { turned = t; grows = front_same client.applied reacted.client.applied e }
 
-  hears_turns : (asked : Asked) (rev : ℕ) → client.asked ≡ Some asked → (said : Body) → Heard w (actor.Client c) said → T (hears state c client asked rev said)
+  hears_turns : (asked : Asked) (rev : ℕ) → client.asked ≡ Some asked → (said : Body) → Heard w (actor.Client c) rev said → T (hears state c client asked rev said)
   hears_turns asked rev is (body.Data seq bytes) h = by_test T (replies asked rev (about (body.Data seq bytes)) && is_read asked.request) _ _
       (λ t. let tests = both_true (replies asked rev (about (body.Data seq bytes))) (is_read asked.request) t in
       let same = both_true (seq == asked.seq) (rev == asked.rev) tests.0 in
-      ends_turn refl (Reads asked bytes (heard_as _ _ (ap (λ k. body.Data k bytes) (same_numbers seq asked.seq same.0)) h) is tests.1)) (λ t. rests_turns)
+      ends_turn refl (Reads asked bytes (heard_as (ap (λ k. body.Data k bytes) (same_numbers seq asked.seq same.0)) (same_numbers rev asked.rev same.1) h) is tests.1)) (λ t. rests_turns)
   hears_turns asked rev is (body.Written seq) h = by_test T (replies asked rev (about (body.Written seq)) && is_write asked.request) _ _
       (λ t. let tests = both_true (replies asked rev (about (body.Written seq))) (is_write asked.request) t in
       let same = both_true (seq == asked.seq) (rev == asked.rev) tests.0 in
-      ends_turn refl (Ends asked ending.Written (heard_as _ _ (ap body.Written (same_numbers seq asked.seq same.0)) h) is tests.1)) (λ t. rests_turns)
+      ends_turn refl (Ends asked ending.Written (heard_as (ap body.Written (same_numbers seq asked.seq same.0)) (same_numbers rev asked.rev same.1) h) is tests.1)) (λ t. rests_turns)
   hears_turns asked rev is (body.Full seq) h = by_test T (replies asked rev (about (body.Full seq)) && is_write asked.request) _ _
       (λ t. let tests = both_true (replies asked rev (about (body.Full seq))) (is_write asked.request) t in
       let same = both_true (seq == asked.seq) (rev == asked.rev) tests.0 in
-      ends_turn refl (Ends asked ending.Full (heard_as _ _ (ap body.Full (same_numbers seq asked.seq same.0)) h) is tests.1)) (λ t. rests_turns)
+      ends_turn refl (Ends asked ending.Full (heard_as (ap body.Full (same_numbers seq asked.seq same.0)) (same_numbers rev asked.rev same.1) h) is tests.1)) (λ t. rests_turns)
+  hears_turns asked rev is (body.Seen line round running inc full) h = by_test T ((line == asked.line) && is_stop asked.request) _ _
+      (λ t. let tests = both_true (line == asked.line) (is_stop asked.request) t in
+      ends_turn refl (Shown asked rev round inc running full
+      (heard_as (ap (λ k. body.Seen k round running inc full) (same_numbers line asked.line tests.0)) refl h) is tests.1)) (λ t. rests_turns)
   hears_turns asked rev is (body.BlockBusy seq) h = by_test T (replies asked rev (about (body.BlockBusy seq))) _ _ (λ t. again asked is) (λ t. rests_turns)
   hears_turns asked rev is (body.Held seq) h = by_test T (replies asked rev (about (body.Held seq))) _ _ (λ t. again asked is) (λ t. rests_turns)
   hears_turns asked rev is (body.WrongRev seq) h = by_test T (replies asked rev (about (body.WrongRev seq))) _ _ (λ t. again asked is) (λ t. rests_turns)
@@ -244,27 +260,28 @@ module _ (servers : ℕ) (lines : List Line) (w : World) (c : ℕ) where
 
   reply_turns : (letter : Letter) (o : Option Asked) → client.asked ≡ o → In letter w.sent → letter.to ≡ actor.Client c → T (hears_of state c client o letter)
   reply_turns letter None e h own = rests_turns
-  reply_turns letter (Some asked) e h own = hears_turns asked letter.rev e letter.body (record { letter = letter; sent = h; own = own; is = refl })
+  reply_turns letter (Some asked) e h own = hears_turns asked letter.rev e letter.body (record { letter = letter; sent = h; own = own; at = refl; is = refl })
 
   -- ### News
 
-  -- on its way through the entries, the request is open still, or an entry has answered it
-  data IsSoFar (now : Learning) : Type 0 where
-    Open_still : now.answer ≡ None → StaysOpen client.asked now.client.asked → IsSoFar now
+  -- on its way through the entries, the request is open still, or an entry has answered it. It is not sent before the last of
+  -- them is applied, so no other revision comes into it than `rev`
+  data IsSoFar (rev : ℕ) (now : Learning) : Type 0 where
+    Open_still : now.answer ≡ None → StaysOpen rev client.asked now.client.asked → IsSoFar rev now
     Is_answered : (asked : Asked) (given : Answer) → client.asked ≡ Some asked → now.client.asked ≡ None → now.answer ≡ Some (asked.line, given)
-        → IsJudged servers c client.applied now.client.applied asked given → IsSoFar now
+        → IsJudged servers c client.applied now.client.applied asked given → IsSoFar rev now
 
-  record Learnt (now : Learning) : Type 0 where
+  record Learnt (rev : ℕ) (now : Learning) : Type 0 where
     state_is : now.state ≡ state_after servers now.client.applied
     seq : now.client.seq ≡ client.seq
     grows : IsPrefix client.applied now.client.applied
-    far : IsSoFar now
+    far : IsSoFar rev now
 
-  reason_same : (old new : Asked) (given : Answer) (at : State) (entry : Command) → IsSame old new → IsReason c new given at entry
+  reason_same : (rev : ℕ) (old new : Asked) (given : Answer) (at : State) (entry : Command) → IsSame rev old new → IsReason c new given at entry
       → IsReason c old given at entry
-  reason_same old new given at entry same (By_verdict command own so) =
+  reason_same rev old new given at entry same (By_verdict command own so) =
       By_verdict command ((λ i. command_of c (sym same.seq i) (sym same.request i)) ∙ own) (ap (λ k. verdict_for k (latest at c)) (sym same.seq) ∙ so)
-  reason_same old new given at entry same (By_witness none is so) =
+  reason_same rev old new given at entry same (By_witness none is so) =
       By_witness ((λ i. command_of c (sym same.seq i) (sym same.request i)) ∙ none) (ap (λ k. is_witness c k entry) (sym same.seq) ∙ is)
       (ap (refusal at) (sym same.request) ∙ so)
 
@@ -290,94 +307,98 @@ module _ (servers : ℕ) (lines : List Line) (w : World) (c : ℕ) where
       → after now.state entry ≡ state_after servers (log_then now entry)
   state_then now entry e = ap (λ s. after s entry) e ∙ sym (fold-append after (states.start servers) now.client.applied (entry ∷ []))
 
-  -- an entry that leaves the open request, and one that answers it
-  leaves_open : (now : Learning) (entry : Command) → Learnt now → now.answer ≡ None → (later : Learning) → later.state ≡ after now.state entry
-      → later.client.seq ≡ now.client.seq → later.client.applied ≡ log_then now entry → later.answer ≡ now.answer
-      → StaysOpen client.asked later.client.asked → Learnt later
-  leaves_open now entry l none later at seq applied same stays = record {
-    state_is = at ∙ state_then now entry l.state_is ∙ ap (state_after servers) (sym applied);
-    seq = seq ∙ l.seq;
-    grows = front_on client.applied now.client.applied later.client.applied l.grows (record { later = entry ∷ []; is = applied });
-    far = Open_still (same ∙ none) stays;
-  }
+  module _ (rev : ℕ) where
+    -- an entry that leaves the open request, and one that answers it
+    leaves_open : (now : Learning) (entry : Command) → Learnt rev now → now.answer ≡ None → (later : Learning) → later.state ≡ after now.state entry
+        → later.client.seq ≡ now.client.seq → later.client.applied ≡ log_then now entry → later.answer ≡ now.answer
+        → StaysOpen rev client.asked later.client.asked → Learnt rev later
+    leaves_open now entry l none later at seq applied same stays = record {
+      state_is = at ∙ state_then now entry l.state_is ∙ ap (state_after servers) (sym applied);
+      seq = seq ∙ l.seq;
+      grows = front_on client.applied now.client.applied later.client.applied l.grows (record { later = entry ∷ []; is = applied });
+      far = Open_still (same ∙ none) stays;
+    }
 
-  gives : (now : Learning) (entry : Command) → Learnt now → (old asked : Asked) → client.asked ≡ Some old → IsSame old asked → (given : Answer)
-      → IsReason c asked given (after now.state entry) entry → (later : Learning) → later.state ≡ after now.state entry
-      → later.client.seq ≡ now.client.seq → later.client.applied ≡ log_then now entry → later.client.asked ≡ None
-      → later.answer ≡ Some (asked.line, given) → Learnt later
-  gives now entry l old asked is same given reason later at seq applied gone answered = record {
-    state_is = at ∙ state_then now entry l.state_is ∙ ap (state_after servers) (sym applied);
-    seq = seq ∙ l.seq;
-    grows = front_on client.applied now.client.applied later.client.applied l.grows (record { later = entry ∷ []; is = applied });
-    far = Is_answered old given is gone (answered ∙ λ i. Some (same.line i, given)) (record {
-      front = now.client.applied;
-      entry = entry;
-      rest = [];
-      lies = applied;
-      new = l.grows;
-      reason = reason_same old asked given _ entry same
-          (subst (λ s. IsReason c asked given s entry) (state_then now entry l.state_is) reason);
-    });
-  }
+    gives : (now : Learning) (entry : Command) → Learnt rev now → (old asked : Asked) → client.asked ≡ Some old → IsSame rev old asked → (given : Answer)
+        → IsReason c asked given (after now.state entry) entry → (later : Learning) → later.state ≡ after now.state entry
+        → later.client.seq ≡ now.client.seq → later.client.applied ≡ log_then now entry → later.client.asked ≡ None
+        → later.answer ≡ Some (asked.line, given) → Learnt rev later
+    gives now entry l old asked is same given reason later at seq applied gone answered = record {
+      state_is = at ∙ state_then now entry l.state_is ∙ ap (state_after servers) (sym applied);
+      seq = seq ∙ l.seq;
+      grows = front_on client.applied now.client.applied later.client.applied l.grows (record { later = entry ∷ []; is = applied });
+      far = Is_answered old given is gone (answered ∙ λ i. Some (same.line i, given)) (record {
+        front = now.client.applied;
+        entry = entry;
+        rest = [];
+        lies = applied;
+        new = l.grows;
+        reason = reason_same rev old asked given _ entry same
+            (subst (λ s. IsReason c asked given s entry) (state_then now entry l.state_is) reason);
+      });
+    }
 
-  entry_judged : (now : Learning) (entry : Command) → Learnt now → now.answer ≡ None → (o : Option Asked) → now.client.asked ≡ o
-      → StaysOpen client.asked o → Learnt (judged c entry (with_one now entry) o)
-  entry_judged now entry l none None e stays =
-      leaves_open now entry l none (with_one now entry) refl refl refl refl (subst (StaysOpen client.asked) (sym e) stays)
-  entry_judged now entry l none (Some asked) e stays =
-      let was = was_open client.asked asked stays in
-      let old = was.0 in
-      let still : Learnt (with_one now entry) =
-      leaves_open now entry l none (with_one now entry) refl refl refl refl (subst (StaysOpen client.asked) (sym e) stays) in
-      let by_command : (command : Command) → command_of c asked.seq asked.request ≡ Some command → (o : Option Answer)
-      → verdict_for asked.seq (latest (after now.state entry) c) ≡ o → Learnt (answered_where (with_one now entry) asked o) =
-      λ command own o so. elim o as (λ o. verdict_for asked.seq (latest (after now.state entry) c) ≡ o → Learnt (answered_where (with_one now entry) asked o)) [
-        | None ↦ λ so. still
-        | Some given ↦ λ so. gives now entry l old asked was.1 was.2 given (By_verdict command own so) _ refl refl refl refl refl
-      ] so in
-      let by_state : command_of c asked.seq asked.request ≡ None → is_witness c asked.seq entry ≡ true → (o : Option Answer)
-      → refusal (after now.state entry) asked.request ≡ o → Learnt (witnessed (with_one now entry) asked o) =
-      λ own is o so. elim o as (λ o. refusal (after now.state entry) asked.request ≡ o → Learnt (witnessed (with_one now entry) asked o)) [
-        | None ↦ λ so. leaves_open now entry l none _ refl refl refl refl
-            (subst (λ x. StaysOpen x (Some (record asked { witnesses = asked.witnesses + 1 }))) (sym was.1)
-            (record { line = was.2.line; seq = was.2.seq; request = was.2.request }))
-        | Some given ↦ λ so. gives now entry l old asked was.1 was.2 given (By_witness own is so) _ refl refl refl refl refl
-      ] so in
-      elim (command_of c asked.seq asked.request) as (λ o. command_of c asked.seq asked.request ≡ o → Learnt (judged_by c entry (with_one now entry) asked o)) [
-        | Some command ↦ λ own. by_command command own _ refl
-        | None ↦ λ own. by_test Learnt (is_witness c asked.seq entry) _ _ (λ is. by_state own is _ refl) (λ t. still)
-      ] refl
+    entry_judged : (now : Learning) (entry : Command) → Learnt rev now → now.answer ≡ None → (o : Option Asked) → now.client.asked ≡ o
+        → StaysOpen rev client.asked o → Learnt rev (judged c entry (with_one now entry) o)
+    entry_judged now entry l none None e stays =
+        leaves_open now entry l none (with_one now entry) refl refl refl refl (subst (StaysOpen rev client.asked) (sym e) stays)
+    entry_judged now entry l none (Some asked) e stays =
+        let was = was_open rev client.asked asked stays in
+        let old = was.0 in
+        let still : Learnt rev (with_one now entry) =
+        leaves_open now entry l none (with_one now entry) refl refl refl refl (subst (StaysOpen rev client.asked) (sym e) stays) in
+        let by_command : (command : Command) → command_of c asked.seq asked.request ≡ Some command → (o : Option Answer)
+        → verdict_for asked.seq (latest (after now.state entry) c) ≡ o → Learnt rev (answered_where (with_one now entry) asked o) =
+        λ command own o so. elim o as (λ o. verdict_for asked.seq (latest (after now.state entry) c) ≡ o → Learnt rev (answered_where (with_one now entry) asked o)) [
+          | None ↦ λ so. still
+          | Some given ↦ λ so. gives now entry l old asked was.1 was.2 given (By_verdict command own so) _ refl refl refl refl refl
+        ] so in
+        let by_state : command_of c asked.seq asked.request ≡ None → is_witness c asked.seq entry ≡ true → (o : Option Answer)
+        → refusal (after now.state entry) asked.request ≡ o → Learnt rev (witnessed (with_one now entry) asked o) =
+        λ own is o so. elim o as (λ o. refusal (after now.state entry) asked.request ≡ o → Learnt rev (witnessed (with_one now entry) asked o)) [
+          | None ↦ λ so. leaves_open now entry l none _ refl refl refl refl
+              (subst (λ x. StaysOpen rev x (Some (record asked { witnesses = asked.witnesses + 1 }))) (sym was.1)
+              (record { line = was.2.line; seq = was.2.seq; request = was.2.request; sent = was.2.sent }))
+          | Some given ↦ λ so. gives now entry l old asked was.1 was.2 given (By_witness own is so) _ refl refl refl refl refl
+        ] so in
+        elim (command_of c asked.seq asked.request) as (λ o. command_of c asked.seq asked.request ≡ o → Learnt rev (judged_by c entry (with_one now entry) asked o)) [
+          | Some command ↦ λ own. by_command command own _ refl
+          | None ↦ λ own. by_test (Learnt rev) (is_witness c asked.seq entry) _ _ (λ is. by_state own is _ refl) (λ t. still)
+        ] refl
 
-  takes_one : (now : Learning) (entry : Command) → Learnt now → Learnt (takes_entry c now entry)
-  takes_one now entry l = by l.far
-    where
-      by : IsSoFar now → Learnt (takes_entry c now entry)
-      by (Open_still none stays) = entry_judged now entry l none now.client.asked refl stays
-      by (Is_answered asked given is gone answered j) =
-          subst (λ o. Learnt (judged c entry (with_one now entry) o)) (sym gone) (record {
-            state_is = state_then now entry l.state_is;
-            seq = l.seq;
-            grows = front_on client.applied now.client.applied (log_then now entry) l.grows (front_more now.client.applied entry);
-            far = Is_answered asked given is gone answered (judged_more client.applied now.client.applied asked given entry j);
-          })
+    takes_one : (now : Learning) (entry : Command) → Learnt rev now → Learnt rev (takes_entry c now entry)
+    takes_one now entry l = by l.far
+      where
+        by : IsSoFar rev now → Learnt rev (takes_entry c now entry)
+        by (Open_still none stays) = entry_judged now entry l none now.client.asked refl stays
+        by (Is_answered asked given is gone answered j) =
+            subst (λ o. Learnt rev (judged c entry (with_one now entry) o)) (sym gone) (record {
+              state_is = state_then now entry l.state_is;
+              seq = l.seq;
+              grows = front_on client.applied now.client.applied (log_then now entry) l.grows (front_more now.client.applied entry);
+              far = Is_answered asked given is gone answered (judged_more client.applied now.client.applied asked given entry j);
+            })
 
-  takes_each : (now : Learning) (entries : List Command) → Learnt now → Learnt (takes_all c now entries)
-  takes_each now [] l = l
-  takes_each now (entry ∷ entries) l = takes_each (takes_entry c now entry) entries (takes_one now entry l)
+    takes_each : (now : Learning) (entries : List Command) → Learnt rev now → Learnt rev (takes_all c now entries)
+    takes_each now [] l = l
+    takes_each now (entry ∷ entries) l = takes_each (takes_entry c now entry) entries (takes_one now entry l)
 
-  out_turns : (now : Learning) → Learnt now → T (then_goes_out c now)
+  out_turns : (now : Learning) → Learnt (length now.client.applied) now → T (then_goes_out c now)
   out_turns now l = by l.far
     where
       quiet : IsQuiet (state_after servers now.client.applied) c now.client now.client.asked (goes_out_where now.state c now.client now.client.asked)
       quiet = subst (λ s. IsQuiet s c now.client now.client.asked (goes_out_where now.state c now.client now.client.asked)) l.state_is
           (where_quiet now.state c now.client now.client.asked refl)
 
-      by : IsSoFar now → T (then_goes_out c now)
+      by : IsSoFar (length now.client.applied) now → T (then_goes_out c now)
       by (Open_still none stays) =
           let out = goes_out_where now.state c now.client now.client.asked in
+          let rev = length out.client.applied in
+          let before : StaysOpen rev client.asked now.client.asked =
+          subst (λ log. StaysOpen (length log) client.asked now.client.asked) (sym quiet.applied) stays in
           let reacted = then_goes_out c now in
           record {
-            turned = Goes_on reacted (quiet.seq ∙ l.seq) (stays_on client.asked now.client.asked out.client.asked stays quiet.stays)
+            turned = Goes_on reacted (quiet.seq ∙ l.seq) (stays_on rev client.asked now.client.asked out.client.asked before (stays_at now.client now.client.asked out quiet))
                 (record { says = (only_says now.client now.client.asked out quiet).says; unanswered = none });
             grows = front_on client.applied now.client.applied out.client.applied l.grows (front_same now.client.applied out.client.applied quiet.applied);
           }
@@ -390,11 +411,13 @@ module _ (servers : ℕ) (lines : List Line) (w : World) (c : ℕ) where
   news_turns [] = rests_turns
   news_turns (entry ∷ entries) =
       let begun : Learning = record { state = state; client = client; answer = None } in
-      out_turns (takes_all c begun (entry ∷ entries)) (takes_each begun (entry ∷ entries) (record {
+      let now = takes_all c begun (entry ∷ entries) in
+      let rev = length now.client.applied in
+      out_turns now (takes_each rev begun (entry ∷ entries) (record {
         state_is = refl;
         seq = refl;
         grows = front_itself client.applied;
-        far = Open_still refl (stays_itself client.asked);
+        far = Open_still refl (stays_itself rev client.asked);
       }))
 
   heard_turns : (letter : Letter) → In letter w.sent → letter.to ≡ actor.Client c → (said : Body) → T (hears_any state c client letter said)
@@ -413,3 +436,5 @@ client_turns setting w c Tick may =
     let state = client_state setting w c in
     goes_on setting.servers setting.lines w c _ (asking_quiet state c client client.asked _ (where_quiet state c client client.asked refl))
 client_turns setting w c (Work end) may = absurd may
+client_turns setting w c Stop may = absurd may
+client_turns setting w c (Glance line round) may = absurd may

@@ -6,7 +6,7 @@ use Rattle.petal_msg.specs.declared.body.Body.{Body}
 use Rattle.petal_msg.specs.declared.body.Body.TheVariants as body
 use Rattle.petal_msg.specs.declared.letter.Actor.{Actor}
 use Rattle.petal_msg.specs.declared.operation.Pending.{Pending}
-use Rattle.petal_rules.specs.State.{State, is_lead}
+use Rattle.petal_rules.specs.State.{is_lead}
 use Rattle.petal_rules.specs.Server.{Own, Here, Done, silent, says}
 use Rattle.petal_rules.specs.Writes.{Wanted, is_for, pending_on}
 use Rattle.law_steps.specs.DidRead.{DidRead}
@@ -18,18 +18,18 @@ abbrev pub IsRefusal : Body → Type 0
 IsRefusal said = subject_of said ≡ Refused
 
 -- why a client is told that the block is busy: another operation is pending on it at its lead
-pub data IsBusy (heard : Body → Type 0) (here : Here) (state : State) (own : Own) (seq : ℕ) : Type 0 where
+pub data IsBusy (heard : Body → Type 0) (here : Here) (own : Own) (seq : ℕ) : Type 0 where
   For_a_write : (want : Wanted) (op : Pending) → heard (body.Write want.client want.seq want.cell want.epoch want.bytes) → want.seq ≡ seq
-      → is_lead state here.me want.cell ≡ true → pending_on own want.cell ≡ Some op → is_for op want ≡ false → IsBusy heard here state own seq
+      → is_lead here.state here.me want.cell ≡ true → pending_on own want.cell ≡ Some op → is_for op want ≡ false → IsBusy heard here own seq
   For_a_read : (client : ℕ) (cell : Cell) (epoch : ℕ) (op : Pending) → heard (body.Read client seq cell epoch)
-      → is_lead state here.me cell ≡ true → pending_on own cell ≡ Some op → IsBusy heard here state own seq
+      → is_lead here.state here.me cell ≡ true → pending_on own cell ≡ Some op → IsBusy heard here own seq
 
 -- what a server may have done that handled only such letters as `heard` knows: nothing, a refusal, what its subject's rules
--- say. What it leaves and sends is by its own state, `here.state`; the facts are of `state`, the same or a later one
-pub data Did (heard : Body → Type 0) (here : Here) (state : State) (own : Own) : Done → Type 0 where
-  Ignores : Did heard here state own (silent own)
-  Refuses : (to : Actor) (said : Body) → IsRefusal said → ((seq : ℕ) → said ≡ body.BlockBusy seq → IsBusy heard here state own seq)
-      → Did heard here state own (says own to said)
-  By_read : (done : Done) → DidRead heard here state own done → Did heard here state own done
-  By_lead : (done : Done) → DidLead heard here state own done → Did heard here state own done
-  By_second : (done : Done) → DidSecond heard here state own done → Did heard here state own done
+-- say. All is by its own state, `here.state`
+pub data Did (heard : Body → Type 0) (here : Here) (own : Own) : Done → Type 0 where
+  Ignores : Did heard here own (silent own)
+  Refuses : (to : Actor) (said : Body) → IsRefusal said → ((seq : ℕ) → said ≡ body.BlockBusy seq → IsBusy heard here own seq)
+      → Did heard here own (says own to said)
+  By_read : (done : Done) → DidRead heard here own done → Did heard here own done
+  By_lead : (done : Done) → DidLead heard here own done → Did heard here own done
+  By_second : (done : Done) → DidSecond heard here own done → Did heard here own done

@@ -1,8 +1,8 @@
--- What the lead of a cell may have done for a write, rule by rule, with what was so when it was done. What it leaves and sends
--- is by its own state, and the facts are of a later one.
-use Rattle.std.specs.Prelude.{◌≡◌, ◌≤◌, ℕ, true, List, [], Some, None}
+-- What the lead of a cell may have done for a write, rule by rule, with what was so when it was done, by its own state: as the
+-- first of two servers, or as a holder that is alone.
+use Rattle.std.specs.Prelude.{◌≡◌, ◌≤◌, ℕ, Bool, true, false, List, [], Some, None}
 use Rattle.std.specs.Ordering.{nat_cmp}
-use Rattle.busy_marks.specs.declared.marks.MarkKind.TheVariants.{Busy}
+use Rattle.busy_marks.specs.declared.marks.MarkKind.TheVariants.{Busy, Stale}
 use Rattle.petal_table.specs.Table.{at}
 use Rattle.petal_msg.specs.Kinds.{is_logged, subject_of}
 use Rattle.petal_msg.specs.declared.body.Body.{Body}
@@ -12,41 +12,71 @@ use Rattle.petal_msg.specs.declared.operation.Ending.TheVariants as ending
 use Rattle.petal_msg.specs.declared.operation.Finished.{Finished}
 use Rattle.petal_msg.specs.declared.operation.Pending.{Pending}
 use Rattle.petal_rules.specs.Lists.{In}
-use Rattle.petal_rules.specs.State.{State, second, is_lead}
+use Rattle.petal_rules.specs.State.{second, is_lead, in_both, is_alone_on}
 use Rattle.petal_rules.specs.Store.{free_of}
 use Rattle.petal_rules.specs.Server.{Own, Here, Post, Done, says, says_to}
-use Rattle.petal_rules.specs.Writes.{Wanted, pending_on, with_pending, without_pending, gives_back, with_reserved, with_paired, opened, marks, puts, unmarks, finishes, ended}
+use Rattle.petal_rules.specs.Writes.{Wanted, operation, pending_on, with_pending, without_pending, gives_back, with_reserved, with_paired, opened, marks, puts, unmarks, finishes, ended}
 use Rattle.law_steps.specs.Operations.{waiting, putting, copying, answering, done_to}
 
 -- what a pending operation asks of the second server, or what speaks of the agreed log
-pub data Asks (here : Here) (state : State) (own : Own) : Post → Type 0 where
-  A_slot : (op : Pending) (to : ℕ) → pending_on own op.cell ≡ Some op → op.stage ≡ waiting → second state op.cell ≡ Some to
-      → Asks here state own (record { to = actor.Server to; body = body.Reserve op.op op.cell })
-  A_copy : (op : Pending) (to : ℕ) → pending_on own op.cell ≡ Some op → op.stage ≡ copying → second state op.cell ≡ Some to
-      → Asks here state own (record { to = actor.Server to; body = body.Replicate op.op op.key op.version op.bytes })
-  Of_the_log : (post : Post) → is_logged (subject_of post.body) ≡ true → Asks here state own post
+pub data Asks (here : Here) (own : Own) : Post → Type 0 where
+  A_slot : (op : Pending) (to : ℕ) → pending_on own op.cell ≡ Some op → op.stage ≡ waiting → second here.state op.cell ≡ Some to
+      → Asks here own (record { to = actor.Server to; body = body.Reserve op.op op.cell })
+  A_copy : (op : Pending) (to : ℕ) → pending_on own op.cell ≡ Some op → op.stage ≡ copying → second here.state op.cell ≡ Some to
+      → Asks here own (record { to = actor.Server to; body = body.Replicate op.op op.key op.version op.bytes })
+  Of_the_log : (post : Post) → is_logged (subject_of post.body) ≡ true → Asks here own post
+
+-- the write's request is new to the lead, and nothing is pending on its cell
+pub record IsNew (heard : Body → Type 0) (here : Here) (own : Own) (want : Wanted) : Type 0 where
+  pub wanted : heard (body.Write want.client want.seq want.cell want.epoch want.bytes)
+  pub lead : is_lead here.state here.me want.cell ≡ true
+  pub newer : done_to (at nat_cmp own.pairs.finished want.client) ≤ want.seq
+  pub none : pending_on own want.cell ≡ None
+
+-- the operation, as letters of the second server may have told of it
+abbrev pub told : Pending → (reserved paired : Bool) → Pending
+told op reserved paired = record op { stage = record op.stage { reserved = reserved; paired = paired } }
+
+-- a pending operation is taken up as it is, or with what a late letter of the second server told of it
+pub data Taken (own : Own) : Own → Pending → Type 0 where
+  As_it_is : (op : Pending) → pending_on own op.cell ≡ Some op → Taken own own op
+  As_told : (op : Pending) (reserved paired : Bool) → pending_on own op.cell ≡ Some op
+      → Taken own (with_pending own (told op reserved paired)) (told op reserved paired)
 
 -- what the lead may have done that handled only such letters as `heard` knows
-pub data DidLead (heard : Body → Type 0) (here : Here) (state : State) (own : Own) : Done → Type 0 where
-  Asks_for : (posts : List Post) → ((post : Post) → In post posts → Asks here state own post)
-      → DidLead heard here state own (record { own = own; posts = posts; jobs = [] })
+pub data DidLead (heard : Body → Type 0) (here : Here) (own : Own) : Done → Type 0 where
+  Asks_for : (posts : List Post) → ((post : Post) → In post posts → Asks here own post)
+      → DidLead heard here own (record { own = own; posts = posts; jobs = [] })
   Repeats : (want : Wanted) (last : Finished) → heard (body.Write want.client want.seq want.cell want.epoch want.bytes)
-      → is_lead state here.me want.cell ≡ true → at nat_cmp own.pairs.finished want.client ≡ Some last → want.seq ≡ last.seq
-      → DidLead heard here state own (says own (actor.Client want.client) (ended want.seq last.ending))
-  Is_full : (want : Wanted) → heard (body.Write want.client want.seq want.cell want.epoch want.bytes)
-      → is_lead state here.me want.cell ≡ true → done_to (at nat_cmp own.pairs.finished want.client) ≤ want.seq
-      → pending_on own want.cell ≡ None → free_of own.store ≡ 0
-      → DidLead heard here state own (finishes own want.client want.seq ending.Full)
-  Opens : (want : Wanted) → heard (body.Write want.client want.seq want.cell want.epoch want.bytes)
-      → is_lead state here.me want.cell ≡ true → done_to (at nat_cmp own.pairs.finished want.client) ≤ want.seq → pending_on own want.cell ≡ None
-      → DidLead heard here state own (says_to (opened here own want) (second here.state want.cell) (body.Reserve own.pairs.next want.cell))
-  Marks : (op : Pending) → heard (body.Reserved op.op op.cell) → pending_on own op.cell ≡ Some op → op.stage ≡ waiting
-      → DidLead heard here state own (marks (with_pending own (with_reserved op)) (with_reserved op) Busy)
-  Puts : (op : Pending) → pending_on own op.cell ≡ Some op → op.stage ≡ putting
-      → DidLead heard here state own (puts own op)
-  Gives_up : (op : Pending) → heard (body.PairFull op.op op.cell) → pending_on own op.cell ≡ Some op → op.stage ≡ waiting
-      → DidLead heard here state own (finishes (gives_back (without_pending own op.cell)) op.client op.seq ending.Full)
-  Unmarks : (op : Pending) → heard (body.Replicated op.op op.cell) → pending_on own op.cell ≡ Some op → op.stage ≡ copying
-      → DidLead heard here state own (unmarks (with_pending own (with_paired op)) (with_paired op) Busy)
-  Closes : (op : Pending) → pending_on own op.cell ≡ Some op → op.stage ≡ answering
-      → DidLead heard here state own (finishes (without_pending own op.cell) op.client op.seq ending.Written)
+      → is_lead here.state here.me want.cell ≡ true → at nat_cmp own.pairs.finished want.client ≡ Some last → want.seq ≡ last.seq
+      → DidLead heard here own (says own (actor.Client want.client) (ended want.seq last.ending))
+  Is_full : (want : Wanted) → IsNew heard here own want → free_of own.store ≡ 0
+      → DidLead heard here own (finishes own want.client want.seq ending.Full)
+  Gives_up : (op : Pending) → heard (body.PairFull op.op op.cell) → pending_on own op.cell ≡ Some op → op.stage.reserved ≡ false
+      → op.stage.put ≡ false
+      → DidLead heard here own (finishes (gives_back (without_pending own op.cell)) op.client op.seq ending.Full)
+  Opens : (want : Wanted) → IsNew heard here own want → in_both here.state want.cell ≡ true
+      → DidLead heard here own (says_to (opened here own want) (second here.state want.cell) (body.Reserve own.pairs.next want.cell))
+  Marks : (op : Pending) → heard (body.Reserved op.op op.cell) → pending_on own op.cell ≡ Some op → in_both here.state op.cell ≡ true
+      → op.stage ≡ waiting
+      → DidLead heard here own (marks (with_pending own (with_reserved op)) (with_reserved op) Busy)
+  Puts : (op : Pending) → pending_on own op.cell ≡ Some op → in_both here.state op.cell ≡ true → op.stage ≡ putting
+      → DidLead heard here own (puts own op)
+  Unmarks : (op : Pending) → heard (body.Replicated op.op op.cell) → pending_on own op.cell ≡ Some op → in_both here.state op.cell ≡ true
+      → op.stage ≡ copying
+      → DidLead heard here own (unmarks (with_pending own (with_paired op)) (with_paired op) Busy)
+  Closes : (op : Pending) → pending_on own op.cell ≡ Some op → in_both here.state op.cell ≡ true → op.stage ≡ answering
+      → DidLead heard here own (finishes (without_pending own op.cell) op.client op.seq ending.Written)
+  Opens_alone : (want : Wanted) → IsNew heard here own want → is_alone_on here.state here.me want.cell ≡ true
+      → DidLead heard here own (marks (opened here own want) (operation here own.pairs.next want) Stale)
+  Marks_alone : (now : Own) (op : Pending) → Taken own now op → is_alone_on here.state here.me op.cell ≡ true → op.stage.stale ≡ false
+      → DidLead heard here own (marks now op Stale)
+  Puts_alone : (now : Own) (op : Pending) → Taken own now op → is_alone_on here.state here.me op.cell ≡ true → op.stage.stale ≡ true
+      → op.stage.put ≡ false
+      → DidLead heard here own (puts now op)
+  Unmarks_alone : (now : Own) (op : Pending) → Taken own now op → is_alone_on here.state here.me op.cell ≡ true → op.stage.stale ≡ true
+      → op.stage.put ≡ true → op.stage.busy ≡ true
+      → DidLead heard here own (unmarks now op Busy)
+  Closes_alone : (now : Own) (op : Pending) → Taken own now op → is_alone_on here.state here.me op.cell ≡ true → op.stage.stale ≡ true
+      → op.stage.put ≡ true → op.stage.busy ≡ false
+      → DidLead heard here own (finishes (without_pending now op.cell) op.client op.seq ending.Written)

@@ -8,7 +8,7 @@ use Rattle.petal_msg.specs.declared.body.Body.TheVariants as body
 use Rattle.petal_msg.specs.declared.operation.Far.{Far}
 use Rattle.petal_msg.specs.declared.operation.Far.TheVariants as far
 use Rattle.petal_msg.specs.declared.operation.LastOp.{LastOp}
-use Rattle.petal_rules.specs.State.{State, first, is_second}
+use Rattle.petal_rules.specs.State.{first, is_second}
 use Rattle.petal_rules.specs.Store.{free_of}
 use Rattle.petal_rules.specs.Server.{Own, Here, Done, says_to}
 use Rattle.petal_rules.specs.Writes.{last_on, with_last, tells, follows}
@@ -26,14 +26,14 @@ abbrev pub with_tickets : Own → ℕ → Own
 with_tickets own tickets = record own { store = record own.store { tickets = tickets } }
 
 -- what the second server may have done that handled only such letters as `heard` knows
-pub data DidSecond (heard : Body → Type 0) (here : Here) (state : State) (own : Own) : Done → Type 0 where
-  Sets_apart : (number : ℕ) (cell : Cell) (tickets : ℕ) → heard (body.Reserve number cell) → is_second state here.me cell ≡ true
+pub data DidSecond (heard : Body → Type 0) (here : Here) (own : Own) : Done → Type 0 where
+  Sets_apart : (number : ℕ) (cell : Cell) (tickets : ℕ) → heard (body.Reserve number cell) → is_second here.state here.me cell ≡ true
       → progress (last_on own cell) ≤ number + number
-      → DidSecond heard here state own (tells here (with_last (with_tickets own tickets) cell number far.Reserved) cell number far.Reserved)
-  Promises : (number : ℕ) (cell : Cell) (how : Far) → is_second state here.me cell ≡ true → last_on own cell ≡ Some (record { op = number; far = how })
-      → DidSecond heard here state own (tells here own cell number how)
-  Declines : (number : ℕ) (cell : Cell) → heard (body.Reserve number cell) → is_second state here.me cell ≡ true → FoundNoSlot own cell number
-      → DidSecond heard here state own (says_to own (first here.state cell) (body.PairFull number cell))
+      → DidSecond heard here own (tells here (with_last (with_tickets own tickets) cell number far.Reserved) cell number far.Reserved)
+  Promises : (number : ℕ) (cell : Cell) (how : Far) → is_second here.state here.me cell ≡ true → last_on own cell ≡ Some (record { op = number; far = how })
+      → DidSecond heard here own (tells here own cell number how)
+  Declines : (number : ℕ) (cell : Cell) → heard (body.Reserve number cell) → is_second here.state here.me cell ≡ true → FoundNoSlot own cell number
+      → DidSecond heard here own (says_to own (first here.state cell) (body.PairFull number cell))
   Follows : (number : ℕ) (key : Key) (version : ℕ) (bytes : List ℕ) → heard (body.Replicate number key version bytes)
-      → is_second state here.me (cell_of key) ≡ true → last_on own (cell_of key) ≡ Some (record { op = number; far = far.Reserved })
-      → DidSecond heard here state own (follows here own number key bytes)
+      → is_second here.state here.me (cell_of key) ≡ true → last_on own (cell_of key) ≡ Some (record { op = number; far = far.Reserved })
+      → DidSecond heard here own (follows here own number key bytes)

@@ -1,19 +1,21 @@
 -- What a step of the world may have done: a relation above the step, with what the laws need to know of it.
-use Rattle.std.specs.Prelude.{◌≡◌, ◌⊎◌, ◌<◌, ℕ, Bool, List, ◌∷◌}
+use Rattle.std.specs.Prelude.{◌≡◌, ◌⊎◌, ◌<◌, ℕ, Bool, true, List, [], ◌∷◌, ◌++◌}
 use Rattle.petal_command.specs.declared.command.Command.{Command}
+use Rattle.petal_msg.specs.Kinds.{Glanced, subject_of}
 use Rattle.petal_msg.specs.declared.body.Body.{Body}
 use Rattle.petal_msg.specs.declared.letter.Actor.{Actor}
 use Rattle.petal_msg.specs.declared.letter.Actor.TheVariants as actor
 use Rattle.petal_msg.specs.declared.letter.Letter.{Letter}
 use Rattle.petal_state.specs.Command.{state_after}
 use Rattle.petal_history.specs.Claims.{IsPrefix}
+use Rattle.petal_rules.specs.Crossing.{crossed}
 use Rattle.petal_rules.specs.Lists.{In}
-use Rattle.petal_rules.specs.Log.{Log}
-use Rattle.petal_rules.specs.State.{State}
-use Rattle.petal_rules.specs.Server.{Server, Own, Here, Post, Done, sender, letters_of}
-use Rattle.petal_rules.specs.Jobs.{Acted, here_of}
+use Rattle.petal_rules.specs.Log.{Log, rev_of}
+use Rattle.petal_rules.specs.State.{State, servers_of}
+use Rattle.petal_rules.specs.Server.{Server, Own, Here, Post, Sender, Done, silent, sender, stopped, letters_of}
+use Rattle.petal_rules.specs.Jobs.{Acted, here_of, down_posts}
 use Rattle.petal_rules.specs.Clients.{Reaction}
-use Rattle.petal_rules.specs.World.{Setting, World, acts, reacts, server_state}
+use Rattle.petal_rules.specs.World.{Setting, World, acts, reacts, server_state, chosen_log}
 use Rattle.petal_rules.specs.declared.job.Job.{Job}
 use Rattle.petal_rules.specs.declared.job.Job.TheVariants as job
 use Rattle.petal_rules.specs.declared.step.Step.{Step}
@@ -25,11 +27,12 @@ use Rattle.law_steps.specs.DidLead.{Asks}
 use Rattle.law_steps.specs.Did.{Did}
 use Rattle.law_steps.specs.Turned.{Turned}
 
--- a letter that says this was sent to this actor
-pub record Heard (w : World) (to : Actor) (said : Body) : Type 0 where
+-- a letter that says this was sent to this actor, by a sender of this revision
+pub record Heard (w : World) (to : Actor) (rev : ℕ) (said : Body) : Type 0 where
   pub letter : Letter
   pub sent : In letter w.sent
   pub own : letter.to ≡ to
+  pub at : letter.rev ≡ rev
   pub is : letter.body ≡ said
 
 -- the letters that wait in a server's queue were sent to it
@@ -38,13 +41,14 @@ AreQueued w n queue = (letter : Letter) → In (job.Letter letter) queue → In 
 
 -- ### Servers
 
--- the server's next job is a letter that says this
+-- the server's next job is a letter that says this, of the server's own revision
 pub record Handled (w : World) (n : ℕ) (said : Body) : Type 0 where
   pub letter : Letter
   pub rest : List Job
   pub next : (w.servers n).queue ≡ job.Letter letter ∷ rest
   pub sent : In letter w.sent
   pub own : letter.to ≡ actor.Server n
+  pub at : letter.rev ≡ rev_of (w.servers n).log
   pub is : letter.body ≡ said
 
 -- where a server stands, at its own state
@@ -56,9 +60,17 @@ abbrev pub served : Server → Log → Done → List Job → Server
 served server log done queue = record server { log = log; own = done.own; queue = queue }
 
 -- nothing is done but to ask once more what pending operations wait for, and to speak of the agreed log
-pub record IsIdle (here : Here) (state : State) (own : Own) (done : Done) : Type 0 where
+pub record IsIdle (here : Here) (own : Own) (done : Done) : Type 0 where
   pub same : done.own ≡ own
-  pub asks : (post : Post) → In post done.posts → Asks here state own post
+  pub asks : (post : Post) → In post done.posts → Asks here own post
+
+-- what a running server does in a step, before its letters go: a job that applies no entry, or one that applies one and drops
+-- what others asked of it on the links that the entry touches
+pub data Worked (setting : Setting) (w : World) (n : ℕ) : Log → Done → Type 0 where
+  By_job : (log : Log) (done : Done) → log.applied ≡ (w.servers n).log.applied → Did (Handled w n) (own_place setting w n) (w.servers n).own done
+      → Worked setting w n log done
+  By_entry : (log : Log) (entry : Command) → log.applied ≡ (w.servers n).log.applied ++ entry ∷ [] → IsPrefix log.applied (chosen_log setting w)
+      → Worked setting w n log (silent (crossed (server_state setting w n) entry (w.servers n).own))
 
 -- what a server's step leaves and sends
 abbrev pub served_so : Setting → World → (n : ℕ) → Log → Done → List Job → Acted
@@ -67,20 +79,31 @@ served_so setting w n log done queue = record {
   letters = letters_of (sender (own_place setting w n)) 0 done.posts;
 }
 
--- a server's step is a job, or idle
-pub record Serving (setting : Setting) (state : State) (w : World) (n : ℕ) (what : Step) (acted : Acted) : Type 0 where
-  pub log : Log
-  pub done : Done
-  pub queue : List Job
-  pub did : Did (Handled w n) (own_place setting w n) state (w.servers n).own done
-  pub grows : IsPrefix (w.servers n).log.applied log.applied
-  pub queued : AreQueued w n queue
-  pub works : (what ≡ Work work_end.Done) ⊎ IsIdle (own_place setting w n) state (w.servers n).own done
-  pub is : acted ≡ served_so setting w n log done queue
+-- a server's letters that tell no revision
+abbrev pub without_rev : Here → Sender
+without_rev here = record { from = actor.Server here.me; inc = here.inc; rev = 0 }
 
--- the world after a server's step
-abbrev pub server_moves : Setting → World → (n stamp : ℕ) → Log → Done → List Job → World
-server_moves setting w n stamp log done queue = (acts w n stamp (served_so setting w n log done queue)).world
+-- the same where the server stops once the job's commit is made: in place of its letters each other server is told
+abbrev pub stopped_so : Setting → World → (n : ℕ) → Log → Done → Acted
+stopped_so setting w n log done = record {
+  server = stopped (served (w.servers n) log done []);
+  letters = letters_of (without_rev (own_place setting w n)) 0 (down_posts n (w.servers n).life.inc (servers_of (server_state setting w n)));
+}
+
+-- the server is as before; what it sends is of it, and shows the operator whether it runs
+abbrev pub shown_so : World → (n : ℕ) → Sender → List Post → Acted
+shown_so w n who posts = record { server = w.servers n; letters = letters_of who 0 posts }
+
+-- a server's step: it does its work, or asks; it does it and stops, or stops with nothing done; or it is as it was, where it
+-- is glanced at or takes no letter
+pub data Serving (setting : Setting) (w : World) (n : ℕ) (what : Step) : Acted → Type 0 where
+  Goes : (log : Log) (done : Done) (queue : List Job) → (w.servers n).life.running ≡ true → Worked setting w n log done → AreQueued w n queue
+      → (what ≡ Work work_end.Done) ⊎ IsIdle (own_place setting w n) (w.servers n).own done
+      → Serving setting w n what (served_so setting w n log done queue)
+  Ends : (log : Log) (done : Done) → (w.servers n).life.running ≡ true → Worked setting w n log done
+      → Serving setting w n what (stopped_so setting w n log done)
+  Stays : (who : Sender) (posts : List Post) → who.from ≡ actor.Server n → ((post : Post) → In post posts → subject_of post.body ≡ Glanced)
+      → Serving setting w n what (shown_so w n who posts)
 
 -- ### Clients
 
@@ -94,9 +117,8 @@ pub record IsOnward (servers : ℕ) (state : State) (before after : List Command
 
 -- the world after a step that is allowed, where `state` is at least what is chosen then
 pub data Happens (setting : Setting) (state : State) (w : World) : World → Type 0 where
-  Serves : (n stamp : ℕ) (log : Log) (done : Done) (queue : List Job) → w.server_clocks n < stamp
-      → Did (Handled w n) (own_place setting w n) state (w.servers n).own done → AreQueued w n queue
-      → Happens setting state w (server_moves setting w n stamp log done queue)
+  Serves : (n stamp : ℕ) (what : Step) (acted : Acted) → w.server_clocks n < stamp → n < setting.servers → Serving setting w n what acted
+      → Happens setting state w (acts w n what stamp acted).world
   Turns : (c stamp : ℕ) (in_call : Bool) (reacted : Reaction) → w.client_clocks c < stamp → c < 9
       → Turned (Heard w (actor.Client c)) setting.servers setting.lines c (w.clients c) in_call reacted
       → IsOnward setting.servers state (w.clients c).applied reacted.client.applied

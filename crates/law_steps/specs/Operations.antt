@@ -8,10 +8,10 @@ use Rattle.petal_msg.specs.declared.operation.Finished.{Finished}
 use Rattle.petal_msg.specs.declared.operation.LastOp.{LastOp}
 use Rattle.petal_msg.specs.declared.operation.Pending.{Pending}
 use Rattle.petal_msg.specs.declared.operation.Stage.{Stage}
-use Rattle.petal_rules.specs.State.{State, is_lead}
+use Rattle.petal_rules.specs.State.{State, is_lead, in_both}
 use Rattle.petal_rules.specs.Writes.{first_stage}
 
--- the stages that an operation rests in: it waits for its slot at the second server; its block is marked, and it is to put;
+-- the stages that an operation rests in while its link is in Both: it waits for its slot at the second server; its block is marked, and it is to put;
 -- it has put, and waits for the second server's copy; the mark is gone, and it is to answer
 abbrev pub waiting : Stage
 waiting = first_stage
@@ -31,12 +31,12 @@ pub data AtRest (stage : Stage) : Type 0 where
   Copying : stage ≡ copying → AtRest stage
   Answering : stage ≡ answering → AtRest stage
 
--- an operation that is pending on a cell at a server
+-- an operation that is pending on a cell at a server, by this state. At a holder that is alone it may rest in any stage
 pub record IsStaged (state : State) (me : ℕ) (cell : Cell) (op : Pending) : Type 0 where
   pub own : op.cell ≡ cell
   pub keyed : cell_of op.key ≡ cell
   pub lead : is_lead state me cell ≡ true
-  pub stage : AtRest op.stage
+  pub stage : in_both state cell ≡ true → AtRest op.stage
 
 -- above the number of each request that is finished
 abbrev pub done_to : Option Finished → ℕ

@@ -8,10 +8,11 @@ use Rattle.petal_msg.specs.declared.operation.Pending.{Pending}
 use Rattle.petal_rules.specs.Lists.{In}
 use Rattle.petal_rules.specs.State.{State}
 use Rattle.petal_rules.specs.Store.{cell_cmp}
-use Rattle.petal_rules.specs.World.{Setting, World, server_state, chosen_log}
+use Rattle.petal_rules.specs.World.{Setting, World, server_state, chosen_log, chosen_state}
 use Rattle.petal_history.specs.Claims.{IsPrefix}
 use Rattle.petal_history.specs.Legal.{stepped}
 use Rattle.petal_history.specs.declared.record.Record.{Record}
+use Rattle.law_state.specs.Below.{IsBelow}
 use Rattle.law_state.specs.Firm.{Firm}
 use Rattle.law_steps.specs.Operations.{IsStaged}
 use Rattle.law_steps.specs.Happens.{AreQueued}
@@ -21,20 +22,21 @@ abbrev pub IsRising : {K X : Type 0} → (K → K → Ordering) → Table K X �
 IsRising R [] = Unit {0}
 IsRising {K} {X} R (row ∷ rows) = ((other : K × X) → In other rows → R row.0 other.0 ≡ Less) × IsRising R rows
 
--- the operations that are pending at a server rest in one of four stages, each on its own cell, which the server leads
+-- the operations that are pending at a server rest, each on its own cell, which the server leads by this state
 pub record IsReady (state : State) (me : ℕ) (pending : Table Cell Pending) : Type 0 where
   pub staged : (cell : Cell) (op : Pending) → at cell_cmp pending cell ≡ Some op → IsStaged state me cell op
   pub rising : IsRising cell_cmp pending
 
--- and what waits in a queue was sent
-pub record Ready (state : State) (w : World) : Type 0 where
-  pub queues : (n : ℕ) → AreQueued w n (w.servers n).queue
-  pub pending : (n : ℕ) → IsReady state n (w.servers n).own.pairs.pending
-
--- the same, at each server's own state
+-- and what waits in a queue was sent: at each server's own state, also that in which it stopped
 pub record Rests (setting : Setting) (w : World) : Type 0 where
   pub queues : (n : ℕ) → AreQueued w n (w.servers n).queue
   pub pending : (n : ℕ) → IsReady (server_state setting w n) n (w.servers n).own.pairs.pending
+
+-- the same, with what is known of the log, and this state stands at least as far as what is chosen
+pub record Ready (setting : Setting) (state : State) (w : World) : Type 0 where
+  pub rests : Rests setting w
+  pub firm : Firm setting w
+  pub below : IsBelow (chosen_state setting w) state
 
 -- ### Histories
 

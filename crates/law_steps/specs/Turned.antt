@@ -1,5 +1,5 @@
 -- What a client may have done: a relation above its step, with what the laws need to know of it.
-use Rattle.std.specs.Prelude.{◌≡◌, ◌+◌, ◌-◌, ℕ, Bool, true, false, List, [], ◌∷◌, ◌++◌, Option, Some, None, slice_get}
+use Rattle.std.specs.Prelude.{◌≡◌, ◌+◌, ◌-◌, ◌⊎◌, ℕ, Bool, true, false, List, [], ◌∷◌, ◌++◌, Option, Some, None, length, slice_get}
 use Rattle.petal_command.specs.declared.command.Command.{Command}
 use Rattle.petal_msg.specs.Kinds.{is_logged, subject_of}
 use Rattle.petal_msg.specs.declared.body.Body.{Body}
@@ -21,7 +21,7 @@ use Rattle.petal_rules.specs.Lists.{In}
 use Rattle.petal_rules.specs.State.{State, find}
 use Rattle.petal_rules.specs.Server.{Post}
 use Rattle.petal_rules.specs.Writes.{ended}
-use Rattle.petal_rules.specs.Clients.{Client, Asked, Reaction, answers, is_read, is_write, cell_on, epoch_for, command_of, refusal, verdict_for, is_witness}
+use Rattle.petal_rules.specs.Clients.{Client, Asked, Reaction, answers, is_read, is_write, is_stop, cell_on, epoch_for, command_of, refusal, verdict_for, is_witness}
 use Rattle.petal_rules.specs.World.{lines_of, next_line}
 
 -- the line of a client's request of this number. The first has number 1
@@ -35,11 +35,12 @@ answer_of ending.Full = answer.NoSpace
 
 -- ### What it sends
 
--- what a client may send that has this request open, at this state: words of the agreed log, or its request
+-- what a client may send that has this request open, at this state: words of the agreed log, or its request. A write is of
+-- the revision of its latest send
 pub data Says (state : State) (c : ℕ) (open_now : Option Asked) : Post → Type 0 where
   Of_the_log : (post : Post) → is_logged (subject_of post.body) ≡ true → Says state c open_now post
   A_write : (asked : Asked) (name : List ℕ) (block : ℕ) (pattern : Pattern) (disk : DiskView) (to : ℕ) → open_now ≡ Some asked
-      → asked.request ≡ request.Write name block pattern → find state name ≡ Some disk
+      → asked.request ≡ request.Write name block pattern → find state name ≡ Some disk → asked.rev ≡ state.rev
       → Says state c open_now (record { to = actor.Server to; body = body.Write c asked.seq (cell_on disk block) disk.epoch (pattern_block pattern) })
   A_read : (asked : Asked) (name : List ℕ) (snap : Option (List ℕ)) (block : ℕ) (disk : DiskView) (epoch to : ℕ) → open_now ≡ Some asked
       → asked.request ≡ request.Read name snap block → find state name ≡ Some disk → epoch_for state disk snap ≡ Some epoch
@@ -52,16 +53,17 @@ pub record OnlySays (servers c : ℕ) (reacted : Reaction) : Type 0 where
 
 -- ### What stays open
 
--- a request that stays open may have been sent once more, or had a Witness more
-pub record IsSame (old new : Asked) : Type 0 where
+-- a request that stays open may have been sent once more, at the revision that the step leaves, or had a Witness more
+pub record IsSame (rev : ℕ) (old new : Asked) : Type 0 where
   pub line : new.line ≡ old.line
   pub seq : new.seq ≡ old.seq
   pub request : new.request ≡ old.request
+  pub sent : (new.rev ≡ old.rev) ⊎ (new.rev ≡ rev)
 
-abbrev pub StaysOpen : Option Asked → Option Asked → Type 0
-StaysOpen None None = Unit {0}
-StaysOpen (Some old) (Some new) = IsSame old new
-StaysOpen _ _ = ⊥
+abbrev pub StaysOpen : ℕ → Option Asked → Option Asked → Type 0
+StaysOpen rev None None = Unit {0}
+StaysOpen rev (Some old) (Some new) = IsSame rev old new
+StaysOpen rev _ _ = ⊥
 
 -- the request of this line is open under this number
 pub record IsCalled (line : Line) (seq : ℕ) (asked : Asked) : Type 0 where
@@ -90,17 +92,22 @@ pub record IsJudged (servers c : ℕ) (before after : List Command) (asked : Ask
 
 -- ### What it does
 
--- what a client may have done, in a call or else having heard only what `heard` knows
-pub data Turned (heard : Body → Type 0) (servers : ℕ) (lines : List Line) (c : ℕ) (client : Client) : (in_call : Bool) → Reaction → Type 0 where
-  Goes_on : (reacted : Reaction) → reacted.client.seq ≡ client.seq → StaysOpen client.asked reacted.client.asked → OnlySays servers c reacted
+-- what a client may have done, in a call or else having heard only what `heard` knows, with the revision of its sender. A
+-- reply that ends a request is of the revision of the latest send
+pub data Turned (heard : ℕ → Body → Type 0) (servers : ℕ) (lines : List Line) (c : ℕ) (client : Client) : (in_call : Bool) → Reaction → Type 0 where
+  Goes_on : (reacted : Reaction) → reacted.client.seq ≡ client.seq → StaysOpen (length reacted.client.applied) client.asked reacted.client.asked
+      → OnlySays servers c reacted
       → Turned heard servers lines c client false reacted
   Begins : (reacted : Reaction) (line : Line) (asked : Asked) → next_line lines c client ≡ Some line → client.asked ≡ None
       → reacted.client.seq ≡ client.seq + 1 → reacted.client.asked ≡ Some asked → IsCalled line (client.seq + 1) asked → OnlySays servers c reacted
       → Turned heard servers lines c client true reacted
-  Reads : (asked : Asked) (bytes : List ℕ) → heard (body.Data asked.seq bytes) → client.asked ≡ Some asked → is_read asked.request ≡ true
+  Reads : (asked : Asked) (bytes : List ℕ) → heard asked.rev (body.Data asked.seq bytes) → client.asked ≡ Some asked → is_read asked.request ≡ true
       → Turned heard servers lines c client false (answers client asked (answer.Data bytes))
-  Ends : (asked : Asked) (how : Ending) → heard (ended asked.seq how) → client.asked ≡ Some asked → is_write asked.request ≡ true
+  Ends : (asked : Asked) (how : Ending) → heard asked.rev (ended asked.seq how) → client.asked ≡ Some asked → is_write asked.request ≡ true
       → Turned heard servers lines c client false (answers client asked (answer_of how))
+  Shown : (asked : Asked) (rev round inc : ℕ) (running full : Bool) → heard rev (body.Seen asked.line round running inc full) → client.asked ≡ Some asked
+      → is_stop asked.request ≡ true
+      → Turned heard servers lines c client false (answers client asked answer.Ok)
   Judges : (after : Client) (asked : Asked) (given : Answer) → client.asked ≡ Some asked → after.asked ≡ None → after.seq ≡ client.seq
       → IsJudged servers c client.applied after.applied asked given
       → Turned heard servers lines c client false (record { client = after; posts = []; answer = Some (asked.line, given) })

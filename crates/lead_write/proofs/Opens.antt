@@ -1,15 +1,17 @@
 -- A write that is opened.
-use Rattle.std.proofs.Common.{◌≡◌, ℕ, Some, None, refl, ap, ◌∙◌, IsSome, arith}
+use Rattle.std.proofs.Common.{◌≡◌, ◌+◌, ℕ, Bool, true, length, Some, None, refl, sym, ap, ◌∙◌, IsSome, arith}
 use Rattle.petal_base.specs.declared.cell.Cell.{Cell}
 use Rattle.petal_table.specs.Table.{Table, at, put, without}
-use Rattle.petal_rules.specs.Server.{Here}
-use Rattle.petal_rules.specs.Store.{cell_cmp}
-use Rattle.petal_rules.specs.Writes.{Wanted, operation}
+use Rattle.petal_rules.specs.Server.{Here, Own}
+use Rattle.petal_rules.specs.Store.{Store, cell_cmp}
+use Rattle.petal_rules.specs.Writes.{Wanted, goes_on, opened, opens, operation}
 use Rattle.petal_rules.proofs.CellTables.{cell_cmp_total, cell_same}
 use Rattle.server_store.specs.Holdings.{Holdings}
 use Rattle.server_store.specs.Tickets as lists
 use Rattle.kept_chains.proofs.Puts.{without_new}
-use Rattle.pair_side.specs.Side.{Side, HasTicketsAt, needs_own}
+use Rattle.kept_chains.specs.Kept.{store_of}
+use Rattle.pair_side.specs.Done.{IsFull}
+use Rattle.pair_side.specs.Side.{Side, HasTicketsAt, needs_own, own_of, pairs_of}
 use Rattle.pair_side.specs.Slots.{IsOutAt}
 use Rattle.pair_side.proofs.Tickets as tickets
 use Rattle.lead_write.specs.Opened.{IsOpened}
@@ -56,3 +58,24 @@ module _ {D : Type 0} (here : Here) (want : Wanted) (side : Side) (store : Holdi
           gone begun.slot (ap (λ (s : Side). at cell_cmp s.own want.cell) side_is ∙ slot_there)
           ∙ ap (λ (s : Holdings D). record s { tickets = lists.without s.tickets begun.slot }) store_is
           ∙ tickets.undone store after begun.slot begun.slot begun.store refl begun.other
+
+    -- its own part as the rule opens it
+    opened_is : own_of new after ≡ opened here (own_of side store) want
+    opened_is =
+        ap (λ (s : Side). record { pairs = pairs_of s; store = store_of after }) begun.side
+        ∙ ap (λ (s : Store). record { pairs = (opened here (own_of side store) want).pairs; store = s }) (tickets.kept_is store after begun.slot begun.store)
+
+    -- the journal had no room for the record of its first stage, and it is taken back
+    pub full_back : (mid last : Side) (held left : Holdings D) (room : Bool) → room ≡ true
+        → IsFull new mid after held (goes_on here (own_of new after) want.cell)
+        → last ≡ record mid { next = side.next; pending = without cell_cmp mid.pending want.cell; own = without cell_cmp mid.own want.cell }
+        → ((slot : ℕ) → at cell_cmp mid.own want.cell ≡ Some slot → left ≡ record held { tickets = lists.without held.tickets slot })
+        → IsFull side last store left (opens here (own_of side store) want room)
+    full_back mid last held left room is full side_is store_is = record {
+      count = ap (λ (s : Holdings D). s.log.region.count) (sym begun.store) ∙ full.count;
+      over = rw is (
+          ap (λ (own : Own). (goes_on here own want.cell).own.store.records) (sym opened_is) ∙ full.over
+          ∙ ap (λ (s : Holdings D). length s.log.records + 1) begun.store
+          );
+      same = (side_back mid held full.same.0 full.same.1 last side_is, store_back mid held full.same.0 full.same.1 left store_is);
+    }

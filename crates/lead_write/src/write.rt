@@ -161,6 +161,10 @@ fn opens<D: Disk>(
             takes_back(side, store, want.cell, number);
             Err(WorkError::NoMemory)
         }
+        Err(WorkError::JournalFull) => {
+            takes_back(side, store, want.cell, number);
+            Err(WorkError::JournalFull)
+        }
         done => done,
     }
 }

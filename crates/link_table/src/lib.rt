@@ -116,7 +116,8 @@ impl Links {
     }
 }
 
-fn is_link(map: MapId, link: u8, row: &LinkRow) -> bool
+/// Whether the row is that link of that map.
+pub fn is_link(map: MapId, link: u8, row: &LinkRow) -> bool
     ensures { result ≡ is_link map link row.now }
 {
     row.map == map && row.link == link
@@ -175,7 +176,8 @@ fn new_rows(
         .collect(alloc)
 }
 
-fn has_server(server: ServerId, row: &LinkRow) -> bool
+/// Whether the server is one of the link's two.
+pub fn has_server(server: ServerId, row: &LinkRow) -> bool
     ensures { result ≡ has_server server row.now }
 {
     row.primary == server || row.secondary == server

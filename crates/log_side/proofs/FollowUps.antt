@@ -1,5 +1,5 @@
 -- The jobs that follow a job of the log up.
-use Rattle.std.proofs.Common.{◌≡◌, Bool, true, false, ◌&&◌, List, [], ◌∷◌, ◌++◌, Option, Some, None, is_none, refl}
+use Rattle.std.proofs.Common.{◌≡◌, Bool, true, false, ◌&&◌, List, [], ◌++◌, Option, Some, None, is_none, refl}
 use Rattle.petal_command.specs.declared.command.Command.{Command}
 use Rattle.petal_rules.specs.Entries.{applies_then}
 use Rattle.petal_rules.specs.declared.job.Job.{Job}

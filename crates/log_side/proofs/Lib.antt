@@ -4,3 +4,4 @@ pub mod FollowUps
 pub mod Runs
 pub mod Said
 pub mod Starts
+pub mod Wanted

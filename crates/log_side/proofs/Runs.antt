@@ -1,8 +1,8 @@
 -- Commands so far and those that are left are all.
-use Rattle.std.proofs.Common.{◌≡◌, ℕ, zero, suc, ◌+◌, ◌-◌, ◌<◌, ◌≤◌, List, [], ◌∷◌, ◌++◌, append_assoc, Option, Some, None, refl, sym, ap, ◌∙◌, arith}
+use Rattle.std.proofs.Common.{◌≡◌, ℕ, zero, suc, ◌+◌, ◌-◌, ◌<◌, List, [], ◌∷◌, ◌++◌, append_assoc, Some, None, refl, sym, ap, ◌∙◌, arith}
 use Rattle.std.proofs.lemmas.List.{append-nil}
 use Rattle.petal_command.specs.declared.command.Command.{Command}
-use Rattle.petal_rules.specs.Entries.{known_run, unknown_from}
+use Rattle.petal_rules.specs.Entries.{known_run}
 use Rattle.petal_rules.specs.Log.{Log, known}
 
 run_here : (log : Log) (place most told : ℕ) → told < most → (c : Command) → known log place ≡ Some c

@@ -1,9 +1,13 @@
 -- A job of the log without a call of the device is one that may have made one.
-use Rattle.std.proofs.Common.{◌≡◌, ◌⊎◌, inl, inr, ℕ, List, Result, Ok, Err, refl, arith}
+use Rattle.std.proofs.Common.{◌≡◌, inl, inr, ℕ, ◌+◌, ◌≤◌, ◌<◌, Bool, true, if◌then◌else◌, List, [], ◌∷◌, ◌++◌, length, length-append, Result, Ok, Err, IsErrOf, refl, sym, ap, ◌∙◌, arith}
 use Rattle.petal_disk.specs.declared.disk.Disk.{Ghosts}
 use Rattle.petal_disk.specs.Disk.{LeavesOnly}
+use Rattle.petal_paxos.proofs.Committed.{commits_is}
+use Rattle.petal_paxos.specs.Kept.{AddsNothing, committed}
 use Rattle.petal_paxos.specs.declared.record.StateRecord.{StateRecord}
+use Rattle.petal_rules.specs.Log.{Log, commits}
 use Rattle.petal_rules.specs.Log.{LogDone as Rule}
+use Rattle.state_store.specs.Errors.{IsCommitError}
 use Rattle.state_store.specs.Device.{Keeping, WithOrWithout}
 use Rattle.state_store.specs.declared.error.StateError.{StateError}
 use Rattle.state_store.specs.declared.error.StateError.TheVariants.{Failed, JournalFull, NoMemory}
@@ -11,10 +15,16 @@ use Rattle.log_side.specs.declared.done.LogDone.{LogDone}
 use Rattle.log_side.specs.Part.{Part}
 use Rattle.log_side.specs.Done.{HoldsAt, HasOneMore, IsLogSaid, IsLogDone}
 
+-- a commit was refused for what the job was refused for
+refusal_is : {T : Type 0} (answer : Result LogDone StateError) (refusal : Result T StateError) (e f : StateError)
+    → answer ≡ Err e → refusal ≡ Err e → answer ≡ Err f → IsErrOf refusal f
+refusal_is answer refusal e f one refused is = cc
+
 module _ {D : Type 0} (device : Ghosts D) where
   -- what a commit leaves at any moment
   pub one_more : (old new : D) (records : List StateRecord) (entry : StateRecord)
-      → LeavesOnly device.moment device.left_since old new (λ c. WithOrWithout c records entry) → LeavesOnly device.moment device.left_since old new (λ c. HasOneMore c records)
+      → LeavesOnly device.moment device.left_since old new (λ c. WithOrWithout c records entry)
+      → LeavesOnly device.moment device.left_since old new (λ c. HasOneMore c records)
   one_more old new records entry left = record {
     later = left.later;
     each = λ c h. inr (entry, left.each c h);
@@ -24,17 +34,19 @@ module _ {D : Type 0} (device : Ghosts D) where
     ];
   }
 
-  module _ (stays : (d : D) → device.came_to d d) (only_now : (d : D) (c : List ℕ) → device.left_since d (device.moment d) c → device.may_leave d c) where
-    still_left : (store : Keeping D) → HoldsAt device store → LeavesOnly device.moment device.left_since store.disk store.disk (λ c. HasOneMore c store.records)
+  module _ (stays : (d : D) → device.came_to d d)
+      (only_now : (d : D) (c : List ℕ) → device.left_since d (device.moment d) c → device.may_leave d c) where
+    pub still_left : (store : Keeping D) → HoldsAt device store
+        → LeavesOnly device.moment device.left_since store.disk store.disk (λ c. HasOneMore c store.records)
     still_left store holds = record {
       later = omega arith;
       each = λ c h. inl (holds.left c (only_now store.disk c h));
       before = λ t c le h. inl h;
     }
 
-    pub said_done : (inc : ℕ) (old new : Part) (store : Keeping D) (answer : Result LogDone StateError) (rule : Rule)
-        → IsLogSaid inc old new store.records answer rule → IsLogDone device inc old new store store answer rule
-    said_done inc old new store (Ok out) rule said = record {
+    pub said_done : (old new : Part) (store : Keeping D) (answer : Result LogDone StateError) (rule : Rule)
+        → IsLogSaid old new store.records answer rule → IsLogDone device old new store store answer rule
+    said_done old new store (Ok out) rule said = record {
       done = said.done;
       voter = said.voter;
       holds = λ _ h. h;
@@ -47,7 +59,7 @@ module _ {D : Type 0} (device : Ghosts D) where
       failed = λ no. absurd (cc);
       run = stays store.disk;
     }
-    said_done inc old new store (Err e) rule said =
+    said_done old new store (Err e) rule said =
         let e_is : e ≡ NoMemory = said.err.0 in
         rw e_is (record {
           done = tt;
@@ -63,6 +75,40 @@ module _ {D : Type 0} (device : Ghosts D) where
           run = stays store.disk;
         })
 
--- what was refused for memory left all as it was
-pub all_same : (inc : ℕ) (part : Part) (records : List StateRecord) (rule : Rule) → IsLogSaid inc part part records (Err NoMemory) rule
-all_same inc part records rule = record { done = tt; voter = refl; err = (refl, refl) }
+  -- a commit that was refused leaves what a refused job leaves. A full journal has no room for a record that is needed (X)
+  pub refused_done : {T X : Type 0} (part : Part) (before after : Keeping D) (entry : StateRecord) (e : StateError) (rule : Rule)
+      → (X → length rule.log.records ≡ length before.records + 1)
+      → (refusal : Result T StateError) → refusal ≡ Err e
+      → (IsErrOf refusal JournalFull → (before.region.count ≡ 65536) × X × (after ≡ before))
+      → (IsErrOf refusal NoMemory → after ≡ before)
+      → (IsErrOf refusal Failed → device.faults before.disk < device.faults after.disk)
+      → after.records ≡ before.records → IsCommitError e
+      → (device.told → HoldsAt device before
+      → LeavesOnly device.moment device.left_since before.disk after.disk (λ c. WithOrWithout c before.records entry))
+      → device.faults before.disk ≤ device.faults after.disk → device.came_to before.disk after.disk
+      → IsLogDone device part part before after (Err e) rule
+  refused_done part before after entry e rule over refusal refused full memory failed kept only left later run = record {
+    done = tt;
+    voter = refl;
+    holds = λ _ _. tt;
+    moments = λ told holds. one_more before.disk after.disk before.records entry (left told holds);
+    kept = kept;
+    same = λ is. (refl, memory (refusal_is _ refusal e NoMemory refl refused is));
+    only = only;
+    full = λ is.
+        let held = full (refusal_is _ refusal e JournalFull refl refused is) in
+        record { count = held.0; over = over held.1; same = (refl, held.2) };
+    later = later;
+    failed = λ is. failed (refusal_is _ refusal e Failed refl refused is);
+    run = run;
+  }
+
+-- a record that changes what the others stand for is one more
+pub one_over : (records : List StateRecord) (entry : StateRecord) → ¬ AddsNothing records entry → length (committed records entry) ≡ length records + 1
+one_over records entry changes =
+    let is = commits_is records (records ++ entry ∷ []) entry (inr (changes, refl)) in
+    sym (ap (λ (rs : List StateRecord). length rs) is) ∙ length-append records (entry ∷ [])
+
+pub open_over : (log : Log) (b : Bool) (entry : StateRecord) → b ≡ true → ¬ AddsNothing log.records entry
+    → length (if b then commits log entry else log).records ≡ length log.records + 1
+open_over log b entry is changes = rw is (one_over log.records entry changes)

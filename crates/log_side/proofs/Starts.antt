@@ -1,5 +1,5 @@
 -- A ballot that is started is the one of the rules.
-use Rattle.std.proofs.Common.{◌≡◌, ℕ, ◌+◌, max, List, length, Option, refl}
+use Rattle.std.proofs.Common.{◌≡◌, ℕ, ◌+◌, max, List, length, refl}
 use Rattle.petal_command.specs.declared.command.Command.{Command}
 use Rattle.petal_command.specs.declared.pax.Pax.{Pax}
 use Rattle.petal_command.specs.declared.pax.Pax.TheVariants.{Prepare}
@@ -29,3 +29,9 @@ module _ (part : Part) (records : List StateRecord) (place round : ℕ) (want : 
       → letters ≡ letters_of who 0 (to_all part.voter prepare)
       → letters ≡ letters_of who 0 (starts_want part.voter (log_of part records) want).posts
   letters_are who prepare letters next asked are = rw (are, asked, next.round_is, next.place_is) refl
+
+  -- its promise is one record more
+  pub over_is : IsNext part records place round
+      → length (committed records (kind.Promise place (record { round = round; server = part.voter.me }))) ≡ length records + 1
+      → length (starts_want part.voter (log_of part records) want).log.records ≡ length records + 1
+  over_is next more = rw (next.round_is, next.place_is) at more

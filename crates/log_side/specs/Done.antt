@@ -1,5 +1,5 @@
 -- What a job of the log leaves, and what every such job keeps.
-use Rattle.std.specs.Prelude.{◌≡◌, ◌≤◌, ◌<◌, ◌⊎◌, ℕ, Bool, true, false, List, [], Option, None, Some, ◌∷◌, Result, Err, IfOk, IfErr, OnOk, OnErr}
+use Rattle.std.specs.Prelude.{◌≡◌, ◌≤◌, ◌<◌, ◌⊎◌, ◌+◌, ℕ, length, Bool, true, false, List, [], Option, None, Some, ◌∷◌, Result, Err, IfOk, IfErr, OnOk, OnErr}
 use Rattle.petal_disk.specs.declared.disk.Disk.{Ghosts}
 use Rattle.petal_disk.specs.Disk.{LeavesOnly}
 use Rattle.petal_msg.specs.declared.letter.Letter.{Letter}
@@ -44,17 +44,24 @@ abbrev pub HasOneMore : List ℕ → List StateRecord → Type 0
 HasOneMore file records = StandsFor file records ⊎ ((entry : StateRecord) × WithOrWithout file records entry)
 
 -- a job without a call of the device is the rule's; one that was refused, for memory alone, left all as it was
-pub record IsLogSaid (inc : ℕ) (old new : Part) (records : List StateRecord) (result : Result LogDone StateError) (rule : Rule) : Type 0 where
-  pub done : IfOk result (λ done. IsBy (sender_of old inc) (log_of new records) done rule)
+pub record IsLogSaid (old new : Part) (records : List StateRecord) (result : Result LogDone StateError) (rule : Rule) : Type 0 where
+  pub done : IfOk result (λ done. IsBy (sender_of old) (log_of new records) done rule)
   pub voter : new.voter ≡ old.voter
   pub err : IfErr result (λ e. (e ≡ NoMemory) × (new ≡ old))
 
 module _ {D : Type 0} where
+  -- the rule has one record more than the journal has room for, and nothing changed
+  pub record IsFull (old new : Part) (before after : Keeping D) (rule : Rule) : Type 0 where
+    pub count : before.region.count ≡ 65536
+    pub over : length rule.log.records ≡ length before.records + 1
+    pub same : (new ≡ old) × (after ≡ before)
+
   -- a job is the rule's, and any refusal left the records; one for memory left all as it was. A device that stood for the
   -- records stands for those after the job, and a crash at any moment leaves the records before it, perhaps with one more.
-  -- `Failed` comes only where the count of faults has risen, and `JournalFull` only where the journal had all its records
-  pub record IsLogDone (device : Ghosts D) (inc : ℕ) (old new : Part) (before after : Keeping D) (result : Result LogDone StateError) (rule : Rule) : Type 0 where
-    pub done : IfOk result (λ done. IsBy (sender_of old inc) (log_of new after.records) done rule)
+  -- `Failed` comes only where the count of faults has risen, and `JournalFull` only where the journal has no room for the
+  -- record of the job
+  pub record IsLogDone (device : Ghosts D) (old new : Part) (before after : Keeping D) (result : Result LogDone StateError) (rule : Rule) : Type 0 where
+    pub done : IfOk result (λ done. IsBy (sender_of old) (log_of new after.records) done rule)
     pub voter : new.voter ≡ old.voter
     pub holds : device.told → HoldsAt device before → OnOk result (HoldsAt device after)
     pub moments : device.told → HoldsAt device before
@@ -62,7 +69,7 @@ module _ {D : Type 0} where
     pub kept : OnErr result (after.records ≡ before.records)
     pub same : result ≡ Err NoMemory → (new ≡ old) × (after ≡ before)
     pub only : IfErr result IsCommitError
-    pub full : result ≡ Err JournalFull → before.region.count ≡ 65536
+    pub full : result ≡ Err JournalFull → IsFull old new before after rule
     pub later : device.faults before.disk ≤ device.faults after.disk
     pub failed : result ≡ Err Failed → device.faults before.disk < device.faults after.disk
     pub run : device.came_to before.disk after.disk

@@ -11,32 +11,42 @@ use Rattle.petal_rules.specs.Server.{Sender}
 use Rattle.petal_state.specs.Command.{state_after}
 use Rattle.petal_state.specs.State.{State}
 
--- which of the servers of the run it is; what its proposer is about; the greatest round that it was refused with for the next
--- place; the entries that it has applied; the commands that it wants chosen; and which of the other servers it asks next
+-- which of the servers of the run it is, and as which incarnation; what its proposer is about; the greatest round that it was
+-- refused with for the next place; the entries that it has applied; the Leaves for the incarnations of which it heard that they
+-- stopped; the commands of clients that it wants chosen; and which of the other servers it asks next
 pub record Part : Type 0 where
   pub voter : Voter
   pub phase : Phase
   pub refused : ℕ
   pub applied : List Command
+  pub leaves : List Command
   pub wants : List Command
   pub asks : ℕ
 
 -- that of a server that has applied nothing
 abbrev pub new_part : Voter → Part
-new_part voter = record { voter = voter; phase = Idle; refused = 0; applied = []; wants = []; asks = 0 }
+new_part voter = record { voter = voter; phase = Idle; refused = 0; applied = []; leaves = []; wants = []; asks = 0 }
 
 -- the log, with these records on the state device
 abbrev pub log_of : Part → List StateRecord → Log
 log_of part records =
-    record { records = records; phase = part.phase; refused = part.refused; applied = part.applied; wants = part.wants; asks = part.asks }
+    record {
+      records = records;
+      phase = part.phase;
+      refused = part.refused;
+      applied = part.applied;
+      leaves = part.leaves;
+      wants = part.wants;
+      asks = part.asks;
+    }
 
 -- the global state, as the applied entries make it
 abbrev pub state_of : Part → State
 state_of part = state_after part.voter.servers part.applied
 
--- its letters carry this incarnation and its revision
-abbrev pub sender_of : Part → (inc : ℕ) → Sender
-sender_of part inc = record { from = actor.Server part.voter.me; inc = inc; rev = (state_of part).rev }
+-- its letters carry its incarnation and its revision
+abbrev pub sender_of : Part → Sender
+sender_of part = record { from = actor.Server part.voter.me; inc = part.voter.inc; rev = (state_of part).rev }
 
 -- an idle proposer starts a ballot for this command, at the next place
 abbrev pub starts_want : Voter → Log → Command → LogDone

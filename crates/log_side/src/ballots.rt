@@ -15,7 +15,7 @@ use crate::done::{LogDone, only};
 use crate::envelope::room_for;
 use crate::side::LogSide;
 use paxos_core::{Heard, on_accept, on_prepare};
-use petal_base::{Inc, NoMemory, Sequence, ServerId};
+use petal_base::{NoMemory, Sequence, ServerId};
 use petal_command::{Ballot, Command, Pax};
 use petal_disk::Disk;
 use petal_msg::{Actor, Body, SharedLetter};
@@ -40,41 +40,48 @@ impl LogSide {
     fn on_prepare<D: Disk>(
         &self,
         alloc: Global,
-        inc: Inc,
         state: &mut StateStore<D>,
         from: ServerId,
         place: u32,
         ballot: Ballot,
     ) -> Result<LogDone, StateError>
-        ensures { IsLogDone D.Disk inc self.now self.now state.old state.new result (rules.on_prepare (log_of self.now state.old.records) from place ballot) }
+        ensures { IsLogDone D.Disk self.now self.now state.old state.new result (rules.on_prepare (log_of self.now state.old.records) from place ballot) }
     {
         let room = room_for(alloc, 1)?;
-        let reply = on_prepare(state, place, ballot)?;
-        let letters = self
-            .envelope(inc)
-            .one(room, Actor::Server(from), Body::Pax(reply));
-        Ok(only(letters))
+        match on_prepare(state, place, ballot) {
+            Ok(reply) => {
+                let letters = self
+                    .envelope()
+                    .one(room, Actor::Server(from), Body::Pax(reply));
+                Ok(only(letters))
+            },
+            Err(error) => Err(error),
+        }
     }
 
     /// Its acceptor accepts the command in the ballot of another server, or refuses it.
     fn on_accept<D: Disk>(
         &self,
         alloc: Global,
-        inc: Inc,
         state: &mut StateStore<D>,
         from: ServerId,
         place: u32,
         ballot: Ballot,
         command: &Command,
     ) -> Result<LogDone, StateError>
-        ensures { IsLogDone D.Disk inc self.now self.now state.old state.new result (rules.on_accept (log_of self.now state.old.records) from place ballot command.now) }
+        ensures { IsLogDone D.Disk self.now self.now state.old state.new result
+            (rules.on_accept (log_of self.now state.old.records) from place ballot command.now) }
     {
         let room = room_for(alloc, 1)?;
-        let reply = on_accept(state, place, ballot, command)?;
-        let letters = self
-            .envelope(inc)
-            .one(room, Actor::Server(from), Body::Pax(reply));
-        Ok(only(letters))
+        match on_accept(state, place, ballot, command) {
+            Ok(reply) => {
+                let letters = self
+                    .envelope()
+                    .one(room, Actor::Server(from), Body::Pax(reply));
+                Ok(only(letters))
+            },
+            Err(error) => Err(error),
+        }
     }
 
     /// Its proposer hears of its ballot. What it says of the letter goes to each server; one that is refused is idle, and
@@ -82,16 +89,15 @@ impl LogSide {
     pub(crate) fn hear(
         &mut self,
         alloc: Global,
-        inc: Inc,
         from: ServerId,
         said: &Pax,
     ) -> Result<LogDone, StateError>
-        ensures { (records : List StateRecord) → IsLogSaid inc self.old self.new records result
+        ensures { (records : List StateRecord) → IsLogSaid self.old self.new records result
             (rules.comes_out self.old.voter (log_of self.old records) (proposers.hear self.old.voter.servers self.old.phase from said.now)) }
     {
         let servers = self.proposer.servers;
         let room = room_for(alloc, servers)?;
-        let envelope = self.envelope(inc);
+        let envelope = self.envelope();
         let letters = match self.proposer.hear(from, said) {
             Heard::Nothing => Sequence::of(room),
             Heard::Send(pax) => envelope.to_all(room, servers, &pax),
@@ -112,29 +118,29 @@ impl LogSide {
     fn on_pax<D: Disk>(
         &mut self,
         alloc: Global,
-        inc: Inc,
         state: &mut StateStore<D>,
         from: Actor,
         said: &Pax,
     ) -> Result<LogDone, StateError>
-        ensures { IsLogDone D.Disk inc self.old self.new state.old state.new result (rules.on_pax self.old.voter (log_of self.old state.old.records) from said.now) }
+        ensures { IsLogDone D.Disk self.old self.new state.old state.new result
+            (rules.on_pax self.old.voter (log_of self.old state.old.records) from said.now) }
     {
         let Actor::Server(from) = from else {
-            return self.quiet(alloc, inc, state);
+            return self.quiet(alloc, state);
         };
         match said {
             Pax::Prepare { place, ballot } => {
-                self.on_prepare(alloc, inc, state, from, *place, *ballot)
+                self.on_prepare(alloc, state, from, *place, *ballot)
             },
             Pax::Accept {
                 place,
                 ballot,
                 command,
-            } => self.on_accept(alloc, inc, state, from, *place, *ballot, command),
-            Pax::Chosen { place, command } => self.learn(alloc, inc, state, *place, command),
-            Pax::Promise { .. } => self.heard(alloc, inc, state, from, said),
-            Pax::Accepted { .. } => self.heard(alloc, inc, state, from, said),
-            Pax::Refuse { .. } => self.heard(alloc, inc, state, from, said),
+            } => self.on_accept(alloc, state, from, *place, *ballot, command),
+            Pax::Chosen { place, command } => self.learn(alloc, state, *place, command),
+            Pax::Promise { .. } => self.heard(alloc, state, from, said),
+            Pax::Accepted { .. } => self.heard(alloc, state, from, said),
+            Pax::Refuse { .. } => self.heard(alloc, state, from, said),
         }
     }
 
@@ -147,44 +153,45 @@ impl LogSide {
     pub fn on_letter<D: Disk>(
         &mut self,
         alloc: Global,
-        inc: Inc,
         state: &mut StateStore<D>,
         letter: &SharedLetter,
     ) -> Result<LogDone, StateError>
-        ensures { IsLogDone D.Disk inc self.old self.new state.old state.new result
+        ensures { IsLogDone D.Disk self.old self.new state.old state.new result
             (hears_log self.old.voter (log_of self.old state.old.records) letter.now letter.now.body) }
     {
         let it = letter.get();
         match &it.body {
-            Body::Propose { command } => self.proposed(alloc, inc, state, command),
-            Body::Pax(said) => self.on_pax(alloc, inc, state, it.from, said),
-            Body::Ask { rev } => self.asked(alloc, inc, state, it.from, *rev),
+            Body::Down { server, inc } => self.downed(alloc, state, *server, *inc),
+            Body::Propose { command } => self.proposed(alloc, state, command),
+            Body::Pax(said) => self.on_pax(alloc, state, it.from, said),
+            Body::Ask { rev } => self.asked(alloc, state, it.from, *rev),
             Body::News { after, commands } => {
-                self.on_news(alloc, inc, state, letter, *after, commands.as_slice())
+                self.on_news(alloc, state, letter, *after, commands.as_slice())
             },
-            _ => self.quiet(alloc, inc, state),
+            _ => self.quiet(alloc, state),
         }
     }
 
     /// What the next ballot is for, where the proposer is idle and the log has a place left.
+    ///
+    /// # Errors
+    /// Out of memory.
     #[tactic(auto, unfolding(petal_rules::specs::Ballots::starts))]
-    fn next_want(&self) -> Option<Command>
-        ensures none { IfNone result ((records : List StateRecord) → rules.starts self.now.voter (log_of self.now records) ≡ keeps (log_of self.now records)) }
-        ensures some { IfSome result (λ want. (records : List StateRecord)
-            → rules.starts self.now.voter (log_of self.now records) ≡ starts_want self.now.voter (log_of self.now records) want) }
+    fn next_want(&self, alloc: Global) -> Result<Option<Command>, NoMemory>
+        ensures none { IfOk result (λ found. IfNone found ((records : List StateRecord)
+            → rules.starts self.now.voter (log_of self.now records) ≡ keeps (log_of self.now records))) }
+        ensures some { IfOk result (λ found. IfSome found (λ want. (records : List StateRecord)
+            → rules.starts self.now.voter (log_of self.now records) ≡ starts_want self.now.voter (log_of self.now records) want)) }
     {
         match &self.proposer.phase {
-            Phase::Collecting { .. } => return None,
-            Phase::Voting { .. } => return None,
+            Phase::Collecting { .. } => return Ok(None),
+            Phase::Voting { .. } => return Ok(None),
             Phase::Idle => {},
         }
         if self.rev() >= GREATEST_PLACE {
-            return None;
+            return Ok(None);
         }
-        match self.wants.as_slice() {
-            [] => None,
-            [want, ..] => Some(want.again()),
-        }
+        self.first_wanted(alloc)
     }
 
     /// One above each round that its acceptor promised at the place, or that it was refused with.
@@ -212,25 +219,29 @@ impl LogSide {
     pub fn start_ballot<D: Disk>(
         &mut self,
         alloc: Global,
-        inc: Inc,
         state: &mut StateStore<D>,
     ) -> Result<LogDone, StateError>
-        ensures { IsLogDone D.Disk inc self.old self.new state.old state.new result (rules.starts self.old.voter (log_of self.old state.old.records)) }
+        ensures { IsLogDone D.Disk self.old self.new state.old state.new result (rules.starts self.old.voter (log_of self.old state.old.records)) }
     {
-        let Some(want) = self.next_want() else {
-            return self.quiet(alloc, inc, state);
+        let found = self.next_want(alloc)?;
+        let Some(want) = found else {
+            return self.quiet(alloc, state);
         };
         let servers = self.servers();
         let room = room_for(alloc, servers)?;
-        let envelope = self.envelope(inc);
+        let envelope = self.envelope();
         let place = self.next_place()?;
         let round = self.next_round(state, place)?;
         let ballot = Ballot {
             round,
             server: self.me(),
         };
-        state.promise(place, ballot)?;
-        let prepare = self.begin(place, round, want);
-        Ok(only(envelope.to_all(room, servers, &prepare)))
+        match state.promise(place, ballot) {
+            Ok(()) => {
+                let prepare = self.begin(place, round, want);
+                Ok(only(envelope.to_all(room, servers, &prepare)))
+            },
+            Err(error) => Err(error),
+        }
     }
 }

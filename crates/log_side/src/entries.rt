@@ -1,19 +1,20 @@
 //! Entries of the log: they are learnt, applied, and told to those who ask.
 
-ghost use Rattle.std.specs.Prelude.{◌≡◌, ◌<◌, ◌+◌, ◌-◌, ◌^◌, ◌++◌, ◌∷◌, ◌==◌, ◌&&◌, [], is_none, None, if◌then◌else◌, IfOk, OnOk, OnErr};
+ghost use Rattle.std.specs.Prelude.{◌≡◌, ◌<◌, ◌+◌, ◌-◌, ◌++◌, ◌∷◌, ◌==◌, ◌&&◌, [], is_none, None, if◌then◌else◌, option_map, IfOk, IfSome, OnOk, OnErr};
 ghost use Rattle.petal_paxos.specs.Kept.{known_at};
 ghost use Rattle.petal_rules.specs.Entries as rules;
-ghost use Rattle.petal_rules.specs.Log.{Log, next_place};
+ghost use Rattle.petal_rules.specs.Log.{Log, known, next_place};
 ghost use Rattle.petal_state.specs.Command.{after};
-ghost use Rattle.log_side.specs.Done.{IsLogDone, IsLogSaid};
-ghost use Rattle.log_side.specs.Part.{log_of};
+ghost use Rattle.log_side.specs.Done.{IsBy, IsLogDone, IsLogSaid};
+ghost use Rattle.log_side.specs.Entered.{entry_of};
+ghost use Rattle.log_side.specs.Part.{log_of, sender_of, state_of};
 
 use crate::done::{LogDone, only};
 use crate::envelope::room_for;
 use crate::side::LogSide;
 use crate::wants::but;
 use global_state::GlobalState;
-use petal_base::{Inc, NoMemory, Rev, Sequence};
+use petal_base::{NoMemory, Rev, Sequence};
 use petal_command::Command;
 use petal_disk::Disk;
 use petal_msg::{Actor, Body};
@@ -24,13 +25,21 @@ use std::alloc::Global;
 /// The most entries that one letter tells.
 const MOST: u32 = 64;
 
-/// One entry more: the state with it, and it among those applied.
+/// An entry that was applied, and the state before it.
+#[derive(Drop)]
+pub struct Entered {
+    pub entry: Command,
+    pub before: GlobalState,
+}
+
+/// One entry more: the state with it, and it among those applied. Gives the state before.
 fn enter(
     alloc: Global,
     state: &mut GlobalState,
     applied: &mut Sequence<Command>,
     entry: &Command,
-) -> Result<(), NoMemory>
+) -> Result<GlobalState, NoMemory>
+    ensures before { IfOk result (λ before. before ≡ state.old) }
     ensures state { OnOk result (state.new ≡ after state.old entry.now) }
     ensures applied { OnOk result (applied.new ≡ applied.old ++ entry.now ∷ []) }
     ensures err { OnErr result ((state.new ≡ state.old) × (applied.new ≡ applied.old)) }
@@ -38,14 +47,9 @@ fn enter(
     if state.rev() == Rev::MAX {
         return Err(NoMemory);
     }
+    let next = state.next(alloc, entry)?;
     applied.push(entry.again())?;
-    match state.apply(alloc, entry) {
-        Ok(()) => Ok(()),
-        Err(NoMemory) => {
-            let _ = applied.pop();
-            Err(NoMemory)
-        },
-    }
+    Ok(std::mem::replace(state, next))
 }
 
 /// The commands known for this place and those after it, up to the first that is not known, and so many at most.
@@ -75,21 +79,22 @@ impl LogSide {
     pub(crate) fn learn<D: Disk>(
         &self,
         alloc: Global,
-        inc: Inc,
         state: &mut StateStore<D>,
         place: u32,
         command: &Command,
     ) -> Result<LogDone, StateError>
         ensures alone { IfOk result (λ done. done.again ≡ None) }
-        ensures done { IsLogDone D.Disk inc self.now self.now state.old state.new result (rules.learns (log_of self.now state.old.records) place command.now) }
+        ensures done { IsLogDone D.Disk self.now self.now state.old state.new result (rules.learns (log_of self.now state.old.records) place command.now) }
     {
         let apply = self.is_next(state, place);
-        state.choose(place, command)?;
-        Ok(LogDone {
-            letters: Sequence::new(alloc),
-            apply,
-            again: None,
-        })
+        match state.choose(place, command) {
+            Ok(()) => Ok(LogDone {
+                letters: Sequence::new(alloc),
+                apply,
+                again: None,
+            }),
+            Err(error) => Err(error),
+        }
     }
 
     /// Whether the place is the next one, and not known.
@@ -99,34 +104,50 @@ impl LogSide {
         state.chosen(place).is_none() && u64::from(place) == u64::from(self.rev()) + 1
     }
 
-    /// The next entry is applied, where it is known.
+    /// The next entry, where it is known.
     ///
     /// # Errors
-    /// `NoMemory` alone. Nothing changed.
+    /// Where its place has no number.
+    pub fn next_entry<D: Disk>(&self, state: &StateStore<D>) -> Result<Option<Command>, NoMemory>
+        ensures { IfOk result (λ entry. entry ≡ known (log_of self.now state.now.records) (next_place (log_of self.now state.now.records))) }
+    {
+        Ok(state.chosen(self.next_place()?))
+    }
+
+    /// The next entry is applied, where it is known. Gives it too, with the state before it.
+    ///
+    /// # Errors
+    /// Out of memory. Nothing changed.
     #[tactic(auto, using(crate::proofs::FollowUps::later_jobs), unfolding(petal_rules::specs::Entries::applies))]
-    pub(crate) fn apply<D: Disk>(
+    pub fn apply<D: Disk>(
         &mut self,
         alloc: Global,
-        inc: Inc,
         state: &StateStore<D>,
-    ) -> Result<LogDone, StateError>
-        ensures { IsLogSaid inc self.old self.new state.now.records result (rules.applies (log_of self.old state.now.records)) }
+    ) -> Result<(LogDone, Option<Entered>), NoMemory>
+        ensures done { IfOk result (λ out. IsBy (sender_of self.old) (log_of self.new state.now.records) out.0
+            (rules.applies (log_of self.old state.now.records))) }
+        ensures voter { self.new.voter ≡ self.old.voter }
+        ensures entry { IfOk result (λ out. option_map entry_of out.1
+            ≡ known (log_of self.old state.now.records) (next_place (log_of self.old state.now.records))) }
+        ensures before { IfOk result (λ out. IfSome out.1 (λ entered. entered.before ≡ state_of self.old)) }
+        ensures err { OnErr result (self.new ≡ self.old) }
     {
         let place = self.next_place()?;
         let Some(entry) = state.chosen(place) else {
-            return Ok(only(Sequence::new(alloc)));
+            return Ok((only(Sequence::new(alloc)), None));
         };
         let next = place.checked_add(1).ok_or(NoMemory)?;
-        enter(alloc, &mut self.state, &mut self.applied, &entry)?;
+        let before = enter(alloc, &mut self.state, &mut self.applied, &entry)?;
         self.proposer.phase = Phase::Idle;
         self.refused = 0;
         let wants = std::mem::replace(&mut self.wants, Sequence::new(alloc));
         self.wants = but(&entry, wants);
-        Ok(LogDone {
+        let done = LogDone {
             letters: Sequence::new(alloc),
             apply: state.chosen(next).is_some(),
             again: None,
-        })
+        };
+        Ok((done, Some(Entered { entry, before })))
     }
 
     /// What follows the revision asked is told, perhaps nothing.
@@ -134,12 +155,11 @@ impl LogSide {
     pub(crate) fn on_ask<D: Disk>(
         &self,
         alloc: Global,
-        inc: Inc,
         state: &StateStore<D>,
         from: Actor,
         rev: Rev,
     ) -> Result<LogDone, StateError>
-        ensures { IsLogSaid inc self.now self.now state.now.records result (rules.on_ask (log_of self.now state.now.records) from rev) }
+        ensures { IsLogSaid self.now self.now state.now.records result (rules.on_ask (log_of self.now state.now.records) from rev) }
     {
         let first = rev.checked_add(1).ok_or(NoMemory)?;
         let commands = known_run(alloc, state, first, MOST)?;
@@ -148,6 +168,6 @@ impl LogSide {
             after: rev,
             commands,
         };
-        Ok(only(self.envelope(inc).one(room, from, news)))
+        Ok(only(self.envelope().one(room, from, news)))
     }
 }

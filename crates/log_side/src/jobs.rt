@@ -5,13 +5,13 @@ ghost use Rattle.petal_rules.specs.Ballots as ballots;
 ghost use Rattle.petal_rules.specs.Entries as entries;
 ghost use Rattle.petal_rules.specs.Jobs.{log_does};
 ghost use Rattle.petal_rules.specs.Log.{keeps};
-ghost use Rattle.log_side.specs.Done.{IsLogDone};
+ghost use Rattle.log_side.specs.Done.{IsLogDone, IsLogSaid};
 ghost use Rattle.log_side.specs.Part.{log_of};
 
 use crate::done::{LogDone, only};
 use crate::side::LogSide;
-use petal_base::{Inc, Rev, Sequence, ServerId};
-use petal_command::{Command, Pax};
+use petal_base::{Inc, NoMemory, Rev, Sequence, ServerId};
+use petal_command::{Command, Pax, ServerNumber};
 use petal_disk::Disk;
 use petal_msg::Actor;
 use petal_rules::Job;
@@ -23,12 +23,10 @@ impl LogSide {
     pub(crate) fn quiet<D: Disk>(
         &self,
         alloc: Global,
-        inc: Inc,
         state: &StateStore<D>,
     ) -> Result<LogDone, StateError>
-        ensures { IsLogDone D.Disk inc self.now self.now state.now state.now result (keeps (log_of self.now state.now.records)) }
+        ensures { IsLogDone D.Disk self.now self.now state.now state.now result (keeps (log_of self.now state.now.records)) }
     {
-        let _ = inc;
         let _ = state;
         Ok(only(Sequence::new(alloc)))
     }
@@ -37,56 +35,80 @@ impl LogSide {
     pub(crate) fn proposed<D: Disk>(
         &mut self,
         alloc: Global,
-        inc: Inc,
         state: &StateStore<D>,
         command: &Command,
     ) -> Result<LogDone, StateError>
-        ensures { IsLogDone D.Disk inc self.old self.new state.now state.now result (ballots.on_propose (log_of self.old state.now.records) command.now) }
+        ensures { IsLogDone D.Disk self.old self.new state.now state.now result (ballots.on_propose (log_of self.old state.now.records) command.now) }
     {
         let _ = state;
-        self.on_propose(alloc, inc, command)
+        self.on_propose(alloc, command)
     }
 
     /// Its proposer hears of its ballot.
     pub(crate) fn heard<D: Disk>(
         &mut self,
         alloc: Global,
-        inc: Inc,
         state: &StateStore<D>,
         from: ServerId,
         said: &Pax,
     ) -> Result<LogDone, StateError>
-        ensures { IsLogDone D.Disk inc self.old self.new state.now state.now result
+        ensures { IsLogDone D.Disk self.old self.new state.now state.now result
             (ballots.comes_out self.old.voter (log_of self.old state.now.records) (proposers.hear self.old.voter.servers self.old.phase from said.now)) }
     {
         let _ = state;
-        self.hear(alloc, inc, from, said)
+        self.hear(alloc, from, said)
     }
 
     /// What follows a revision is told.
     pub(crate) fn asked<D: Disk>(
         &self,
         alloc: Global,
-        inc: Inc,
         state: &StateStore<D>,
         from: Actor,
         rev: Rev,
     ) -> Result<LogDone, StateError>
-        ensures { IsLogDone D.Disk inc self.now self.now state.now state.now result (entries.on_ask (log_of self.now state.now.records) from rev) }
+        ensures { IsLogDone D.Disk self.now self.now state.now state.now result (entries.on_ask (log_of self.now state.now.records) from rev) }
     {
-        self.on_ask(alloc, inc, state, from, rev)
+        self.on_ask(alloc, state, from, rev)
+    }
+
+    /// An incarnation has stopped.
+    pub(crate) fn downed<D: Disk>(
+        &mut self,
+        alloc: Global,
+        state: &StateStore<D>,
+        server: ServerNumber,
+        inc: Inc,
+    ) -> Result<LogDone, StateError>
+        ensures { IsLogDone D.Disk self.old self.new state.now state.now result (ballots.on_down (log_of self.old state.now.records) server inc) }
+    {
+        let _ = state;
+        self.on_down(alloc, server, inc)
+    }
+
+    /// The next entry is applied, where it is known, and is not given.
+    fn apply_alone<D: Disk>(
+        &mut self,
+        alloc: Global,
+        state: &StateStore<D>,
+    ) -> Result<LogDone, StateError>
+        ensures { IsLogSaid self.old self.new state.now.records result (entries.applies (log_of self.old state.now.records)) }
+    {
+        match self.apply(alloc, state) {
+            Ok((done, _)) => Ok(done),
+            Err(NoMemory) => Err(StateError::NoMemory),
+        }
     }
 
     /// The next entry is applied, where it is known.
     pub(crate) fn applied<D: Disk>(
         &mut self,
         alloc: Global,
-        inc: Inc,
         state: &StateStore<D>,
     ) -> Result<LogDone, StateError>
-        ensures { IsLogDone D.Disk inc self.old self.new state.now state.now result (entries.applies (log_of self.old state.now.records)) }
+        ensures { IsLogDone D.Disk self.old self.new state.now state.now result (entries.applies (log_of self.old state.now.records)) }
     {
-        self.apply(alloc, inc, state)
+        self.apply_alone(alloc, state)
     }
 
     /// One job of the agreed log, with at most one commit. A job of the pairs changes nothing here.
@@ -97,17 +119,16 @@ impl LogSide {
     pub fn does<D: Disk>(
         &mut self,
         alloc: Global,
-        inc: Inc,
         state: &mut StateStore<D>,
         job: &Job,
     ) -> Result<LogDone, StateError>
-        ensures { IsLogDone D.Disk inc self.old self.new state.old state.new result (log_does self.old.voter (log_of self.old state.old.records) job.now) }
+        ensures { IsLogDone D.Disk self.old self.new state.old state.new result (log_does self.old.voter (log_of self.old state.old.records) job.now) }
     {
         match job {
-            Job::Letter(letter) => self.on_letter(alloc, inc, state, letter),
-            Job::Stage(_) => self.quiet(alloc, inc, state),
-            Job::Apply => self.applied(alloc, inc, state),
-            Job::Start => self.start_ballot(alloc, inc, state),
+            Job::Letter(letter) => self.on_letter(alloc, state, letter),
+            Job::Stage(_) => self.quiet(alloc, state),
+            Job::Apply => self.applied(alloc, state),
+            Job::Start => self.start_ballot(alloc, state),
         }
     }
 }

@@ -7,14 +7,18 @@
 
 mod ballots;
 mod done;
+mod down;
 mod entries;
 mod envelope;
 mod jobs;
+mod leaves;
 mod news;
 mod side;
 mod tick;
 mod wants;
 
 pub use done::LogDone;
+pub use down::farewell;
+pub use entries::Entered;
 pub use envelope::Envelope;
 pub use side::LogSide;

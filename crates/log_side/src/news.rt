@@ -1,6 +1,6 @@
 //! News of the log: one entry a job.
 
-ghost use Rattle.std.specs.Prelude.{◌≡◌, ◌+◌, IfOk};
+ghost use Rattle.std.specs.Prelude.{◌≡◌, IfOk};
 ghost use Rattle.petal_rules.specs.Entries as rules;
 ghost use Rattle.petal_rules.specs.Log.{Log};
 ghost use Rattle.petal_rules.specs.declared.job.Job.TheVariants as job;
@@ -9,7 +9,7 @@ ghost use Rattle.log_side.specs.Part.{log_of};
 
 use crate::done::LogDone;
 use crate::side::LogSide;
-use petal_base::{Inc, NoMemory, Rev, Sequence};
+use petal_base::{NoMemory, Rev, Sequence};
 use petal_command::Command;
 use petal_disk::Disk;
 use petal_msg::SharedLetter;
@@ -41,17 +41,16 @@ impl LogSide {
     fn learn_one<D: Disk>(
         &self,
         alloc: Global,
-        inc: Inc,
         state: &mut StateStore<D>,
         letter: &SharedLetter,
         place: u32,
         command: &Command,
     ) -> Result<LogDone, StateError>
-        ensures { IsLogDone D.Disk inc self.now self.now state.old state.new result
+        ensures { IsLogDone D.Disk self.now self.now state.old state.new result
             (rules.followed_by (rules.learns (log_of self.now state.old.records) place command.now) (job.Letter letter.now)) }
     {
         let letter = letter.share()?;
-        let done = self.learn(alloc, inc, state, place, command)?;
+        let done = self.learn(alloc, state, place, command)?;
         Ok(LogDone {
             letters: done.letters,
             apply: done.apply,
@@ -64,22 +63,20 @@ impl LogSide {
     pub(crate) fn on_news<D: Disk>(
         &self,
         alloc: Global,
-        inc: Inc,
         state: &mut StateStore<D>,
         letter: &SharedLetter,
         after: Rev,
         commands: &[Command],
     ) -> Result<LogDone, StateError>
-        ensures { IsLogDone D.Disk inc self.now self.now state.old state.new result (rules.on_news (log_of self.now state.old.records) letter.now after commands.now) }
+        ensures { IsLogDone D.Disk self.now self.now state.old state.new result
+            (rules.on_news (log_of self.now state.old.records) letter.now after commands.now) }
     {
         let first = after.checked_add(1).ok_or(NoMemory)?;
         let unknown = unknown_from(alloc, state, first, commands)?;
         match unknown.as_slice() {
-            [] => self.quiet(alloc, inc, state),
-            [(place, command)] => self.learn(alloc, inc, state, *place, command),
-            [(place, command), ..] => {
-                self.learn_one(alloc, inc, state, letter, *place, command)
-            },
+            [] => self.quiet(alloc, state),
+            [(place, command)] => self.learn(alloc, state, *place, command),
+            [(place, command), ..] => { self.learn_one(alloc, state, letter, *place, command) },
         }
     }
 }

@@ -1,7 +1,6 @@
 //! What a server has in memory of the agreed log.
 
 ghost use Rattle.std.specs.Prelude.{◌≡◌, ◌<◌, ◌+◌, IfOk, length};
-ghost use Rattle.petal_rules.specs.Log.{Voter};
 ghost use Rattle.log_side.specs.Part.{new_part, sender_of, state_of};
 
 use crate::envelope::Envelope;
@@ -12,14 +11,17 @@ use petal_command::Command;
 use std::alloc::Global;
 use std::marker::Model;
 
-/// A server's part of the agreed log in memory. Contracts see what its proposer is about, the entries that it has applied and
-/// the commands that it wants chosen; the global state is what the applied entries make.
+/// A server's part of the agreed log in memory. Contracts see what its proposer is about, the entries that it has applied,
+/// the incarnations of which it heard that they stopped, as Leaves, and the commands that it wants chosen; the global state is
+/// what the applied entries make.
 #[derive(Drop)]
 pub struct LogSide {
+    pub(crate) inc: Inc,
     pub(crate) state: GlobalState,
     pub(crate) applied: Sequence<Command>,
     pub(crate) proposer: Proposer,
     pub(crate) refused: u32,
+    pub(crate) leaves: Sequence<Command>,
     pub(crate) wants: Sequence<Command>,
     pub(crate) asks: u8,
 }
@@ -32,10 +34,11 @@ impl Model for LogSide {
     ghost Value = { Part };
 
     ghost view = { λ s. record {
-      voter = record { me = s.proposer.me; servers = s.proposer.servers };
+      voter = record { me = s.proposer.me; inc = s.inc; servers = s.proposer.servers };
       phase = s.proposer.phase;
       refused = s.refused;
       applied = s.applied;
+      leaves = s.leaves;
       wants = s.wants;
       asks = s.asks;
     } };
@@ -44,18 +47,20 @@ impl Model for LogSide {
 }
 
 impl LogSide {
-    /// One of so many servers, which has applied nothing.
+    /// An incarnation of one of so many servers, which has applied nothing.
     ///
     /// # Errors
     /// Out of memory.
-    pub fn start(alloc: Global, me: ServerId, servers: u8) -> Result<LogSide, NoMemory>
-        ensures { IfOk result (λ side. side ≡ new_part (record { me = me; servers = servers })) }
+    pub fn start(alloc: Global, me: ServerId, inc: Inc, servers: u8) -> Result<LogSide, NoMemory>
+        ensures { IfOk result (λ side. side ≡ new_part (record { me = me; inc = inc; servers = servers })) }
     {
         Ok(LogSide {
+            inc,
             state: GlobalState::new(alloc, servers)?,
             applied: Sequence::new(alloc),
             proposer: Proposer::new(me, servers),
             refused: 0,
+            leaves: Sequence::new(alloc),
             wants: Sequence::new(alloc),
             asks: 0,
         })
@@ -66,6 +71,13 @@ impl LogSide {
         ensures { result ≡ self.now.voter.me }
     {
         self.proposer.me
+    }
+
+    /// Its incarnation.
+    pub fn inc(&self) -> Inc
+        ensures { result ≡ self.now.voter.inc }
+    {
+        self.inc
     }
 
     /// How many servers there are.
@@ -90,11 +102,11 @@ impl LogSide {
         self.state.rev()
     }
 
-    /// Its letters carry this incarnation and its revision.
-    pub fn envelope(&self, inc: Inc) -> Envelope
-        ensures { result ≡ sender_of self.now inc }
+    /// Its letters carry its incarnation and its revision.
+    pub fn envelope(&self) -> Envelope
+        ensures { result ≡ sender_of self.now }
     {
-        Envelope::new(self.proposer.me, inc, self.state.rev())
+        Envelope::new(self.proposer.me, self.inc, self.state.rev())
     }
 
     /// The place after the last applied entry.

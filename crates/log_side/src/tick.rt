@@ -1,6 +1,6 @@
 //! What a tick sends of the log.
 
-ghost use Rattle.std.specs.Prelude.{◌≡◌, ◌+◌, ◌-◌, ◌%◌, ◌∷◌, ◌++◌, List, [], length, if◌then◌else◌, IfOk};
+ghost use Rattle.std.specs.Prelude.{◌≡◌, ◌+◌, ◌-◌, ◌%◌, ◌∷◌, ◌++◌, List, [], length, if◌then◌else◌, is_some, slice_get, IfOk};
 ghost use Rattle.petal_paxos.specs.declared.record.StateRecord.{StateRecord};
 ghost use Rattle.petal_rules.specs.Ballots as rules;
 ghost use Rattle.petal_rules.specs.Server.{letters_of};
@@ -10,7 +10,7 @@ ghost use Rattle.log_side.specs.Part.{log_of, sender_of};
 use crate::envelope::room_for;
 use crate::side::LogSide;
 use paxos_core::has_majority;
-use petal_base::{Inc, NoMemory, Sequence};
+use petal_base::{NoMemory, Sequence};
 use petal_command::Pax;
 use petal_msg::{Actor, Body, Letter};
 use petal_paxos::Phase;
@@ -21,11 +21,11 @@ impl LogSide {
     ///
     /// # Errors
     /// Out of memory.
-    pub fn ballot_letters(&self, alloc: Global, inc: Inc) -> Result<Sequence<Letter>, NoMemory>
-        ensures { IfOk result (λ letters. letters ≡ letters_of (sender_of self.now inc) 0 (rules.ballot_posts self.now.voter self.now.phase)) }
+    pub fn ballot_letters(&self, alloc: Global) -> Result<Sequence<Letter>, NoMemory>
+        ensures { IfOk result (λ letters. letters ≡ letters_of (sender_of self.now) 0 (rules.ballot_posts self.now.voter self.now.phase)) }
     {
         let servers = self.proposer.servers;
-        let envelope = self.envelope(inc);
+        let envelope = self.envelope();
         match &self.proposer.phase {
             Phase::Idle => Ok(Sequence::new(alloc)),
             Phase::Collecting {
@@ -65,10 +65,24 @@ impl LogSide {
     }
 
     /// Whether a tick is to start a ballot.
-    pub fn may_start(&self) -> bool
-        ensures { (if result then job.Start ∷ [] else []) ≡ rules.start_jobs self.now.phase self.now.wants }
+    ///
+    /// # Errors
+    /// Out of memory.
+    pub fn may_start(&self, alloc: Global) -> Result<bool, NoMemory>
+        ensures { IfOk result (λ may. (records : List StateRecord) → (if may then job.Start ∷ [] else [])
+            ≡ rules.start_jobs self.now.phase (rules.wanted self.now.voter (log_of self.now records))) }
     {
-        matches!(self.proposer.phase, Phase::Idle) && !self.wants.is_empty()
+        match &self.proposer.phase {
+            Phase::Idle => self.has_wanted(alloc),
+            Phase::Collecting { .. } | Phase::Voting { .. } => Ok(false),
+        }
+    }
+
+    /// Whether something is wanted.
+    fn has_wanted(&self, alloc: Global) -> Result<bool, NoMemory>
+        ensures { IfOk result (λ has. (records : List StateRecord) → has ≡ is_some (slice_get (rules.wanted self.now.voter (log_of self.now records)) 0)) }
+    {
+        Ok(self.first_wanted(alloc)?.is_some())
     }
 
     /// Which of the other servers it asks after the next tick.
@@ -96,13 +110,9 @@ impl LogSide {
     ///
     /// # Errors
     /// Out of memory, or where there is no server to ask.
-    pub fn with_ask(
-        &self,
-        inc: Inc,
-        letters: Sequence<Letter>,
-    ) -> Result<Sequence<Letter>, NoMemory>
+    pub fn with_ask(&self, letters: Sequence<Letter>) -> Result<Sequence<Letter>, NoMemory>
         ensures { (records : List StateRecord) → IfOk result (λ all. all
-            ≡ letters ++ letters_of (sender_of self.now inc) (length letters) (rules.ask_posts self.now.voter (log_of self.now records))) }
+            ≡ letters ++ letters_of (sender_of self.now) (length letters) (rules.ask_posts self.now.voter (log_of self.now records))) }
     {
         let servers = self.proposer.servers as u16;
         if servers == 0 {
@@ -114,7 +124,7 @@ impl LogSide {
         };
         let ask = Body::Ask { rev: self.rev() };
         let mut letters = letters;
-        letters.push(self.envelope(inc).letter(Actor::Server(to), nth, ask))?;
+        letters.push(self.envelope().letter(Actor::Server(to), nth, ask))?;
         Ok(letters)
     }
 }

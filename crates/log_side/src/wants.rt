@@ -1,6 +1,6 @@
 //! Commands that are wanted.
 
-ghost use Rattle.std.specs.Prelude.{◌≡◌, [], List, OnOk};
+ghost use Rattle.std.specs.Prelude.{◌≡◌, List};
 ghost use Rattle.petal_command.specs.Same.{has_command, same_command};
 ghost use Rattle.petal_paxos.specs.declared.record.StateRecord.{StateRecord};
 ghost use Rattle.petal_rules.specs.Ballots as ballots;
@@ -10,13 +10,13 @@ ghost use Rattle.log_side.specs.Part.{log_of};
 
 use crate::done::{LogDone, only};
 use crate::side::LogSide;
-use petal_base::{Inc, Sequence};
+use petal_base::Sequence;
 use petal_command::Command;
 use state_store::StateError;
 use std::alloc::Global;
 
 /// Whether two commands are one.
-fn is_same_command(a: &Command, b: &Command) -> bool
+pub(crate) fn is_same_command(a: &Command, b: &Command) -> bool
     ensures { result ≡ same_command a.now b.now }
 {
     *a == *b
@@ -43,10 +43,9 @@ impl LogSide {
     pub(crate) fn on_propose(
         &mut self,
         alloc: Global,
-        inc: Inc,
         command: &Command,
     ) -> Result<LogDone, StateError>
-        ensures { (records : List StateRecord) → IsLogSaid inc self.old self.new records result (ballots.on_propose (log_of self.old records) command.now) }
+        ensures { (records : List StateRecord) → IsLogSaid self.old self.new records result (ballots.on_propose (log_of self.old records) command.now) }
     {
         if !has_command(self.applied.as_slice(), command)
             && !has_command(self.wants.as_slice(), command)

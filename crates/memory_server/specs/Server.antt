@@ -2,6 +2,10 @@
 use Rattle.kept_chains.specs.Kept.{store_of}
 use Rattle.world_desks.specs.Desks.{Site}
 use Rattle.server_core.specs.Core.{Core, server_of}
+use Rattle.log_side.specs.Done as logs
+use Rattle.pair_side.specs.Done.{HoldsAt}
+use Rattle.pair_side.specs.Side.{HasTicketsAt}
+use Rattle.petal_disk.specs.declared.disk.Disk.{Ghosts}
 use Rattle.server_store.specs.Holdings.{Holdings}
 use Rattle.state_store.specs.Device.{Keeping}
 
@@ -18,3 +22,9 @@ site_of mounted = record {
   servers = mounted.core.log.voter.servers;
   server = server_of mounted.core (store_of mounted.store) mounted.state.records;
 }
+
+-- the tickets stand where they are needed, and the devices show the stores
+pub record Stands {D : Type 0} (device : Ghosts D) (mounted : Mounted D) : Type 0 where
+  pub tickets : HasTicketsAt mounted.core.side mounted.store
+  pub store : HoldsAt device mounted.store
+  pub state : logs.HoldsAt device mounted.state

@@ -1,9 +1,10 @@
 //! A server and its two stores.
 
-ghost use Rattle.std.specs.Prelude.{◌≡◌, ◌∷◌, [], true, IfOk, OnOk};
+ghost use Rattle.std.specs.Prelude.{◌≡◌, ◌∷◌, ◌&&◌, [], true, IfOk, OnOk};
+ghost use Rattle.log_side.specs.Done as logs;
 ghost use Rattle.petal_paxos.specs.declared.record.StateRecord.TheVariants.{Inc};
 ghost use Rattle.petal_rules.specs.Server.{first_server};
-ghost use Rattle.petal_rules.specs.declared.step.Step.TheVariants.{Work};
+ghost use Rattle.petal_rules.specs.declared.step.Step.TheVariants.{Stop, Work};
 ghost use Rattle.petal_rules.specs.declared.step.WorkEnd.TheVariants.{Done};
 ghost use Rattle.world_desks.specs.Desks.{acted_at, site_after};
 ghost use Rattle.server_store.specs.Slots.{slot_start};
@@ -13,7 +14,7 @@ use petal_base::{NoMemory, Rev, Sequence, ServerId};
 use petal_disk::{Disk, MemDisk};
 use petal_msg::Letter;
 use petal_rules::{Step, WorkEnd};
-use server_core::ServerCore;
+use server_core::{ServerCore, WorkError};
 use server_store::{DATA_START, SLOT_BYTES, Store};
 use state_store::{DEVICE_BYTES, StateStore};
 use std::alloc::Global;
@@ -33,18 +34,25 @@ impl Model for MemServer {
     ghost use Rattle.std.specs.Prelude.{◌≡◌, false};
     ghost use Rattle.petal_disk.specs.declared.memory_disk.MemDisk.{MemDisk};
     ghost use Rattle.pair_side.specs.Side.{HasTicketsAt};
-    ghost use Rattle.memory_server.specs.Server.{Mounted};
+    ghost use Rattle.memory_server.specs.Server.{Mounted, Stands};
 
     ghost Value = { Mounted MemDisk };
 
     ghost view = { λ s. record { core = s.core; store = s.store; state = s.state } };
 
-    ghost invariant = { λ s. s.over ≡ false → HasTicketsAt s.core.side s.store };
+    ghost invariant = { λ s. s.over ≡ false → Stands ⟦<MemDisk as Disk>⟧ (record { core = s.core; store = s.store; state = s.state }) };
+}
+
+fn both(a: bool, b: bool) -> bool
+    ensures { result ≡ (a && b) }
+{
+    a && b
 }
 
 /// The state store of a server that runs for the first time.
 fn first_state(alloc: Global) -> Result<StateStore<MemDisk>, NoMemory>
-    ensures { IfOk result (λ state. state.records ≡ Inc 1 ∷ []) }
+    ensures records { IfOk result (λ state. state.records ≡ Inc 1 ∷ []) }
+    ensures holds { IfOk result (λ state. logs.HoldsAt ⟦<MemDisk as Disk>⟧ state) }
 {
     let Ok(disk) = MemDisk::new(alloc, DEVICE_BYTES) else {
         return Err(NoMemory);
@@ -86,7 +94,18 @@ impl MemServer {
         }
     }
 
-    /// Does the first job of the queue.
+    /// It stops, where it runs.
+    fn stop(&mut self, alloc: Global) -> Result<Sequence<Letter>, NoMemory>
+        ensures site { OnOk result (site_of self.new ≡ site_after (site_of self.old) Stop) }
+        ensures letters { IfOk result (λ letters. letters ≡ (acted_at (site_of self.old) Stop).letters) }
+    {
+        if !self.core.is_running() {
+            return Err(NoMemory);
+        }
+        Ok(self.core.stop(alloc))
+    }
+
+    /// Does the first job of the queue. A server whose journal is full stops.
     fn work(&mut self, alloc: Global) -> Result<Sequence<Letter>, NoMemory>
         ensures site { OnOk result (site_of self.new ≡ site_after (site_of self.old) (Work Done)) }
         ensures letters { IfOk result (λ letters. letters ≡ (acted_at (site_of self.old) (Work Done)).letters) }
@@ -97,6 +116,7 @@ impl MemServer {
         match self.core.work(alloc, &mut self.store, &mut self.state) {
             Ok(Some(letters)) => Ok(letters),
             Ok(None) => Ok(Sequence::new(alloc)),
+            Err(WorkError::JournalFull) => self.stop(alloc),
             Err(_) => {
                 self.over = true;
                 Err(NoMemory)
@@ -119,11 +139,14 @@ impl Host for MemServer {
             }
             Step::Tick => self.core.tick(alloc),
             Step::Work(WorkEnd::Done) => self.work(alloc),
+            Step::Work(WorkEnd::Fault(_)) => Err(NoMemory),
+            Step::Stop => self.stop(alloc),
+            Step::Glance { line, round } => self.core.glance(alloc, *line, *round),
         }
     }
 
     fn is_running(&self) -> bool {
-        true
+        self.core.is_running()
     }
 
     fn is_idle(&self) -> bool {
@@ -131,7 +154,7 @@ impl Host for MemServer {
     }
 
     fn is_spent(&self) -> bool {
-        self.core.spent(&self.store)
+        both(self.core.is_running(), self.core.spent(&self.store))
     }
 
     fn rev(&self) -> Rev {

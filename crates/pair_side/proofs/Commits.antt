@@ -1,5 +1,5 @@
 -- A job that a store refused a commit.
-use Rattle.std.proofs.Common.{◌≡◌, Result, Err, refl, ap}
+use Rattle.std.proofs.Common.{◌≡◌, ◌+◌, length, Result, Err, refl, ap}
 use Rattle.petal_disk.specs.declared.disk.Disk.{Ghosts}
 use Rattle.petal_rules.specs.Server as rules
 use Rattle.petal_rules.specs.Store.{Store}
@@ -42,16 +42,19 @@ of_error r a b is other = cc
 
 -- a refused commit of a mark leaves what a refused job leaves
 pub refused_done : {D T : Type 0} (device : Ghosts D) (here : Here) (side : Side) (before after : Holdings D) (refusal : StoreError) (e : WorkError)
-    (marked : Store) (rule : rules.Done) → e ≡ work_error refusal → IsCommit {T = T} device before after (Err refusal) marked
+    (marked : Store) (rule : rules.Done) → (marked.records ≡ length before.log.records + 1 → rule.own.store.records ≡ length before.log.records + 1)
+    → e ≡ work_error refusal → IsCommit {T = T} device before after (Err refusal) marked
     → IsDone device here side side before after (Err e) rule
-refused_done device here side before after refusal e marked rule is commit = rw is (record {
+refused_done device here side before after refusal e marked rule over is commit = rw is (record {
   done = tt;
   keeps = tt;
   holds = λ _ _. tt;
   still = λ out told holds. let same = commit.memory (ap Err (no_memory refusal commit.errors (of_error _ _ _ refl out))) in rw same holds;
   same = λ out. let same = commit.memory (ap Err (no_memory refusal commit.errors (of_error _ _ _ refl out))) in (refl, rw same refl);
   kept = commit.kept;
-  full = λ out. commit.full (ap Err (no_room refusal commit.errors (of_error _ _ _ refl out)));
+  full = λ out.
+      let full = commit.full (ap Err (no_room refusal commit.errors (of_error _ _ _ refl out))) in
+      record { count = full.count; over = over full.over; same = (refl, full.same) };
   cause = record { later = commit.cause.later; failed = λ out. commit.cause.failed (ap Err (has_failed refusal commit.errors (of_error _ _ _ refl out))) };
   run = commit.run;
 })

@@ -3,3 +3,4 @@ pub mod Said
 pub mod Kept
 pub mod Blank
 pub mod Commits
+pub mod Crossings

@@ -5,10 +5,10 @@ use Rattle.petal_rules.specs.Server.{Here}
 use Rattle.petal_rules.specs.Server as rules
 use Rattle.server_store.specs.Holdings.{Holdings}
 use Rattle.pair_side.specs.declared.error.WorkError.{WorkError}
-use Rattle.pair_side.specs.declared.error.WorkError.TheVariants.{NoMemory}
+use Rattle.pair_side.specs.declared.error.WorkError.TheVariants.{JournalFull, NoMemory}
 use Rattle.pair_side.specs.declared.done.Done.{Done}
 use Rattle.pair_side.specs.Side.{Side}
-use Rattle.pair_side.specs.Done.{HoldsAt, IsSaid, IsDone}
+use Rattle.pair_side.specs.Done.{HoldsAt, IsFull, IsSaid, IsDone}
 
 module _ {D : Type 0} (device : Ghosts D) (stays : (d : D) → device.came_to d d) where
   -- where the device is as it was
@@ -52,6 +52,23 @@ module _ {D : Type 0} (device : Ghosts D) (stays : (d : D) → device.came_to d 
     };
     run = run_same old_store new_store (disk_is old_store new_store said.store);
   }
+
+  -- a job for whose record the journal has no room
+  pub full_done : (here : Here) (old new : Side) (before after : Holdings D) (rule : rules.Done) → IsFull old new before after rule
+      → IsDone device here old new before after (Err JournalFull) rule
+  full_done here old new before after rule full =
+      let disk : after.disk ≡ before.disk = ap (λ (s : Holdings D). s.disk) full.same.1 in
+      record {
+        done = tt;
+        keeps = tt;
+        holds = λ _ _. tt;
+        still = λ no. absurd (cc);
+        same = λ no. absurd (cc);
+        kept = λ _. ap (λ (s : Holdings D). s.entries) full.same.1;
+        full = λ _. full;
+        cause = record { later = let same = ap device.faults disk in omega (arith, same); failed = λ no. absurd (cc) };
+        run = run_same before after disk;
+      }
 
 -- what was refused for memory left all as it was
 pub all_same : {D : Type 0} (here : Here) (old new : Side) (old_store new_store : Holdings D) (rule : rules.Done) → new ≡ old → new_store ≡ old_store

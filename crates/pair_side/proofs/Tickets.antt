@@ -56,7 +56,7 @@ times_removed n slot test (r ∷ rs) is =
       | false ↦ λ e. let more = rest e in omega (arith, more)
     ] is
 
-times_without : (n slot : ℕ) (cell : Cell) (t : Table Cell ℕ) → IsStrictlySortedBy cell_cmp (keys_of t) → at cell_cmp t cell ≡ Some slot
+pub times_without : (n slot : ℕ) (cell : Cell) (t : Table Cell ℕ) → IsStrictlySortedBy cell_cmp (keys_of t) → at cell_cmp t cell ≡ Some slot
     → times n (values_of (without cell_cmp t cell)) + one_at n slot ≡ times n (values_of t)
 unfolding at
 times_without n slot cell t sorted is =
@@ -90,7 +90,7 @@ counted_in slot (t ∷ ts) h = elim (cases_Bool (t == slot)) [
       (suc more.0, omega (arith, more.1), more.2)
 ]
 
-times_less : (n slot : ℕ) (ts : List ℕ) → 1 ≤ times slot ts → times n (store.without ts slot) + one_at n slot ≡ times n ts
+pub times_less : (n slot : ℕ) (ts : List ℕ) → 1 ≤ times slot ts → times n (store.without ts slot) + one_at n slot ≡ times n ts
 times_less n slot [] h = absurd (omega arith)
 times_less n slot (t ∷ ts) h = elim (cases_Bool (t == slot)) [
   | inl is ↦ rw is (let same = one_same n t slot is in omega (arith, same))
@@ -119,7 +119,7 @@ without_last slot (t ∷ ts) other = elim (cases_Bool (t == slot)) [
 ]
 
 -- the slot of a ticket of the first table is out
-counted_own : (cell : Cell) (slot : ℕ) (own : Table Cell ℕ) → at cell_cmp own cell ≡ Some slot → 1 ≤ times slot (values_of own)
+pub counted_own : (cell : Cell) (slot : ℕ) (own : Table Cell ℕ) → at cell_cmp own cell ≡ Some slot → 1 ≤ times slot (values_of own)
 unfolding at
 counted_own cell slot own is = go own is
   where
@@ -132,7 +132,7 @@ counted_own cell slot own is = go own is
           | false ↦ λ e. let more = rest e in omega (arith, more)
         ] is
 
-slot_by : (o : Option ℕ) → is_some o ≡ true → (slot : ℕ) × (o ≡ Some slot)
+pub slot_by : (o : Option ℕ) → is_some o ≡ true → (slot : ℕ) × (o ≡ Some slot)
 slot_by None is = absurd (cc)
 slot_by (Some slot) is = (slot, refl)
 
@@ -319,7 +319,7 @@ spent_is {D = D} old new key version slot bytes has entries rest recorded =
     λ i. record { slots = slots i; chains = chains i; tickets = fewer i; marks = marks i; fresh = fresh i; records = recorded i }
 
 -- the store with so many slots set apart
-abbrev with_tickets : {D : Type 0} → Holdings D → ℕ → rules.Store
+abbrev pub with_tickets : {D : Type 0} → Holdings D → ℕ → rules.Store
 with_tickets old tickets = record (store_of old) { tickets = tickets }
 
 -- a slot that is free again, as the rules see the store

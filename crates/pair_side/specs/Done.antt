@@ -1,5 +1,5 @@
 -- What a job leaves, and what every job keeps.
-use Rattle.std.specs.Prelude.{◌≡◌, ◌≤◌, ◌<◌, ℕ, ◌-◌, ◌^◌, List, [], ◌∷◌, Option, None, Some, Result, Err, IfOk, IfErr, OnOk, OnErr}
+use Rattle.std.specs.Prelude.{◌≡◌, ◌≤◌, ◌<◌, ℕ, ◌+◌, ◌-◌, ◌^◌, length, List, [], ◌∷◌, Option, None, Some, Result, Err, IfOk, IfErr, OnOk, OnErr}
 use Rattle.petal_base.specs.declared.cell.Cell.{Cell}
 use Rattle.petal_disk.specs.declared.disk.Disk.{Ghosts}
 use Rattle.petal_msg.specs.declared.letter.Letter.{Letter}
@@ -51,9 +51,15 @@ module _ {D : Type 0} where
     pub err : IfErr result (λ e. (e ≡ NoMemory) × (new ≡ old) × (after ≡ before))
     pub store : after ≡ record before { tickets = after.tickets }
 
+  -- the rule has one record more than the journal has room for, and nothing changed
+  pub record IsFull (old new : Side) (before after : Holdings D) (rule : Rule) : Type 0 where
+    pub count : before.log.region.count ≡ 65536
+    pub over : rule.own.store.records ≡ length before.log.records + 1
+    pub same : (new ≡ old) × (after ≡ before)
+
   -- a job is the rule's where the device tells its bytes, and the tickets still stand where they are needed; a device that showed
   -- the store shows it after the job too, and after one that was refused for memory, which left all but the device's state as it
-  -- was. Any other refusal left the entries. `JournalFull` comes only where the store's journal had all its records
+  -- was. Any other refusal left the entries. `JournalFull` comes only where the journal has no room for the record of the job
   pub record IsDone (device : Ghosts D) (here : Here) (old new : Side) (before after : Holdings D) (result : Result Done WorkError) (rule : Rule) : Type 0 where
     pub done : IfOk result (λ done. device.told → IsBy here (own_of new after) done rule)
     pub keeps : OnOk result (HasTicketsAt new after)
@@ -61,6 +67,6 @@ module _ {D : Type 0} where
     pub still : result ≡ Err NoMemory → device.told → HoldsAt device before → HoldsAt device after
     pub same : result ≡ Err NoMemory → (new ≡ old) × (after ≡ record before { disk = after.disk })
     pub kept : OnErr result (device.told → after.entries ≡ before.entries)
-    pub full : result ≡ Err JournalFull → before.log.region.count ≡ 65536
+    pub full : result ≡ Err JournalFull → IsFull old new before after rule
     pub cause : HasFault (device.faults before.disk) (device.faults after.disk) result
     pub run : device.came_to before.disk after.disk

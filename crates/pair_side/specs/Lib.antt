@@ -2,3 +2,4 @@ pub mod Side
 pub mod Done
 pub mod Refusals
 pub mod Slots
+pub mod Crossed

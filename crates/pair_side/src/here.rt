@@ -1,11 +1,13 @@
 //! Where a job is done, and the letters that are sent from there.
 
 ghost use Rattle.std.specs.Prelude.{◌≡◌, [], ◌∷◌, IfOk};
+ghost use Rattle.petal_rules.specs.Crossing.{touches_cell};
 ghost use Rattle.petal_rules.specs.Server.{letters_of, post_to, sender};
 ghost use Rattle.petal_rules.specs.State as rules;
 
 use global_state::{GlobalState, Hold};
 use petal_base::{Cell, Inc, NoMemory, Rev, Sequence, ServerId};
+use petal_command::Command;
 use petal_msg::{Actor, Body, Letter};
 use std::alloc::Global;
 use std::marker::Model;
@@ -127,6 +129,13 @@ impl<'a> Here<'a> {
         ensures { result ≡ rules.held self.now.state cell }
     {
         self.state.held(cell)
+    }
+
+    /// Whether the entry would change the cell's link, or make one of its two servers In or Out.
+    pub fn touches(&self, entry: &Command, cell: Cell) -> bool
+        ensures { result ≡ touches_cell self.now.state entry.now cell }
+    {
+        self.state.touches_cell(entry, cell)
     }
 
     /// A letter from there: the one of this number of its step.

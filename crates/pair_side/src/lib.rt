@@ -4,6 +4,7 @@
 //! what a job has to keep (`IsDone`). It knows nothing of the stages of an operation, of queues, or of how letters travel.
 #![tactic(auto)]
 
+mod crossing;
 mod done;
 mod error;
 mod here;
@@ -11,6 +12,7 @@ mod replies;
 mod side;
 mod slots;
 
+pub use crossing::{crosses, stage_jobs};
 pub use done::{Done, only};
 pub use error::WorkError;
 pub use here::Here;

@@ -41,7 +41,7 @@ pub fn keep<D: Disk>(
     }
 }
 
-/// Puts a block in the slot that was set apart for a cell.
+/// Puts a block in the slot that was set apart for a cell. Where the journal is full nothing changes.
 pub fn spend<D: Disk>(
     table: &mut Table<Cell, Ticket>,
     store: &mut Store<D>,
@@ -53,20 +53,24 @@ pub fn spend<D: Disk>(
     requires some { IsSome (at cell_cmp table.old cell) }
     requires out { IsOutAt table.old cell store.old.tickets }
     ensures ok { OnOk result (D.told → store_of store.new ≡ with_entry (store_of store.old) key (record { version = version; bytes = block.now })) }
-    ensures table { table.new ≡ without cell_cmp table.old cell }
-    ensures tickets { (slot : ℕ) → at cell_cmp table.old cell ≡ Some slot → store.new.tickets ≡ lists.without store.old.tickets slot }
+    ensures table { OnOk result (table.new ≡ without cell_cmp table.old cell) }
+    ensures tickets { OnOk result ((slot : ℕ) → at cell_cmp table.old cell ≡ Some slot → store.new.tickets ≡ lists.without store.old.tickets slot) }
     ensures sorted { IsStrictlySortedBy cell_cmp (keys_of table.old) }
     ensures kept { OnErr result (D.told → store.new.entries ≡ store.old.entries) }
     ensures holds { D.told → HoldsAt D.Disk store.old → OnOk result (HoldsAt D.Disk store.new) }
     ensures errors { IfErr result IsStop }
-    ensures full { IsErrOf result error.JournalFull → store.old.log.region.count ≡ 65536 }
+    ensures full { IsErrOf result error.JournalFull → (store.old.log.region.count ≡ 65536) × (table.new ≡ table.old) × (store.new ≡ store.old) }
     ensures cause { HasFault (D.faults store.old.disk) (D.faults store.new.disk) result }
     ensures run { D.came_to store.old.disk store.new.disk }
 {
+    // What `len` promises tells the proof that the rows rise by cell.
+    let _ = table.len();
+    if store.is_full() {
+        return Err(WorkError::JournalFull);
+    }
     match table.remove(&cell) {
         Some(ticket) => match store.put(ticket, key, version, block.block()) {
             Ok(()) => Ok(()),
-            Err(StoreError::JournalFull) => Err(WorkError::JournalFull),
             Err(_) => Err(WorkError::Failed),
         },
         None => Err(WorkError::Failed),

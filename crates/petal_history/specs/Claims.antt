@@ -20,7 +20,7 @@ use Rattle.script_lines.specs.declared.script.Script.{Script}
 use Rattle.petal_rules.specs.Clients.{Asked}
 use Rattle.petal_rules.specs.Lists.{In}
 use Rattle.petal_state.specs.declared.answer.Hold.TheVariants.{No}
-use Rattle.petal_rules.specs.State.{State, first, second, is_lead, leads_link, held}
+use Rattle.petal_rules.specs.State.{State, first, second, primary, secondary, in_both, is_lead, leads_link, held}
 use Rattle.petal_rules.specs.Store.{Chain, Store, cell_cmp, chain_in, version_of, is_marked}
 use Rattle.petal_rules.specs.Log.{rev_of}
 use Rattle.petal_rules.specs.World.{Setting, World, start, setting_of, server_state, devices, chosen_log, chosen_state}
@@ -34,22 +34,32 @@ use Rattle.petal_history.specs.declared.record.Record.{Record}
 abbrev pub one_put_ahead : Chain → Pending → Chain
 one_put_ahead chain op = put nat_cmp chain op.key.epoch (record { version = version_of chain + 1; bytes = op.bytes })
 
--- two chains of a cell are equal, or the first is the second after one more put, by the operation that is pending, and the
--- block is marked busy
-abbrev pub Copies : Chain → Chain → Option Pending → (busy : Bool) → Type 0
-Copies first second pending busy =
-    (first ≡ second) ⊎ ((op : Pending) × (pending ≡ Some op) × (first ≡ one_put_ahead second op) × (busy ≡ true))
+-- two chains of a cell are equal, or the first is the second after one more put, the block is marked busy, and the operation
+-- that put is pending, where its server runs
+abbrev pub Copies : Chain → Chain → (runs : Bool) → Option Pending → (busy : Bool) → Type 0
+Copies first second runs pending busy =
+    (first ≡ second) ⊎ ((op : Pending) × (first ≡ one_put_ahead second op) × (busy ≡ true) × (runs ≡ true → pending ≡ Some op))
 
 -- the two-copy rule for a cell in Both
 abbrev pub TwoCopies : State → World → Cell → Type 0
 TwoCopies state w cell =
     (n m : ℕ) → first state cell ≡ Some n → second state cell ≡ Some m
-    → Copies (chain_in (w.servers n).own.store.chains cell) (chain_in (w.servers m).own.store.chains cell) (at cell_cmp (w.servers n).own.pairs.pending cell)
-    (is_marked (w.servers n).own.store Busy cell)
+    → Copies (chain_in (w.servers n).own.store.chains cell) (chain_in (w.servers m).own.store.chains cell) (w.servers n).life.running
+    (at cell_cmp (w.servers n).own.pairs.pending cell) (is_marked (w.servers n).own.store Busy cell)
 
 -- the block is marked on the device, as busy or as stale
 abbrev pub IsMarked : Store → Cell → Type 0
 IsMarked store cell = (is_marked store Busy cell ≡ true) ⊎ (is_marked store Stale cell ≡ true)
+
+-- two copies of a cell are equal, or the block is marked at one of them
+abbrev pub AreCovered : Store → Store → Cell → Type 0
+AreCovered one other cell = (chain_in one.chains cell ≡ chain_in other.chains cell) ⊎ IsMarked one cell ⊎ IsMarked other cell
+
+-- the rule for a cell that one server holds alone: an unequal block is marked at one of the cell's two servers
+abbrev pub Covered : State → World → Cell → Type 0
+Covered state w cell =
+    (n m : ℕ) → primary state cell ≡ Some n → secondary state cell ≡ Some m → in_both state cell ≡ false
+    → AreCovered (w.servers n).own.store (w.servers m).own.store cell
 
 -- where a step changes a cell's chain at the server that leads the cell's link by its own state, the block was marked there
 pub record ChangesMarked (setting : Setting) (w v : World) (n : ℕ) (cell : Cell) : Type 0 where
@@ -110,10 +120,11 @@ pub record AreHeld (setting : Setting) (w : World) (disks : List Disk) : Type 0 
   pub known : (row : DiskRow) → In row (chosen_state setting w).disks.rows → Holds disks row.name (content_at setting w row.id row.epoch)
   pub unknown : (name : List ℕ) → named (chosen_state setting w).disks.rows name ≡ None → disk_of disks name ≡ None
 
--- what a world keeps: agreement, the two-copy rule for each cell, and the rule of requests
+-- what a world keeps: agreement, the rules of two copies for each cell, and the rule of requests
 pub record Stands (setting : Setting) (w : World) : Type 0 where
   pub agrees : Agrees setting w
   pub copies : (cell : Cell) → TwoCopies (chosen_state setting w) w cell
+  pub covered : (cell : Cell) → Covered (chosen_state setting w) w cell
   pub requests : Requests setting w
 
 -- the chosen log after a list of records is at the front of that after more of them

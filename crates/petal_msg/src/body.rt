@@ -4,7 +4,7 @@ use petal_base::{
     BlockNo, Cell, ClientId, Epoch, Inc, Key, MapId, Op, Rev, Seq, Sequence, ServerId, SharedBlock,
     Version,
 };
-use petal_command::{Command, Pax};
+use petal_command::{Command, Pax, ServerNumber};
 
 /// The content of a letter, in the order of the format. Those that are about copies for a server that returns, and about
 /// entries that move to a new map, are sent and handled by no rule yet; nor are `Down` and `Seen`.
@@ -12,7 +12,7 @@ use petal_command::{Command, Pax};
 pub enum Body {
     /// This incarnation of a server has stopped.
     Down {
-        server: ServerId,
+        server: ServerNumber,
         inc: Inc,
     },
     /// What a server showed the operator at a glance, for this line and this round of it: whether it runs, as which

@@ -93,6 +93,33 @@ fn names_of_disks(rt: HostRuntime) -> Result<(), Fail> {
 }
 
 #[test]
+fn servers_that_stop(rt: HostRuntime) -> Result<(), Fail> {
+    let rows: [Row; 2] = [
+        Row {
+            shows: "the lead of a block stops, and its neighbour goes on; a second stop of it does nothing",
+            start: "servers 3 slots 4\na disk vol on 0 1 2\n",
+            lines: "a write vol 0 fill 7\nwait\nop stop 0\nop stop 0\nwait\na read vol 0\nwait\nb write vol 0 fill 8\nwait\na read vol 0\n",
+            written: &[
+                "2: ok\n3: ok\n5: ok\n6: ok\n8: data 65536x7\n10: ok\n12: data 65536x8\n",
+            ],
+            ..RUN
+        },
+        Row {
+            shows: "two neighbours stop: their block is unavailable, and others go on",
+            lines: "a write vol 0 fill 1\na write vol 1 fill 2\nwait\nop stop 0\nop stop 1\nwait\na read vol 0\nb write vol 0 fill 3\nc read vol 1\n",
+            written: &[
+                "2: ok\n4: ok\n5: ok\n7: ok\n8: ok\n10: unavailable\n11: unavailable\n12: data 65536x2\n",
+            ],
+            ..ON_DISK
+        },
+    ];
+    for row in &rows {
+        assert!(rt; is_so(&rt, rt.alloc(), row)?, "{}", row.shows);
+    }
+    Ok(())
+}
+
+#[test]
 fn lines_that_are_refused(rt: HostRuntime) -> Result<(), Fail> {
     let rows: [Row; 3] = [
         Row {
@@ -124,10 +151,9 @@ fn lines_that_are_refused(rt: HostRuntime) -> Result<(), Fail> {
 fn lines_that_are_not_built_yet(rt: HostRuntime) -> Result<(), Fail> {
     let rows: [Row; 3] = [
         Row {
-            shows: "a stop of one of three servers is not built yet",
-            start: "servers 3 slots 4\na disk vol on 0 1\n",
-            lines: "op stop 1\n",
-            written: &["refused line 3: not built\n"],
+            shows: "a start of a server is not built yet",
+            lines: "op start 1\n",
+            written: &["refused line 2: not built\n"],
             ..REFUSED
         },
         Row {

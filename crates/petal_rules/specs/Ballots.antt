@@ -1,10 +1,11 @@
 -- Ballots at a server: what it wants chosen, the ballots that it starts, and those that it takes part in ("Paxos Made
 -- Simple", 2001).
-use Rattle.std.specs.Prelude.{ℕ, ◌+◌, ◌-◌, ◌%◌, ◌||◌, not, max, Bool, nat_lt, List, [], ◌∷◌, ◌++◌, map, filter, if◌then◌else◌, Option, Some, None}
+use Rattle.std.specs.Prelude.{ℕ, ◌+◌, ◌-◌, ◌%◌, ◌==◌, ◌&&◌, ◌||◌, not, max, Bool, false, nat_lt, List, [], ◌∷◌, ◌++◌, map, filter, fold, if◌then◌else◌, Option, Some, None}
 use Rattle.std.specs.List.{range_with_len}
-use Rattle.petal_command.specs.Same.{has_command}
+use Rattle.petal_command.specs.Same.{has_command, same_command}
 use Rattle.petal_command.specs.declared.ballot.Ballot.{Ballot}
 use Rattle.petal_command.specs.declared.command.Command.{Command}
+use Rattle.petal_command.specs.declared.command.Command.TheVariants.{Leave}
 use Rattle.petal_command.specs.declared.pax.Pax.{Pax}
 use Rattle.petal_command.specs.declared.pax.Pax.TheVariants.{Prepare, Accept, Chosen}
 use Rattle.petal_msg.specs.declared.body.Body.{Body}
@@ -20,7 +21,8 @@ use Rattle.petal_paxos.specs.declared.phase.Phase.{Phase}
 use Rattle.petal_paxos.specs.declared.phase.Phase.TheVariants.{Idle, Collecting, Voting}
 use Rattle.petal_paxos.specs.declared.record.StateRecord.TheVariants.{Promise, Accepted}
 use Rattle.petal_rules.specs.Entries.{learns}
-use Rattle.petal_rules.specs.Log.{Log, LogDone, Voter, rev_of, next_place, acceptor, commits, with_phase, keeps, posts_all, posts_one}
+use Rattle.petal_state.specs.State.{State, inc_of, is_up_as}
+use Rattle.petal_rules.specs.Log.{Log, LogDone, Voter, state_in, rev_of, next_place, acceptor, commits, with_phase, keeps, posts_all, posts_one}
 use Rattle.petal_rules.specs.Posts.{Post}
 use Rattle.petal_rules.specs.declared.job.Job.{Job}
 use Rattle.petal_rules.specs.declared.job.Job.TheVariants as job
@@ -31,9 +33,39 @@ greatest_place = 16384
 
 -- ### What is wanted
 
--- what a server wants chosen, the most urgent first: at this stage what clients asked it to propose
-abbrev pub wanted : Log → List Command
-wanted log = log.wants
+-- the Leave of an incarnation that is In
+abbrev pub is_due : State → Command → Bool
+is_due state (Leave server inc) = is_up_as state server inc
+is_due state _ = false
+
+-- its own Leave, where the incarnation of it that is In is an earlier one
+abbrev pub own_leave : ℕ → ℕ → Option ℕ → List Command
+own_leave me inc None = []
+own_leave me inc (Some earlier) = if nat_lt earlier inc then Leave me earlier ∷ [] else []
+
+-- Leaves come by server and incarnation
+abbrev pub leave_before : Command → Command → Bool
+leave_before (Leave server inc) (Leave other later) = nat_lt server other || (server == other) && nat_lt inc later
+leave_before _ _ = false
+
+-- the list with this Leave in its place, once
+abbrev pub with_leave : List Command → Command → List Command
+with_leave [] leave = leave ∷ []
+with_leave (first ∷ rest) leave =
+    if same_command first leave then first ∷ rest
+    else if leave_before leave first then leave ∷ first ∷ rest
+    else first ∷ with_leave rest leave
+
+-- what a server wants chosen, the most urgent first: the Leaves of incarnations that have stopped and are In, and then what
+-- clients asked it to propose
+abbrev pub wanted : Voter → Log → List Command
+wanted voter log =
+    let state = state_in voter.servers log in
+    fold with_leave (filter (is_due state) log.leaves) (own_leave voter.me voter.inc (inc_of state voter.me)) ++ log.wants
+
+-- an incarnation has stopped
+unfoldable pub on_down : Log → (server inc : ℕ) → LogDone
+on_down log server inc = keeps (record log { leaves = with_leave log.leaves (Leave server inc) })
 
 -- a client's command is wanted where it is neither applied nor wanted already
 unfoldable pub on_propose : Log → Command → LogDone
@@ -79,7 +111,7 @@ starts_for voter log _ _ = keeps log
 
 -- a proposer that is idle starts a ballot for the first command that is wanted, at the next place
 unfoldable pub starts : Voter → Log → LogDone
-starts voter log = starts_for voter log log.phase (wanted log)
+starts voter log = starts_for voter log log.phase (wanted voter log)
 
 -- ### Taking part
 

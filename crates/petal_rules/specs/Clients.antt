@@ -14,7 +14,7 @@ use Rattle.petal_msg.specs.declared.body.Body.TheVariants as body
 use Rattle.petal_msg.specs.declared.letter.Actor.TheVariants as actor
 use Rattle.petal_msg.specs.declared.letter.Letter.{Letter}
 use Rattle.script_lines.specs.Pattern.{pattern_block}
-pub use Rattle.script_lines.specs.Requests.{is_read, is_write}
+pub use Rattle.script_lines.specs.Requests.{is_read, is_write, is_stop}
 use Rattle.script_lines.specs.declared.answer.Answer.{Answer}
 use Rattle.script_lines.specs.declared.answer.Answer.TheVariants as answer
 use Rattle.script_lines.specs.declared.request.Request.{Request}
@@ -213,7 +213,8 @@ answers client asked given = record { client = record client { asked = None }; p
 -- again, and the client asks what follows
 abbrev pub hears : State → ℕ → Client → Asked → ℕ → Body → Reaction
 hears state me client asked rev (body.Down server inc) = rests client
-hears state me client asked rev (body.Seen line round running inc full) = rests client
+hears state me client asked rev (body.Seen line round running inc full) =
+    if (line == asked.line) && is_stop asked.request then answers client asked answer.Ok else rests client
 hears state me client asked rev (body.Propose command) = rests client
 hears state me client asked rev (body.Pax said) = rests client
 hears state me client asked rev (body.Ask asked_rev) = rests client

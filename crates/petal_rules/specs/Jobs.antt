@@ -1,8 +1,9 @@
 -- What a server does: with the first job of its queue, with a letter that is delivered, and at a tick.
-use Rattle.std.specs.Prelude.{ℕ, ◌==◌, not, Bool, true, false, List, [], ◌∷◌, ◌++◌, if◌then◌else◌, Option, Some, None}
-use Rattle.std.specs.List.{flat_map}
+use Rattle.std.specs.Prelude.{ℕ, ◌==◌, ◌||◌, not, nat_lt, length, map, filter, Bool, true, false, List, [], ◌∷◌, ◌++◌, if◌then◌else◌, Option, Some, None}
+use Rattle.std.specs.List.{flat_map, range_with_len}
 pub use Rattle.petal_msg.specs.Kinds.{asked_by}
 use Rattle.petal_msg.specs.Kinds.{is_logged, subject_of}
+use Rattle.petal_command.specs.declared.command.Command.{Command}
 use Rattle.petal_msg.specs.declared.body.Body.{Body}
 use Rattle.petal_msg.specs.declared.body.Body.TheVariants as body
 use Rattle.petal_msg.specs.declared.letter.Actor.{Actor}
@@ -11,13 +12,16 @@ use Rattle.petal_msg.specs.declared.letter.Letter.{Letter}
 use Rattle.petal_msg.specs.declared.operation.Action.{Action}
 use Rattle.petal_msg.specs.declared.operation.Action.TheVariants as action
 use Rattle.petal_msg.specs.declared.operation.Pending.{Pending}
-use Rattle.petal_rules.specs.Ballots.{wanted, on_propose, on_pax, starts, ballot_posts, ask_posts, asks_next, start_jobs}
+use Rattle.petal_rules.specs.Ballots.{wanted, on_down, on_propose, on_pax, starts, post_of, ballot_posts, ask_posts, asks_next, start_jobs}
 use Rattle.petal_rules.specs.Entries.{on_ask, on_news, applies}
-use Rattle.petal_rules.specs.Log.{Log, LogDone, Voter, keeps}
+use Rattle.petal_rules.specs.Log.{Log, LogDone, Voter, keeps, known, next_place}
 use Rattle.petal_rules.specs.State.{State, is_in, servers_of}
-use Rattle.petal_rules.specs.Server.{Server, Own, Here, Post, Done, silent, says, sender, letters_of}
+use Rattle.petal_rules.specs.Server.{Server, Own, Here, Post, Sender, Done, silent, says, sender, stopped, letters_of}
 use Rattle.petal_rules.specs.Writes.{next_stage, acts, goes_on, on_write, on_reserve, on_reserved, on_pair_full, on_replicate, on_replicated}
 use Rattle.petal_rules.specs.Reads.{on_read}
+use Rattle.petal_rules.specs.Crossing.{crossed_by, stage_jobs_by}
+use Rattle.petal_rules.specs.declared.step.CommitEnd.{CommitEnd}
+use Rattle.petal_rules.specs.declared.step.CommitEnd.TheVariants.{Before, After}
 use Rattle.petal_rules.specs.declared.job.Job.{Job}
 use Rattle.petal_rules.specs.declared.job.Job.TheVariants as job
 
@@ -89,6 +93,7 @@ does here own job.Start = silent own
 
 -- what is done with a letter of the agreed log, at each revision
 unfoldable pub hears_log : Voter → Log → Letter → Body → LogDone
+hears_log voter log letter (body.Down server inc) = on_down log server inc
 hears_log voter log letter (body.Propose command) = on_propose log command
 hears_log voter log letter (body.Pax said) = on_pax voter log letter.from said
 hears_log voter log letter (body.Ask rev) = on_ask log letter.from rev
@@ -110,7 +115,7 @@ is_log_job job.Apply = true
 is_log_job job.Start = true
 
 abbrev pub voter_of : Here → Voter
-voter_of here = record { me = here.me; servers = servers_of here.state }
+voter_of here = record { me = here.me; inc = here.inc; servers = servers_of here.state }
 
 -- ### A server's steps
 
@@ -137,12 +142,80 @@ entered here server rest done = record {
   letters = letters_of (sender here) 0 done.posts;
 }
 
+-- the same after the job that applies the next known entry, where it is known
+abbrev pub crossing : Here → Server → List Job → Option Command → LogDone → Acted
+crossing here server rest entry done = record {
+  server = record server {
+    log = done.log;
+    own = crossed_by here.state entry server.own;
+    queue = rest ++ done.jobs ++ stage_jobs_by here.state entry server.own;
+  };
+  letters = letters_of (sender here) 0 done.posts;
+}
+
+-- what the job leaves where it meets room in both journals
+abbrev pub job_done : Here → Server → Job → List Job → Acted
+job_done here server job.Apply rest = crossing here server rest (known server.log (next_place server.log)) (applies server.log)
+job_done here server first rest =
+    if is_log_job first then entered here server rest (log_does (voter_of here) server.log first)
+    else worked here server rest (does here server.own first)
+
+-- ### Stops
+
+-- how many records a journal has room for
+abbrev pub journal_records : ℕ
+journal_records = 65536
+
+-- to each other server
+abbrev pub down_posts : (me inc servers : ℕ) → List Post
+down_posts me inc servers = map (post_of (body.Down me inc)) (filter (λ n. not (n == me)) (range_with_len 0 servers))
+
+-- a server stops: what it had in memory is gone, and each other server is told. These letters were made before, and tell no
+-- revision
+abbrev pub stops : Here → Server → Acted
+stops here server = record {
+  server = stopped server;
+  letters = letters_of (record { from = actor.Server here.me; inc = here.inc; rev = 0 }) 0 (down_posts here.me here.inc (servers_of here.state));
+}
+
+-- a journal would have more records than it has room for
+abbrev pub is_overfull : Server → Bool
+is_overfull server = nat_lt journal_records server.own.store.records || nat_lt journal_records (length server.log.records)
+
+-- a job whose commit meets a full journal commits nothing, and the server stops
+abbrev pub where_room : Here → Server → Acted → Acted
+where_room here server acted = if is_overfull acted.server then stops here server else acted
+
 -- a server does the first job of its queue
 abbrev pub works : Here → Server → List Job → Acted
 works here server [] = record { server = server; letters = [] }
-works here server (first ∷ rest) =
-    if is_log_job first then entered here server rest (log_does (voter_of here) server.log first)
-    else worked here server rest (does here server.own first)
+works here server (first ∷ rest) = where_room here server (job_done here server first rest)
+
+-- a call of a device failed in the job: its commit was made or not, its letters are not sent, and the server stops
+abbrev pub faults : Here → Server → List Job → CommitEnd → Acted
+faults here server queue Before = stops here server
+faults here server queue After = stops here (works here server queue).server
+
+-- what a glance shows of a server: whether it runs, its incarnation, and whether a copy found no slot, which none does yet
+abbrev pub shown : (line round : ℕ) → Server → Body
+shown line round server =
+    if server.life.running then body.Seen line round true server.life.inc false else body.Seen line round false 0 false
+
+-- a stopped server's letter has no incarnation and no revision
+abbrev pub glance_sender : Here → Server → Sender
+glance_sender here server =
+    if server.life.running then sender here else record { from = actor.Server here.me; inc = 0; rev = 0 }
+
+-- the operator's number among the clients
+abbrev pub operator : ℕ
+operator = 8
+
+-- a server is glanced at
+abbrev pub glances : Here → (line round : ℕ) → Server → Acted
+glances here line round server = record {
+  server = server;
+  letters = letters_of (glance_sender here server) 0 (record { to = actor.Client operator; body = shown line round server } ∷ []);
+}
 
 -- a letter is delivered: a running server queues it, a stopped one drops it
 abbrev pub delivered : Server → Letter → Server
@@ -171,6 +244,6 @@ tick_posts here server =
 -- a tick: letters go out again, and an idle proposer is to start a ballot where a command is wanted
 abbrev pub ticks : Here → Server → Acted
 ticks here server = record {
-  server = record server { log = asks_next (voter_of here) server.log; queue = server.queue ++ start_jobs server.log.phase (wanted server.log) };
+  server = record server { log = asks_next (voter_of here) server.log; queue = server.queue ++ start_jobs server.log.phase (wanted (voter_of here) server.log) };
   letters = letters_of (sender here) 0 (tick_posts here server);
 }

@@ -8,6 +8,7 @@ pub mod Entries
 pub mod Ballots
 pub mod Writes
 pub mod Reads
+pub mod Crossing
 pub mod Jobs
 pub mod Clients
 pub mod World

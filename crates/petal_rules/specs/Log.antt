@@ -15,19 +15,21 @@ use Rattle.petal_rules.specs.Posts.{Post}
 use Rattle.petal_rules.specs.declared.job.Job.{Job}
 
 -- the records on its state device; what its proposer is about; the greatest round that it was refused with for the place
--- after its last applied entry; the entries that it has applied; the commands of clients that it wants chosen, in the order
--- of their arrival; and which of the other servers it asks next, counted from the one after it
+-- after its last applied entry; the entries that it has applied; the Leaves for the incarnations of which it heard that they
+-- stopped; the commands of clients that it wants chosen, in the order of their arrival; and which of the other servers it asks
+-- next, counted from the one after it
 pub record Log : Type 0 where
   pub records : List StateRecord
   pub phase : Phase
   pub refused : ℕ
   pub applied : List Command
+  pub leaves : List Command
   pub wants : List Command
   pub asks : ℕ
 
 -- that of a server that runs for the first time
 abbrev pub first_log : Log
-first_log = record { records = Inc 1 ∷ []; phase = Idle; refused = 0; applied = []; wants = []; asks = 0 }
+first_log = record { records = Inc 1 ∷ []; phase = Idle; refused = 0; applied = []; leaves = []; wants = []; asks = 0 }
 
 -- the revision: how many entries were applied
 abbrev pub rev_of : Log → ℕ
@@ -55,9 +57,10 @@ commits log entry = record log { records = committed log.records entry }
 abbrev pub with_phase : Log → Phase → Log
 with_phase log phase = record log { phase = phase }
 
--- a server among the servers of a run: its number, and how many they are
+-- a server among the servers of a run: its number, its incarnation, and how many they are
 pub record Voter : Type 0 where
   pub me : ℕ
+  pub inc : ℕ
   pub servers : ℕ
 
 -- ### What a job of the log leaves, what it sends, and the jobs that follow it up

@@ -1,5 +1,5 @@
 -- A server: its life, its part of the agreed log, its tables of pair operations, its store and its queue.
-use Rattle.std.specs.Prelude.{ℕ, Bool, List, [], ◌∷◌, Option}
+use Rattle.std.specs.Prelude.{ℕ, Bool, false, List, [], ◌∷◌, Option}
 use Rattle.petal_base.specs.declared.cell.Cell.{Cell}
 use Rattle.petal_table.specs.Table.{Table}
 use Rattle.petal_msg.specs.declared.body.Body.{Body}
@@ -51,6 +51,11 @@ first_server running slots = record {
   own = record { pairs = no_pairs; store = empty_store slots };
   queue = [];
 }
+
+-- a server that stops: what it had in memory is lost, and its jobs with it. No rule reads the log's memory and the pairs of a
+-- stopped server, and the slots that it had set apart are free; they stay in this record so that laws can tell what it was about
+abbrev pub stopped : Server → Server
+stopped server = record server { life = record server.life { running = false }; queue = [] }
 
 -- where a job is done: the state at the server's revision when the job begins, the server and its incarnation
 pub record Here : Type 0 where

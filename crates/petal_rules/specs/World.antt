@@ -1,5 +1,5 @@
 -- The world of all servers and clients, and its steps.
-use Rattle.std.specs.Prelude.{◌≡◌, ◌≢◌, ℕ, ◌+◌, ◌==◌, ◌||◌, ◌<◌, max, Bool, true, false, nat_lt, List, [], ◌∷◌, ◌++◌, map, filter, slice_get, take, Option, Some, None}
+use Rattle.std.specs.Prelude.{◌≡◌, ◌≢◌, ℕ, ◌+◌, ◌==◌, ◌||◌, ◌&&◌, ◌<◌, max, Bool, true, false, nat_lt, List, [], ◌∷◌, ◌++◌, map, filter, slice_get, take, Option, Some, None}
 use Rattle.std.specs.Option.{option_map_or}
 use Rattle.petal_command.specs.declared.command.Command.{Command}
 use Rattle.petal_msg.specs.declared.letter.Actor.{Actor}
@@ -7,6 +7,7 @@ use Rattle.petal_msg.specs.declared.letter.Actor.TheVariants as actor
 use Rattle.petal_msg.specs.declared.letter.Letter.{Letter}
 use Rattle.script_lines.specs.declared.answer.Answer.{Answer}
 use Rattle.script_lines.specs.declared.request.Line.{Line}
+use Rattle.script_lines.specs.declared.request.Request.TheVariants as request
 use Rattle.script_lines.specs.declared.script.Script.{Script}
 use Rattle.petal_paxos.specs.Chosen.{Devices}
 use Rattle.petal_paxos.specs.Chosen.{chosen_log as chosen_by}
@@ -16,10 +17,10 @@ use Rattle.petal_rules.specs.Log.{state_in}
 use Rattle.petal_rules.specs.State.{State}
 use Rattle.petal_rules.specs.Store.{top_of}
 use Rattle.petal_rules.specs.Server.{Server, first_server, letters_of}
-use Rattle.petal_rules.specs.Jobs.{Acted, here_of, works, delivered, ticks}
+use Rattle.petal_rules.specs.Jobs.{Acted, here_of, works, delivered, ticks, faults, stops, glances, operator}
 use Rattle.petal_rules.specs.Clients.{Client, Asked, Reaction, first_client, client_sender, rests, called, heard, ticked}
 use Rattle.petal_rules.specs.declared.step.Step.{Step}
-use Rattle.petal_rules.specs.declared.step.Step.TheVariants.{Call, Deliver, Tick, Work}
+use Rattle.petal_rules.specs.declared.step.Step.TheVariants.{Call, Deliver, Tick, Work, Stop, Glance}
 use Rattle.petal_rules.specs.declared.step.WorkEnd.TheVariants as work_end
 
 -- what a run is given: how many servers and slots, and the lines of its script
@@ -28,8 +29,14 @@ pub record Setting : Type 0 where
   pub slots : ℕ
   pub lines : List Line
 
--- all servers and clients, by number, with the stamp of the last step of each; all letters ever sent, the newest first; and
--- the answers given so far, each with its line
+-- what was done of the operator's last line: the server that it stopped and that was not glanced at yet, and the line of the
+-- last glance
+pub record Control : Type 0 where
+  pub halted : Option ℕ
+  pub glanced : Option ℕ
+
+-- all servers and clients, by number, with the stamp of the last step of each; all letters ever sent, the newest first; the
+-- answers given so far, each with its line; and what was done of the operator's last line
 pub record World : Type 0 where
   pub servers : ℕ → Server
   pub clients : ℕ → Client
@@ -37,6 +44,7 @@ pub record World : Type 0 where
   pub client_clocks : ℕ → ℕ
   pub sent : List Letter
   pub answers : List (ℕ × Answer)
+  pub control : Control
 
 -- the servers run, nothing was stored, called or sent
 abbrev pub start : Setting → World
@@ -47,6 +55,7 @@ start setting = record {
   client_clocks = λ c. 0;
   sent = [];
   answers = [];
+  control = record { halted = None; glanced = None };
 }
 
 -- ### What a script sets
@@ -74,6 +83,8 @@ line_in (Call line) = Some line
 line_in (Deliver letter) = None
 line_in Tick = None
 line_in (Work end) = None
+line_in Stop = None
+line_in (Glance line round) = None
 
 -- the letter that it hands over
 abbrev pub letter_in : Step → Option Letter
@@ -81,6 +92,8 @@ letter_in (Call line) = None
 letter_in (Deliver letter) = Some letter
 letter_in Tick = None
 letter_in (Work end) = None
+letter_in Stop = None
+letter_in (Glance line round) = None
 
 -- ### States
 
@@ -118,6 +131,9 @@ server_step (Call line) state me server = record { server = server; letters = []
 server_step (Deliver letter) state me server = record { server = delivered server letter; letters = [] }
 server_step Tick state me server = ticks (here_of state me server) server
 server_step (Work work_end.Done) state me server = works (here_of state me server) server server.queue
+server_step (Work (work_end.Fault end)) state me server = faults (here_of state me server) server server.queue end
+server_step Stop state me server = stops (here_of state me server) server
+server_step (Glance line round) state me server = glances (here_of state me server) line round server
 
 abbrev pub calls : State → ℕ → Client → Option Line → Reaction
 calls state me client None = rests client
@@ -129,6 +145,8 @@ client_step (Call number) state me client line = calls state me client line
 client_step (Deliver letter) state me client line = heard state me client letter
 client_step Tick state me client line = ticked state me client
 client_step (Work end) state me client line = rests client
+client_step Stop state me client line = rests client
+client_step (Glance number round) state me client line = rests client
 
 -- the letters carry the stamp of the step that sent them
 abbrev pub stamped : ℕ → List Letter → List Letter
@@ -140,12 +158,19 @@ pub record Stepped : Type 0 where
   pub letters : List Letter
   pub answer : Option (ℕ × Answer)
 
-abbrev pub acts : World → ℕ → ℕ → Acted → Stepped
-acts w n stamp acted = record {
+-- a stop waits for its glance
+abbrev pub controls : Step → ℕ → Control → Control
+controls Stop n control = record control { halted = Some n }
+controls (Glance line round) n control = record { halted = None; glanced = Some line }
+controls _ n control = control
+
+abbrev pub acts : World → ℕ → Step → ℕ → Acted → Stepped
+acts w n what stamp acted = record {
   world = record w {
     servers = put_at w.servers n acted.server;
     server_clocks = put_at w.server_clocks n stamp;
     sent = stamped stamp acted.letters ++ w.sent;
+    control = controls what n w.control;
   };
   letters = stamped stamp acted.letters;
   answer = None;
@@ -171,7 +196,7 @@ reacts w c stamp reacted =
 
 -- a step of an actor with this stamp
 unfoldable pub step : Actor → Step → Setting → World → ℕ → Stepped
-step (actor.Server n) what setting w stamp = acts w n stamp (server_step what (server_state setting w n) n (w.servers n))
+step (actor.Server n) what setting w stamp = acts w n what stamp (server_step what (server_state setting w n) n (w.servers n))
 step (actor.Client c) what setting w stamp =
     reacts w c stamp (client_step what (client_state setting w c) c (w.clients c) (next_line setting.lines c (w.clients c)))
 
@@ -195,17 +220,50 @@ pub record MayDeliver (w : World) (to : Actor) (letter : Letter) : Type 0 where
   pub sent : In letter w.sent
   pub own : letter.to ≡ to
 
+-- the operator's open line stops this server, and was not glanced at
+pub record IsStopped_by (w : World) (n line : ℕ) : Type 0 where
+  pub asked : Asked
+  pub open_line : (w.clients operator).asked ≡ Some asked
+  pub line_is : asked.line ≡ line
+  pub request_is : asked.request ≡ request.Stop n
+  pub first : w.control.glanced ≢ Some line
+
+-- the operator's open line stops this server
+pub record MayStop (w : World) (n : ℕ) : Type 0 where
+  pub runs : (w.servers n).life.running ≡ true
+  pub line : ℕ
+  pub by : IsStopped_by w n line
+
+-- behind the stop that a line gives, or at once where its server doesn't run, stands the line's one glance
+pub record MayGlance (w : World) (n line round : ℕ) : Type 0 where
+  pub rests : (w.servers n).life.running ≡ false
+  pub by : IsStopped_by w n line
+  pub round_is : round ≡ 0
+
+-- between a stop and its glance no letter comes to the server
+pub record MayReceive (w : World) (n : ℕ) (letter : Letter) : Type 0 where
+  pub comes : MayDeliver w (actor.Server n) letter
+  pub free : w.control.halted ≢ Some n
+
+-- the server runs, and has a job
+abbrev pub MayWork : World → ℕ → Type 0
+MayWork w n = ((w.servers n).life.running ≡ true) × ((w.servers n).queue ≢ [])
+
 abbrev pub MayServer : Step → World → ℕ → Type 0
 MayServer (Call line) w n = ⊥
-MayServer (Deliver letter) w n = MayDeliver w (actor.Server n) letter
+MayServer (Deliver letter) w n = MayReceive w n letter
 MayServer Tick w n = (w.servers n).life.running ≡ true
-MayServer (Work work_end.Done) w n = ((w.servers n).life.running ≡ true) × ((w.servers n).queue ≢ [])
+MayServer (Work end) w n = MayWork w n
+MayServer Stop w n = MayStop w n
+MayServer (Glance line round) w n = MayGlance w n line round
 
 abbrev pub MayClient : Step → Setting → World → ℕ → Type 0
 MayClient (Call line) setting w c = MayCall setting w c line
 MayClient (Deliver letter) setting w c = MayDeliver w (actor.Client c) letter
 MayClient Tick setting w c = Unit {0}
 MayClient (Work end) setting w c = ⊥
+MayClient Stop setting w c = ⊥
+MayClient (Glance line round) setting w c = ⊥
 
 -- the stamp of what a step receives
 abbrev pub received : Step → ℕ
@@ -231,9 +289,13 @@ abbrev pub turn_of : Option Asked → ℕ
 turn_of None = 0
 turn_of (Some asked) = asked.turn
 
--- a number of the actor is the greatest of its type, so that a step could not count on
+-- a running server has a number that is the greatest of its type, so that a step could not count on
+abbrev pub is_spent_server : Server → Bool
+is_spent_server server = server.life.running && ((server.own.pairs.next == greatest_u64) || (top_of server.own.store.chains == greatest_u64))
+
+-- the same of any actor
 abbrev pub is_spent : World → Actor → Bool
-is_spent w (actor.Server n) = ((w.servers n).own.pairs.next == greatest_u64) || (top_of (w.servers n).own.store.chains == greatest_u64)
+is_spent w (actor.Server n) = is_spent_server (w.servers n)
 is_spent w (actor.Client c) = ((w.clients c).seq == greatest_u32) || (turn_of (w.clients c).asked == greatest_u32)
 
 abbrev pub MayActor : Actor → Step → Setting → World → Type 0

@@ -15,4 +15,4 @@ pub use laws::{
     an_ended_request_is_remembered, drops_where_not_lead, letters_stay_sent,
     only_the_lead_takes_a_write,
 };
-pub use step::{Step, WorkEnd};
+pub use step::{CommitEnd, Step, WorkEnd};

@@ -2,11 +2,22 @@
 
 use petal_msg::SharedLetter;
 
+/// Whether the commit of a job that a device failed in was made.
+#[derive(Clone, Copy, Debug, PartialEq, Eq)]
+pub enum CommitEnd {
+    /// The device has what it had before the job.
+    Before,
+    /// The device has what the job commits.
+    After,
+}
+
 /// How a server's job ended.
 #[derive(Clone, Copy, Debug, PartialEq, Eq)]
 pub enum WorkEnd {
     /// As its rule says.
     Done,
+    /// A call of a device failed, which ends the incarnation.
+    Fault(CommitEnd),
 }
 
 /// One atomic step of a server or a client.
@@ -20,4 +31,8 @@ pub enum Step {
     Tick,
     /// A server does the first job of its queue.
     Work(WorkEnd),
+    /// A running server stops.
+    Stop,
+    /// A server shows the operator whether it runs, for this line and this round of it.
+    Glance { line: u32, round: u32 },
 }

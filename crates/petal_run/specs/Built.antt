@@ -1,18 +1,20 @@
--- The lines that are built: clients make disks, and write and read their blocks.
-use Rattle.std.specs.Prelude.{ℕ, Bool, true, false, ◌&&◌, nat_lt, List, [], ◌∷◌, Option, Some, None, if◌then◌else◌}
+-- The lines that are built: clients make disks, and write and read their blocks; the operator stops servers.
+use Rattle.std.specs.Prelude.{ℕ, Bool, true, false, ◌&&◌, ◌||◌, nat_lt, List, [], ◌∷◌, Option, Some, None, if◌then◌else◌}
 use Rattle.script_lines.specs.declared.request.Request.{Request}
-use Rattle.script_lines.specs.declared.request.Request.TheVariants.{Disk, Write, Read}
+use Rattle.script_lines.specs.declared.request.Request.TheVariants.{Disk, Write, Read, Stop}
+use Rattle.script_lines.specs.Requests.{is_stop}
 use Rattle.script_lines.specs.declared.request.Line.{Line}
 
 abbrev pub is_built_request : Request → Bool
 is_built_request (Disk name tuple) = true
 is_built_request (Write name block pattern) = true
 is_built_request (Read name None block) = true
+is_built_request (Stop server) = true
 is_built_request _ = false
 
--- the line is a client's, and asks for what is built
+-- the line asks for what is built; the operator asks for stops alone
 abbrev pub is_built : Line → Bool
-is_built line = nat_lt line.client 8 && is_built_request line.request
+is_built line = (nat_lt line.client 8 || is_stop line.request) && is_built_request line.request
 
 -- the number of the first line that is not built
 abbrev pub first_not_built : List Line → Option ℕ

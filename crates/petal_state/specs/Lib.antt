@@ -5,3 +5,4 @@ pub mod Fence
 pub mod Command
 pub mod Settled
 pub mod Bound
+pub mod Place

@@ -68,6 +68,13 @@ remove_is_without {R = R} o (e ∷ es) k h =
       | false ↦ λ is. ap (λ more. e ∷ more) rest
     ] refl
 
+-- what stands at a key among the rows whose keys a test takes
+pub at-where : {K X : Type 0} (R : K → K → Ordering) (t : Table K X) (test : K → Bool) (q : K) → ((k : K) → R q k ≡ Equal → test k ≡ test q)
+    → at R (filter (λ row. test row.0) t) q ≡ cond (test q) (at R t q) None
+unfolding at
+at-where R t test q same =
+    lookup_is_find R q _ ∙ rows.find-where_key R test q same t ∙ ap (λ found. cond (test q) found None) (sym (lookup_is_find R q t))
+
 -- what stands at a key after a removal
 pub at-without : {K X : Type 0} {R : K → K → Ordering} → IsTotalOrder R → (t : Table K X) (k q : K) → at R (without R t k) q ≡ cond (eq_by_cmp R k q) None (at R t q)
 unfolding at without

@@ -4,11 +4,13 @@ ghost use Rattle.std.specs.Prelude.{◌≡◌, [], length, IfErr, IsSome, OnOk, 
 ghost use Rattle.std.specs.Option.{option_copied};
 ghost use Rattle.std.specs.List.Sorted.{IsStrictlySortedBy};
 ghost use Rattle.std.specs.Map.{keys_of};
+ghost use Rattle.std.specs.Map.Calls.{CallableOnEachPair, CalledAtPair, RetainsPairs, TakesPair};
 ghost use Rattle.petal_table.specs.Table.{at, put, without};
 
 use petal_base::NoMemory;
 use std::alloc::{AllocError, Global};
 use std::collections::BTreeMap;
+use std::collections::btree_map::Keys;
 use std::marker::Model;
 
 /// At most one value at each key. Contracts see the rows, each a key and its value, by rising key.
@@ -89,9 +91,27 @@ impl<K: Ord + Drop, V: Drop> Table<K, V> {
         self.rows.remove(key)
     }
 
+    /// The keys in their order.
+    pub fn keys(&self) -> Keys<'_, K, V>
+        ensures rest { result ≡ keys_of self.now }
+        ensures sorted { IsStrictlySortedBy K.cmp (keys_of self.now) }
+    {
+        self.rows.keys()
+    }
+
+    /// The rows stay that the test takes, which changes none. It takes no memory.
+    pub fn retain<F: FnMut(&K, &mut V) -> bool>(&mut self, keep: F)
+        requires { CallableOnEachPair (CalledAtPair F.FnMut) (TakesPair F.FnMut) keep self.old }
+        ensures filtered { RetainsPairs (CalledAtPair F.FnMut) keep self.old self.new }
+        ensures sorted { IsStrictlySortedBy K.cmp (keys_of self.old) }
+    {
+        self.rows.retain(keep);
+    }
+
     /// How many rows there are.
     pub fn len(&self) -> usize
-        ensures { result ≡ length self.now }
+        ensures value { result ≡ length self.now }
+        ensures sorted { IsStrictlySortedBy K.cmp (keys_of self.now) }
     {
         self.rows.len()
     }

@@ -7,7 +7,7 @@ use Rattle.petal_msg.specs.declared.letter.Actor.TheVariants as actor
 use Rattle.script_lines.specs.declared.request.Line.{Line}
 use Rattle.petal_rules.specs.World.{Setting, World, MayStep, MayClient, start, clock_of, next_stamp, next_line, setting_of}
 use Rattle.petal_rules.specs.declared.step.Step.{Step}
-use Rattle.petal_rules.specs.declared.step.Step.TheVariants.{Call, Deliver, Tick, Work}
+use Rattle.petal_rules.specs.declared.step.Step.TheVariants.{Call, Deliver, Tick, Work, Stop, Glance}
 use Rattle.petal_history.specs.Legal.{IsLegalFrom, Follows, InPhase, CallsInPhase, world_after, stepped}
 use Rattle.petal_history.specs.declared.record.Record.{Record}
 use Rattle.client_core.specs.Core.{is_spent}
@@ -26,6 +26,8 @@ can_take setting w c (Call line) may = may.free
 can_take setting w c (Deliver letter) may = tt
 can_take setting w c Tick may = tt
 can_take setting w c (Work end) may = tt
+can_take setting w c Stop may = tt
+can_take setting w c (Glance line round) may = tt
 
 pub can : (setting : Setting) (w : World) (actors : Actors) (who : Actor) (what : Step) → Shows setting w actors → MayStep setting w who what → Can actors who what
 can setting w actors (actor.Server n) what h may =
@@ -70,6 +72,8 @@ calls_in (Call line) (actor.Server n) setting w phase = tt
 calls_in (Deliver letter) who setting w phase = tt
 calls_in Tick who setting w phase = tt
 calls_in (Work end) who setting w phase = tt
+calls_in Stop who setting w phase = tt
+calls_in (Glance line round) who setting w phase = tt
 
 follows : (play : Play) (who : Actor) (what : Step) → MayStep (setting_of play.script) (world_of play) who what → Follows (setting_of play.script) (world_of play) (record_of play who what)
 follows play who what may = record {

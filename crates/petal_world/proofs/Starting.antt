@@ -1,5 +1,5 @@
 -- The world of a run that begins, a phase that begins, and revisions.
-use Rattle.std.proofs.Common.{◌≡◌, ℕ, ◌≤◌, ◌<◌, max, true, false, inl, inr, List, [], ◌∷◌, length, map, Option, Some, None, sym, ap, ◌∙◌, subst, arith}
+use Rattle.std.proofs.Common.{◌≡◌, ℕ, ◌≤◌, ◌<◌, max, true, false, inl, inr, List, [], length, map, Option, Some, None, sym, ap, ◌∙◌, subst, arith}
 use Rattle.std.proofs.lemmas.Bool.{cases_lt}
 use Rattle.std.proofs.lemmas.Bool.Decides.{nat_tests}
 use Rattle.std.proofs.lemmas.Simd.{map-map}
@@ -8,7 +8,6 @@ use Rattle.std.specs.List.{range_with_len, fold}
 use Rattle.petal_msg.specs.declared.letter.Actor.{Actor}
 use Rattle.petal_msg.specs.declared.letter.Actor.TheVariants as actor
 use Rattle.petal_msg.specs.declared.letter.Letter.{Letter}
-use Rattle.script_lines.specs.declared.request.Line.{Line}
 use Rattle.script_lines.specs.declared.script.Script.{Script}
 use Rattle.petal_rules.specs.Lists.{In}
 use Rattle.petal_rules.specs.Log.{rev_of as rev_in}
@@ -31,9 +30,9 @@ unfolding In
 nothing_past script letter m = absurd m
 
 pub start_kept : {H : Type 0} (seen : H → Site) (hosts : List H) (script : Script) (actors : Actors) → AreOrdered script.lines → map seen hosts ≡ first_sites script
-    → actors.seats ≡ seats_of (setting_of script) (start (setting_of script)) → actors.desks ≡ map (λ host. first_desk (seen host)) hosts → actors.sent ≡ [] → Await script.lines [] actors.waiting
+    → actors.seats ≡ seats_of (setting_of script) (start (setting_of script)) → actors.desks ≡ map (λ host. first_desk (seen host)) hosts → actors.sent ≡ [] → Await script.lines [] actors.waiting → actors.control ≡ record { halted = None; glanced = None }
     → IsKept (record { script = script; records = []; phase = 0; floor = 0; over = false }) actors
-start_kept seen hosts script actors ordered sites seats desks sent waiting =
+start_kept seen hosts script actors ordered sites seats desks sent waiting control =
     let all : map (λ host. first_desk (seen host)) hosts ≡ desks_of (setting_of script) (start (setting_of script)) =
     sym (map-map first_desk seen hosts) ∙ ap (λ (ss : List Site). map first_desk ss) sites
     ∙ map-map first_desk (λ n. (desk_of (setting_of script) (start (setting_of script)) n).site) (range_with_len 0 script.servers) in
@@ -45,6 +44,7 @@ start_kept seen hosts script actors ordered sites seats desks sent waiting =
         desks = desks ∙ all;
         sent = subst (λ rows. Lists rows []) (sym sent) none_sent;
         waiting = waiting;
+        control = control;
         past = nothing_past script;
       };
     }

@@ -12,17 +12,21 @@ use Rattle.petal_rules.specs.Lists.{In, put_at}
 use Rattle.petal_rules.specs.State.{State}
 use Rattle.petal_rules.specs.Log.{LogDone}
 use Rattle.petal_rules.specs.Server.{Done, Here, Post, Sender, Server, letters_of, sender}
-use Rattle.petal_rules.specs.Jobs.{Acted, does, entered, here_of, is_log_job, log_does, voter_of, worked, works}
+use Rattle.petal_rules.specs.Entries.{applies}
+use Rattle.petal_rules.specs.Jobs.{Acted, does, entered, faults, glance_sender, glances, here_of, operator, shown, is_log_job, is_overfull, job_done, log_does, stops, voter_of, worked, works}
 use Rattle.petal_rules.specs.Clients.{Reaction, client_sender}
-use Rattle.petal_rules.specs.World.{Setting, World, Stepped, step, stamped, clock_of, with_answer, client_step, server_step, next_line, lines_of, client_state, server_state}
+use Rattle.petal_rules.specs.World.{Setting, World, Control, Stepped, controls, step, stamped, clock_of, with_answer, client_step, server_step, next_line, lines_of, client_state, server_state}
 use Rattle.petal_rules.specs.declared.job.Job.{Job}
+use Rattle.petal_rules.specs.declared.job.Job.TheVariants as job
+use Rattle.petal_rules.specs.declared.step.CommitEnd.{CommitEnd}
+use Rattle.petal_rules.specs.declared.step.CommitEnd.TheVariants.{Before, After}
 use Rattle.petal_rules.specs.declared.step.Step.{Step}
-use Rattle.petal_rules.specs.declared.step.Step.TheVariants.{Call, Deliver, Tick, Work}
+use Rattle.petal_rules.specs.declared.step.Step.TheVariants.{Call, Deliver, Tick, Work, Stop, Glance}
 use Rattle.petal_rules.specs.declared.step.WorkEnd.TheVariants as work_end
 use Rattle.petal_rules.proofs.ListLemmas.{in-append, put_same, put_apart}
 use Rattle.world_desks.specs.declared.name.LetterName.{LetterName}
 use Rattle.petal_world.specs.declared.seat.Seat.{Seat}
-use Rattle.world_desks.specs.Desks.{Desk, desk_of, acted_at, site_after}
+use Rattle.world_desks.specs.Desks.{Desk, desk_of, site_after}
 use Rattle.petal_world.specs.Seats.{seat_of, reacted_at}
 use Rattle.world_desks.specs.Sent.{Lists, with_letters}
 use Rattle.world_desks.specs.Waiting.{Await}
@@ -129,6 +133,10 @@ module _ (setting : Setting) (w : World) (actors : Actors) (h : Shows setting w 
   unfolding step
   client_waits = answer_kept setting.lines w.answers actors.waiting (reacted_at seat what).1.answer h.waiting
 
+  client_controls : actors.control ≡ by_client.world.control
+  unfolding step
+  client_controls = h.control
+
   -- what is kept after a client's step is that of the world after it
   pub client_shows : c < 9 → clock_of w (actor.Client c) < stamp → Shows setting by_client.world (with_client actors c seat what stamp)
   client_shows within less = record {
@@ -138,6 +146,7 @@ module _ (setting : Setting) (w : World) (actors : Actors) (h : Shows setting w 
     sent = subst (λ (ls : List Letter). Lists (with_letters actors.sent (client_letters seat what stamp)) ls) (sym client_sent)
         (posted_kept w (actor.Client c) stamp actors.sent (client_letters seat what stamp) client_posts h.past less h.sent);
     waiting = client_waits;
+    control = client_controls;
     past = posted_past w by_client.world (actor.Client c) stamp (client_letters seat what stamp) client_posts client_sent client_clock (client_grows less) h.past;
   }
 
@@ -152,17 +161,49 @@ by_kind : (b : Bool) (here : Here) (server : Server) (rest : List Job) (log : Lo
 by_kind true here server rest log done stamp = record { sender = sender here; posts = log.posts; from = refl; are = refl }
 by_kind false here server rest log done stamp = record { sender = sender here; posts = done.posts; from = refl; are = refl }
 
+done_posts : (first : Job) (here : Here) (server : Server) (rest : List Job) (stamp : ℕ) → ArePosted (actor.Server here.me) stamp (stamped stamp (job_done here server first rest).letters)
+done_posts job.Apply here server rest stamp = record { sender = sender here; posts = (applies server.log).posts; from = refl; are = refl }
+done_posts (job.Letter letter) here server rest stamp =
+    by_kind (is_log_job (job.Letter letter)) here server rest (log_does (voter_of here) server.log (job.Letter letter)) (does here server.own (job.Letter letter)) stamp
+done_posts (job.Stage cell) here server rest stamp =
+    by_kind (is_log_job (job.Stage cell)) here server rest (log_does (voter_of here) server.log (job.Stage cell)) (does here server.own (job.Stage cell)) stamp
+done_posts job.Start here server rest stamp =
+    by_kind (is_log_job job.Start) here server rest (log_does (voter_of here) server.log job.Start) (does here server.own job.Start) stamp
+
+stop_posts : (here : Here) (server : Server) (stamp : ℕ) → ArePosted (actor.Server here.me) stamp (stamped stamp (stops here server).letters)
+stop_posts here server stamp = record { sender = record { from = actor.Server here.me; inc = here.inc; rev = 0 }; posts = _; from = refl; are = refl }
+
+-- a full journal stops the server
+room_posts : (full : Bool) (here : Here) (server : Server) (acted : Acted) (stamp : ℕ) → ArePosted (actor.Server here.me) stamp (stamped stamp acted.letters)
+    → ArePosted (actor.Server here.me) stamp (stamped stamp (if full then stops here server else acted).letters)
+room_posts true here server acted stamp posted = stop_posts here server stamp
+room_posts false here server acted stamp posted = posted
+
+fault_posts : (end : CommitEnd) (here : Here) (server : Server) (queue : List Job) (stamp : ℕ) → ArePosted (actor.Server here.me) stamp (stamped stamp (faults here server queue end).letters)
+fault_posts Before here server queue stamp = stop_posts here server stamp
+fault_posts After here server queue stamp = stop_posts here (works here server queue).server stamp
+
+glance_from : (running : Bool) (here : Here) → (if running then sender here else record { from = actor.Server here.me; inc = 0; rev = 0 }).from ≡ actor.Server here.me
+glance_from true here = refl
+glance_from false here = refl
+
+glance_posts : (line round : ℕ) (here : Here) (server : Server) (stamp : ℕ) → ArePosted (actor.Server here.me) stamp (stamped stamp (glances here line round server).letters)
+glance_posts line round here server stamp = record { sender = glance_sender here server; posts = record { to = actor.Client operator; body = shown line round server } ∷ []; from = glance_from server.life.running here; are = refl }
+
 work_posts : (queue : List Job) (state : State) (n stamp : ℕ) (server : Server) → ArePosted (actor.Server n) stamp (stamped stamp (works (here_of state n server) server queue).letters)
 work_posts [] state n stamp server = record { sender = sender (here_of state n server); posts = []; from = refl; are = refl }
 work_posts (first ∷ rest) state n stamp server =
     let here = here_of state n server in
-    by_kind (is_log_job first) here server rest (log_does (voter_of here) server.log first) (does here server.own first) stamp
+    room_posts (is_overfull (job_done here server first rest).server) here server (job_done here server first rest) stamp (done_posts first here server rest stamp)
 
 server_posts : (what : Step) (state : State) (n stamp : ℕ) (server : Server) → ArePosted (actor.Server n) stamp (stamped stamp (server_step what state n server).letters)
 server_posts (Call line) state n stamp server = record { sender = sender (here_of state n server); posts = []; from = refl; are = refl }
 server_posts (Deliver letter) state n stamp server = record { sender = sender (here_of state n server); posts = []; from = refl; are = refl }
 server_posts Tick state n stamp server = record { sender = sender (here_of state n server); posts = _; from = refl; are = refl }
 server_posts (Work work_end.Done) state n stamp server = work_posts server.queue state n stamp server
+server_posts (Work (work_end.Fault end)) state n stamp server = fault_posts end (here_of state n server) server server.queue stamp
+server_posts Stop state n stamp server = stop_posts (here_of state n server) server stamp
+server_posts (Glance line round) state n stamp server = glance_posts line round (here_of state n server) server stamp
 
 module _ (setting : Setting) (w : World) (actors : Actors) (h : Shows setting w actors) (n : ℕ) (what : Step) (stamp : ℕ) where
   abbrev desk : Desk
@@ -215,6 +256,10 @@ module _ (setting : Setting) (w : World) (actors : Actors) (h : Shows setting w 
   unfolding step
   server_waits = h.waiting
 
+  server_controls : controls what n actors.control ≡ by_server.world.control
+  unfolding step
+  server_controls = ap (λ (own : Control). controls what n own) h.control
+
   abbrev posts : ArePosted (actor.Server n) stamp (server_letters desk what stamp)
   posts = server_posts what (server_state setting w n) n stamp (w.servers n)
 
@@ -227,6 +272,7 @@ module _ (setting : Setting) (w : World) (actors : Actors) (h : Shows setting w 
     sent = subst (λ (ls : List Letter). Lists (with_letters actors.sent (server_letters desk what stamp)) ls) (sym server_sent)
         (posted_kept w (actor.Server n) stamp actors.sent (server_letters desk what stamp) posts h.past less h.sent);
     waiting = server_waits;
+    control = server_controls;
     past = posted_past w by_server.world (actor.Server n) stamp (server_letters desk what stamp) posts server_sent server_clock (server_grows less) h.past;
   }
 

@@ -5,7 +5,7 @@ use Rattle.petal_table.specs.Table.{Table, without}
 use Rattle.petal_msg.specs.declared.letter.Letter.{Letter}
 use Rattle.script_lines.specs.declared.answer.Answer.{Answer}
 use Rattle.petal_rules.specs.Lists.{In}
-use Rattle.petal_rules.specs.World.{Setting, World, clock_of, stamped}
+use Rattle.petal_rules.specs.World.{Setting, World, Control, clock_of, controls, stamped}
 use Rattle.petal_rules.specs.declared.step.Step.{Step}
 use Rattle.world_desks.specs.declared.name.LetterName.{LetterName}
 use Rattle.petal_world.specs.declared.seat.Seat.{Seat}
@@ -14,12 +14,13 @@ use Rattle.petal_world.specs.Seats.{seats_of, reacted_at}
 use Rattle.world_desks.specs.Sent.{Lists, with_letters}
 use Rattle.world_desks.specs.Waiting.{Await}
 
--- the clients, the servers, the letters ever sent, and the lines without an answer
+-- the clients, the servers, the letters ever sent, the lines without an answer, and what was done of the operator's last line
 pub record Actors : Type 0 where
   pub seats : List Seat
   pub desks : List Desk
   pub sent : Table LetterName Letter
   pub waiting : Table ℕ ℕ
+  pub control : Control
 
 -- this is kept of this world
 pub record Shows (setting : Setting) (w : World) (actors : Actors) : Type 0 where
@@ -27,6 +28,7 @@ pub record Shows (setting : Setting) (w : World) (actors : Actors) : Type 0 wher
   pub desks : actors.desks ≡ desks_of setting w
   pub sent : Lists actors.sent w.sent
   pub waiting : Await setting.lines w.answers actors.waiting
+  pub control : actors.control ≡ w.control
   pub past : (letter : Letter) → In letter w.sent → letter.stamp ≤ clock_of w letter.from
 
 -- a line that has its answer waits no longer
@@ -45,6 +47,7 @@ with_client actors c seat what stamp = record {
   desks = actors.desks;
   sent = with_letters actors.sent (client_letters seat what stamp);
   waiting = without_answered actors.waiting (reacted_at seat what).1.answer;
+  control = actors.control;
 }
 
 -- the letters that a server's step sends
@@ -58,4 +61,5 @@ with_server actors n desk what stamp = record {
   desks = slice_set actors.desks n (record { site = site_after desk.site what; clock = stamp });
   sent = with_letters actors.sent (server_letters desk what stamp);
   waiting = actors.waiting;
+  control = controls what n actors.control;
 }

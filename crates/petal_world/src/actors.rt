@@ -7,6 +7,7 @@ ghost use Rattle.petal_world.specs.Seats.{CanTake, reacted_at};
 ghost use Rattle.petal_world.specs.Actors.{client_letters, server_letters, with_client, with_server};
 ghost use Rattle.petal_world.specs.declared.seat.Seat.{Seat};
 
+use crate::control::Control;
 use crate::seats::Seats;
 use crate::stepped::Stepped;
 use petal_base::{ClientId, NoMemory, ServerId, Stamp};
@@ -19,13 +20,14 @@ use world_desks::sent::Sent;
 use world_desks::stamping::stamped;
 use world_desks::waiting::Waiting;
 
-/// All clients and servers, the letters ever sent, and the lines without an answer.
+/// All clients and servers, the letters ever sent, the lines without an answer, and what was done of the operator's last line.
 #[derive(Drop)]
 pub struct Actors<H: Host> {
     pub seats: Seats,
     pub desks: Desks<H>,
     pub sent: Sent,
     pub waiting: Waiting,
+    pub control: Control,
 }
 
 impl<H: Host> Model for Actors<H> {
@@ -33,7 +35,7 @@ impl<H: Host> Model for Actors<H> {
 
     ghost Value = { Actors };
 
-    ghost view = { λ s. record { seats = s.seats; desks = s.desks; sent = s.sent; waiting = s.waiting } };
+    ghost view = { λ s. record { seats = s.seats; desks = s.desks; sent = s.sent; waiting = s.waiting; control = s.control } };
 }
 
 impl<H: Host> Actors<H> {
@@ -78,6 +80,7 @@ impl<H: Host> Actors<H> {
         let letters = self.desks.step(alloc, server, step, stamp)?;
         let letters = stamped(alloc, letters, stamp)?;
         self.sent.add_all(letters.as_slice())?;
+        self.control.note(server, step);
         Ok(Stepped {
             letters,
             answer: None,

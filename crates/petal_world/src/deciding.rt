@@ -2,7 +2,7 @@
 
 ghost use Rattle.std.specs.Prelude.{◌≡◌, ◌↔◌, ℕ, Some, IsTrue, slice_get};
 ghost use Rattle.petal_msg.specs.declared.letter.Actor.TheVariants as actor;
-ghost use Rattle.petal_rules.specs.World.{Setting, World, MayCall, MayClient, MayServer, MayStep, received};
+ghost use Rattle.petal_rules.specs.World.{Setting, World, IsStopped_by, MayCall, MayClient, MayGlance, MayReceive, MayServer, MayStep, MayStop, received};
 ghost use Rattle.petal_table.specs.Table.{at};
 ghost use Rattle.world_desks.specs.Playable.{AreOrdered};
 ghost use Rattle.petal_world.specs.Seats.{seat_of};
@@ -12,9 +12,9 @@ ghost use Rattle.petal_world.specs.Actors.{Shows};
 
 use crate::actors::Actors;
 use crate::seat::Seat;
-use petal_base::{ClientId, ServerId, Stamp};
+use petal_base::{ClientId, OPERATOR, ServerId, Stamp};
 use petal_msg::{Actor, Letter};
-use petal_rules::{Step, WorkEnd};
+use petal_rules::Step;
 use world_desks::Host;
 use world_desks::desks::Desk;
 
@@ -27,7 +27,11 @@ pub fn received(step: &Step) -> Stamp
 {
     match step {
         Step::Deliver { letter } => letter.get().stamp,
-        Step::Call { line: _ } | Step::Tick | Step::Work(_) => 0,
+        Step::Call { line: _ }
+        | Step::Tick
+        | Step::Work(_)
+        | Step::Stop
+        | Step::Glance { line: _, round: _ } => 0,
     }
 }
 
@@ -47,6 +51,63 @@ impl<H: Host> Actors<H> {
         ensures { IsTrue result ↔ ((letter.now.to ≡ to) × (at name_cmp self.now.sent (name_of letter.now) ≡ Some letter.now)) }
     {
         is_same_actor(letter.to, to) && self.sent.has(letter)
+    }
+
+    /// Whether the letter was sent to this server, which has no glance to come.
+    fn may_receive(&self, server: ServerId, letter: &Letter) -> bool
+        ensures { (setting : Setting) (w : World) → Shows setting w self.now → IsTrue result ↔ MayReceive w server letter.now }
+    {
+        if self.control.has_halted(server) {
+            return false;
+        }
+        self.may_deliver(Actor::Server(server), letter)
+    }
+
+    /// The operator's open line, where it stops this server and was not glanced at.
+    fn open_stop(&self, server: ServerId) -> Option<u32>
+        ensures { (setting : Setting) (w : World) (line : ℕ) → Shows setting w self.now → (result ≡ Some line) ↔ IsStopped_by w server line }
+    {
+        let Some(seat) = self.seats.get(OPERATOR) else {
+            return None;
+        };
+        let Some(line) = seat.core.stops(server) else {
+            return None;
+        };
+        if self.control.has_glanced(line) {
+            return None;
+        }
+        Some(line)
+    }
+
+    /// Whether the server may stop.
+    fn may_stop(&self, desk: &Desk<H>, server: ServerId) -> bool
+        ensures { (setting : Setting) (w : World) → Shows setting w self.now → desk.now ≡ desk_of setting w server
+            → IsTrue result ↔ MayStop w server }
+    {
+        if !desk.host.is_running() {
+            return false;
+        }
+        match self.open_stop(server) {
+            None => false,
+            Some(_line) => true,
+        }
+    }
+
+    /// Whether the server may be glanced at.
+    fn may_glance(&self, desk: &Desk<H>, server: ServerId, line: u32, round: u32) -> bool
+        ensures { (setting : Setting) (w : World) → Shows setting w self.now → desk.now ≡ desk_of setting w server
+            → IsTrue result ↔ MayGlance w server line round }
+    {
+        if desk.host.is_running() {
+            return false;
+        }
+        if round != 0 {
+            return false;
+        }
+        match self.open_stop(server) {
+            None => false,
+            Some(own) => own == line,
+        }
     }
 
     /// Whether the client may call this line.
@@ -74,7 +135,7 @@ impl<H: Host> Actors<H> {
             Step::Call { line } => self.may_call(seat, *line),
             Step::Deliver { letter } => self.may_deliver(Actor::Client(client), letter.get()),
             Step::Tick => true,
-            Step::Work(_) => false,
+            Step::Work(_) | Step::Stop | Step::Glance { line: _, round: _ } => false,
         }
     }
 
@@ -84,9 +145,11 @@ impl<H: Host> Actors<H> {
     {
         match step {
             Step::Call { line: _ } => false,
-            Step::Deliver { letter } => self.may_deliver(Actor::Server(server), letter.get()),
+            Step::Deliver { letter } => self.may_receive(server, letter.get()),
             Step::Tick => desk.host.is_running(),
-            Step::Work(WorkEnd::Done) => desk.host.is_running() && !desk.host.is_idle(),
+            Step::Work(_) => desk.host.is_running() && !desk.host.is_idle(),
+            Step::Stop => self.may_stop(desk, server),
+            Step::Glance { line, round } => self.may_glance(desk, server, *line, *round),
         }
     }
 

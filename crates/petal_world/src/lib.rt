@@ -6,6 +6,7 @@
 #![tactic(auto)]
 
 mod actors;
+mod control;
 mod deciding;
 mod error;
 mod seat;
@@ -16,7 +17,7 @@ mod world;
 
 pub use error::WorldError;
 pub use petal_history::{History, Record};
-pub use petal_rules::{Step, WorkEnd};
+pub use petal_rules::{CommitEnd, Step, WorkEnd};
 pub use stepped::Stepped;
 pub use world::World;
 pub use world_desks::{Host, are_in_order};

@@ -93,7 +93,14 @@ impl<H: Host> Actors<H> {
         match (step, actor) {
             (Step::Call { line: _ }, Actor::Client(client)) => self.line_phase(client, phase),
             (Step::Call { line: _ }, Actor::Server(_))
-            | (Step::Deliver { letter: _ } | Step::Tick | Step::Work(_), _) => phase,
+            | (
+                Step::Deliver { letter: _ }
+                | Step::Tick
+                | Step::Work(_)
+                | Step::Stop
+                | Step::Glance { line: _, round: _ },
+                _,
+            ) => phase,
         }
     }
 

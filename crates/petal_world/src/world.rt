@@ -9,6 +9,7 @@ ghost use Rattle.world_desks.specs.Playable.{AreNumbered, AreOrdered};
 ghost use Rattle.petal_world.specs.declared.error.WorldError.TheVariants as error;
 
 use crate::actors::Actors;
+use crate::control::Control;
 use crate::seats::Seats;
 use crate::{Stepped, WorldError};
 use petal_base::{NoMemory, Rev, Sequence, Stamp};
@@ -127,6 +128,7 @@ impl<H: Host> World<H> {
             desks: Desks::start(alloc, hosts)?,
             sent: Sent::new(alloc),
             waiting: Waiting::start(alloc, script.lines.as_slice())?,
+            control: Control::new(),
         };
         Ok(World {
             script,

@@ -1,16 +1,25 @@
 //! What the schedule keeps of a client.
 
 use crate::patience::Patience;
-use petal_base::{ClientId, NoMemory};
-use script_lines::{Line, Script};
+use petal_base::{ClientId, NoMemory, ServerId};
+use script_lines::{Line, Request, Script};
 use std::alloc::Global;
 use std::collections::VecDeque;
 
-/// A line that is to be called, and its phase.
+/// A line that is to be called, its phase, and the server that it stops, where it stops one.
 #[derive(Clone, Copy, Debug, PartialEq, Eq)]
 pub(crate) struct Due {
     pub(crate) number: u32,
     pub(crate) phase: u32,
+    pub(crate) stops: Option<ServerId>,
+}
+
+/// The server that the request stops, where it stops one.
+fn stopped_by(request: &Request) -> Option<ServerId> {
+    match request {
+        Request::Stop { server } => Some(*server),
+        _ => None,
+    }
 }
 
 /// A client: the lines that it has not called yet, and whether one that it called is not answered.
@@ -35,17 +44,18 @@ impl Caller {
         self.due.push_back(Due {
             number: line.number,
             phase: line.phase,
+            stops: stopped_by(&line.request),
         })?;
         Ok(())
     }
 
     /// The line that is to be called in this phase, where nothing is open.
-    pub(crate) fn next(&self, phase: u32) -> Option<u32> {
+    pub(crate) fn next(&self, phase: u32) -> Option<Due> {
         if self.is_open {
             return None;
         }
         match self.due.front() {
-            Some(due) if due.phase == phase => Some(due.number),
+            Some(due) if due.phase == phase => Some(*due),
             _ => None,
         }
     }

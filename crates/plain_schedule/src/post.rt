@@ -1,7 +1,7 @@
 //! Letters on their way.
 
 use petal_base::{NoMemory, Sequence};
-use petal_msg::SharedLetter;
+use petal_msg::{Body, SharedLetter};
 use std::alloc::Global;
 use std::collections::VecDeque;
 
@@ -82,8 +82,12 @@ impl Post {
         Ok(())
     }
 
-    /// What becomes of the next letter that is to be handed over. A letter that is lost is not doubled.
-    pub(crate) fn next_handing(&mut self) -> Handing {
+    /// What becomes of the next letter that is to be handed over. A letter that is lost is not doubled. That a server has stopped,
+    /// and what the operator saw of it, comes exactly once, since nobody says it again.
+    pub(crate) fn next_handing(&mut self, body: &Body) -> Handing {
+        if let Body::Down { .. } | Body::Seen { .. } = body {
+            return Handing::Once;
+        }
         self.handed = self.handed.wrapping_add(1);
         if is_due(self.lose, self.handed) {
             self.has_lost = true;

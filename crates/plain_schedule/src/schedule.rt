@@ -5,7 +5,7 @@ ghost use Rattle.petal_history.specs.Sound.{IsSound};
 ghost use Rattle.world_desks.specs.Playable.{AreOrdered};
 ghost use Rattle.plain_schedule.specs.Places.{GoesOn};
 
-use crate::caller::{Caller, callers_of};
+use crate::caller::{Caller, Due, callers_of};
 use crate::patience::Patience;
 use crate::post::{Handing, Post};
 use memory_server::{MemServer, members};
@@ -155,14 +155,23 @@ impl Schedule {
         }
     }
 
-    // A server gets on with the command that is proposed to it. After a loss it may be one that is proposed again.
+    // Whether a server that hears this gets on: with the Leave of a server that has stopped, or with the command that is proposed
+    // to it. After a loss that may be one that is proposed again.
+    fn brings_on(&self, body: &Body) -> bool {
+        match body {
+            Body::Down { .. } => true,
+            Body::Propose { .. } => !self.after_loss,
+            _ => false,
+        }
+    }
+
     fn note_letter(&mut self, actor: Actor, body: &Body)
         ensures { self.new.world ≡ self.old.world }
     {
-        if self.after_loss {
+        if !self.brings_on(body) {
             return;
         }
-        if let (Actor::Server(server), Body::Propose { .. }) = (actor, body) {
+        if let Actor::Server(server) = actor {
             if let Some(patience) = self.patience.get_mut(server as usize) {
                 patience.renew();
             }
@@ -179,7 +188,7 @@ impl Schedule {
         ensures script { self.new.world.script ≡ self.old.world.script }
         ensures goes_on { GoesOn self.old.world.records self.new.world.records }
     {
-        let handing = self.post.next_handing();
+        let handing = self.post.next_handing(&letter.get().body);
         if handing == Handing::Lost {
             return Ok(false);
         }
@@ -235,7 +244,7 @@ impl Schedule {
         Ok(())
     }
 
-    fn next_call(&self, client: ClientId) -> Option<u32> {
+    fn next_call(&self, client: ClientId) -> Option<Due> {
         self.callers.get(client as usize)?.next(self.phase)
     }
 
@@ -251,10 +260,25 @@ impl Schedule {
         ensures script { self.new.world.script ≡ self.old.world.script }
         ensures goes_on { GoesOn self.old.world.records self.new.world.records }
     {
-        if let Some(line) = self.next_call(client) {
+        if let Some(due) = self.next_call(client) {
             self.note_call(client);
+            let line = due.number;
             self.take(alloc, Actor::Client(client), &Step::Call { line })?;
+            if let Some(server) = due.stops {
+                self.stop(alloc, line, server)?;
+            }
         }
+        Ok(())
+    }
+
+    // The operator's line stops the server, where it runs, and shows the operator that it does not.
+    fn stop(&mut self, alloc: Global, line: u32, server: ServerId) -> Result<(), NoMemory>
+        ensures script { self.new.world.script ≡ self.old.world.script }
+        ensures goes_on { GoesOn self.old.world.records self.new.world.records }
+    {
+        let actor = Actor::Server(server);
+        self.take(alloc, actor, &Step::Stop)?;
+        self.take(alloc, actor, &Step::Glance { line, round: 0 })?;
         Ok(())
     }
 
@@ -357,11 +381,12 @@ impl Schedule {
 
     /// Each client and then each server has its turn, by number. In it an actor gets the letters that were sent to it, ticks are
     /// passed on to it, a client with nothing open calls its next line of the phase, and a server works until its queue is
-    /// empty, before the ticks and after them. A tick is passed on where the actor has waited for it long enough. In the round
-    /// after a loss four to six are passed on at once to one client and one server, and each box is emptied from another letter on
-    /// than in the round before, so that no loss of every K-th letter hits the same letters for ever. In the first round of a later phase a client
-    /// calls nothing, and one that has a line to call asks what was chosen: so it need not find out by an entry of its own that
-    /// a disk was made.
+    /// empty, before the ticks and after them. Where the operator calls a line that stops a server, the stop and its glance follow
+    /// at once. A tick is passed on where the actor has waited for it long enough. In the round after a loss four to six are
+    /// passed on at once to one client and one server, and each box is emptied from another letter on than in the round before, so
+    /// that no loss of every K-th letter hits the same letters for ever. In the first round of a later phase a client calls
+    /// nothing, and one that has a line to call asks what was chosen: so it need not find out by an entry of its own that a disk
+    /// was made.
     pub(crate) fn round<R: Wait>(&mut self, rt: &R, alloc: Global) -> Result<(), NoMemory>
         ensures script { self.new.world.script ≡ self.old.world.script }
         ensures goes_on { GoesOn self.old.world.records self.new.world.records }

@@ -23,6 +23,10 @@ abbrev pub is_move : Request → Bool
 is_move (Move name tuple) = true
 is_move _ = false
 
+abbrev pub is_stop : Request → Bool
+is_stop (Stop server) = true
+is_stop _ = false
+
 abbrev pub is_boot : Request → Bool
 is_boot (Start server) = true
 is_boot (Blank server) = true

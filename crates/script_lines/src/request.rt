@@ -2,7 +2,7 @@
 
 ghost use Rattle.std.specs.Prelude.{◌≡◌, None, Some, IfOk, MatchOption};
 ghost use Rattle.script_lines.specs.Pattern.{pattern_block};
-ghost use Rattle.script_lines.specs.Requests.{is_disk, is_write, is_read, is_snap, is_move, is_boot, disk_of};
+ghost use Rattle.script_lines.specs.Requests.{is_disk, is_write, is_read, is_snap, is_move, is_stop, is_boot, disk_of};
 
 use petal_base::{Block, BlockNo, ClientId, Name, NoMemory, ServerId, Tuple};
 use petal_disk::{CallKind, Which};
@@ -137,6 +137,16 @@ impl Request {
     {
         match self {
             Request::Move { .. } => true,
+            _ => false,
+        }
+    }
+
+    /// Whether a server is to stop at once.
+    pub fn is_stop(&self) -> bool
+        ensures { result ≡ is_stop self.now }
+    {
+        match self {
+            Request::Stop { .. } => true,
             _ => false,
         }
     }

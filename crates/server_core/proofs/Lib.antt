@@ -1,4 +1,7 @@
 pub mod Reading
 pub mod Steps
+pub mod Rooms
 pub mod Works
+pub mod Stops
+pub mod Refused
 pub mod Ticks

@@ -7,7 +7,7 @@ use Rattle.petal_rules.proofs.Letters.{letters_append}
 use Rattle.log_side.specs.Part.{log_of, sender_of}
 use Rattle.petal_msg.specs.declared.letter.Letter.{Letter}
 use Rattle.petal_paxos.specs.declared.record.StateRecord.{StateRecord}
-use Rattle.petal_rules.specs.Ballots.{ballot_posts, ask_posts, start_jobs}
+use Rattle.petal_rules.specs.Ballots.{ballot_posts, ask_posts, start_jobs, wanted}
 use Rattle.petal_rules.specs.Jobs.{sent_anew, tick_posts, ticks, voter_of}
 use Rattle.petal_rules.specs.Log.{Voter}
 use Rattle.petal_rules.specs.Server.{Own, Post, Sender, letters_of, sender}
@@ -32,25 +32,25 @@ tick_sent who b p a ballot pending all first second last = with_more who (b ++ p
 
 -- all letters of a tick
 pub tick_all : (core : Core) (store : Store) (records : List StateRecord) (ballot pending all : List Letter)
-    → ballot ≡ letters_of (sender_of core.log core.inc) 0 (ballot_posts core.log.voter core.log.phase)
+    → ballot ≡ letters_of (sender_of core.log) 0 (ballot_posts core.log.voter core.log.phase)
     → ((own : Own) → pending ≡ ballot ++ letters_of (sender (here_in core)) (length ballot) (flat_map (λ row. sent_anew (here_in core) own row.1) core.side.pending))
-    → all ≡ pending ++ letters_of (sender_of core.log core.inc) (length pending) (ask_posts core.log.voter (log_of core.log records))
+    → all ≡ pending ++ letters_of (sender_of core.log) (length pending) (ask_posts core.log.voter (log_of core.log records))
     → all ≡ letters_of (sender (here_in core)) 0 (tick_posts (here_in core) (server_of core store records))
 tick_all core store records ballot pending all first second last = at_voter (voter_of (here_in core)) (voter_is core)
   where
-    at_voter : (voter : Voter) → voter ≡ core.log.voter → all ≡ letters_of (sender_of core.log core.inc) 0
+    at_voter : (voter : Voter) → voter ≡ core.log.voter → all ≡ letters_of (sender_of core.log) 0
         (ballot_posts voter core.log.phase
         ++ flat_map (λ row. sent_anew (here_in core) (server_of core store records).own row.1) core.side.pending
         ++ ask_posts voter (log_of core.log records))
     at_voter voter is =
-        rw is (tick_sent (sender_of core.log core.inc) (ballot_posts core.log.voter core.log.phase) _ (ask_posts core.log.voter (log_of core.log records))
+        rw is (tick_sent (sender_of core.log) (ballot_posts core.log.voter core.log.phase) _ (ask_posts core.log.voter (log_of core.log records))
         ballot pending all first (second (server_of core store records).own) last)
 
 -- a tick is done as the rule says
 pub ticked : (old new : Core) (store : Store) (records : List StateRecord) (letters : List Letter) (asks : ℕ)
     → letters ≡ letters_of (sender (here_in old)) 0 (tick_posts (here_in old) (server_of old store records))
     → asks ≡ (old.log.asks + 1) % (old.log.voter.servers - 1)
-    → new ≡ record old { log = record old.log { asks = asks }; queue = old.queue ++ start_jobs old.log.phase old.log.wants }
+    → new ≡ record old { log = record old.log { asks = asks }; queue = old.queue ++ start_jobs old.log.phase (wanted old.log.voter (log_of old.log records)) }
     → acted new store records letters ≡ ticks (here_in old) (server_of old store records)
 ticked old new store records letters asks sent next is =
-    rw (is, sent, next) (rw (servers_after old.log.voter.servers old.log.applied) refl)
+    rw (is, sent, next) (rw (voter_is old) (rw (servers_after old.log.voter.servers old.log.applied) refl))

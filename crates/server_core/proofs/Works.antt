@@ -1,73 +1,219 @@
--- The first job of a queue, by whether it is of the agreed log.
-use Rattle.std.proofs.Common.{◌≡◌, ℕ, true, false, List, [], ◌∷◌, ◌++◌, drop, Some, refl, sym, ap, ◌∙◌}
-use Rattle.std.specs.Prelude.{slice_get}
+-- The first job of a queue, by which part of a server does it.
+use Rattle.std.proofs.Common.{◌≡◌, ◌≤◌, ◌||◌, nat_lt, ℕ, ◌+◌, Bool, true, false, List, [], ◌∷◌, ◌++◌, drop, length, Option, Some, if◌then◌else◌, refl, sym, ap, ◌∙◌, arith}
+use Rattle.std.proofs.lemmas.Bool.Decides.{nat_tests}
+use Rattle.std.specs.Prelude.{slice_get, slice_index_or, IsSomeAnd}
 use Rattle.petal_rules.proofs.Applied.{servers_after}
 use Rattle.log_side.specs.Done.{IsBy, follow_ups}
 use Rattle.log_side.specs.Part.{log_of, sender_of}
 use Rattle.log_side.specs.declared.done.LogDone.{LogDone}
-use Rattle.pair_side.specs.Side.{Side, pairs_of}
+use Rattle.pair_side.specs.Side.{pairs_of}
+use Rattle.petal_command.specs.declared.command.Command.{Command}
 use Rattle.petal_msg.specs.declared.letter.Letter.{Letter}
 use Rattle.petal_paxos.specs.declared.record.StateRecord.{StateRecord}
-use Rattle.petal_rules.specs.Jobs.{Acted, works, worked, entered, does, log_does, voter_of, is_log_job}
-use Rattle.petal_rules.specs.Log.{Log, Voter}
+use Rattle.petal_rules.specs.Crossing.{crossed_by, stage_jobs_by}
+use Rattle.petal_rules.specs.Entries.{applies}
+use Rattle.petal_rules.specs.Jobs.{Acted, crossing, does, entered, is_log_job, job_done, journal_records, log_does, stops, voter_of, where_room, worked, works}
+use Rattle.petal_rules.specs.Log.{Log, Voter, known, next_place}
 use Rattle.petal_rules.specs.Log.{LogDone as Rule}
-use Rattle.petal_rules.specs.Server.{Here, Server}
+use Rattle.petal_rules.specs.Server.{Done, Here, Own, Server}
 use Rattle.petal_rules.specs.Store.{Store}
 use Rattle.petal_rules.specs.declared.job.Job.{Job}
+use Rattle.petal_rules.specs.declared.job.Job.TheVariants as job
 use Rattle.server_core.specs.Core.{Core, acted, here_in, server_of}
+use Rattle.server_core.specs.Kind.{kind_of}
+use Rattle.server_core.specs.declared.queue.Kind.TheVariants.{Applies, OfLog, OfPairs}
 
-first_is : (queue : List Job) (job : Job) → slice_get queue 0 ≡ Some job → queue ≡ job ∷ drop 1 queue
-first_is [] job is = absurd (cc)
-first_is (first ∷ rest) job is = let same : first ≡ job = cc in rw same refl
+-- ### Which part does it
 
-pub works_pair : (here : Here) (server : Server) (queue : List Job) (job : Job) → slice_get queue 0 ≡ Some job → is_log_job job ≡ false
-    → works here server queue ≡ worked here server (drop 1 queue) (does here server.own job)
-works_pair here server queue job first is = by queue first
-  where
-    by : (jobs : List Job) → slice_get jobs 0 ≡ Some job → works here server jobs ≡ worked here server (drop 1 jobs) (does here server.own job)
-    by [] none = absurd (cc)
-    by (j ∷ rest) some = let same : j ≡ job = cc in rw (same, is) refl
+not_pairs : (b : Bool) → (if b then OfLog else OfPairs) ≡ OfPairs → b ≡ false
+not_pairs true is = absurd (cc)
+not_pairs false is = refl
 
-works_log : (here : Here) (server : Server) (queue : List Job) (job : Job) → slice_get queue 0 ≡ Some job → is_log_job job ≡ true
-    → works here server queue ≡ entered here server (drop 1 queue) (log_does (voter_of here) server.log job)
-works_log here server queue job first is = by queue first
-  where
-    by : (jobs : List Job) → slice_get jobs 0 ≡ Some job → works here server jobs ≡ entered here server (drop 1 jobs) (log_does (voter_of here) server.log job)
-    by [] none = absurd (cc)
-    by (j ∷ rest) some = let same : j ≡ job = cc in rw (same, is) refl
+not_log : (b : Bool) → (if b then OfLog else OfPairs) ≡ OfLog → b ≡ true
+not_log true is = refl
+not_log false is = absurd (cc)
+
+no_entry : (b : Bool) → (if b then OfLog else OfPairs) ≡ Applies → ⊥
+no_entry true is = absurd (cc)
+no_entry false is = absurd (cc)
+
+job_pair : (here : Here) (server : Server) (first : Job) (rest : List Job) → kind_of first ≡ OfPairs
+    → job_done here server first rest ≡ worked here server rest (does here server.own first)
+job_pair here server job.Apply rest is = absurd (cc)
+job_pair here server (job.Letter letter) rest is = rw (not_pairs (is_log_job (job.Letter letter)) is) refl
+job_pair here server (job.Stage cell) rest is = refl
+job_pair here server job.Start rest is = absurd (cc)
+
+job_log : (here : Here) (server : Server) (first : Job) (rest : List Job) → kind_of first ≡ OfLog
+    → job_done here server first rest ≡ entered here server rest (log_does (voter_of here) server.log first)
+job_log here server job.Apply rest is = absurd (cc)
+job_log here server (job.Letter letter) rest is = rw (not_log (is_log_job (job.Letter letter)) is) refl
+job_log here server (job.Stage cell) rest is = absurd (cc)
+job_log here server job.Start rest is = refl
+
+-- only the job by which an entry is applied is of both
+pub apply_first : (queue : List Job) → IsSomeAnd (slice_get queue 0) (λ first. kind_of first ≡ Applies) → slice_get queue 0 ≡ Some job.Apply
+apply_first [] none = absurd none
+apply_first (job.Apply ∷ rest) is = refl
+apply_first (job.Letter letter ∷ rest) is = absurd (no_entry (is_log_job (job.Letter letter)) is)
+apply_first (job.Stage cell ∷ rest) is = absurd (cc)
+apply_first (job.Start ∷ rest) is = absurd (cc)
+
+-- ### Room
+
+first_done : (here : Here) (server : Server) (queue : List Job) (first : Job) → slice_get queue 0 ≡ Some first
+    → works here server queue ≡ where_room here server (job_done here server first (drop 1 queue))
+first_done here server [] first is = absurd (cc)
+first_done here server (j ∷ rest) first is = let same : j ≡ first = cc in ap (λ (k : Job). where_room here server (job_done here server k rest)) same
+
+-- the first job, where one was looked at
+pub first_is : (queue : List Job) (first : Job) (P : Job → Type 0) → IsSomeAnd (slice_get queue 0) P → first ≡ slice_index_or queue 0 first
+    → slice_get queue 0 ≡ Some first
+first_is [] first P none is = absurd none
+first_is (j ∷ rest) first P some is = ap Some (sym is)
+
+few : (n : ℕ) → n ≤ journal_records → nat_lt journal_records n ≡ false
+few n le = grind (arith, nat_tests)
+
+many : (n : ℕ) → n ≡ journal_records + 1 → nat_lt journal_records n ≡ true
+many n is = grind (arith, nat_tests)
+
+-- where both journals have room for what the job leaves
+fits : (here : Here) (server : Server) (left : Acted) → left.server.own.store.records ≤ journal_records → length left.server.log.records ≤ journal_records
+    → where_room here server left ≡ left
+fits here server left store records =
+    rw (few left.server.own.store.records store, few (length left.server.log.records) records) refl
+
+-- where the data device has none, and where the state device has none
+full_store : (here : Here) (server : Server) (left : Acted) → left.server.own.store.records ≡ journal_records + 1
+    → where_room here server left ≡ stops here server
+full_store here server left more = rw (many left.server.own.store.records more) refl
+
+full_log : (here : Here) (server : Server) (left : Acted) → length left.server.log.records ≡ journal_records + 1
+    → where_room here server left ≡ stops here server
+full_log here server left more =
+    let stop = stops here server in
+    let over = nat_lt journal_records (length left.server.log.records) in
+    elim (nat_lt journal_records left.server.own.store.records) as (λ b. (if b || over then stop else left) ≡ stop) [
+      | true ↦ refl
+      | false ↦ rw (many (length left.server.log.records) more) refl
+    ]
+
+-- ### Jobs of the pairs
+
+module _ (core : Core) (store : Store) (records : List StateRecord)
+    (first : Job) (there : slice_get core.queue 0 ≡ Some first) (kind : kind_of first ≡ OfPairs) where
+  abbrev here : Here
+  here = here_in core
+
+  abbrev server : Server
+  server = server_of core store records
+
+  abbrev done : Done
+  done = does here server.own first
+
+  pub pair_works : done.own.store.records ≤ journal_records → length records ≤ journal_records
+      → works here server core.queue ≡ worked here server (drop 1 core.queue) done
+  pair_works few_store few_log =
+      first_done here server core.queue first there ∙ ap (where_room here server) (job_pair here server first (drop 1 core.queue) kind)
+      ∙ fits here server (worked here server (drop 1 core.queue) done) few_store few_log
+
+  pub pair_stops : done.own.store.records ≡ journal_records + 1 → works here server core.queue ≡ stops here server
+  pair_stops more =
+      first_done here server core.queue first there ∙ ap (where_room here server) (job_pair here server first (drop 1 core.queue) kind)
+      ∙ full_store here server (worked here server (drop 1 core.queue) done) more
+
+-- ### Jobs of the log
 
 -- a server knows how many servers there are
 pub voter_is : (core : Core) → voter_of (here_in core) ≡ core.log.voter
-voter_is core = ap (λ (n : ℕ). record { me = core.log.voter.me; servers = n }) (servers_after core.log.voter.servers core.log.applied)
+voter_is core =
+    ap (λ (n : ℕ). record { me = core.log.voter.me; inc = core.log.voter.inc; servers = n }) (servers_after core.log.voter.servers core.log.applied)
 
-unfoldable pub made : (inc : ℕ) → Log → Side → List Job → List Letter → Store → Acted
-made inc log side queue letters store = record {
-  server = record {
-    life = record { running = true; inc = inc };
-    log = log;
-    own = record { pairs = pairs_of side; store = store };
-    queue = queue;
-  };
+module _ (core : Core) (store : Store) (records : List StateRecord)
+    (first : Job) (there : slice_get core.queue 0 ≡ Some first) (kind : kind_of first ≡ OfLog) where
+  abbrev at : Here
+  at = here_in core
+
+  abbrev it : Server
+  it = server_of core store records
+
+  abbrev rule_of : Voter → Rule
+  rule_of voter = log_does voter (log_of core.log records) first
+
+  abbrev entered_by : Voter → Acted
+  entered_by voter = entered at it (drop 1 core.queue) (rule_of voter)
+
+  entered_is : works at it core.queue ≡ where_room at it (entered_by core.log.voter)
+  entered_is =
+      first_done at it core.queue first there
+      ∙ ap (where_room at it) (job_log at it first (drop 1 core.queue) kind)
+      ∙ ap (λ (voter : Voter). where_room at it (entered_by voter)) (voter_is core)
+
+  pub log_works : store.records ≤ journal_records → length (rule_of core.log.voter).log.records ≤ journal_records
+      → works at it core.queue ≡ entered_by core.log.voter
+  log_works few_store few_log = entered_is ∙ fits at it (entered_by core.log.voter) few_store few_log
+
+  pub log_stops : length (rule_of core.log.voter).log.records ≡ journal_records + 1 → works at it core.queue ≡ stops at it
+  log_stops more = entered_is ∙ full_log at it (entered_by core.log.voter) more
+
+unfoldable pub made : Bool → (inc : ℕ) → Log → Own → List Job → List Letter → Acted
+made running inc log own queue letters = record {
+  server = record { life = record { running = running; inc = inc }; log = log; own = own; queue = queue };
   letters = letters;
 }
 
-abbrev entered_in : Core → Store → List StateRecord → Rule → Acted
-entered_in old store before done = entered (here_in old) (server_of old store before) (drop 1 old.queue) done
-
 -- a job of the log is done as the rule says
-pub log_worked : (old new : Core) (store : Store) (before after : List StateRecord) (job : Job) (done : LogDone)
-    → slice_get old.queue 0 ≡ Some job → is_log_job job ≡ true
-    → IsBy (sender_of old.log old.inc) (log_of new.log after) done (log_does old.log.voter (log_of old.log before) job)
-    → new.inc ≡ old.inc → new.side ≡ old.side → new.queue ≡ drop 1 old.queue ++ follow_ups done
+pub log_worked : (old new : Core) (store : Store) (before after : List StateRecord) (first : Job) (done : LogDone)
+    → slice_get old.queue 0 ≡ Some first → kind_of first ≡ OfLog
+    → IsBy (sender_of old.log) (log_of new.log after) done (log_does old.log.voter (log_of old.log before) first)
+    → new.running ≡ old.running → new.log.voter ≡ old.log.voter → new.side ≡ old.side → new.queue ≡ drop 1 old.queue ++ follow_ups done
+    → store.records ≤ journal_records → length after ≤ journal_records
     → acted new store after done.letters ≡ works (here_in old) (server_of old store before) old.queue
 unfolding made
-log_worked old new store before after job done first is by inc side queue =
-    let rule = log_does old.log.voter (log_of old.log before) job in
+log_worked old new store before after first done there kind by running voter side queue few_store few_log =
+    let rule = log_does old.log.voter (log_of old.log before) first in
     let jobs = queue ∙ ap (λ (js : List Job). drop 1 old.queue ++ js) by.jobs in
-    ap (λ (i : ℕ). made i (log_of new.log after) new.side new.queue done.letters store) inc
-    ∙ ap (λ (log : Log). made old.inc log new.side new.queue done.letters store) by.log
-    ∙ ap (λ (s : Side). made old.inc rule.log s new.queue done.letters store) side
-    ∙ ap (λ (js : List Job). made old.inc rule.log old.side js done.letters store) jobs
-    ∙ ap (λ (ls : List Letter). made old.inc rule.log old.side (drop 1 old.queue ++ rule.jobs) ls store) by.letters
-    ∙ ap (λ (voter : Voter). entered_in old store before (log_does voter (log_of old.log before) job)) (sym (voter_is old))
-    ∙ sym (works_log (here_in old) (server_of old store before) old.queue job first is)
+    let inc : new.log.voter.inc ≡ old.log.voter.inc = ap (λ (v : Voter). v.inc) voter in
+    let records : length rule.log.records ≤ journal_records =
+    (let same : length after ≡ length rule.log.records = ap (λ (log : Log). length log.records) by.log in omega (arith, same)) in
+    (λ i. made (running i) (inc i) (by.log i) (record { pairs = pairs_of (side i); store = store }) (jobs i) (by.letters i))
+    ∙ sym (log_works old store before first there kind few_store records)
+
+-- ### An entry
+
+module _ (old : Core) (before : Store) (records : List StateRecord) (there : slice_get old.queue 0 ≡ Some job.Apply) where
+  abbrev where_old : Here
+  where_old = here_in old
+
+  abbrev was : Server
+  was = server_of old before records
+
+  abbrev entry : Option Command
+  entry = known was.log (next_place was.log)
+
+  abbrev own_after : Own
+  own_after = crossed_by where_old.state entry was.own
+
+  abbrev stages : List Job
+  stages = stage_jobs_by where_old.state entry was.own
+
+  entry_works : own_after.store.records ≤ journal_records → length (applies was.log).log.records ≤ journal_records
+      → works where_old was old.queue ≡ crossing where_old was (drop 1 old.queue) entry (applies was.log)
+  entry_works few_store few_log = first_done where_old was old.queue job.Apply there ∙ fits where_old was _ few_store few_log
+
+  -- an entry is applied as the rule says
+  pub entry_worked : (new : Core) (after : Store) (done : LogDone) → IsBy (sender_of old.log) (log_of new.log records) done (applies was.log)
+      → new.running ≡ old.running → new.log.voter ≡ old.log.voter → record { pairs = pairs_of new.side; store = after } ≡ own_after
+      → new.queue ≡ (drop 1 old.queue ++ follow_ups done) ++ stages
+      → after.records ≤ journal_records → length records ≤ journal_records
+      → acted new after records done.letters ≡ works where_old was old.queue
+  unfolding made
+  entry_worked new after done by running voter own queue few_store few_log =
+      let jobs = queue ∙ ap (λ (js : List Job). (drop 1 old.queue ++ js) ++ stages) by.jobs in
+      let inc : new.log.voter.inc ≡ old.log.voter.inc = ap (λ (v : Voter). v.inc) voter in
+      let few_stored : own_after.store.records ≤ journal_records =
+      (let same : after.records ≡ own_after.store.records = ap (λ (o : Own). o.store.records) own in omega (arith, same)) in
+      let few_known : length (applies was.log).log.records ≤ journal_records =
+      (let same : length records ≡ length (applies was.log).log.records = ap (λ (l : Log). length l.records) by.log in omega (arith, same)) in
+      (λ i. made (running i) (inc i) (by.log i) (own i) (jobs i) (by.letters i)) ∙ sym (entry_works few_stored few_known)

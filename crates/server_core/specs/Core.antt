@@ -1,36 +1,42 @@
 -- A server in memory, and the server of the rules that it is with its two stores.
-use Rattle.std.specs.Prelude.{◌≡◌, ◌≤◌, ◌<◌, ◌⊎◌, ℕ, ◌==◌, ◌||◌, Bool, true, List, [], Option, None, Some, Result, Err}
+use Rattle.std.specs.Prelude.{◌≡◌, ◌≤◌, ◌<◌, ◌⊎◌, ℕ, ◌==◌, ◌||◌, Bool, List, [], Option, None, Some, Result, Err}
 use Rattle.log_side.specs.Part.{Part, log_of, state_of}
 use Rattle.pair_side.specs.Side.{Side, pairs_of}
 use Rattle.pair_side.specs.declared.error.WorkError.{WorkError}
 use Rattle.pair_side.specs.declared.error.WorkError.TheVariants.{Failed}
+use Rattle.petal_msg.specs.declared.letter.Actor.TheVariants as actor
 use Rattle.petal_msg.specs.declared.letter.Letter.{Letter}
 use Rattle.petal_paxos.specs.declared.record.StateRecord.{StateRecord}
 use Rattle.petal_rules.specs.Store.{Store, top_of}
-use Rattle.petal_rules.specs.Server.{Server, Here}
-use Rattle.petal_rules.specs.Jobs.{Acted, works}
+use Rattle.petal_rules.specs.Log.{Voter}
+use Rattle.petal_rules.specs.Server.{Server, Here, letters_of}
+use Rattle.petal_rules.specs.Jobs.{Acted, down_posts, works}
 use Rattle.petal_rules.specs.World.{greatest_u64}
 use Rattle.petal_rules.specs.declared.job.Job.{Job}
 
--- its incarnation, its part of the agreed log, which has its number, its side of its pairs, and its queue
+-- whether it runs, its part of the agreed log, which has its number and its incarnation, its side of its pairs, and its queue
 pub record Core : Type 0 where
-  pub inc : ℕ
+  pub running : Bool
   pub log : Part
   pub side : Side
   pub queue : List Job
 
 -- where its jobs are done
 abbrev pub here_in : Core → Here
-here_in core = record { state = state_of core.log; me = core.log.voter.me; inc = core.inc }
+here_in core = record { state = state_of core.log; me = core.log.voter.me; inc = core.log.voter.inc }
 
--- the server, which runs, with this store and these records on its state device
+-- the server with this store and these records on its state device
 abbrev pub server_of : Core → Store → List StateRecord → Server
 server_of core store records = record {
-  life = record { running = true; inc = core.inc };
+  life = record { running = core.running; inc = core.log.voter.inc };
   log = log_of core.log records;
   own = record { pairs = pairs_of core.side; store = store };
   queue = core.queue;
 }
+
+-- the letters that a server sends when it stops
+abbrev pub farewell_of : Voter → List Letter
+farewell_of voter = letters_of (record { from = actor.Server voter.me; inc = voter.inc; rev = 0 }) 0 (down_posts voter.me voter.inc voter.servers)
 
 -- the server and its letters after a call
 abbrev pub acted : Core → Store → List StateRecord → List Letter → Acted

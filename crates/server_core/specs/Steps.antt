@@ -1,5 +1,6 @@
 -- What a job leaves of a server: one of the pairs, over the store, and one of the agreed log, over the state store.
-use Rattle.std.specs.Prelude.{◌≡◌, List, Result, Err, IfOk, OnOk, OnErr}
+use Rattle.std.specs.Prelude.{◌≡◌, ◌≤◌, ◌⊎◌, length, List, Result, Err, IfOk, OnOk, OnErr}
+use Rattle.petal_base.specs.declared.memory.NoMemory.{NoMemory as OutOfMemory}
 use Rattle.kept_chains.specs.Kept.{store_of}
 use Rattle.log_side.specs.Done as logs
 use Rattle.pair_side.specs.Done.{HasFault, HoldsAt}
@@ -10,7 +11,7 @@ use Rattle.petal_disk.specs.declared.disk.Disk.{Ghosts}
 use Rattle.petal_disk.specs.Disk.{LeavesOnly}
 use Rattle.petal_msg.specs.declared.letter.Letter.{Letter}
 use Rattle.petal_paxos.specs.declared.record.StateRecord.{StateRecord}
-use Rattle.petal_rules.specs.Jobs.{works}
+use Rattle.petal_rules.specs.Jobs.{journal_records, stops, works}
 use Rattle.petal_rules.specs.Store.{Store}
 use Rattle.server_core.specs.Core.{Core, acted, here_in, server_of}
 use Rattle.server_store.specs.Holdings.{Holdings}
@@ -26,32 +27,66 @@ of_state (state.BadRecord index) = Failed
 of_state state.JournalFull = JournalFull
 of_state state.NoMemory = NoMemory
 
+-- there is no room for the record of the first job, and the rule lets the server stop
+abbrev pub Stops : Core → Store → List StateRecord → Type 0
+Stops old store records =
+    works (here_in old) (server_of old store records) old.queue ≡ stops (here_in old) (server_of old store records)
+
 module _ {D : Type 0} where
-  -- the first job, of the pairs, is done as the rule says where the device tells its bytes; the rest is as of each job of the pairs
+  -- the data device's journal has no room for the record of the first job, and nothing changed
+  pub record IsFullPair (device : Ghosts D) (old new : Core) (before after : Holdings D) : Type 0 where
+    pub count : before.log.region.count ≡ 65536
+    pub same : (new ≡ old) × (after ≡ before)
+    pub stops : device.told → HoldsAt device before → (records : List StateRecord) → Stops old (store_of before) records
+
+  -- the first job, of the pairs, is done as the rule says where the device tells its bytes and shows the store; the rest is as of
+  -- each job of the pairs
   pub record IsPairWork (device : Ghosts D) (old new : Core) (before after : Holdings D) (result : Result (List Letter) WorkError) : Type 0 where
-    pub work : IfOk result (λ letters. device.told → (records : List StateRecord)
+    pub work : IfOk result (λ letters. device.told → HoldsAt device before → (records : List StateRecord) → length records ≤ journal_records
         → acted new (store_of after) records letters ≡ works (here_in old) (server_of old (store_of before) records) old.queue)
-    pub life : (new.inc ≡ old.inc) × (new.log ≡ old.log)
+    pub life : (new.running ≡ old.running) × (new.log ≡ old.log)
     pub keeps : OnOk result (HasTicketsAt new.side after)
     pub holds : device.told → HoldsAt device before → OnOk result (HoldsAt device after)
     pub still : result ≡ Err NoMemory → device.told → HoldsAt device before → HoldsAt device after
     pub same : result ≡ Err NoMemory → (new ≡ old) × (after ≡ record before { disk = after.disk })
     pub kept : OnErr result (device.told → after.entries ≡ before.entries)
-    pub full : result ≡ Err JournalFull → before.log.region.count ≡ 65536
+    pub full : result ≡ Err JournalFull → IsFullPair device old new before after
     pub cause : HasFault (device.faults before.disk) (device.faults after.disk) result
     pub run : device.came_to before.disk after.disk
 
-  -- the first job, of the agreed log, is done as the rule says; the rest is as of each job of the log
+  -- the state device's journal has no room for the record of the first job, and nothing changed
+  pub record IsFullLog (device : Ghosts D) (old new : Core) (before after : Keeping D) : Type 0 where
+    pub count : before.region.count ≡ 65536
+    pub same : (new ≡ old) × (after ≡ before)
+    pub stops : device.told → logs.HoldsAt device before → (store : Store) → Stops old store before.records
+
+  -- the first job, of the agreed log, is done as the rule says where the device tells its bytes and stands for the records; the
+  -- rest is as of each job of the log
   pub record IsLogWork (device : Ghosts D) (old new : Core) (before after : Keeping D) (result : Result (List Letter) WorkError) : Type 0 where
-    pub work : IfOk result (λ letters. (store : Store)
+    pub work : IfOk result (λ letters. device.told → logs.HoldsAt device before → (store : Store) → store.records ≤ journal_records
         → acted new store after.records letters ≡ works (here_in old) (server_of old store before.records) old.queue)
-    pub life : (new.inc ≡ old.inc) × (new.log.voter ≡ old.log.voter)
+    pub life : (new.running ≡ old.running) × (new.log.voter ≡ old.log.voter)
     pub side : new.side ≡ old.side
     pub holds : device.told → logs.HoldsAt device before → OnOk result (logs.HoldsAt device after)
     pub moments : device.told → logs.HoldsAt device before
         → LeavesOnly device.moment device.left_since before.disk after.disk (λ c. logs.HasOneMore c before.records)
     pub same : result ≡ Err NoMemory → (new ≡ old) × (after ≡ before)
     pub kept : OnErr result (after.records ≡ before.records)
-    pub full : result ≡ Err JournalFull → before.region.count ≡ 65536
+    pub full : result ≡ Err JournalFull → IsFullLog device old new before after
     pub cause : HasFault (device.faults before.disk) (device.faults after.disk) result
     pub run : device.came_to before.disk after.disk
+
+  -- the next entry is applied as the rule says; no device is called
+  pub record IsApplied (old new : Core) (before after : Holdings D) (records : List StateRecord) (result : Result (List Letter) OutOfMemory) : Type 0 where
+    pub work : IfOk result (λ letters. length before.log.records ≤ journal_records → length records ≤ journal_records
+        → acted new (store_of after) records letters ≡ works (here_in old) (server_of old (store_of before) records) old.queue)
+    pub life : (new.running ≡ old.running) × (new.log.voter ≡ old.log.voter)
+    pub keeps : HasTicketsAt new.side after
+    pub store : after ≡ record before { tickets = after.tickets }
+    pub err : OnErr result ((new ≡ old) × (after ≡ before))
+
+-- either journal has no room for the record of the first job; nothing changed, and the rule lets the server stop
+pub record IsFullWork {D E : Type 0} (device : Ghosts D) (other : Ghosts E) (old new : Core) (before after : Holdings D) (state left : Keeping E) : Type 0 where
+  pub count : (before.log.region.count ≡ 65536) ⊎ (state.region.count ≡ 65536)
+  pub same : (new ≡ old) × (after ≡ before) × (left ≡ state)
+  pub stops : device.told → other.told → HoldsAt device before → logs.HoldsAt other state → Stops old (store_of before) state.records

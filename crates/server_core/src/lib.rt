@@ -9,6 +9,7 @@ mod jobs;
 mod queue;
 mod recent;
 mod server;
+mod step;
 
 pub use server::ServerCore;
 pub use write_pair::WorkError;

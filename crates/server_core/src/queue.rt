@@ -1,11 +1,12 @@
 //! The jobs of a server, in order.
 
-ghost use Rattle.std.specs.Prelude.{◌≡◌, ◌≤◌, ◌<◌, ◌+◌, drop, ◌++◌, OnOk};
+ghost use Rattle.std.specs.Prelude.{◌≡◌, ◌≤◌, ◌<◌, ◌+◌, ◌-◌, drop, ◌++◌, length, OnOk};
 ghost use Rattle.std.specs.VecDeque.{deque_len, deque_capacity};
 ghost use Rattle.log_side.specs.Done.{apply_first, letter_again};
 ghost use Rattle.pair_side.specs.Done.{follow_up};
 ghost use Rattle.petal_msg.specs.Kinds.{is_logged, subject_of};
 ghost use Rattle.petal_rules.specs.Jobs.{is_log_job};
+ghost use Rattle.server_core.specs.Kind.{kind_of};
 
 use petal_base::{Cell, NoMemory};
 use petal_msg::{Body, SharedLetter};
@@ -37,13 +38,49 @@ pub fn is_log_job(job: &Job) -> bool
     }
 }
 
-/// There is room for one job more.
-pub fn make_room(jobs: &mut VecDeque<Job>) -> Result<(), NoMemory>
-    ensures same { jobs.new.items ≡ jobs.old.items }
-    ensures room { OnOk result (deque_len jobs.new + 1 ≤ deque_capacity jobs.new) }
+/// Which part of a server does a job.
+#[derive(Clone, Copy, PartialEq, Eq)]
+pub enum Kind {
+    /// A job of the pairs.
+    OfPairs,
+    /// A job of the agreed log, which changes nothing else.
+    OfLog,
+    /// The next entry of the log is applied, which changes the pairs too.
+    Applies,
+}
+
+pub fn kind_of(job: &Job) -> Kind
+    ensures { result ≡ kind_of job.now }
 {
-    jobs.reserve(1)?;
+    match job {
+        Job::Apply => Kind::Applies,
+        _ => {
+            if is_log_job(job) {
+                Kind::OfLog
+            } else {
+                Kind::OfPairs
+            }
+        }
+    }
+}
+
+/// There is room for so many jobs more, and one.
+pub fn make_room(jobs: &mut VecDeque<Job>, more: usize) -> Result<(), NoMemory>
+    ensures same { jobs.new.items ≡ jobs.old.items }
+    ensures room { OnOk result (deque_len jobs.new + more + 1 ≤ deque_capacity jobs.new) }
+{
+    jobs.reserve(more.checked_add(1).ok_or(NoMemory)?)?;
     Ok(())
+}
+
+/// Jobs more, for which there is room.
+pub fn add_all(jobs: &mut VecDeque<Job>, more: Vec<Job>)
+    requires { deque_len jobs.old + length more.items ≤ deque_capacity jobs.old }
+    ensures { jobs.new.items ≡ jobs.old.items ++ more.items }
+{
+    for job in more {
+        jobs.push_back_reserved(job);
+    }
 }
 
 /// The first job is done, and a stage may follow it up. It takes no memory.
@@ -61,7 +98,9 @@ pub fn go_on(jobs: &mut VecDeque<Job>, follow: Option<Cell>)
 pub fn enter(jobs: &mut VecDeque<Job>, apply: bool, again: Option<SharedLetter>)
     requires some { 0 < deque_len jobs.old }
     requires room { deque_len jobs.old + 1 ≤ deque_capacity jobs.old }
-    ensures { jobs.new.items ≡ drop 1 jobs.old.items ++ apply_first apply (letter_again again) }
+    ensures jobs { jobs.new.items ≡ drop 1 jobs.old.items ++ apply_first apply (letter_again again) }
+    ensures capacity { deque_capacity jobs.new ≡ deque_capacity jobs.old }
+    ensures len { deque_len jobs.new ≤ deque_len jobs.old + 1 }
 {
     let _ = jobs.pop_front();
     if apply {

@@ -1,6 +1,6 @@
 //! The store of one server, over its device.
 
-ghost use Rattle.std.specs.Prelude.{◌≡◌, ℕ, ◌⊎◌, ◌≤◌, ◌<◌, ◌+◌, ◌^◌, ◌++◌, ◌∷◌, ◌↔◌, [], Bool, List, length, take, Contains, Err, IfOk, OnOk, IfErr, OnErr, IsErrOf, IfNone, true, false, not, is_some, if◌then◌else◌, Some, None};
+ghost use Rattle.std.specs.Prelude.{◌==◌, ◌≡◌, ℕ, ◌⊎◌, ◌≤◌, ◌<◌, ◌+◌, ◌^◌, ◌++◌, ◌∷◌, ◌↔◌, [], Bool, List, length, take, Contains, Err, IfOk, OnOk, IfErr, OnErr, IsErrOf, IfNone, true, false, not, is_some, if◌then◌else◌, Some, None};
 ghost use Rattle.busy_marks.specs.Marks.{has_mark, with_mark, without_mark, next_marked};
 ghost use Rattle.block_journal.specs.Records.{Counts};
 ghost use Rattle.petal_base.specs.Block.{zero_block};
@@ -485,6 +485,13 @@ impl<D: Disk> Store<D> {
         ensures order { IsInOrder key_held self.now.entries }
     {
         self.ledger.free()
+    }
+
+    /// Whether the journal has all its records.
+    pub fn is_full(&self) -> bool
+        ensures { result ≡ (self.now.log.region.count == 65536) }
+    {
+        self.log.is_full()
     }
 
     /// Whether it was formatted on a device that was found blank, and has not been filled since.

@@ -329,7 +329,8 @@ impl Tables {
     }
 }
 
-fn may_join(member: Option<Member>, inc: Inc) -> bool
+/// Whether a server may join with this incarnation.
+pub fn may_join(member: Option<Member>, inc: Inc) -> bool
     ensures { result ≡ may_join member inc }
 {
     match member {
@@ -360,7 +361,8 @@ fn other_of(server: ServerId, row: &LinkRow) -> ServerId
     }
 }
 
-fn may_catch(holder: ServerId, other: ServerId, row: Option<LinkRow>) -> bool
+/// Whether the holder has the link alone, and this is its other server.
+pub fn may_catch(holder: ServerId, other: ServerId, row: Option<LinkRow>) -> bool
     ensures { result ≡ may_catch holder other row }
 {
     match row {

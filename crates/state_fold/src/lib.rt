@@ -11,6 +11,7 @@ mod pass;
 mod snapshot;
 mod tables;
 
+pub use command::{may_catch, may_join};
 pub use moving::{is_fenced, leaves, move_region};
 pub use snapshot::snapshot_named;
 pub use tables::Tables;

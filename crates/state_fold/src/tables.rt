@@ -84,7 +84,8 @@ impl Tables {
         }
     }
 
-    pub(crate) fn is_up_as(&self, server: ServerId, inc: Inc) -> bool
+    /// Whether the server is In with this incarnation.
+    pub fn is_up_as(&self, server: ServerId, inc: Inc) -> bool
         ensures { result ≡ is_up_as self.now server inc }
     {
         match self.inc_of(server) {

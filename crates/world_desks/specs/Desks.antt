@@ -1,12 +1,12 @@
 -- The servers of a world.
-use Rattle.std.specs.Prelude.{ℕ, ◌==◌, ◌||◌, Bool, List, map}
+use Rattle.std.specs.Prelude.{ℕ, List, map}
 use Rattle.std.specs.List.{range_with_len}
 use Rattle.script_lines.specs.declared.script.Script.{Script}
 use Rattle.petal_rules.specs.Log.{state_in}
-use Rattle.petal_rules.specs.Store.{top_of}
 use Rattle.petal_rules.specs.Server.{Server}
 use Rattle.petal_rules.specs.Jobs.{Acted}
-use Rattle.petal_rules.specs.World.{Setting, World, server_step, setting_of, start, greatest_u64}
+pub use Rattle.petal_rules.specs.World.{is_spent_server}
+use Rattle.petal_rules.specs.World.{Setting, World, server_step, setting_of, start}
 use Rattle.petal_rules.specs.declared.step.Step.{Step}
 
 -- a server's number, how many servers there are, and what the rules know of it
@@ -22,10 +22,6 @@ acted_at site step = server_step step (state_in site.servers site.server.log) si
 -- the server after it
 abbrev pub site_after : Site → Step → Site
 site_after site step = record site { server = (acted_at site step).server }
-
--- a number of the server is the greatest of its type
-abbrev pub is_spent : Server → Bool
-is_spent server = (server.own.pairs.next == greatest_u64) || (top_of server.own.store.chains == greatest_u64)
 
 -- a server and the stamp of its last step
 pub record Desk : Type 0 where

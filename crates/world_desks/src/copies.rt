@@ -89,5 +89,10 @@ pub fn step_again(step: &Step) -> Result<Step, NoMemory>
         }),
         Step::Tick => Ok(Step::Tick),
         Step::Work(end) => Ok(Step::Work(*end)),
+        Step::Stop => Ok(Step::Stop),
+        Step::Glance { line, round } => Ok(Step::Glance {
+            line: *line,
+            round: *round,
+        }),
     }
 }

@@ -2,7 +2,7 @@
 
 ghost use Rattle.std.specs.Prelude.{◌≡◌, ◌↔◌, [], IfOk, OnOk, IsTrue};
 ghost use Rattle.petal_rules.specs.Log.{rev_of};
-ghost use Rattle.world_desks.specs.Desks.{Site, acted_at, is_spent, site_after};
+ghost use Rattle.world_desks.specs.Desks.{Site, acted_at, is_spent_server, site_after};
 
 use petal_base::{NoMemory, Rev, Sequence};
 use petal_msg::Letter;
@@ -27,9 +27,9 @@ pub trait Host: Drop {
     fn is_idle(&self) -> bool
         ensures { IsTrue result ↔ ((seen self.now).server.queue ≡ []) };
 
-    /// Whether a number of the server is the greatest of its type, so that it can take no more steps.
+    /// Whether it runs with a number that is the greatest of its type, so that it can take no more steps.
     fn is_spent(&self) -> bool
-        ensures { result ≡ is_spent (seen self.now).server };
+        ensures { result ≡ is_spent_server (seen self.now).server };
 
     /// Its revision of the global state.
     fn rev(&self) -> Rev

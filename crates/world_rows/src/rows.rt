@@ -1,8 +1,9 @@
 //! Rows: runs in orders that the plain schedule never takes.
 
-use crate::act::act_of;
-use crate::schedule::{Row, play_row};
+use memory_runs::play;
+use row_words::act_of;
 use std::test::Fail;
+use world_runs::Row;
 
 // Of two servers, block 5 lies on link 1: server 1 leads it, and server 0 is second.
 const ONE_WRITE: &str =
@@ -45,7 +46,7 @@ fn writes_step_by_step(rt: HostRuntime) -> Result<(), Fail> {
         },
     ];
     for row in rows {
-        play_row(rt.alloc(), &row)?;
+        play(rt.alloc(), &row)?;
     }
     Ok(())
 }
@@ -72,7 +73,7 @@ fn letters_that_come_twice_the_last_one_first(rt: HostRuntime) -> Result<(), Fai
         },
     ];
     for row in rows {
-        play_row(rt.alloc(), &row)?;
+        play(rt.alloc(), &row)?;
     }
     Ok(())
 }
@@ -101,7 +102,7 @@ fn calls_and_letters(rt: HostRuntime) -> Result<(), Fail> {
         },
     ];
     for row in rows {
-        play_row(rt.alloc(), &row)?;
+        play(rt.alloc(), &row)?;
     }
     Ok(())
 }
@@ -144,7 +145,7 @@ fn what_servers_agree_on(rt: HostRuntime) -> Result<(), Fail> {
         },
     ];
     for row in rows {
-        play_row(rt.alloc(), &row)?;
+        play(rt.alloc(), &row)?;
     }
     Ok(())
 }
@@ -170,7 +171,7 @@ fn disks_that_are_made_while_they_are_read(rt: HostRuntime) -> Result<(), Fail> 
         },
     ];
     for row in rows {
-        play_row(rt.alloc(), &row)?;
+        play(rt.alloc(), &row)?;
     }
     Ok(())
 }

@@ -6,4 +6,4 @@ use Rattle.law_causes.proofs.Asked.{disks_are_asked}
 
 pub returns : goal.returns
 returns c script records sound rise legal =
-    causes_after script records rise (always_firm script records sound legal) legal (disks_are_asked script records sound legal)
+    causes_after script records (always_firm script records sound legal) legal (disks_are_asked script records sound legal) rise

@@ -1,11 +1,14 @@
 -- By induction on the history.
 use Rattle.law_steps.proofs.Firms.{always_firm}
 use Rattle.petal_rules.specs.World.{setting_of, start}
-use Rattle.law_steps.proofs.Histories.{ready_after, rests_after, start_rests}
+use Rattle.law_steps.proofs.Histories.{ready_chosen, rests_after, firm_after, start_rests}
 use Rattle.law_steps.proofs.operations_rest_in_four_stages.Goals as goal
 
 pub returns-clause-chosen : goal.returns-clause-chosen
-returns-clause-chosen c script records sound legal = ready_after script records (always_firm script records sound legal) legal
+returns-clause-chosen c script records sound legal =
+    let setting = setting_of script in
+    let firm = always_firm script records sound legal in
+    ready_chosen setting _ (firm_after setting (start setting) records firm) (rests_after setting (start setting) records firm (start_rests script) legal)
 
 pub returns-clause-own : goal.returns-clause-own
 returns-clause-own c script records sound legal =

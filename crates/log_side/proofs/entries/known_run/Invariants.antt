@@ -1,5 +1,5 @@
 -- The commands so far and those that are left are all.
-use Rattle.std.proofs.Common.{◌≡◌, ◌≤◌, ◌-◌, ◌++◌}
+use Rattle.std.proofs.Common.{◌≡◌, ◌-◌, ◌++◌}
 use Rattle.petal_rules.specs.Entries as rules
 use Rattle.petal_rules.specs.Log.{Log}
 use Rattle.log_side.proofs.entries.known_run.Given as goal

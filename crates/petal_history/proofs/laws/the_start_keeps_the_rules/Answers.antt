@@ -58,6 +58,7 @@ returns c script = record {
       clients = λ n. record { later = chosen_log (setting_of script) (start (setting_of script)); is = refl };
     };
     copies = λ cell n m is_first is_second. inl refl;
+    covered = λ cell n m is_first is_second apart. inl refl;
     requests = record {
       pending = λ n cell op runs is over. none_some (sym (at-empty cell_cmp cell) ∙ is);
       late = λ letter client seq epoch cell bytes h. absurd h;

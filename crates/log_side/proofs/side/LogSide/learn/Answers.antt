@@ -5,23 +5,24 @@ use Rattle.petal_paxos.specs.declared.record.StateRecord.TheVariants as kind
 use Rattle.petal_rules.specs.Entries.{learns}
 use Rattle.log_side.specs.Part.{log_of}
 use Rattle.log_side.proofs.FollowUps.{learnt_jobs}
-use Rattle.log_side.proofs.Said.{one_more}
+use Rattle.log_side.proofs.Said.{one_more, one_over, refused_done}
 use Rattle.log_side.proofs.side.LogSide.learn.Goals as goal
 
-pub returns-clause-done : goal.returns-clause-done
+pub returns-in-Ok-clause-done : goal.returns-in-Ok-clause-done
 unfolding learns
-returns-clause-done g c =
+returns-in-Ok-clause-done g c =
     let old = c.args.state.now in
     let new = c.choose.new.self in
     record {
       done = record {
-        log = ap (log_of c.args.self.now) (commits_is old.records new.records (kind.Chosen c.args.place c.args.command.now) c.in_ok-choose.ensures.ok);
+        log = ap (log_of c.args.self.now) (commits_is old.records new.records (kind.Chosen c.args.place c.args.command.now) c.in-Ok.ensures.ok);
         letters = search rules;
         jobs = rw c.is_next-apply.ensures (learnt_jobs (known_at old.records c.args.place) _);
       };
       voter = refl;
       holds = search rules;
-      moments = λ told holds. one_more g.D.Disk old.disk new.disk old.records (kind.Chosen c.args.place c.args.command.now) (c.in_ok-choose.ensures.any_moment told holds);
+      moments = λ told holds.
+          one_more g.D.Disk old.disk new.disk old.records (kind.Chosen c.args.place c.args.command.now) (c.in-Ok.ensures.any_moment told holds);
       kept = tt;
       same = λ no. absurd (cc);
       only = tt;
@@ -30,3 +31,12 @@ returns-clause-done g c =
       failed = λ no. absurd (cc);
       run = search rules;
     }
+
+pub returns-in-Err-clause-done : goal.returns-in-Err-clause-done
+unfolding learns
+returns-in-Err-clause-done g c =
+    let entry = kind.Chosen c.args.place c.args.command.now in
+    let refused = c.in-Err.ensures in
+    refused_done g.D.Disk c.args.self.now c.args.state.now c.choose.new.self entry c.in-Err.error _
+    (one_over c.args.state.now.records entry)
+    _ refl refused.full refused.memory refused.failed refused.err refused.only refused.any_moment refused.later refused.run

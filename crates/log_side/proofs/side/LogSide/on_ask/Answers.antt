@@ -2,7 +2,7 @@ use Rattle.std.proofs.Common.{◌≡◌, ◌+◌, ℕ, List, [], ◌∷◌, refl
 use Rattle.petal_command.specs.declared.command.Command.{Command}
 use Rattle.petal_msg.specs.declared.body.Body.TheVariants as body
 use Rattle.petal_rules.specs.Entries.{known_run, on_ask}
-use Rattle.petal_rules.specs.Server.{Post, Sender, letters_of}
+use Rattle.petal_rules.specs.Server.{Sender, letters_of}
 use Rattle.log_side.specs.Part.{log_of, sender_of}
 use Rattle.log_side.proofs.side.LogSide.on_ask.Goals as goal
 
@@ -16,7 +16,7 @@ returns g c =
         log = refl;
         letters = c.one.ensures
             ∙ ap (λ (who : Sender). letters_of who 0 (record { to = c.args.from; body = body.News c.args.rev c.in_ok-commands.commands } ∷ [])) c.envelope.ensures
-            ∙ ap (λ (run : List Command). letters_of (sender_of c.args.self.now c.args.inc) 0 (record { to = c.args.from; body = body.News c.args.rev run } ∷ []))
+            ∙ ap (λ (run : List Command). letters_of (sender_of c.args.self.now) 0 (record { to = c.args.from; body = body.News c.args.rev run } ∷ []))
             (c.in_ok-commands.ensures log refl ∙ ap (λ (place : ℕ). known_run log place 64) first);
         jobs = refl;
       });

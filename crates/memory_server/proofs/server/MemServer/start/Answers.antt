@@ -1,4 +1,4 @@
--- No ticket is out.
+-- No ticket is out, and both devices were made to show their stores.
 use Rattle.std.proofs.Common.{ap}
 use Rattle.petal_disk.specs.declared.memory_disk.MemDisk.{MemDisk}
 use Rattle.server_store.specs.Holdings.{Holdings}
@@ -7,6 +7,9 @@ use Rattle.pair_side.proofs.Blank.{blank}
 use Rattle.memory_server.proofs.server.MemServer.start.Goals as goal
 
 pub invariant_of-result : goal.invariant_of-result
-invariant_of-result c = λ on.
-    blank c.in_ok-core.core.side c.in-Ok-format.store (ap (λ (core : Core). core.side) c.in_ok-core.ensures)
-    (ap (λ (store : Holdings MemDisk). store.tickets) c.in-Ok-format.ensures.ok)
+invariant_of-result c = λ on. record {
+  tickets = blank c.in_ok-core.core.side c.in-Ok-format.store (ap (λ (core : Core). core.side) c.in_ok-core.ensures)
+      (ap (λ (store : Holdings MemDisk). store.tickets) c.in-Ok-format.ensures.ok);
+  store = c.in-Ok-format.ensures.holds tt;
+  state = c.in_ok-state.ensures.holds;
+}

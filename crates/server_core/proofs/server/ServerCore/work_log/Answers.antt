@@ -1,24 +1,24 @@
-use Rattle.std.proofs.Common.{◌≡◌, Some, refl, rules}
-use Rattle.std.specs.Prelude.{slice_get}
+use Rattle.std.proofs.Common.{refl}
 use Rattle.server_core.specs.Core.{Core}
-use Rattle.server_core.proofs.Works.{log_worked}
+use Rattle.server_core.proofs.Refused.{refused_work}
+use Rattle.server_core.proofs.Rooms.{few_records}
+use Rattle.server_core.proofs.Works.{first_is, log_worked}
 use Rattle.server_core.proofs.server.ServerCore.work_log.Goals as goal
 
 pub returns-in-Ok : goal.returns-in-Ok
 returns-in-Ok g c =
     let it = c.self.inside in
-    let old : Core = record { inc = it.inc; log = it.log; side = it.side; queue = it.queue.items } in
-    let new : Core = record { inc = it.inc; log = c.does.new.self; side = it.side; queue = c.enter.new.jobs.items } in
+    let old : Core = record { running = it.running; log = it.log; side = it.side; queue = it.queue.items } in
+    let new : Core = record { running = it.running; log = c.does.new.self; side = it.side; queue = c.enter.new.jobs.items } in
     let job = c.in-Some.job.now in
-    let at_new : slice_get c.make_room.new.jobs.items 0 ≡ Some job = search rules in
-    let first : slice_get it.queue.items 0 ≡ Some job = rw c.make_room.ensures.same at at_new in
     let asked = rw (← c.self.view_is) at c.requires.first in
+    let first = first_is it.queue.items job _ asked (rw c.make_room.ensures.same at c.in-Some.ensures.lookup) in
     let is = rw first at asked in
     let done = c.in-Ok.ensures in
     record {
-      work = λ store. rw (← c.self.view_is)
-          (log_worked old new store c.args.state.now.records c.does.new.state.records job c.in-Ok.done first is done.done refl refl
-          (rw c.make_room.ensures.same at c.enter.ensures));
+      work = λ told holds store few. rw (← c.self.view_is)
+          (log_worked old new store c.args.state.now.records c.does.new.state.records job c.in-Ok.done first is done.done refl done.voter refl
+          (rw c.make_room.ensures.same at c.enter.ensures.jobs) few (few_records g.E.Disk c.does.new.state (done.holds told holds)));
       life = rw (← c.self.view_is) (refl, done.voter);
       side = rw (← c.self.view_is) refl;
       holds = done.holds;
@@ -29,3 +29,14 @@ returns-in-Ok g c =
       cause = record { later = done.later; failed = λ no. absurd (cc) };
       run = done.run;
     }
+
+pub returns-in-Err : goal.returns-in-Err
+returns-in-Err g c =
+    let it = c.self.inside in
+    let old : Core = record { running = it.running; log = it.log; side = it.side; queue = it.queue.items } in
+    let new : Core = record { running = it.running; log = c.does.new.self; side = it.side; queue = c.make_room.new.jobs.items } in
+    let job = c.in-Some.job.now in
+    let asked = rw (← c.self.view_is) at c.requires.first in
+    let first = first_is it.queue.items job _ asked (rw c.make_room.ensures.same at c.in-Some.ensures.lookup) in
+    let refused = refused_work g.E.Disk old new c.args.state.now c.does.new.state job first (rw first at asked) refl refl c.make_room.ensures.same in
+    rw (← c.self.view_is) (rw c.of_state.ensures (refused c.in-Err.error c.in-Err.ensures))

@@ -1,0 +1,8 @@
+use Rattle.std.proofs.Common.{subst, sym}
+use Rattle.petal_state.specs.State.{State}
+use Rattle.petal_state.specs.Bound.{IsWithin}
+use Rattle.petal_state.proofs.Bounds.{after_within}
+use Rattle.global_state.proofs.state.GlobalState.next.Goals as goal
+
+pub invariant_of-result : goal.invariant_of-result
+invariant_of-result c = subst (λ (s : State). IsWithin s.rev s) (sym c.in_ok-next.ensures) (after_within c.self.inside.tables c.args.command.now c.self.invariant)

@@ -1,0 +1,12 @@
+//! Histories that are worked by hand: what the rules say of runs in which servers stop. The crate has no code of its own.
+#![tactic(auto)]
+
+mod faults;
+mod stops;
+mod takeover;
+
+pub use faults::{
+    a_device_fails_after_a_put, a_device_fails_before_a_put, a_full_journal_stops_a_server,
+};
+pub use stops::{a_line_stops_a_server, a_stop_of_a_stopped_server_does_nothing};
+pub use takeover::{a_lead_goes_on_alone, a_leave_is_chosen, a_secondary_stops_in_a_write};

@@ -1,0 +1,60 @@
+-- Why a server stops.
+use Rattle.std.specs.Prelude.{◌≡◌, ◌++◌, ℕ, List, ◌∷◌, true, false}
+use Rattle.petal_msg.specs.declared.letter.Actor.TheVariants as actor
+use Rattle.script_lines.specs.declared.request.Line.{Line}
+use Rattle.script_lines.specs.declared.request.Request.TheVariants as request
+use Rattle.petal_rules.specs.Clients.{is_stop}
+use Rattle.petal_rules.specs.Jobs.{job_done, is_overfull, operator}
+use Rattle.petal_rules.specs.Lists.{In}
+use Rattle.petal_rules.specs.World.{Setting, World, IsStopped_by}
+use Rattle.petal_rules.specs.declared.job.Job.{Job}
+use Rattle.petal_rules.specs.declared.step.CommitEnd.{CommitEnd}
+use Rattle.petal_rules.specs.declared.step.Step.{Step}
+use Rattle.petal_rules.specs.declared.step.Step.TheVariants.{Work, Stop}
+use Rattle.petal_rules.specs.declared.step.WorkEnd.{WorkEnd}
+use Rattle.petal_rules.specs.declared.step.WorkEnd.TheVariants as work_end
+use Rattle.petal_history.specs.Legal.{stepped, world_after}
+use Rattle.petal_history.specs.declared.record.Record.{Record}
+use Rattle.law_steps.specs.Happens.{own_place}
+
+-- the server ran, and does not run after this step of its own
+pub record Stops (setting : Setting) (w : World) (own : Record) (n : ℕ) : Type 0 where
+  pub who : own.actor ≡ actor.Server n
+  pub ran : (w.servers n).life.running ≡ true
+  pub rests : ((stepped setting w own).world.servers n).life.running ≡ false
+
+-- why it stops in such a step: a line of the script that the operator has open tells it to; a device failed; or what the first
+-- job of its queue leaves has a journal with more records than there is room for
+pub data IsReasonToStop (setting : Setting) (w : World) (n : ℕ) (what : Step) : Type 0 where
+  Was_told : (line : Line) → what ≡ Stop → In line setting.lines → line.request ≡ request.Stop n → line.client ≡ operator
+      → IsStopped_by w n line.number → IsReasonToStop setting w n what
+  Device_failed : (end : CommitEnd) → what ≡ Work (work_end.Fault end) → IsReasonToStop setting w n what
+  Journal_full : (first : Job) (rest : List Job) → what ≡ Work work_end.Done → (w.servers n).queue ≡ first ∷ rest
+      → is_overfull (job_done (own_place setting w n) (w.servers n) first rest).server ≡ true → IsReasonToStop setting w n what
+
+-- one of the records is of a step in which the server stopped, for such a reason
+pub record HasReasonToStop (setting : Setting) (w : World) (records : List Record) (n : ℕ) : Type 0 where
+  pub front : List Record
+  pub own : Record
+  pub behind : List Record
+  pub is : records ≡ front ++ own ∷ behind
+  pub stops : Stops setting (world_after setting w front) own n
+  pub why : IsReasonToStop setting (world_after setting w front) n own.step
+
+-- ### Where no server stops
+
+-- no line stops a server
+abbrev pub NoneIsStopped : List Line → Type 0
+NoneIsStopped lines = (line : Line) → In line lines → is_stop line.request ≡ false
+
+-- the server stops in a job: nobody told it to
+pub record StopsByItself (setting : Setting) (w : World) (own : Record) (n : ℕ) : Type 0 where
+  pub stops : Stops setting w own n
+  pub end : WorkEnd
+  pub works : own.step ≡ Work end
+
+-- in none of these steps does a server stop by itself
+abbrev pub NoneStopsByItself : Setting → World → List Record → Type 0
+NoneStopsByItself setting w records =
+    (front : List Record) (own : Record) (behind : List Record) (n : ℕ) → records ≡ front ++ own ∷ behind
+    → StopsByItself setting (world_after setting w front) own n → ⊥

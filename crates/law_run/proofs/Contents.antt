@@ -1,0 +1,161 @@
+-- Where each content that changes in a server's step is that of a write under way, the machine takes those writes.
+use Rattle.std.proofs.Common.{◌≡◌, ◌<◌, ℕ, List, true, Some, sym, ap, ◌∙◌, subst, ◌⊎◌, inl, inr}
+use Rattle.global_tables.specs.Disk.{named}
+use Rattle.global_tables.specs.declared.disk.DiskRow.{DiskRow}
+use Rattle.petal_machine.specs.declared.event.Event.{Event}
+use Rattle.petal_machine.specs.declared.event.Write.{Write}
+use Rattle.petal_machine.specs.Machine.{Plain, content, disk_of, open_of}
+use Rattle.petal_machine.specs.Run.{IsOpen as IsUnderWay, Obeys, replay}
+use Rattle.petal_rules.specs.Lists.{In}
+use Rattle.petal_rules.specs.World.{World, chosen_state}
+use Rattle.petal_rules.proofs.Tests.{none_some, same_some}
+use Rattle.petal_history.specs.Events.{Change, change_by, before_step, after_step, blocks_in, open_write, takes}
+use Rattle.law_run.specs.Onward.{held_in, Onward, Seat}
+use Rattle.law_run.specs.Follow.{Stores, kept_at}
+use Rattle.law_run.proofs.Along.{rows_in, disks_now, before_is, after_is}
+use Rattle.law_run.proofs.Frames.{OwnFollow, SaysOk, CountsOk, own_follow}
+use Rattle.law_run.proofs.Machine.{IsTake, Nearly, AllTaken, all_taken, seat_onward, stands_held}
+use Rattle.law_run.proofs.Steps.{ServerStep, TakesTold, new, later_world}
+use Rattle.law_run.proofs.Takes.{Gives, AreTold, takes_told}
+
+module _ (this : ServerStep) where
+  abbrev v : World
+  v = later_world this
+
+  abbrev rows : List DiskRow
+  rows = rows_in this.setting this.w
+
+  abbrev change : Change
+  change = change_by this.setting this.w v
+
+  -- what counts before the step, and after it
+  abbrev pub was_kept : DiskRow → ℕ → List ℕ
+  was_kept = kept_at (chosen_state this.setting this.w) this.w
+
+  abbrev pub now_kept : DiskRow → ℕ → List ℕ
+  now_kept = kept_at (chosen_state this.setting v) v
+
+  -- a write under way gives a block its new content, and a server has an entry of the block
+  pub record IsGiven (row : DiskRow) (block : ℕ) : Type 0 where
+    pub write : Write
+    pub within : write.client < 9
+    pub under_way : open_write this.w write.client ≡ Some write
+    pub disk_is : write.disk ≡ row.name
+    pub block_is : write.block ≡ block
+    pub bytes_is : write.bytes ≡ now_kept row block
+    pub looked : In block (blocks_in this.setting v)
+
+  abbrev pub AreGiven : Type 0
+  AreGiven = (row : DiskRow) → In row rows → (b : ℕ) → (was_kept row b ≡ now_kept row b) ⊎ IsGiven row b
+
+  -- the machine after the takes
+  pub record Taken : Type 0 where
+    pub es : List Event
+    pub is : takes change ≡ Some es
+    pub may : Obeys this.m es
+    pub onward : Onward this.m (replay this.m es)
+    pub stores : Stores (chosen_state this.setting v) rows v (replay this.m es)
+
+  is_named : (row : DiskRow) → In row rows → named rows row.name ≡ Some row
+  is_named row h = (disks_now this.setting this.w this.along.firm).named row h
+
+  apart : (one other : DiskRow) → In one rows → In other rows → one.name ≡ other.name → one ≡ other
+  apart one other h g e = same_some (sym (is_named one h) ∙ ap (named rows) e ∙ is_named other g)
+
+  module _ (given : AreGiven) where
+    before : (row : DiskRow) → In row rows → (b : ℕ) → before_step change row b ≡ was_kept row b
+    before = before_is this.setting this.w v this.along.firm this.next.firm this.grown
+
+    after : (row : DiskRow) → In row rows → (b : ℕ) → after_step change row b ≡ now_kept row b
+    after = after_is this.setting this.w v this.along.firm this.next.firm this.grown
+
+    gives : (row : DiskRow) → In row rows → (b : ℕ)
+        → (before_step change row b ≡ after_step change row b) ⊎ Gives change row b
+    gives row h b = elim (given row h b) [
+      | inl same ↦ inl (before row h b ∙ same ∙ sym (after row h b))
+      | inr g ↦ inr (record {
+        write = g.write;
+        within = g.within;
+        under_way = g.under_way;
+        disk_is = g.disk_is;
+        block_is = g.block_is;
+        bytes_is = g.bytes_is ∙ sym (after row h b);
+        looked = g.looked;
+      })
+    ]
+
+    told : AreTold change
+    told = takes_told change gives
+
+    under_way : (write : Write) → open_write this.w write.client ≡ Some write → IsUnderWay this.m.opened write
+    under_way write is =
+        let seat : Seat (Some write) (open_of this.m.opened write.client) =
+        subst (λ o. Seat o (open_of this.m.opened write.client)) is (this.follow.seats write.client) in
+        record { held = seat.0; is = seat.1 }
+
+    each : (e : Event) → In e told.es → IsTake rows apart now_kept this.m e
+    each e h =
+        let t = told.each e h in
+        record {
+          row = t.row;
+          there = t.there;
+          block = t.block;
+          write = t.it.write;
+          is = t.it.is;
+          seat = under_way t.it.write t.it.under_way;
+          disk_is = t.it.disk_is;
+          block_is = t.it.block_is;
+          bytes_is = t.it.bytes_is ∙ after t.row t.there t.block;
+        }
+
+    near : (row : DiskRow) → In row rows → Nearly rows apart now_kept this.m told.es row
+    near row h =
+        let k = this.follow.stores.known row h in
+        record {
+          disk = k.disk;
+          is = k.is;
+          same = λ b. elim (told.all row h b) [
+            | inl same ↦ inl (k.same b ∙ sym (before row h b) ∙ same ∙ after row h b)
+            | inr come ↦ inr (record {
+              write = come.2.write;
+              there = subst (λ e. In e told.es) come.2.is come.1;
+              disk_is = come.2.disk_is;
+              block_is = come.2.block_is;
+            })
+          ];
+        }
+
+    pub all_given : Taken
+    all_given =
+        let t : AllTaken rows apart now_kept this.m told.es = all_taken rows apart now_kept told.es this.m this.follow.stores.mindful each near in
+        record {
+          es = told.es;
+          is = told.told;
+          may = t.may;
+          onward = t.onward;
+          stores = record {
+            known = t.known;
+            unknown = λ name none. t.others name (λ row h e. none_some none (ap (named rows) e ∙ is_named row h)) ∙ this.follow.stores.unknown name none;
+            mindful = t.mindful;
+          };
+        }
+
+  -- a write of what its block then has has had its bytes
+  pub given_held : (k : Plain) → Onward this.m k → Stores (chosen_state this.setting v) rows v k → (row : DiskRow) → In row rows → (block c : ℕ) (write : Write)
+      → open_write this.w c ≡ Some write → write.disk ≡ row.name → write.block ≡ block → write.bytes ≡ now_kept row block
+      → held_in (open_of k.opened c) ≡ true
+  given_held k onward stores row h block c write is disk_is block_is bytes_is =
+      let known = stores.known row h in
+      let seat : Seat (Some write) (open_of this.m.opened c) = subst (λ o. Seat o (open_of this.m.opened c)) is (this.follow.seats c) in
+      stands_held k known.disk c write (ap (disk_of k.disks) disk_is ∙ known.is) stores.mindful (seat_onward this.m k c (Some write) onward seat)
+      (ap (content known.disk.now) block_is ∙ known.same block ∙ sym bytes_is)
+
+  -- the step, as contents see it: what is told, and that servers and clients stay tied to the machine
+  pub takes_of : (taken : Taken) → OwnFollow this (replay this.m taken.es) (new this) → CountsOk this (replay this.m taken.es)
+      → SaysOk this (replay this.m taken.es) → TakesTold this
+  takes_of taken job counts says = record {
+    es = taken.es;
+    is = taken.is;
+    may = taken.may;
+    follows = own_follow this (replay this.m taken.es) taken.onward job counts says taken.stores;
+  }

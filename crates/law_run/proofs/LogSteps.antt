@@ -1,0 +1,82 @@
+-- A server's step is of the agreed log, and leaves its part in the pairs and speaks of no request; or it leaves what its state
+-- device has, so that nothing more is chosen.
+use Rattle.std.proofs.Common.{◌≡◌, ℕ, List, [], ◌∷◌, false, Option, Some, None, refl, ap, ◌∙◌}
+use Rattle.petal_command.specs.declared.command.Command.{Command}
+use Rattle.petal_msg.specs.Kinds.{is_ending, subject_of}
+use Rattle.petal_msg.specs.declared.letter.Letter.{Letter}
+use Rattle.petal_rules.specs.Entries.{applies}
+use Rattle.petal_rules.specs.Lists.{In}
+use Rattle.petal_rules.specs.Log.{LogDone, known, next_place}
+use Rattle.petal_rules.specs.Server.{Server, Here, sender}
+use Rattle.petal_rules.specs.State.{State, servers_of}
+use Rattle.petal_rules.specs.Jobs.{Acted, here_of, works, job_done, crossing, entered, worked, stops, is_overfull, is_log_job, voter_of, does, log_does, down_posts}
+use Rattle.petal_rules.specs.World.{server_step, stamped}
+use Rattle.petal_rules.specs.declared.job.Job.{Job}
+use Rattle.petal_rules.specs.declared.job.Job.TheVariants as job
+use Rattle.petal_rules.specs.declared.step.CommitEnd.TheVariants.{Before, After}
+use Rattle.petal_rules.specs.declared.step.Step.{Step}
+use Rattle.petal_rules.specs.declared.step.Step.TheVariants.{Call, Deliver, Tick, Work, Stop, Glance}
+use Rattle.petal_rules.specs.declared.step.WorkEnd.TheVariants as work_end
+use Rattle.petal_rules.proofs.Tests.{by_test}
+use Rattle.law_steps.specs.Happens.{without_rev}
+use Rattle.law_steps.proofs.LogJobs.{LogFrame, letter_frame_of, start_frame_of, applied_entry, applied_none}
+use Rattle.law_run.proofs.Says.{logged_unended, downs_unended}
+use Rattle.law_steps.proofs.Letters.{said}
+
+-- what the step has done
+pub data IsOfKind (server : Server) (acted : Acted) : Type 0 where
+  Of_the_log : acted.server.own ≡ server.own
+      → ((stamp : ℕ) (letter : Letter) → In letter (stamped stamp acted.letters) → is_ending (subject_of letter.body) ≡ false)
+      → IsOfKind server acted
+  Of_the_rest : acted.server.log.records ≡ server.log.records → IsOfKind server acted
+
+module _ (state : State) (me : ℕ) (server : Server) where
+  abbrev here : Here
+  here = here_of state me server
+
+  abbrev K : Acted → Type 0
+  K acted = IsOfKind server acted
+
+  entered_kind : (what : Job) (rest : List Job) (done : LogDone) → LogFrame server.log what done → K (entered here server rest done)
+  entered_kind what rest done frame =
+      Of_the_log refl (λ stamp letter h. let s = said (sender here) stamp 0 done.posts letter h in
+      ap (λ b. is_ending (subject_of b)) s.body ∙ logged_unended s.post.body (frame.says s.post s.there))
+
+  applied_kind : (rest : List Job) (o : Option Command) → known server.log (next_place server.log) ≡ o → K (crossing here server rest o (applies server.log))
+  applied_kind rest None none = Of_the_rest (ap (λ (d : LogDone). d.log.records) (applied_none server.log none))
+  applied_kind rest (Some entry) is = Of_the_rest (applied_entry server.log entry is).records
+
+  job_kind : (what : Job) (rest : List Job) → K (job_done here server what rest)
+  job_kind (job.Letter letter) rest =
+      by_test K (is_log_job (job.Letter letter)) (entered here server rest (log_does (voter_of here) server.log (job.Letter letter)))
+      (worked here server rest (does here server.own (job.Letter letter)))
+      (λ t. entered_kind (job.Letter letter) rest _ (letter_frame_of (voter_of here) server.log letter))
+      (λ t. Of_the_rest refl)
+  job_kind (job.Stage cell) rest = Of_the_rest refl
+  job_kind job.Apply rest = applied_kind rest (known server.log (next_place server.log)) refl
+  job_kind job.Start rest = entered_kind job.Start rest (log_does (voter_of here) server.log job.Start) (start_frame_of (voter_of here) server.log)
+
+  works_kind : (queue : List Job) → K (works here server queue)
+  works_kind [] = Of_the_rest refl
+  works_kind (what ∷ rest) =
+      let acted = job_done here server what rest in
+      by_test K (is_overfull acted.server) (stops here server) acted (λ t. Of_the_rest refl) (λ t. job_kind what rest)
+
+  -- a server that stops tells the others, whatever it has done
+  stopped_kind : (acted : Acted) → K acted → K (stops here acted.server)
+  stopped_kind acted (Of_the_rest same) = Of_the_rest same
+  stopped_kind acted (Of_the_log same quiet) =
+      Of_the_log same (λ stamp letter h.
+      let posts = down_posts me server.life.inc (servers_of state) in
+      let s = said (without_rev here) stamp 0 posts letter h in
+      ap (λ b. is_ending (subject_of b)) s.body ∙ downs_unended me server.life.inc (servers_of state) s.post s.there)
+
+  pub step_kind : (what : Step) → K (server_step what state me server)
+  step_kind (Call line) = Of_the_rest refl
+  step_kind (Deliver letter) = by_test (λ (x : Server). K (record { server = x; letters = [] })) server.life.running _ server (λ t. Of_the_rest refl) (λ t. Of_the_rest refl)
+  step_kind Tick = Of_the_rest refl
+  step_kind (Work work_end.Done) = works_kind server.queue
+  step_kind (Work (work_end.Fault Before)) = Of_the_rest refl
+  step_kind (Work (work_end.Fault After)) = stopped_kind (works here server server.queue) (works_kind server.queue)
+  step_kind Stop = Of_the_rest refl
+  step_kind (Glance line round) = Of_the_rest refl

@@ -1,0 +1,210 @@
+-- What a server's step sends: which letters have data, and that one ends a write as written only where that has had its bytes.
+use Rattle.std.proofs.Common.{◌≡◌, ℕ, List, [], ◌∷◌, Bool, true, false, refl, sym, ap, ◌∙◌, subst, inl, inr}
+use Rattle.std.specs.Prelude.{map, filter, not, ◌==◌}
+use Rattle.std.specs.List.{range_with_len}
+use Rattle.std.specs.Ordering.{nat_cmp}
+use Rattle.petal_table.specs.Table.{at}
+use Rattle.petal_machine.specs.Machine.{Plain}
+use Rattle.petal_msg.specs.Kinds.{Glanced, about, is_ending, is_logged, subject_of}
+use Rattle.petal_msg.specs.declared.body.Body.{Body}
+use Rattle.petal_msg.specs.declared.body.Body.TheVariants as body
+use Rattle.petal_msg.specs.declared.letter.Actor.{Actor}
+use Rattle.petal_msg.specs.declared.letter.Actor.TheVariants as actor
+use Rattle.petal_msg.specs.declared.letter.Letter.{Letter}
+use Rattle.petal_msg.specs.declared.operation.Ending.{Ending}
+use Rattle.petal_msg.specs.declared.operation.Ending.TheVariants as ending
+use Rattle.petal_rules.specs.Ballots.{post_of}
+use Rattle.petal_rules.specs.Jobs.{down_posts}
+use Rattle.petal_rules.specs.Lists.{In}
+use Rattle.petal_rules.specs.Server.{Own, Here, Post, Sender, Done, letters_of, post_to}
+use Rattle.petal_rules.specs.State.{second}
+use Rattle.petal_rules.specs.Writes.{ended}
+use Rattle.petal_rules.specs.World.{stamped}
+use Rattle.petal_rules.proofs.Tests.{same_some, true_false}
+use Rattle.law_steps.specs.DidLead.{DidLead, Asks, A_slot, A_copy, Of_the_log, Asks_for, Repeats, Is_full, Gives_up, Opens, Marks, Puts, Unmarks, Closes, Opens_alone, Marks_alone, Puts_alone, Unmarks_alone, Closes_alone}
+use Rattle.law_steps.specs.DidSecond.{DidSecond}
+use Rattle.law_steps.specs.Did.{Did, Ignores, Refuses, By_read, By_lead, By_second}
+use Rattle.law_steps.specs.Happens.{Handled, own_place}
+use Rattle.law_steps.proofs.Letters.{said, one_post, posted}
+use Rattle.law_steps.proofs.Subjects.{of_read, of_second}
+use Rattle.law_copies.specs.Pair.{owns_of}
+use Rattle.law_requests.specs.Asked.{IsOpen}
+use Rattle.law_run.specs.Onward.{is_held, Onward}
+use Rattle.law_run.proofs.Looks.{is_data}
+use Rattle.law_run.proofs.Machine.{held_onward}
+use Rattle.law_run.proofs.ServerJobs.{closed_held, closed_alone}
+use Rattle.law_run.proofs.Steps.{ServerStep}
+
+-- a letter ends a write as written
+abbrev pub is_written : Body → Bool
+is_written (body.Written seq) = true
+is_written _ = false
+
+-- ### What a letter is about
+
+-- what ends no request has no data, and ends no write
+pub unended_data : (said : Body) → is_ending (subject_of said) ≡ false → is_data said ≡ false
+unended_data (body.Data seq bytes) e = true_false refl e
+unended_data _ e = refl
+
+pub unended_written : (said : Body) → is_ending (subject_of said) ≡ false → is_written said ≡ false
+unended_written (body.Written seq) e = true_false refl e
+unended_written _ e = refl
+
+-- a letter ends no request
+abbrev pub IsUnended : Post → Type 0
+IsUnended post = is_ending (subject_of post.body) ≡ false
+
+pub logged_unended : (said : Body) → is_logged (subject_of said) ≡ true → is_ending (subject_of said) ≡ false
+logged_unended (body.Written seq) e = true_false e refl
+logged_unended (body.Full seq) e = true_false e refl
+logged_unended (body.Data seq bytes) e = true_false e refl
+logged_unended (body.NotHere seq) e = true_false e refl
+logged_unended _ e = refl
+
+pub unended_no_data : (who : Sender) (stamp : ℕ) (posts : List Post) → ((post : Post) → In post posts → IsUnended post) → (letter : Letter)
+    → In letter (stamped stamp (letters_of who 0 posts)) → is_data letter.body ≡ false
+unended_no_data who stamp posts all letter h =
+    let s = said who stamp 0 posts letter h in ap is_data s.body ∙ unended_data s.post.body (all s.post s.there)
+
+pub unended_no_end : (who : Sender) (stamp : ℕ) (posts : List Post) → ((post : Post) → In post posts → IsUnended post) → (letter : Letter)
+    → In letter (stamped stamp (letters_of who 0 posts)) → is_written letter.body ≡ false
+unended_no_end who stamp posts all letter h =
+    let s = said who stamp 0 posts letter h in ap is_written s.body ∙ unended_written s.post.body (all s.post s.there)
+
+-- a server that stops tells the others
+downs : (me inc : ℕ) (others : List ℕ) (post : Post) → In post (map (post_of (body.Down me inc)) others) → IsUnended post
+unfolding In
+downs me inc [] post h = absurd h
+downs me inc (n ∷ others) post (inl e) = ap (λ (p : Post). is_ending (subject_of p.body)) e
+downs me inc (n ∷ others) post (inr h) = downs me inc others post h
+
+pub downs_unended : (me inc servers : ℕ) (post : Post) → In post (down_posts me inc servers) → IsUnended post
+downs_unended me inc servers post h = downs me inc (filter (λ n. not (n == me)) (range_with_len 0 servers)) post h
+
+pub glances_unended : (post : Post) → subject_of post.body ≡ Glanced → IsUnended post
+glances_unended post e = ap is_ending e
+
+-- ### A job
+
+abbrev pub IsQuiet : {heard : Body → Type 0} {here : Here} {own : Own} {done : Done} → Did heard here own done → Type 0
+IsQuiet (By_read done d) = ⊥
+IsQuiet _ = Unit {0}
+
+asks_unended : (here : Here) (own : Own) (post : Post) → Asks here own post → IsUnended post
+asks_unended here own _ (A_slot op to is stage e) = refl
+asks_unended here own _ (A_copy op to is stage e) = refl
+asks_unended here own _ (Of_the_log post e) = logged_unended post.body e
+
+ended_data : (seq : ℕ) (how : Ending) → is_data (ended seq how) ≡ false
+ended_data seq ending.Written = refl
+ended_data seq ending.Full = refl
+
+module _ (heard : Body → Type 0) (here : Here) (own : Own) where
+  lead_data : (done : Done) → DidLead heard here own done → (post : Post) → In post done.posts → is_data post.body ≡ false
+  unfolding In
+  lead_data _ (Asks_for posts h) post i = unended_data post.body (asks_unended here own post (h post i))
+  lead_data _ (Repeats want last h lead is e) post i = ap is_data (one_post _ _ post i).1 ∙ ended_data want.seq last.ending
+  lead_data _ (Is_full want new no_room) post i = ap is_data (one_post _ _ post i).1
+  lead_data _ (Gives_up op h is reserved put) post i = ap is_data (one_post _ _ post i).1
+  lead_data _ (Opens want new both) post i = ap is_data (posted _ _ post i)
+  lead_data _ (Marks op h is both stage) post i = absurd i
+  lead_data _ (Puts op is both stage) post i = absurd i
+  lead_data _ (Unmarks op h is both stage) post i = absurd i
+  lead_data _ (Closes op is both stage) post i = ap is_data (one_post _ _ post i).1
+  lead_data _ (Opens_alone want new alone) post i = absurd i
+  lead_data _ (Marks_alone now op taken alone fresh) post i = absurd i
+  lead_data _ (Puts_alone now op taken alone stale put) post i = absurd i
+  lead_data _ (Unmarks_alone now op taken alone stale put busy) post i = absurd i
+  lead_data _ (Closes_alone now op taken alone stale put free) post i = ap is_data (one_post _ _ post i).1
+
+  second_unended : (done : Done) → DidSecond heard here own done → (post : Post) → In post done.posts → IsUnended post
+  second_unended done d post i = ap is_ending ((of_second heard here own done d).says post i)
+
+  -- only a read's job sends data
+  pub quiet_data : (done : Done) (d : Did heard here own done) → IsQuiet d → (post : Post) → In post done.posts → is_data post.body ≡ false
+  unfolding In
+  quiet_data _ Ignores quiet post i = absurd i
+  quiet_data _ (Refuses to what is why) quiet post i = ap is_data (one_post to what post i).1 ∙ unended_data what (ap is_ending is)
+  quiet_data _ (By_read done d) quiet post i = absurd quiet
+  quiet_data _ (By_lead done d) quiet post i = lead_data done d post i
+  quiet_data _ (By_second done d) quiet post i = unended_data post.body (second_unended done d post i)
+
+-- ### Writes that end as written
+
+one_client : {c d : ℕ} → actor.Client c ≡ actor.Client d → c ≡ d
+one_client e = cc
+
+ended_written : (seq : ℕ) (how : Ending) (other : ℕ) → ended seq how ≡ body.Written other → how ≡ ending.Written
+ended_written seq ending.Written other e = refl
+ended_written seq ending.Full other e = true_false {b = is_written (body.Written other)} refl (ap is_written (sym e))
+
+ended_seq : (seq : ℕ) (how : Ending) (other : ℕ) → ended seq how ≡ body.Written other → seq ≡ other
+ended_seq seq ending.Written other e = same_some (ap (λ b. (about b).seq) e)
+ended_seq seq ending.Full other e = true_false {b = is_written (body.Written other)} refl (ap is_written (sym e))
+
+module _ (this : ServerStep) (k : Plain) (runs : (this.w.servers this.n).life.running ≡ true) (onward : Onward this.m k) where
+  abbrev here : Here
+  here = own_place this.setting this.w this.n
+
+  abbrev own : Own
+  own = owns_of this.w this.n
+
+  abbrev hears : Body → Type 0
+  hears = Handled this.w this.n
+
+  abbrev PostsOk : List Post → Type 0
+  PostsOk posts = (post : Post) → In post posts → (c seq : ℕ) → post.to ≡ actor.Client c → post.body ≡ body.Written seq → IsOpen (this.w.clients c) seq
+      → is_held k c ≡ true
+
+  unwritten : (posts : List Post) → ((post : Post) → In post posts → is_written post.body ≡ false) → PostsOk posts
+  unwritten posts h post i c seq to says still = true_false (ap is_written says) (h post i)
+
+  one_unwritten : (to : Actor) (what : Body) → is_written what ≡ false → PostsOk (record { to = to; body = what } ∷ [])
+  one_unwritten to what e = unwritten (record { to = to; body = what } ∷ []) (λ post i. ap is_written (one_post to what post i).1 ∙ e)
+
+  -- a reply to a client whose write has had its bytes
+  one_held : (client seq : ℕ) → (IsOpen (this.w.clients client) seq → is_held k client ≡ true)
+      → PostsOk (record { to = actor.Client client; body = body.Written seq } ∷ [])
+  one_held client seq held post i c other to says still =
+      let p = one_post (actor.Client client) (body.Written seq) post i in
+      let same : client ≡ c = one_client (sym p.0 ∙ to) in
+      let number : seq ≡ other = same_some (ap (λ b. (about b).seq) (sym p.1 ∙ says)) in
+      subst (λ j. is_held k j ≡ true) same
+      (held (subst (IsOpen (this.w.clients client)) (sym number) (subst (λ j. IsOpen (this.w.clients j) other) (sym same) still)))
+
+  none_says : PostsOk []
+  unfolding In
+  none_says post i = absurd i
+
+  lead_says : (done : Done) → DidLead hears here own done → PostsOk done.posts
+  lead_says _ (Asks_for posts h) = unwritten posts (λ post i. unended_written post.body (asks_unended here own post (h post i)))
+  lead_says _ (Repeats want last h lead is e) = λ post i c seq to says still.
+      let p = one_post (actor.Client want.client) (ended want.seq last.ending) post i in
+      let same_client : want.client ≡ c = one_client (sym p.0 ∙ to) in
+      let what : ended want.seq last.ending ≡ body.Written seq = sym p.1 ∙ says in
+      let how = ended_written want.seq last.ending seq what in
+      let number : seq ≡ last.seq = sym (ended_seq want.seq last.ending seq what) ∙ e in
+      held_onward this.m k c onward
+      (this.follow.finished this.n c last (ap (at nat_cmp own.pairs.finished) (sym same_client) ∙ is) how (subst (IsOpen (this.w.clients c)) number still))
+  lead_says _ (Is_full want new no_room) = one_unwritten (actor.Client want.client) (ended want.seq ending.Full) refl
+  lead_says _ (Gives_up op h is reserved put) = one_unwritten (actor.Client op.client) (ended op.seq ending.Full) refl
+  lead_says _ (Opens want new both) =
+      unwritten (post_to (second here.state want.cell) (body.Reserve own.pairs.next want.cell)) (λ post i. ap is_written (posted _ _ post i))
+  lead_says _ (Marks op h is both stage) = none_says
+  lead_says _ (Puts op is both stage) = none_says
+  lead_says _ (Unmarks op h is both stage) = none_says
+  lead_says _ (Closes op is both stage) = one_held op.client op.seq (closed_held this k runs onward op is both stage)
+  lead_says _ (Opens_alone want new alone) = none_says
+  lead_says _ (Marks_alone now op taken alone fresh) = none_says
+  lead_says _ (Puts_alone now op taken alone stale put) = none_says
+  lead_says _ (Unmarks_alone now op taken alone stale put busy) = none_says
+  lead_says _ (Closes_alone now op taken alone stale put free) = one_held op.client op.seq (closed_alone this k runs onward now op taken alone put)
+
+  pub did_says : (done : Done) → Did hears here own done → PostsOk done.posts
+  did_says _ Ignores = none_says
+  did_says _ (Refuses to what is why) = one_unwritten to what (unended_written what (ap is_ending is))
+  did_says _ (By_read done d) =
+      unwritten done.posts (λ post i. ap is_written ((of_read hears here own done d).says post i).is)
+  did_says _ (By_lead done d) = lead_says done d
+  did_says _ (By_second done d) = unwritten done.posts (λ post i. unended_written post.body (second_unended hears here own done d post i))

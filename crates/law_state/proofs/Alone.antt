@@ -1,0 +1,274 @@
+-- What a state says of a cell's two servers and of a holder that is alone, and what a later one says of them.
+use Rattle.std.proofs.Common.{◌≡◌, ◌≢◌, ◌==◌, ℕ, if◌then◌else◌, Bool, true, false, Option, Some, None, refl, sym, ap, ◌∙◌, ◌⊎◌, inl, inr}
+use Rattle.std.specs.Prelude.{is_some, option_map, option_and_then}
+use Rattle.std.specs.Option.{option_map_or}
+use Rattle.petal_base.specs.declared.cell.Cell.{Cell}
+use Rattle.global_tables.specs.declared.link.LinkRow.{LinkRow}
+use Rattle.global_tables.specs.Link.{has_server}
+use Rattle.global_tables.specs.declared.link.LinkState.{LinkState}
+use Rattle.global_tables.specs.declared.link.LinkState.TheVariants.{Both, Only, Lost}
+use Rattle.petal_command.specs.declared.command.Command.{Command}
+use Rattle.petal_command.specs.declared.command.Command.TheVariants.{Leave, MakeDisk, Witness}
+use Rattle.petal_state.specs.CellState.{cell_link}
+use Rattle.petal_state.specs.Command.{after, is_alone}
+use Rattle.petal_state.specs.Place.{touches}
+use Rattle.petal_state.specs.State.{is_up, is_up_as}
+use Rattle.petal_rules.specs.Crossing.{touches_cell}
+use Rattle.petal_rules.specs.State.{State, lead, is_lead, row_in_both, in_both, first, second, primary, secondary, is_alone_on}
+use Rattle.petal_rules.proofs.Tests.{by_bool, both_true, true_false, none_some, same_some, same_numbers, number_itself, some_or_none, is_the_one}
+use Rattle.law_state.specs.Rows.{IsServedBy, ByBoth, ByOne}
+use Rattle.law_state.specs.Steady.{IsSteady}
+use Rattle.law_state.specs.Below.{IsBelow}
+use Rattle.law_state.specs.Plain.{IsPlain}
+use Rattle.law_state.specs.Tables.{IsPlainState}
+use Rattle.law_state.proofs.Cells.{led_by, first_by, second_by, both_first, both_second}
+use Rattle.law_state.proofs.Entries.{settled_act}
+use Rattle.law_state.proofs.Leaves.{left_by, out_now, either_true}
+use Rattle.law_state.proofs.Grown.{one_before}
+use Rattle.law_state.proofs.Roles.{holds_it, primary_is_one, secondary_is_one}
+
+-- ### One state, by its definitions alone
+
+-- the link of a cell in Both
+pub record IsBothRow (state : State) (cell : Cell) : Type 0 where
+  pub row : LinkRow
+  pub is : cell_link state cell ≡ Some row
+  pub both : row.state ≡ Both
+
+-- the link of a cell that this server holds alone
+pub record IsAloneRow (state : State) (n : ℕ) (cell : Cell) : Type 0 where
+  pub row : LinkRow
+  pub whole : Bool
+  pub is : cell_link state cell ≡ Some row
+  pub alone : row.state ≡ Only n whole
+
+state_both : (row : LinkRow) (state : LinkState) → is_some (row_in_both row state) ≡ true → state ≡ Both
+state_both row Both e = refl
+state_both row (Only holder whole) e = true_false e refl
+state_both row Lost e = true_false e refl
+
+state_alone : (n : ℕ) (state : LinkState) → is_alone n state ≡ true → (whole : Bool) × (state ≡ Only n whole)
+state_alone n Both e = true_false e refl
+state_alone n (Only holder whole) e = (whole, ap (λ h. Only h whole) (same_numbers holder n e))
+state_alone n Lost e = true_false e refl
+
+pub both_row : (state : State) (cell : Cell) → in_both state cell ≡ true → IsBothRow state cell
+both_row state cell e = by (cell_link state cell) refl e
+  where
+    by : (o : Option LinkRow) → cell_link state cell ≡ o → is_some (option_and_then (λ row. row_in_both row row.state) o) ≡ true → IsBothRow state cell
+    by None is f = true_false f refl
+    by (Some row) is f = record { row = row; is = is; both = state_both row row.state f }
+
+pub alone_row : (state : State) (n : ℕ) (cell : Cell) → is_alone_on state n cell ≡ true → IsAloneRow state n cell
+alone_row state n cell e = by (cell_link state cell) refl e
+  where
+    by : (o : Option LinkRow) → cell_link state cell ≡ o → option_map_or (λ row. is_alone n row.state) o false ≡ true → IsAloneRow state n cell
+    by None is f = true_false f refl
+    by (Some row) is f = let so = state_alone n row.state f in record { row = row; whole = so.0; is = is; alone = so.1 }
+
+pub so_both : (state : State) (cell : Cell) (row : LinkRow) → cell_link state cell ≡ Some row → row.state ≡ Both → in_both state cell ≡ true
+so_both state cell row is both =
+    ap (λ o. is_some (option_and_then (λ (r : LinkRow). row_in_both r r.state) o)) is ∙ ap (λ s. is_some (row_in_both row s)) both
+
+pub so_alone : (state : State) (n : ℕ) (cell : Cell) (row : LinkRow) (whole : Bool) → cell_link state cell ≡ Some row → row.state ≡ Only n whole
+    → is_alone_on state n cell ≡ true
+so_alone state n cell row whole is alone =
+    ap (λ o. option_map_or (λ (r : LinkRow). is_alone n r.state) o false) is ∙ ap (is_alone n) alone ∙ number_itself n
+
+pub alone_not_both : (state : State) (n : ℕ) (cell : Cell) → is_alone_on state n cell ≡ true → in_both state cell ≡ false
+alone_not_both state n cell e =
+    let a = alone_row state n cell e in
+    ap (λ o. is_some (option_and_then (λ (r : LinkRow). row_in_both r r.state) o)) a.is ∙ ap (λ s. is_some (row_in_both a.row s)) a.alone
+
+pub both_not_alone : (state : State) (n : ℕ) (cell : Cell) → in_both state cell ≡ true → is_alone_on state n cell ≡ false
+both_not_alone state n cell e = by_bool (is_alone_on state n cell) (λ alone. true_false e (alone_not_both state n cell alone)) (λ no. no)
+
+-- ### A steady state
+
+module _ (state : State) (steady : IsSteady state) where
+  -- who leads a cell holds it alone, or it is in Both and the server is its first
+  pub lead_alone : (n : ℕ) (cell : Cell) → is_lead state n cell ≡ true → in_both state cell ≡ false → is_alone_on state n cell ≡ true
+  lead_alone n cell e apart = elim (led_by state steady cell n (is_the_one (lead state cell) n e)) [
+    | inl b ↦ true_false (so_both state cell b.0.row b.0.is b.0.so) apart
+    | inr held ↦ so_alone state n cell held.row false held.is held.so
+  ]
+
+  pub lead_first : (n : ℕ) (cell : Cell) → is_lead state n cell ≡ true → in_both state cell ≡ true → first state cell ≡ Some n
+  lead_first n cell e both = elim (led_by state steady cell n (is_the_one (lead state cell) n e)) [
+    | inl b ↦ both_first state cell b.0.row b.0.is b.0.linked b.0.so ∙ ap Some b.1
+    | inr held ↦ true_false both (alone_not_both state n cell (so_alone state n cell held.row false held.is held.so))
+  ]
+
+  -- the link of a cell that is led
+  pub led_row : (n : ℕ) (cell : Cell) → is_lead state n cell ≡ true → (row : LinkRow) × (cell_link state cell ≡ Some row)
+  led_row n cell e = elim (led_by state steady cell n (is_the_one (lead state cell) n e)) [ inl b ↦ (b.0.row, b.0.is) | inr held ↦ (held.row, held.is) ]
+
+  -- a cell with a first server, or a second one, is in Both
+  pub first_both : (cell : Cell) (n : ℕ) → first state cell ≡ Some n → in_both state cell ≡ true
+  first_both cell n e = let b = first_by state steady cell n e in so_both state cell b.0.row b.0.is b.0.so
+
+  pub second_both : (cell : Cell) (n : ℕ) → second state cell ≡ Some n → in_both state cell ≡ true
+  second_both cell n e = let b = second_by state steady cell n e in so_both state cell b.0.row b.0.is b.0.so
+
+  pub first_primary : (cell : Cell) (n : ℕ) → first state cell ≡ Some n → primary state cell ≡ Some n
+  first_primary cell n e =
+      let b = first_by state steady cell n e in ap (option_map (λ (r : LinkRow). r.primary)) b.0.is ∙ ap Some b.1
+
+  pub second_secondary : (cell : Cell) (n : ℕ) → second state cell ≡ Some n → secondary state cell ≡ Some n
+  second_secondary cell n e =
+      let b = second_by state steady cell n e in ap (option_map (λ (r : LinkRow). r.secondary)) b.0.is ∙ ap Some b.1
+
+  pub primary_first : (cell : Cell) (n : ℕ) → primary state cell ≡ Some n → in_both state cell ≡ true → first state cell ≡ Some n
+  primary_first cell n e both =
+      let b = both_row state cell both in
+      both_first state cell b.row b.is (steady.linked cell b.row b.is) b.both ∙ sym (ap (option_map (λ (r : LinkRow). r.primary)) b.is) ∙ e
+
+  pub secondary_second : (cell : Cell) (n : ℕ) → secondary state cell ≡ Some n → in_both state cell ≡ true → second state cell ≡ Some n
+  secondary_second cell n e both =
+      let b = both_row state cell both in
+      both_second state cell b.row b.is (steady.linked cell b.row b.is) b.both ∙ sym (ap (option_map (λ (r : LinkRow). r.secondary)) b.is) ∙ e
+
+  -- the two servers of a cell are two
+  pub has_secondary : (cell : Cell) (n : ℕ) → primary state cell ≡ Some n → (m : ℕ) × (secondary state cell ≡ Some m) × (n ≢ m)
+  has_secondary cell n e = elim (some_or_none (cell_link state cell)) [
+    | inl there ↦
+        let l = steady.linked cell there.0 there.1 in
+        let one : there.0.primary ≡ n = same_some (sym (ap (option_map (λ (r : LinkRow). r.primary)) there.1) ∙ e) in
+        (there.0.secondary, ap (option_map (λ (r : LinkRow). r.secondary)) there.1, λ same. l.apart (one ∙ same))
+    | inr none ↦ none_some (ap (option_map (λ (r : LinkRow). r.primary)) none) e
+  ]
+
+  pub has_primary : (cell : Cell) (m : ℕ) → secondary state cell ≡ Some m → (n : ℕ) × (primary state cell ≡ Some n)
+  has_primary cell m e = elim (some_or_none (cell_link state cell)) [
+    | inl there ↦ (there.0.primary, ap (option_map (λ (r : LinkRow). r.primary)) there.1)
+    | inr none ↦ none_some (ap (option_map (λ (r : LinkRow). r.secondary)) none) e
+  ]
+
+  -- a holder that is alone is one of the cell's two servers, and the other one is Out
+  pub record IsLeft (n : ℕ) (cell : Cell) (i j : ℕ) : Type 0 where
+    pub one_of : (n ≡ i) ⊎ (n ≡ j)
+    pub first_out : n ≢ i → is_up state i ≡ false
+    pub second_out : n ≢ j → is_up state j ≡ false
+
+  pub alone_left : (n : ℕ) (cell : Cell) (i j : ℕ) → is_alone_on state n cell ≡ true → primary state cell ≡ Some i → secondary state cell ≡ Some j
+      → IsLeft n cell i j
+  alone_left n cell i j e one two =
+      let a = alone_row state n cell e in
+      let first : a.row.primary ≡ i = same_some (sym (ap (option_map (λ (r : LinkRow). r.primary)) a.is) ∙ one) in
+      let second : a.row.secondary ≡ j = same_some (sym (ap (option_map (λ (r : LinkRow). r.secondary)) a.is) ∙ two) in
+      by a.row.state a.alone first second (steady.linked cell a.row a.is).served
+    where
+      holder_is : (h : ℕ) (whole : Bool) → Only n whole ≡ Only h false → n ≡ h
+      holder_is h whole f = cc
+
+      by : (s : LinkState) {row : LinkRow} {whole : Bool} → row.state ≡ Only n whole → row.primary ≡ i → row.secondary ≡ j → IsServedBy (is_up state) row
+          → IsLeft n cell i j
+      by s alone first second (ByBoth both up up') = let f : Both ≡ Only n _ = sym both ∙ alone in absurd cc
+      by s {whole = whole} alone first second (ByOne holder other only (inl pair) out) =
+          let same : n ≡ holder = holder_is holder whole (sym alone ∙ only) in
+          let one : n ≡ i = same ∙ sym pair.0 ∙ first in
+          record { one_of = inl one; first_out = λ ne. absurd (ne one); second_out = λ ne. sym (ap (is_up state) (sym pair.1 ∙ second)) ∙ out }
+      by s {whole = whole} alone first second (ByOne holder other only (inr pair) out) =
+          let same : n ≡ holder = holder_is holder whole (sym alone ∙ only) in
+          let one : n ≡ j = same ∙ sym pair.1 ∙ second in
+          record { one_of = inr one; first_out = λ ne. sym (ap (is_up state) (sym pair.0 ∙ first)) ∙ out; second_out = λ ne. absurd (ne one) }
+
+-- ### A later state
+
+module _ (earlier later : State) (below : IsBelow earlier later) where
+  pub primary_on : (cell : Cell) (n : ℕ) → primary earlier cell ≡ Some n → primary later cell ≡ Some n
+  primary_on cell n e = elim (some_or_none (cell_link earlier cell)) [
+    | inl there ↦
+        let now = below.rows cell there.0 there.1 in
+        ap (option_map (λ (r : LinkRow). r.primary)) now.is ∙ ap Some now.so.primary
+        ∙ sym (ap (option_map (λ (r : LinkRow). r.primary)) there.1) ∙ e
+    | inr none ↦ none_some (ap (option_map (λ (r : LinkRow). r.primary)) none) e
+  ]
+
+  pub secondary_on : (cell : Cell) (n : ℕ) → secondary earlier cell ≡ Some n → secondary later cell ≡ Some n
+  secondary_on cell n e = elim (some_or_none (cell_link earlier cell)) [
+    | inl there ↦
+        let now = below.rows cell there.0 there.1 in
+        ap (option_map (λ (r : LinkRow). r.secondary)) now.is ∙ ap Some now.so.secondary
+        ∙ sym (ap (option_map (λ (r : LinkRow). r.secondary)) there.1) ∙ e
+    | inr none ↦ none_some (ap (option_map (λ (r : LinkRow). r.secondary)) none) e
+  ]
+
+  -- who is alone stays so
+  pub alone_on : (n : ℕ) (cell : Cell) → is_alone_on earlier n cell ≡ true → is_alone_on later n cell ≡ true
+  alone_on n cell e =
+      let a = alone_row earlier n cell e in
+      let now = below.rows cell a.row a.is in
+      elim now.so.state [
+        | inl same ↦ so_alone later n cell now.now a.whole now.is (same ∙ a.alone)
+        | inr left ↦ let f : Both ≡ Only n a.whole = sym left.before ∙ a.alone in absurd cc
+      ]
+
+  pub not_alone_before : (n : ℕ) (cell : Cell) → is_alone_on later n cell ≡ false → is_alone_on earlier n cell ≡ false
+  not_alone_before n cell e = by_bool (is_alone_on earlier n cell) (λ alone. true_false (alone_on n cell alone) e) (λ no. no)
+
+  -- a cell that had a link, and is in Both, was in Both
+  pub both_before : (cell : Cell) (row : LinkRow) → cell_link earlier cell ≡ Some row → in_both later cell ≡ true → in_both earlier cell ≡ true
+  both_before cell row is e =
+      let now = below.rows cell row is in
+      let b = both_row later cell e in
+      let both : now.now.state ≡ Both = ap (λ (r : LinkRow). r.state) (same_some (sym now.is ∙ b.is)) ∙ b.both in
+      elim now.so.state [
+        | inl same ↦ so_both earlier cell row is (sym same ∙ both)
+        | inr left ↦ let f : Both ≡ Only left.holder false = sym both ∙ left.after in absurd cc
+      ]
+
+-- ### An entry that touches a link
+
+-- one of the link's two servers is Out after the entry
+pub record IsLeftOut (after_it : State) (row : LinkRow) : Type 0 where
+  pub server : ℕ
+  pub one_of : has_server server row ≡ true
+  pub out : is_up after_it server ≡ false
+
+pub touched_out : (servers : ℕ) (s : State) → IsPlainState servers s → (entry : Command) → IsPlain servers entry → (row : LinkRow)
+    → touches s entry row ≡ true → IsLeftOut (after s entry) row
+touched_out servers s p (Leave server inc) plain row e =
+    let tests = both_true (is_up_as s server inc) (has_server server row) e in
+    record {
+      server = server;
+      one_of = tests.1;
+      out = ap (λ t. is_up t server) (settled_act servers s (Leave server inc) p plain)
+          ∙ ap (λ b. is_up (if b then left_by s server else s) server) tests.0 ∙ out_now servers s p server inc tests.0;
+    }
+touched_out servers s p (MakeDisk client seq name tuple) plain row e = true_false e refl
+touched_out servers s p (Witness client seq turn) plain row e = true_false e refl
+touched_out servers s p _ plain row e = absurd plain
+
+-- a cell that an entry touches has a link
+pub touched_row : (s : State) (entry : Command) (cell : Cell) → touches_cell s entry cell ≡ true → (row : LinkRow) × (cell_link s cell ≡ Some row)
+touched_row s entry cell e = elim (some_or_none (cell_link s cell)) [
+  | inl there ↦ there
+  | inr none ↦ true_false e (ap (λ o. option_map_or (touches s entry) o false) none)
+]
+
+-- a server of the link that is In after it holds the link alone
+pub touched_alone : (servers : ℕ) (s : State) → IsPlainState servers s → (entry : Command) → IsPlain servers entry → IsSteady (after s entry)
+    → IsBelow s (after s entry) → (cell : Cell) (n : ℕ) → touches_cell s entry cell ≡ true → (primary s cell ≡ Some n) ⊎ (secondary s cell ≡ Some n)
+    → is_up (after s entry) n ≡ true → is_alone_on (after s entry) n cell ≡ true
+touched_alone servers s p entry plain steady below cell n e one up =
+    let there = touched_row s entry cell e in
+    let row = there.0 in
+    let t = after s entry in
+    let gone = touched_out servers s p entry plain row (sym (ap (λ o. option_map_or (touches s entry) o false) there.1) ∙ e) in
+    let now = below.rows cell row there.1 in
+    let mine : has_server n row ≡ true = elim one [
+      | inl first ↦ primary_is_one row n (same_some (sym (ap (option_map (λ (r : LinkRow). r.primary)) there.1) ∙ first))
+      | inr second ↦ secondary_is_one row n (same_some (sym (ap (option_map (λ (r : LinkRow). r.secondary)) there.1) ∙ second))
+    ] in
+    elim (steady.linked cell now.now now.is).served [
+      | ByBoth both one two ↦ true_false (both_up t now.now gone.server one two (one_before row now.now gone.server now.so ∙ gone.one_of)) gone.out
+      | ByOne holder other alone pair out ↦
+          let same = holds_it t now.now holder n (ByOne holder other alone pair out) alone (one_before row now.now n now.so ∙ mine) up in
+          so_alone t n cell now.now false now.is (alone ∙ ap (λ k. Only k false) same)
+    ]
+  where
+    both_up : (t : State) (row : LinkRow) (k : ℕ) → is_up t row.primary ≡ true → is_up t row.secondary ≡ true → has_server k row ≡ true → is_up t k ≡ true
+    both_up t row k one two has = by_bool (row.primary == k)
+        (λ f. ap (is_up t) (sym (same_numbers row.primary k f)) ∙ one)
+        (λ f. ap (is_up t) (sym (same_numbers row.secondary k (either_true (row.primary == k) (row.secondary == k) has f))) ∙ two)

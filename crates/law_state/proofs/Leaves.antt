@@ -1,0 +1,167 @@
+-- A Leave: its server is Out, and of the links that it served with another one the other one is left.
+use Rattle.std.proofs.Common.{◌≡◌, ◌≢◌, ◌==◌, ℕ, [], Bool, true, false, Option, Some, None, refl, sym, ap, ◌∙◌, ◌⊎◌, inl, inr}
+use Rattle.std.specs.Prelude.{◌||◌, if◌then◌else◌, slice_get, option_map, option_and_then}
+use Rattle.std.specs.Option.{option_map_or}
+use Rattle.std.proofs.lemmas.List.{append-nil, length-set}
+use Rattle.std.proofs.lemmas.Option.{slice_get_within}
+use Rattle.global_tables.specs.declared.fence.Member.{Member}
+use Rattle.global_tables.specs.declared.fence.Member.TheVariants as member
+use Rattle.global_tables.specs.declared.link.LinkRow.{LinkRow}
+use Rattle.global_tables.specs.declared.link.LinkState.{LinkState}
+use Rattle.global_tables.specs.declared.link.LinkState.TheVariants.{Both, Only, Lost}
+use Rattle.global_tables.specs.Link.{is_link, has_server, other_of, left_state, row_left}
+use Rattle.global_tables.specs.Link as links
+use Rattle.global_tables.specs.View.{is_in, inc_in, last_inc, out_of, servers_in, awaiting}
+use Rattle.global_tables.specs.View as view
+use Rattle.petal_state.specs.State.{State, is_up, is_up_as}
+use Rattle.petal_rules.proofs.Tests.{by_bool, by_test, same_some, same_or_apart, same_numbers, number_itself, true_false}
+use Rattle.law_state.specs.Rows.{IsServed, IsBetween, IsLater, IsLeftAlone, ByBoth, ByOne}
+use Rattle.law_state.specs.Tables.{IsPlainState}
+use Rattle.law_state.proofs.Grown.{Step, later_itself}
+use Rattle.law_state.proofs.Links.{either_false}
+use Rattle.law_state.proofs.Places.{find_map, get_set_here, get_set_beside}
+
+pub either_true : (a b : Bool) → (a || b) ≡ true → a ≡ false → b ≡ true
+either_true true b e f = let g : true ≡ false = f in absurd cc
+either_true false b e f = e
+
+or_true : (a b : Bool) → b ≡ true → (a || b) ≡ true
+or_true true b e = refl
+or_true false b e = e
+
+-- ### The other server of a link
+
+other_is_one : (row : LinkRow) (server : ℕ) → has_server (other_of server row) row ≡ true
+other_is_one row server = by_test (λ other. has_server other row ≡ true) (row.primary == server) row.secondary row.primary
+    (λ e. or_true (row.primary == row.secondary) (row.secondary == row.secondary) (number_itself row.secondary))
+    (λ e. ap (λ b. b || row.secondary == row.primary) (number_itself row.primary))
+
+other_between : (row : LinkRow) (server : ℕ) → has_server server row ≡ true → IsBetween row (other_of server row) server
+other_between row server has = by_test (λ other. IsBetween row other server) (row.primary == server) row.secondary row.primary
+    (λ e. inr (same_numbers row.primary server e, refl))
+    (λ e. inl (refl, same_numbers row.secondary server (either_true (row.primary == server) (row.secondary == server) has e)))
+
+left_later : (row : LinkRow) (server : ℕ) (state : LinkState) → row.state ≡ state
+    → (left_state (other_of server row) row.state ≡ row.state) ⊎ IsLeftAlone row (record row { state = left_state (other_of server row) row.state })
+left_later row server Both e = inr (record {
+  before = e;
+  holder = other_of server row;
+  one_of = other_is_one row server;
+  after = ap (left_state (other_of server row)) e;
+})
+left_later row server (Only holder whole) e = inl (ap (left_state (other_of server row)) e ∙ sym e)
+left_later row server Lost e = inl (ap (left_state (other_of server row)) e ∙ sym e)
+
+pub later_left : (row : LinkRow) (server : ℕ) → IsLater row (row_left server row)
+later_left row server = by_test (IsLater row) (has_server server row) _ _
+    (λ has. record { map = refl; link = refl; primary = refl; secondary = refl; state = left_later row server row.state refl })
+    (λ no. later_itself row)
+
+-- a link of two others stays as it is
+pub row_stays : (row : LinkRow) (server : ℕ) → has_server server row ≡ false → row_left server row ≡ row
+row_stays row server away = ap (λ b. if b then record row { state = left_state (other_of server row) row.state } else row) away
+
+-- ### Who is In
+
+-- the state after the server left
+abbrev pub left_by : State → ℕ → State
+left_by s server = record s { view = view.left s.view server; links = links.left s.links server }
+
+-- a server that is In as some incarnation is a member
+member_of : (o : Option Member) (inc : ℕ) → option_map_or (λ present. present == inc) (option_and_then inc_in o) false ≡ true → (m : Member) × (o ≡ Some m)
+member_of None inc e = let f : false ≡ true = e in absurd cc
+member_of (Some m) inc e = (m, refl)
+
+module _ (servers : ℕ) (s : State) (p : IsPlainState servers s) (server inc : ℕ) (is : is_up_as s server inc ≡ true) where
+  abbrev t : State
+  t = left_by s server
+
+  abbrev gone : Member
+  gone = member.Out (out_of (slice_get s.view.members server))
+
+  was : (m : Member) × (slice_get s.view.members server ≡ Some m)
+  was = member_of (slice_get s.view.members server) inc is
+
+  here : slice_get t.view.members server ≡ Some gone
+  here = get_set_here s.view.members server gone (slice_get_within s.view.members server was.0 was.1)
+
+  beside : (n : ℕ) → n ≢ server → slice_get t.view.members n ≡ slice_get s.view.members n
+  beside n ne = get_set_beside s.view.members server n gone ne
+
+  pub out_now : is_up t server ≡ false
+  out_now = ap (λ o. option_map_or is_in o false) here
+
+  pub up_beside : (n : ℕ) → n ≢ server → is_up t n ≡ is_up s n
+  up_beside n ne = ap (λ o. option_map_or is_in o false) (beside n ne)
+
+  up_before : (n : ℕ) → is_up t n ≡ true → is_up s n ≡ true
+  up_before n up = elim (same_or_apart n server) [
+    | inl e ↦ true_false (sym (ap (is_up t) e) ∙ up) out_now
+    | inr ne ↦ sym (up_beside n ne) ∙ up
+  ]
+
+  stays_out : (n : ℕ) → is_up s n ≡ false → is_up t n ≡ false
+  stays_out n out = by_bool (is_up t n) (λ up. true_false (up_before n up) out) (λ e. e)
+
+  first_inc : (n : ℕ) (m : Member) → slice_get t.view.members n ≡ Some m → last_inc m ≡ 1
+  first_inc n m e = elim (same_or_apart n server) [
+    | inl same ↦ ap last_inc (sym (same_some (sym here ∙ sym (ap (slice_get t.view.members) same) ∙ e))) ∙ ap out_of was.1 ∙ p.members server was.0 was.1
+    | inr ne ↦ p.members n m (sym (beside n ne) ∙ e)
+  ]
+
+  -- ### Links
+
+  pub link_left : (of link : ℕ) → links.link_at t.links of link ≡ option_map (row_left server) (links.link_at s.links of link)
+  link_left of link = find_map (is_link of link) (is_link of link) (row_left server) s.links
+      (λ row. let so = later_left row server in λ i. is_link of link (record row { map = so.map i; link = so.link i }))
+
+  served_left : (row : LinkRow) → IsServed s row → IsServed t (row_left server row)
+  served_left row (ByBoth state one two) = by_test (IsServed t) (has_server server row) _ _
+      (λ has. ByOne (other_of server row) server (ap (left_state (other_of server row)) state) (other_between row server has) out_now)
+      (λ no. let apart = either_false (row.primary == server) (row.secondary == server) no in
+      ByBoth state (up_beside row.primary (differ row.primary apart.0) ∙ one) (up_beside row.secondary (differ row.secondary apart.1) ∙ two))
+    where
+      differ : (n : ℕ) → (n == server) ≡ false → n ≢ server
+      differ n away e = true_false (ap (λ k. k == server) e ∙ number_itself server) away
+  served_left row (ByOne holder other state pair out) = by_test (IsServed t) (has_server server row) _ _
+      (λ has. ByOne holder other (ap (left_state (other_of server row)) state) pair (stays_out other out))
+      (λ no. ByOne holder other state pair (stays_out other out))
+
+  pub leaving : Step servers s t
+  leaving = record {
+    plain = record {
+      many = length-set s.view.members server gone ∙ p.many;
+      members = first_inc;
+      queue = ap (awaiting (servers_in t.view.members)) p.queue;
+      made = p.made;
+      count = p.count;
+      rows = p.rows;
+      names = p.names;
+      tuples = p.tuples;
+      links = λ of link tuple e lt.
+          let old = p.links of link tuple e lt in
+          let so = later_left old.row server in record {
+            row = row_left server old.row;
+            is = link_left of link ∙ ap (option_map (row_left server)) old.is;
+            asked = record {
+              map = so.map ∙ old.asked.map;
+              place = so.link ∙ old.asked.place;
+              primary = so.primary ∙ old.asked.primary;
+              secondary = so.secondary ∙ old.asked.secondary;
+              served = served_left old.row old.asked.served;
+            };
+          };
+      unlinked = λ of link none. link_left of link ∙ ap (option_map (row_left server)) (p.unlinked of link none);
+    };
+    grown = record {
+      more = [];
+      rows = sym (append-nil s.disks.rows);
+      maps = λ of tuple e. e;
+      links = λ of link row e. record {
+        now = row_left server row;
+        is = link_left of link ∙ ap (option_map (row_left server)) e;
+        so = later_left row server;
+      };
+      ups = up_before;
+    };
+  }

@@ -1,0 +1,142 @@
+-- An entry that does not touch a link leaves its row and its two servers as they are, and a longer log has no fewer places.
+use Rattle.std.proofs.Common.{◌≡◌, ◌≢◌, ◌≤◌, ◌+◌, ◌++◌, ◌==◌, ◌&&◌, ℕ, List, [], ◌∷◌, length, Bool, true, false, not, if◌then◌else◌, Some, is_some, refl, sym, ap, ◌∙◌, subst, inl, inr, arith}
+use Rattle.std.specs.Prelude.{fold, option_map, option_and_then}
+use Rattle.std.proofs.lemmas.Grind.{fold-append}
+use Rattle.petal_base.specs.declared.cell.Cell.{Cell}
+use Rattle.global_tables.specs.declared.link.LinkRow.{LinkRow}
+use Rattle.global_tables.specs.Disk.{named}
+use Rattle.global_tables.specs.Link.{has_server, is_link, link_at, row_left, new_rows}
+use Rattle.global_tables.specs.Map.{tuple_of}
+use Rattle.global_tables.specs.Region.{link_of}
+use Rattle.petal_command.specs.declared.command.Command.{Command}
+use Rattle.petal_command.specs.declared.command.Command.TheVariants.{Leave, MakeDisk, Witness}
+use Rattle.petal_state.specs.CellState.{cell_link}
+use Rattle.petal_state.specs.Command.{act, after, is_new, with_disk, state_after}
+use Rattle.petal_state.specs.Place.{touches, places_from}
+use Rattle.petal_state.specs.State.{is_up_as, latest, start, ups}
+use Rattle.petal_rules.specs.Lists.{In}
+use Rattle.petal_rules.specs.State.{State}
+use Rattle.petal_rules.proofs.ListLemmas.{in_later}
+use Rattle.petal_rules.proofs.Tests.{both_true, by_bool, by_test, none_some, number_itself, some_or_none, true_false}
+use Rattle.petal_history.specs.Claims.{IsPrefix}
+use Rattle.law_state.specs.Places.{IsLeftBy, StaysSo}
+use Rattle.law_state.specs.Plain.{IsPlain, IsPlainLog}
+use Rattle.law_state.specs.Tables.{IsPlainState}
+use Rattle.law_state.proofs.Entries.{entering, log_plain, settled_act}
+use Rattle.law_state.proofs.Leaves.{left_by, link_left, row_stays, up_beside}
+use Rattle.law_state.proofs.Links.{either_false}
+use Rattle.law_state.proofs.Making.{map_front}
+use Rattle.law_state.proofs.Places.{find_front}
+use Rattle.law_state.proofs.Steady.{front_plain}
+
+differ : (a b : ℕ) → (a == b) ≡ false → a ≢ b
+differ a b away e = true_false (ap (λ k. k == b) e ∙ number_itself b) away
+
+module _ (servers : ℕ) (s : State) (p : IsPlainState servers s) (cell : Cell) (row : LinkRow) (is : cell_link s cell ≡ Some row) where
+  itself : StaysSo cell row s s
+  itself = record { same = is; primary = refl; secondary = refl }
+
+  -- a map's rows are as before where each link that was found is
+  kept_link : (t : State) → ((ids : List ℕ) → tuple_of s.maps cell.map ≡ Some ids → tuple_of t.maps cell.map ≡ Some ids)
+      → ((link : ℕ) → link_at s.links cell.map link ≡ Some row → link_at t.links cell.map link ≡ Some row) → cell_link t cell ≡ Some row
+  kept_link t maps links = elim (some_or_none (tuple_of s.maps cell.map)) [
+    | inl h ↦ ap (option_and_then (λ ids. link_at t.links cell.map (link_of (length ids) cell.block))) (maps h.0 h.1)
+        ∙ links (link_of (length h.0) cell.block)
+        (sym (ap (option_and_then (λ ids. link_at s.links cell.map (link_of (length ids) cell.block))) h.1) ∙ is)
+    | inr none ↦ none_some (ap (option_and_then (λ ids. link_at s.links cell.map (link_of (length ids) cell.block))) none) is
+  ]
+
+  act_stays : (entry : Command) → IsPlain servers entry → touches s entry row ≡ false → StaysSo cell row s (act entry s)
+  act_stays (Leave server inc) plain off = by_test (StaysSo cell row s) (is_up_as s server inc) (left_by s server) s
+      (λ now.
+      let away : has_server server row ≡ false = sym (ap (λ b. b && has_server server row) now) ∙ off in
+      let apart = either_false (row.primary == server) (row.secondary == server) away in
+      record {
+        same = kept_link (left_by s server) (λ ids e. e) (λ link e.
+            link_left servers s p server inc now cell.map link ∙ ap (option_map (row_left server)) e
+            ∙ ap Some (row_stays row server away));
+        primary = up_beside servers s p server inc now row.primary (differ row.primary server apart.0);
+        secondary = up_beside servers s p server inc now row.secondary (differ row.secondary server apart.1);
+      })
+      (λ no. itself)
+  act_stays (MakeDisk client seq name tuple) plain off =
+      by_test (StaysSo cell row s) (not (is_new seq (latest s client))) s _ (λ old. itself)
+      (λ new. by_test (StaysSo cell row s) (is_some (named s.disks.rows name)) _ _ (λ there. record { same = is; primary = refl; secondary = refl })
+      (λ none. record {
+        same = kept_link (with_disk s name tuple) (λ ids e. map_front s.maps ids tuple s.disks.made cell.map e)
+            (λ link e. find_front (is_link cell.map link) s.links (new_rows (length s.maps) tuple (ups s)) row e);
+        primary = refl;
+        secondary = refl;
+      }))
+  act_stays (Witness client seq turn) plain off = itself
+  act_stays _ plain off = absurd plain
+
+  pub entry_stays : (entry : Command) → IsPlain servers entry → touches s entry row ≡ false → StaysSo cell row s (after s entry)
+  entry_stays entry plain off =
+      let h = subst (StaysSo cell row s) (sym (settled_act servers s entry p plain)) (act_stays entry plain off) in
+      record { same = h.same; primary = h.primary; secondary = h.secondary }
+
+pub log_entry_stays : (servers : ℕ) (log : List Command) (entry : Command) (cell : Cell) (row : LinkRow) → IsPlainLog servers log → IsPlain servers entry
+    → cell_link (state_after servers log) cell ≡ Some row → touches (state_after servers log) entry row ≡ false
+    → StaysSo cell row (state_after servers log) (after (state_after servers log) entry)
+log_entry_stays servers log entry cell row all plain is off = entry_stays servers (state_after servers log) (log_plain servers log all) cell row is entry plain off
+
+pub left_by_entry : (servers : ℕ) (state : State) (entry : Command) (row : LinkRow) → IsPlain servers entry → touches state entry row ≡ true
+    → IsLeftBy state entry row
+left_by_entry servers state (Leave server inc) row plain on =
+    let h = both_true (is_up_as state server inc) (has_server server row) on in
+    record { server = server; inc = inc; is = refl; up = h.0; one_of = h.1 }
+left_by_entry servers state (MakeDisk client seq name tuple) row plain on = let f : false ≡ true = on in absurd cc
+left_by_entry servers state (Witness client seq turn) row plain on = let f : false ≡ true = on in absurd cc
+left_by_entry servers state _ row plain on = absurd plain
+
+-- ### Places
+
+counted : (b : Bool) (a x y : ℕ) → a ≡ x + y → (if b then a + 1 else a) ≡ (if b then x + 1 else x) + y
+counted true a x y e = omega arith
+counted false a x y e = e
+
+places_on : (row : LinkRow) (s : State) (front more : List Command)
+    → places_from s (front ++ more) row ≡ places_from s front row + places_from (fold after s front) more row
+places_on row s [] more = omega arith
+places_on row s (entry ∷ front) more = counted (touches s entry row) _ _ _ (places_on row (after s entry) front more)
+
+places_of_both : (servers : ℕ) (front whole : List Command) (row : LinkRow) → (prefix : IsPrefix front whole)
+    → places_from (start servers) whole row ≡ places_from (start servers) front row + places_from (state_after servers front) prefix.later row
+places_of_both servers front whole row prefix = ap (λ log. places_from (start servers) log row) prefix.is ∙ places_on row (start servers) front prefix.later
+
+pub places_grow : (servers : ℕ) (front whole : List Command) (row : LinkRow) → IsPrefix front whole
+    → places_from (start servers) front row ≤ places_from (start servers) whole row
+places_grow servers front whole row prefix = let e = places_of_both servers front whole row prefix in omega arith
+
+stays_on : (cell : Cell) (row : LinkRow) (s t u : State) → StaysSo cell row s t → StaysSo cell row t u → StaysSo cell row s u
+stays_on cell row s t u a b = record { same = b.same; primary = b.primary ∙ a.primary; secondary = b.secondary ∙ a.secondary }
+
+untouched : (servers : ℕ) (entries : List Command) (s : State) → IsPlainState servers s → IsPlainLog servers entries → (cell : Cell) (row : LinkRow)
+    → cell_link s cell ≡ Some row → places_from s entries row ≡ 0 → StaysSo cell row s (fold after s entries)
+unfolding In
+untouched servers [] s p all cell row is none = record { same = is; primary = refl; secondary = refl }
+untouched servers (entry ∷ entries) s p all cell row is none =
+    by_bool (touches s entry row)
+    (λ on. let f : places_from (after s entry) entries row + 1 ≡ 0 =
+    sym (ap (λ b. if b then places_from (after s entry) entries row + 1 else places_from (after s entry) entries row) on) ∙ none in absurd (omega arith))
+    (λ off.
+    let plain = all entry (inl refl) in
+    let one = entry_stays servers s p cell row is entry plain off in
+    let rest : places_from (after s entry) entries row ≡ 0 =
+    sym (ap (λ b. if b then places_from (after s entry) entries row + 1 else places_from (after s entry) entries row) off) ∙ none in
+    stays_on cell row s (after s entry) _ one
+    (untouched servers entries (after s entry) (entering servers s entry p plain).plain (λ other h. all other (inr h)) cell row one.same rest))
+
+-- two logs at one place of a link say the same of it
+pub same_place : (servers : ℕ) (front whole : List Command) (cell : Cell) (row : LinkRow) → IsPlainLog servers whole → IsPrefix front whole
+    → cell_link (state_after servers front) cell ≡ Some row
+    → places_from (start servers) whole row ≡ places_from (start servers) front row
+    → StaysSo cell row (state_after servers front) (state_after servers whole)
+same_place servers front whole cell row all prefix is same =
+    let e = places_of_both servers front whole row prefix in
+    let none : places_from (state_after servers front) prefix.later row ≡ 0 = omega arith in
+    subst (StaysSo cell row (state_after servers front))
+    (sym (ap (state_after servers) prefix.is ∙ fold-append after (start servers) front prefix.later))
+    (untouched servers prefix.later (state_after servers front) (log_plain servers front (front_plain servers front whole all prefix))
+    (λ command h. all command (subst (In command) (sym prefix.is) (in_later command front prefix.later h))) cell row is none)

@@ -1,0 +1,31 @@
+//! Runs over servers with disks in memory.
+//!
+//! To the layer above it promises no more than safety. It knows nothing of the order of steps.
+#![tactic(auto)]
+
+use memory_server::{MemServer, members};
+use petal_script::{Script, read_script};
+use petal_world::{World, are_in_order};
+use std::alloc::Global;
+use std::test::Fail;
+use world_runs::{Row, Run, play_row};
+
+/// The world of a script that begins.
+fn world_of(alloc: Global, script: Script) -> Result<World<MemServer>, Fail> {
+    if !are_in_order(script.lines.as_slice()) {
+        return Err(Fail::new("the lines are in no order"));
+    }
+    let hosts = members(alloc, &script)?;
+    Ok(World::start(alloc, script, hosts)?)
+}
+
+/// The run of a script's text that begins.
+pub fn start(alloc: Global, text: &str) -> Result<Run<MemServer>, Fail> {
+    let script = read_script(alloc, text.as_bytes())?;
+    Ok(Run::new(alloc, world_of(alloc, script)?))
+}
+
+/// Plays a row.
+pub fn play(alloc: Global, row: &Row) -> Result<(), Fail> {
+    play_row(alloc, row, start(alloc, row.script)?)
+}

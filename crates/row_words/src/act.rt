@@ -1,0 +1,162 @@
+//! One step of a row: what its words ask for.
+
+use crate::words::{Mail, actor, byte, client, mail_of, number, server};
+use petal_base::{ClientId, ServerId};
+use petal_msg::Actor;
+
+/// What is expected of a line's answer.
+#[derive(Clone, Copy)]
+pub enum Want {
+    Ok,
+    NoSpace,
+    NoDisk,
+    Unavailable,
+    Exists,
+    /// There is none yet.
+    Open,
+    /// A block of this byte.
+    Fill(u8),
+    /// A block of one of the two bytes.
+    Either(u8, u8),
+    /// The same block as that of another line.
+    As(u32),
+}
+
+/// A step of the run, or what is expected of it so far.
+#[derive(Clone, Copy)]
+pub enum Act<'a> {
+    Call(ClientId, u32),
+    Work(ServerId),
+    WorkOff(ServerId),
+    Tick(Actor),
+    /// The server stops.
+    Stop(ServerId),
+    /// The server is glanced at for this line.
+    Show(ServerId, u32),
+    Hand(Mail<'a>),
+    Lose(Mail<'a>),
+    Again(Mail<'a>),
+    Renamed(Mail<'a>),
+    Changed(Mail<'a>),
+    Wait,
+    PlayOut,
+    /// Everyone but this actor comes to one revision.
+    Agree(Option<Actor>),
+    Line(u32, Want),
+    Sent(u32, Mail<'a>),
+    Owners(u32, Mail<'a>),
+    Told(&'a [&'a str]),
+    /// So many disks were made.
+    Made(u32),
+}
+
+/// The words by which the plain machine's events are told.
+const EVENTS: [&str; 6] = ["make", "freeze", "begin", "take", "end", "look"];
+
+fn is_event(word: &str) -> bool {
+    EVENTS.iter().any(|event| *event == word)
+}
+
+fn told<'a>(words: &'a [&'a str]) -> Result<Act<'a>, usize> {
+    for (at, word) in words.iter().enumerate() {
+        if !is_event(word) {
+            return Err(at.saturating_add(2));
+        }
+    }
+    Ok(Act::Told(words))
+}
+
+// `fill 1` or `fill 1|2`.
+fn fill(word: &str) -> Result<Want, usize> {
+    match word.split_once('|') {
+        None => Ok(Want::Fill(byte(word, 4)?)),
+        Some((one, other)) => Ok(Want::Either(byte(one, 4)?, byte(other, 4)?)),
+    }
+}
+
+fn want_of(words: &[&str]) -> Result<Want, usize> {
+    match *words {
+        ["ok"] => Ok(Want::Ok),
+        ["nospace"] => Ok(Want::NoSpace),
+        ["nodisk"] => Ok(Want::NoDisk),
+        ["unavailable"] => Ok(Want::Unavailable),
+        ["exists"] => Ok(Want::Exists),
+        ["open"] => Ok(Want::Open),
+        ["fill", word] => fill(word),
+        ["as", line] => Ok(Want::As(number(line, 4)?)),
+        _ => Err(3),
+    }
+}
+
+fn line<'a>(words: &[&str]) -> Result<Act<'a>, usize> {
+    match words.split_first() {
+        Some((line, words)) => Ok(Act::Line(number(line, 2)?, want_of(words)?)),
+        None => Err(2),
+    }
+}
+
+fn counted<'a>(verb: &str, count: &str, mail: Mail<'a>) -> Result<Act<'a>, usize> {
+    let count = number(count, 2)?;
+    match verb {
+        "sent" => Ok(Act::Sent(count, mail)),
+        "owners" => Ok(Act::Owners(count, mail)),
+        _ => Err(1),
+    }
+}
+
+// What is expected: each begins with a verb of its own.
+fn expected<'a>(verb: &str, words: &'a [&'a str]) -> Result<Act<'a>, usize> {
+    match (verb, words) {
+        ("line", words) => line(words),
+        (verb, [count, kind, way]) => counted(verb, count, mail_of(kind, way, 3)?),
+        _ => Err(1),
+    }
+}
+
+// A step that is more than the hand-over of a letter: each begins with a verb of its own.
+fn marked<'a>(verb: &str, kind: &'a str, way: &str) -> Result<Act<'a>, usize> {
+    let mail = mail_of(kind, way, 2)?;
+    match verb {
+        "drop" => Ok(Act::Lose(mail)),
+        "again" => Ok(Act::Again(mail)),
+        "renamed" => Ok(Act::Renamed(mail)),
+        "changed" => Ok(Act::Changed(mail)),
+        _ => Err(1),
+    }
+}
+
+/// What the words of a step ask for, or the place of the first word that is none of the form.
+pub fn act_of<'a>(words: &'a [&'a str]) -> Result<Act<'a>, usize> {
+    match *words {
+        ["told", ..] => told(&words[1..]),
+        ["wait"] => Ok(Act::Wait),
+        ["play", "out"] => Ok(Act::PlayOut),
+        ["agree"] => Ok(Act::Agree(None)),
+        ["agree", "without", who] => Ok(Act::Agree(Some(actor(who, 3)?))),
+        ["made", count] => Ok(Act::Made(number(count, 2)?)),
+        [who, "calls", line] => Ok(Act::Call(client(who, 1)?, number(line, 3)?)),
+        [who, "works"] => Ok(Act::Work(server(who, 1)?)),
+        [who, "works", "off"] => Ok(Act::WorkOff(server(who, 1)?)),
+        [who, "ticks"] => Ok(Act::Tick(actor(who, 1)?)),
+        [who, "stops"] => Ok(Act::Stop(server(who, 1)?)),
+        [who, "shows", line] => Ok(Act::Show(server(who, 1)?, number(line, 3)?)),
+        [who, ..] if actor(who, 1).is_ok() => Err(2),
+        [kind, way] => Ok(Act::Hand(mail_of(kind, way, 1)?)),
+        _ => longer(words),
+    }
+}
+
+// Whether the word says what becomes of a letter, other than that it is handed over.
+fn is_mark(verb: &str) -> bool {
+    verb == "drop" || verb == "again" || verb == "renamed" || verb == "changed"
+}
+
+fn longer<'a>(words: &'a [&'a str]) -> Result<Act<'a>, usize> {
+    let Some((verb, rest)) = words.split_first() else {
+        return Err(1);
+    };
+    match *rest {
+        [kind, way] if is_mark(verb) => marked(verb, kind, way),
+        _ => expected(verb, rest),
+    }
+}

@@ -1,0 +1,174 @@
+//! What the words of a row stand for.
+
+use petal_base::{ClientId, OPERATOR, ServerId};
+use petal_command::Pax;
+use petal_msg::{Actor, Body, Letter};
+
+/// The kinds of letters, in the order of the format.
+const KINDS: [&str; 35] = [
+    "down",
+    "seen",
+    "propose",
+    "prepare",
+    "promise",
+    "accept",
+    "accepted",
+    "refuse",
+    "chosen",
+    "ask",
+    "news",
+    "read",
+    "write",
+    "data",
+    "nothere",
+    "busy",
+    "held",
+    "wrongrev",
+    "written",
+    "full",
+    "reserve",
+    "reserved",
+    "pairfull",
+    "replicate",
+    "replicated",
+    "helloask",
+    "hello",
+    "trim",
+    "trimmed",
+    "sync",
+    "synced",
+    "syncfull",
+    "fill",
+    "filled",
+    "fillfull",
+];
+
+/// The word of what servers say of a ballot.
+fn ballot_kind(said: &Pax) -> &'static str {
+    match said {
+        Pax::Prepare { .. } => "prepare",
+        Pax::Promise { .. } => "promise",
+        Pax::Accept { .. } => "accept",
+        Pax::Accepted { .. } => "accepted",
+        Pax::Refuse { .. } => "refuse",
+        Pax::Chosen { .. } => "chosen",
+    }
+}
+
+/// The word of a letter's kind.
+fn kind_of(body: &Body) -> &'static str {
+    match body {
+        Body::Down { .. } => "down",
+        Body::Seen { .. } => "seen",
+        Body::Propose { .. } => "propose",
+        Body::Pax(said) => ballot_kind(said),
+        Body::Ask { .. } => "ask",
+        Body::News { .. } => "news",
+        Body::Read { .. } => "read",
+        Body::Write { .. } => "write",
+        Body::Data { .. } => "data",
+        Body::NotHere { .. } => "nothere",
+        Body::BlockBusy { .. } => "busy",
+        Body::Held { .. } => "held",
+        Body::WrongRev { .. } => "wrongrev",
+        Body::Written { .. } => "written",
+        Body::Full { .. } => "full",
+        Body::Reserve { .. } => "reserve",
+        Body::Reserved { .. } => "reserved",
+        Body::PairFull { .. } => "pairfull",
+        Body::Replicate { .. } => "replicate",
+        Body::Replicated { .. } => "replicated",
+        Body::HelloAsk { .. } => "helloask",
+        Body::Hello { .. } => "hello",
+        Body::Trim { .. } => "trim",
+        Body::Trimmed { .. } => "trimmed",
+        Body::Sync { .. } => "sync",
+        Body::Synced { .. } => "synced",
+        Body::SyncFull { .. } => "syncfull",
+        Body::Fill { .. } => "fill",
+        Body::Filled { .. } => "filled",
+        Body::FillFull { .. } => "fillfull",
+    }
+}
+
+/// Letters of one kind from one actor to another.
+#[derive(Clone, Copy)]
+pub struct Mail<'a> {
+    kind: &'a str,
+    from: Actor,
+    to: Actor,
+}
+
+impl Mail<'_> {
+    /// Whether the letter is one of these.
+    pub fn has(&self, letter: &Letter) -> bool {
+        letter.from == self.from && letter.to == self.to && kind_of(&letter.body) == self.kind
+    }
+}
+
+fn is_kind(word: &str) -> bool {
+    KINDS.iter().any(|kind| *kind == word)
+}
+
+fn actor_by(byte: u8) -> Option<Actor> {
+    if b'0' <= byte && byte <= b'7' {
+        Some(Actor::Server(byte - b'0'))
+    } else if b'a' <= byte && byte <= b'h' {
+        Some(Actor::Client(byte - b'a'))
+    } else {
+        None
+    }
+}
+
+/// A server's digit, a client's letter, or `op` for the operator.
+pub fn actor(word: &str, place: usize) -> Result<Actor, usize> {
+    match word.as_bytes() {
+        [byte] => actor_by(*byte).ok_or(place),
+        [b'o', b'p'] => Ok(Actor::Client(OPERATOR)),
+        _ => Err(place),
+    }
+}
+
+pub fn client(word: &str, place: usize) -> Result<ClientId, usize> {
+    match actor(word, place)? {
+        Actor::Client(client) => Ok(client),
+        Actor::Server(_) => Err(place),
+    }
+}
+
+pub fn server(word: &str, place: usize) -> Result<ServerId, usize> {
+    match actor(word, place)? {
+        Actor::Server(server) => Ok(server),
+        Actor::Client(_) => Err(place),
+    }
+}
+
+pub fn number(word: &str, place: usize) -> Result<u32, usize> {
+    match word.parse::<u32>() {
+        Ok(number) => Ok(number),
+        Err(_) => Err(place),
+    }
+}
+
+pub fn byte(word: &str, place: usize) -> Result<u8, usize> {
+    match word.parse::<u8>() {
+        Ok(byte) => Ok(byte),
+        Err(_) => Err(place),
+    }
+}
+
+/// A kind and a way, as `reserve 1>0`. The kind stands at this place, and the way after it.
+pub fn mail_of<'a>(kind: &'a str, way: &str, place: usize) -> Result<Mail<'a>, usize> {
+    if !is_kind(kind) {
+        return Err(place);
+    }
+    let place = place.saturating_add(1);
+    let Some((from, to)) = way.split_once('>') else {
+        return Err(place);
+    };
+    Ok(Mail {
+        kind,
+        from: actor(from, place)?,
+        to: actor(to, place)?,
+    })
+}

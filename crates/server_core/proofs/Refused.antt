@@ -1,0 +1,76 @@
+-- A job of the log that is refused.
+use Rattle.std.proofs.Common.{◌≡◌, Some, Err, refl}
+use Rattle.std.specs.Prelude.{slice_get}
+use Rattle.log_side.specs.Done.{IsLogDone}
+use Rattle.log_side.specs.Part.{log_of}
+use Rattle.petal_disk.specs.declared.disk.Disk.{Ghosts}
+use Rattle.petal_rules.specs.Jobs.{log_does}
+use Rattle.petal_rules.specs.Log.{LogDone as Rule}
+use Rattle.petal_rules.specs.declared.job.Job.{Job}
+use Rattle.server_core.specs.Core.{Core}
+use Rattle.server_core.specs.Kind.{kind_of}
+use Rattle.server_core.specs.Steps.{IsFullLog, IsLogWork, of_state}
+use Rattle.server_core.specs.declared.queue.Kind.TheVariants.{OfLog}
+use Rattle.server_core.proofs.Rooms.{full_records}
+use Rattle.server_core.proofs.Works.{log_stops}
+use Rattle.state_store.specs.Device.{Keeping}
+use Rattle.state_store.specs.declared.error.StateError.{StateError}
+use Rattle.state_store.specs.declared.error.StateError.TheVariants as state
+
+module _ {D : Type 0} (device : Ghosts D) (old new : Core) (before after : Keeping D) (first : Job)
+    (there : slice_get old.queue 0 ≡ Some first) (kind : kind_of first ≡ OfLog)
+    (running : new.running ≡ old.running) (side : new.side ≡ old.side) (queue : new.queue ≡ old.queue) where
+  abbrev rule : Rule
+  rule = log_does old.log.voter (log_of old.log before.records) first
+
+  same_core : new.log ≡ old.log → new ≡ old
+  same_core log = λ i. record { running = running i; log = log i; side = side i; queue = queue i }
+
+  is_full : IsLogDone device old.log new.log before after (Err state.JournalFull) rule → IsFullLog device old new before after
+  is_full done =
+      let full = done.full refl in
+      record {
+        count = full.count;
+        same = (same_core full.same.0, full.same.1);
+        stops = λ told holds store. log_stops old store before.records first there kind (full_records device before holds full.count _ full.over);
+      }
+
+  pub refused_work : (e : StateError) → IsLogDone device old.log new.log before after (Err e) rule → IsLogWork device old new before after (Err (of_state e))
+  refused_work state.Failed done = record {
+    work = tt;
+    life = (running, done.voter);
+    side = side;
+    holds = λ _ _. tt;
+    moments = done.moments;
+    same = λ no. absurd (cc);
+    kept = done.kept;
+    full = λ no. absurd (cc);
+    cause = record { later = done.later; failed = λ _. done.failed refl };
+    run = done.run;
+  }
+  refused_work state.Blank done = absurd (done.only)
+  refused_work (state.BadRecord index) done = absurd (done.only)
+  refused_work state.JournalFull done = record {
+    work = tt;
+    life = (running, done.voter);
+    side = side;
+    holds = λ _ _. tt;
+    moments = done.moments;
+    same = λ no. absurd (cc);
+    kept = done.kept;
+    full = λ _. is_full done;
+    cause = record { later = done.later; failed = λ no. absurd (cc) };
+    run = done.run;
+  }
+  refused_work state.NoMemory done = record {
+    work = tt;
+    life = (running, done.voter);
+    side = side;
+    holds = λ _ _. tt;
+    moments = done.moments;
+    same = λ _. let same = done.same refl in (same_core same.0, same.1);
+    kept = done.kept;
+    full = λ no. absurd (cc);
+    cause = record { later = done.later; failed = λ no. absurd (cc) };
+    run = done.run;
+  }

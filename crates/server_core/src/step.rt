@@ -1,0 +1,211 @@
+//! One job of a server.
+
+ghost use Rattle.std.specs.Prelude.{◌≡◌, ◌<◌, ◌-◌, ◌^◌, ◌↔◌, ◌≢◌, ℕ, List, [], false, length, slice_get, IsSomeAnd, IfSome, option_map, IfOk, OnOk, OnErr, None, Ok, Err};
+ghost use Rattle.log_side.specs.Done as logs;
+ghost use Rattle.log_side.specs.Entered.{entry_of};
+ghost use Rattle.log_side.specs.Part.{Part, log_of, state_of};
+ghost use Rattle.petal_disk.specs.Disk.{LeavesOnly};
+ghost use Rattle.petal_rules.specs.Crossing.{crossed_by, stage_jobs_by};
+ghost use Rattle.petal_rules.specs.Log.{known, next_place};
+ghost use Rattle.petal_rules.specs.State.{State};
+ghost use Rattle.petal_rules.specs.Store as stores;
+ghost use Rattle.petal_rules.specs.World.{greatest_u64};
+ghost use Rattle.kept_chains.specs.Kept.{store_of};
+ghost use Rattle.pair_side.specs.declared.error.WorkError.TheVariants as error;
+ghost use Rattle.pair_side.specs.Side.{HasTicketsAt, own_of, pairs_of};
+ghost use Rattle.pair_side.specs.Done.{HasVersions, HoldsAt};
+ghost use Rattle.server_core.specs.Core.{HasFaults, IsWork, is_spent};
+ghost use Rattle.server_core.specs.Kind.{kind_of};
+ghost use Rattle.server_core.specs.Steps.{IsApplied, IsFullWork, IsLogWork, IsPairWork, of_state};
+ghost use Rattle.server_core.specs.declared.queue.Kind.TheVariants.{Applies, OfLog, OfPairs};
+
+use crate::jobs::does;
+use crate::queue::{Kind, add_all, enter, go_on, kind_of, make_room};
+use crate::server::ServerCore;
+use log_side::{Entered, LogSide};
+use pair_side::{crosses, stage_jobs};
+use petal_base::{Inc, NoMemory, Sequence, ServerId};
+use petal_disk::Disk;
+use petal_msg::Letter;
+use petal_rules::Job;
+use server_store::Store;
+use state_store::{StateError, StateStore};
+use std::alloc::Global;
+use write_pair::{Here, Side, WorkError};
+
+// What the store promises of its greatest version tells the proof that it can be counted up.
+fn has_versions<D: Disk>(store: &Store<D>)
+    requires { stores.top_of (store_of store.now).chains ≢ greatest_u64 }
+    ensures { HasVersions store.now }
+{
+    let _ = store.free();
+    let _ = store.top();
+}
+
+/// What a refusal of the state store means for a job.
+fn of_state(error: StateError) -> WorkError
+    ensures { result ≡ of_state error }
+{
+    match error {
+        StateError::Failed | StateError::Blank | StateError::BadRecord { .. } => WorkError::Failed,
+        StateError::JournalFull => WorkError::JournalFull,
+        StateError::NoMemory => WorkError::NoMemory,
+    }
+}
+
+/// What an entry that was applied does to the pairs.
+fn crosses_by<D: Disk>(
+    alloc: Global,
+    me: ServerId,
+    inc: Inc,
+    entered: &Option<Entered>,
+    side: &mut Side,
+    store: &mut Store<D>,
+)
+    requires { HasTicketsAt side.old store.old }
+    ensures own { (state : State) → IfSome entered.now (λ it. it.before ≡ state)
+        → own_of side.new store.new ≡ crossed_by state (option_map entry_of entered.now) (own_of side.old store.old) }
+    ensures keeps { HasTicketsAt side.new store.new }
+    ensures store { store.new ≡ record store.old { tickets = store.new.tickets } }
+{
+    match entered {
+        Some(entered) => {
+            let here = Here::new(alloc, &entered.before, me, inc);
+            crosses(&here, &entered.entry, side, store);
+        }
+        None => {}
+    }
+}
+
+/// The jobs by which this server's own operations go on, once the next entry is applied.
+fn stages_of_next<D: Disk>(
+    alloc: Global,
+    log: &LogSide,
+    side: &Side,
+    state: &StateStore<D>,
+) -> Result<Vec<Job>, NoMemory>
+    ensures { (store : stores.Store) → IfOk result (λ jobs. jobs.items ≡ stage_jobs_by (state_of log.now)
+        (known (log_of log.now state.now.records) (next_place (log_of log.now state.now.records)))
+        (record { pairs = pairs_of side.now; store = store })) }
+{
+    match log.next_entry(state)? {
+        Some(entry) => {
+            let here = Here::new(alloc, log.state(), log.me(), log.inc());
+            stage_jobs(&here, &entry, side)
+        }
+        None => Ok(Vec::new(alloc)),
+    }
+}
+
+impl ServerCore {
+    /// Does the first job of the queue, with at most one commit, and gives its letters, with the stamp 0; None exactly where there
+    /// is no job. Where a device showed its store, now and after any crash, it shows the store after the job.
+    ///
+    /// # Errors
+    /// `Failed` where one of the devices failed: the entries and the records are as they were, and the server is to be stopped.
+    /// `JournalFull` where the journal of one has no room for the record of the job: nothing happened, and the server is to be
+    /// stopped. `NoMemory`: nothing happened, and the devices show the stores as before.
+    pub fn work<D: Disk, E: Disk>(
+        &mut self,
+        alloc: Global,
+        store: &mut Store<D>,
+        state: &mut StateStore<E>,
+    ) -> Result<Option<Sequence<Letter>>, WorkError>
+        requires goes_on { is_spent self.old (store_of store.old) ≡ false }
+        requires tickets { HasTicketsAt self.old.side store.old }
+        ensures idle { (result ≡ Ok None) ↔ (self.old.queue ≡ []) }
+        ensures work { IfOk result (λ worked. D.told → E.told → HoldsAt D.Disk store.old → logs.HoldsAt E.Disk state.old
+            → IsWork self.old (store_of store.old) state.old.records self.new (store_of store.new) state.new.records worked) }
+        ensures life { (self.new.running ≡ self.old.running) × (self.new.log.voter ≡ self.old.log.voter) }
+        ensures keeps { OnOk result (HasTicketsAt self.new.side store.new) }
+        ensures holds { D.told → HoldsAt D.Disk store.old → OnOk result (HoldsAt D.Disk store.new) }
+        ensures still { result ≡ Err error.NoMemory → D.told → HoldsAt D.Disk store.old → HoldsAt D.Disk store.new }
+        ensures same { result ≡ Err error.NoMemory
+            → (self.new ≡ self.old) × (store.new ≡ record store.old { disk = store.new.disk }) × (state.new ≡ state.old) }
+        ensures kept { OnErr result (D.told → store.new.entries ≡ store.old.entries) }
+        ensures full { result ≡ Err error.JournalFull → IsFullWork D.Disk E.Disk self.old self.new store.old store.new state.old state.new }
+        ensures cause { HasFaults (D.faults store.old.disk) (D.faults store.new.disk) (E.faults state.old.disk) (E.faults state.new.disk) result }
+        ensures run { D.came_to store.old.disk store.new.disk }
+        ensures state_holds { E.told → logs.HoldsAt E.Disk state.old → OnOk result (logs.HoldsAt E.Disk state.new) }
+        ensures state_moments { E.told → logs.HoldsAt E.Disk state.old
+            → LeavesOnly E.moment E.left_since state.old.disk state.new.disk (λ c. logs.HasOneMore c state.old.records) }
+        ensures state_kept { OnErr result (state.new.records ≡ state.old.records) }
+        ensures state_run { E.came_to state.old.disk state.new.disk }
+    {
+        let _ = store.free();
+        let first = match self.queue.front() {
+            Some(job) => kind_of(job),
+            None => return Ok(None),
+        };
+        match first {
+            Kind::OfPairs => Ok(Some(self.work_pair(alloc, store)?)),
+            Kind::OfLog => Ok(Some(self.work_log(alloc, state)?)),
+            Kind::Applies => Ok(Some(self.work_apply(alloc, store, state)?)),
+        }
+    }
+
+    /// Does the first job, of the pairs.
+    fn work_pair<D: Disk>(
+        &mut self,
+        alloc: Global,
+        store: &mut Store<D>,
+    ) -> Result<Sequence<Letter>, WorkError>
+        requires goes_on { is_spent self.old (store_of store.old) ≡ false }
+        requires tickets { HasTicketsAt self.old.side store.old }
+        requires first { IsSomeAnd (slice_get self.old.queue 0) (λ job. kind_of job ≡ OfPairs) }
+        ensures { IsPairWork D.Disk self.old self.new store.old store.new result }
+    {
+        has_versions(store);
+        let here = Here::new(alloc, self.log.state(), self.log.me(), self.log.inc());
+        let Some(job) = self.queue.front() else {
+            return Ok(Sequence::new(alloc));
+        };
+        let done = does(&here, &mut self.side, store, job)?;
+        let letters = self.recent.after(job, done.letters);
+        go_on(&mut self.queue, done.follow);
+        Ok(letters)
+    }
+
+    /// Does the first job, of the agreed log.
+    fn work_log<E: Disk>(
+        &mut self,
+        alloc: Global,
+        state: &mut StateStore<E>,
+    ) -> Result<Sequence<Letter>, WorkError>
+        requires first { IsSomeAnd (slice_get self.old.queue 0) (λ job. kind_of job ≡ OfLog) }
+        ensures { IsLogWork E.Disk self.old self.new state.old state.new result }
+    {
+        make_room(&mut self.queue, 0)?;
+        let Some(job) = self.queue.front() else {
+            return Ok(Sequence::new(alloc));
+        };
+        match self.log.does(alloc, state, job) {
+            Ok(done) => {
+                enter(&mut self.queue, done.apply, done.again);
+                Ok(done.letters)
+            },
+            Err(error) => Err(of_state(error)),
+        }
+    }
+
+    /// Applies the next entry, where it is known: the first job.
+    fn work_apply<D: Disk, E: Disk>(
+        &mut self,
+        alloc: Global,
+        store: &mut Store<D>,
+        state: &StateStore<E>,
+    ) -> Result<Sequence<Letter>, NoMemory>
+        requires tickets { HasTicketsAt self.old.side store.old }
+        requires first { IsSomeAnd (slice_get self.old.queue 0) (λ job. kind_of job ≡ Applies) }
+        ensures { IsApplied self.old self.new store.old store.new state.now.records result }
+    {
+        let stages = stages_of_next(alloc, &self.log, &self.side, state)?;
+        make_room(&mut self.queue, stages.len())?;
+        let (me, inc) = (self.log.me(), self.log.inc());
+        let (done, entered) = self.log.apply(alloc, state)?;
+        crosses_by(alloc, me, inc, &entered, &mut self.side, store);
+        enter(&mut self.queue, done.apply, done.again);
+        add_all(&mut self.queue, stages);
+        Ok(done.letters)
+    }
+}

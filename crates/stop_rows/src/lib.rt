@@ -1,0 +1,10 @@
+//! Whole-world tests with servers that stop: worlds of servers over disks in memory, stepped in orders that the plain schedule
+//! never takes, and their histories fed to the plain machine. The crate itself has no code.
+#![tactic(auto)]
+
+#[cfg(test)]
+mod chances;
+#[cfg(test)]
+mod rows;
+#[cfg(test)]
+mod takeovers;

@@ -1,0 +1,298 @@
+//! A run that a row steps.
+
+use crate::answers::is_so;
+use crate::rounds::play;
+use crate::run::Run;
+use petal_base::{NoMemory, ServerId, SharedBlock};
+use petal_msg::{Actor, Body, SharedLetter};
+use petal_world::Host;
+use row_words::{Act, Mail};
+use std::alloc::Global;
+use world_told::{made, tells};
+
+/// A run, and for each letter that was sent whether it is gone: handed over or lost.
+#[derive(Drop)]
+pub struct Player<H: Host> {
+    run: Run<H>,
+    gone: Vec<bool>,
+}
+
+/// Those who don't agree after so many rounds are taken to hang.
+const MOST_ROUNDS: u32 = 400;
+
+/// In every such round one server ticks, and all clients: servers that tick together can outbid one another for ever.
+const TICK_EVERY: u32 = 8;
+
+/// A server with so many jobs is taken to hang.
+const MOST_JOBS: u32 = 10_000;
+
+/// The letter under another name.
+fn renamed(alloc: Global, letter: &SharedLetter) -> Result<SharedLetter, NoMemory> {
+    let mut other = letter.get().clone()?;
+    other.stamp = other.stamp.saturating_add(1);
+    SharedLetter::new(alloc, other)
+}
+
+/// The letter with another content.
+fn changed(alloc: Global, letter: &SharedLetter) -> Result<SharedLetter, NoMemory> {
+    let mut other = letter.get().clone()?;
+    other.body = Body::Written { seq: 1 };
+    SharedLetter::new(alloc, other)
+}
+
+/// The block that a letter brings.
+fn block_of(body: &Body) -> Option<&SharedBlock> {
+    match body {
+        Body::Write { bytes, .. } | Body::Replicate { bytes, .. } | Body::Data { bytes, .. } => {
+            Some(bytes)
+        }
+        _ => None,
+    }
+}
+
+/// How many owners the block has that a letter brings.
+fn owners_of(body: &Body) -> usize {
+    match block_of(body) {
+        Some(bytes) => bytes.owners(),
+        None => 0,
+    }
+}
+
+impl<H: Host> Player<H> {
+    /// The player of a run that begins.
+    pub fn new(alloc: Global, run: Run<H>) -> Player<H> {
+        Player {
+            run,
+            gone: Vec::new(alloc),
+        }
+    }
+
+    fn is_gone(&self, at: usize) -> bool {
+        match self.gone.get(at) {
+            Some(gone) => *gone,
+            None => false,
+        }
+    }
+
+    // The letter is gone from now on.
+    fn remove(&mut self, at: usize) -> Result<(), NoMemory> {
+        for _ in self.gone.len()..at.saturating_add(1) {
+            self.gone.push(false)?;
+        }
+        if let Some(gone) = self.gone.get_mut(at) {
+            *gone = true;
+        }
+        Ok(())
+    }
+
+    // Where the first of these letters stands that is not gone.
+    fn first(&self, mail: &Mail) -> Option<usize> {
+        for (at, letter) in self.run.sent.iter().enumerate() {
+            if mail.has(letter.get()) && !self.is_gone(at) {
+                return Some(at);
+            }
+        }
+        None
+    }
+
+    // Where the last of these letters stands that is gone.
+    fn last(&self, mail: &Mail) -> Option<usize> {
+        let mut found = None;
+        for (at, letter) in self.run.sent.iter().enumerate() {
+            if mail.has(letter.get()) && self.is_gone(at) {
+                found = Some(at);
+            }
+        }
+        found
+    }
+
+    // A letter that was sent.
+    fn letter(&self, at: Option<usize>) -> Result<Option<SharedLetter>, NoMemory> {
+        match at {
+            None => Ok(None),
+            Some(at) => match self.run.sent.get(at) {
+                None => Ok(None),
+                Some(letter) => Ok(Some(letter.share()?)),
+            },
+        }
+    }
+
+    fn deliver(&mut self, alloc: Global, letter: Option<SharedLetter>) -> Result<bool, NoMemory> {
+        match letter {
+            None => Ok(false),
+            Some(letter) => self.run.deliver(alloc, letter),
+        }
+    }
+
+    fn lose(&mut self, mail: &Mail) -> Result<bool, NoMemory> {
+        match self.first(mail) {
+            None => Ok(false),
+            Some(at) => {
+                self.remove(at)?;
+                Ok(true)
+            }
+        }
+    }
+
+    fn hand_over(&mut self, alloc: Global, mail: &Mail) -> Result<bool, NoMemory> {
+        let letter = self.letter(self.first(mail))?;
+        Ok(self.lose(mail)? && self.deliver(alloc, letter)?)
+    }
+
+    fn hand_again(&mut self, alloc: Global, mail: &Mail) -> Result<bool, NoMemory> {
+        let letter = self.letter(self.last(mail))?;
+        self.deliver(alloc, letter)
+    }
+
+    fn hand_renamed(&mut self, alloc: Global, mail: &Mail) -> Result<bool, NoMemory> {
+        match self.letter(self.first(mail))? {
+            None => Ok(false),
+            Some(letter) => self.run.deliver(alloc, renamed(alloc, &letter)?),
+        }
+    }
+
+    fn hand_changed(&mut self, alloc: Global, mail: &Mail) -> Result<bool, NoMemory> {
+        match self.letter(self.first(mail))? {
+            None => Ok(false),
+            Some(letter) => self.run.deliver(alloc, changed(alloc, &letter)?),
+        }
+    }
+
+    // The server works until its queue is empty. Gives whether it had a job.
+    fn work_off(&mut self, alloc: Global, server: ServerId) -> Result<bool, NoMemory> {
+        let mut had = false;
+        for _ in 0..MOST_JOBS {
+            if !self.run.work(alloc, server)? {
+                return Ok(had);
+            }
+            had = true;
+        }
+        Ok(false)
+    }
+
+    // Each letter to one of these that is on its way is handed over.
+    fn hand_all(&mut self, alloc: Global, actors: &[Actor]) -> Result<(), NoMemory> {
+        for at in 0..self.run.sent.len() {
+            if self.is_gone(at) {
+                continue;
+            }
+            if let Some(letter) = self.letter(Some(at))? {
+                if actors.contains(&letter.get().to) {
+                    self.remove(at)?;
+                    self.run.deliver(alloc, letter)?;
+                }
+            }
+        }
+        Ok(())
+    }
+
+    fn work_all(&mut self, alloc: Global, actors: &[Actor]) -> Result<(), NoMemory> {
+        for actor in actors {
+            if let Actor::Server(server) = actor {
+                self.work_off(alloc, *server)?;
+            }
+        }
+        Ok(())
+    }
+
+    // A tick comes to the clients, and to the server whose turn it is.
+    fn tick_some(&mut self, alloc: Global, actors: &[Actor], turn: u32) -> Result<(), NoMemory> {
+        let servers = u32::from(self.run.script().servers);
+        for actor in actors {
+            match actor {
+                Actor::Server(server) if servers == 0 || turn % servers != u32::from(*server) => {}
+                _ => {
+                    self.run.tick(alloc, *actor)?;
+                }
+            }
+        }
+        Ok(())
+    }
+
+    // All letters are gone.
+    fn lose_all(&mut self) -> Result<(), NoMemory> {
+        for at in 0..self.run.sent.len() {
+            self.remove(at)?;
+        }
+        Ok(())
+    }
+
+    // Rounds in which all but one get their letters and work, and in some of which they tick, until each line that was called is
+    // answered and they are at one revision. What is then still on its way is lost. Gives whether it came to that.
+    fn agree(&mut self, alloc: Global, without: Option<Actor>) -> Result<bool, NoMemory> {
+        let mut actors = self.run.actors(alloc)?;
+        actors.retain(|actor| Some(*actor) != without);
+        for round in 0..MOST_ROUNDS {
+            self.hand_all(alloc, &actors)?;
+            self.work_all(alloc, &actors)?;
+            if self.run.agrees(&actors) {
+                self.lose_all()?;
+                return Ok(true);
+            }
+            if round % TICK_EVERY == 0 {
+                self.tick_some(alloc, &actors, round / TICK_EVERY)?;
+            }
+        }
+        Ok(false)
+    }
+
+    fn made(&self, alloc: Global) -> Result<usize, NoMemory> {
+        let told = self.run.events(alloc)?;
+        Ok(made(&told))
+    }
+
+    // How many of these letters were sent.
+    fn count(&self, mail: &Mail) -> usize {
+        self.run
+            .sent
+            .iter()
+            .filter(|letter| mail.has(letter.get()))
+            .count()
+    }
+
+    // How many owners the block has that the last of these letters brings.
+    fn owners(&self, mail: &Mail) -> usize {
+        let mut owners = 0;
+        for letter in &self.run.sent {
+            if mail.has(letter.get()) {
+                owners = owners_of(&letter.get().body);
+            }
+        }
+        owners
+    }
+
+    fn tells(&self, alloc: Global, words: &[&str]) -> Result<bool, NoMemory> {
+        let told = self.run.events(alloc)?;
+        Ok(tells(&told, words))
+    }
+
+    /// Takes a step, or looks whether what is expected is so. Gives whether it was taken, or is so.
+    pub fn take(&mut self, alloc: Global, act: &Act) -> Result<bool, NoMemory> {
+        match act {
+            Act::Call(client, line) => self.run.call_line(alloc, *client, *line),
+            Act::Work(server) => self.run.work(alloc, *server),
+            Act::WorkOff(server) => self.work_off(alloc, *server),
+            Act::Tick(actor) => self.run.tick(alloc, *actor),
+            Act::Stop(server) => self.run.stop(alloc, *server),
+            Act::Show(server, line) => self.run.show(alloc, *server, *line),
+            Act::Hand(mail) => self.hand_over(alloc, mail),
+            Act::Lose(mail) => self.lose(mail),
+            Act::Again(mail) => self.hand_again(alloc, mail),
+            Act::Renamed(mail) => self.hand_renamed(alloc, mail),
+            Act::Changed(mail) => self.hand_changed(alloc, mail),
+            Act::Wait => self.run.go_on(),
+            Act::PlayOut => play(alloc, &mut self.run),
+            Act::Agree(without) => self.agree(alloc, *without),
+            Act::Made(count) => Ok(self.made(alloc)? == *count as usize),
+            Act::Line(line, want) => Ok(is_so(&self.run, *line, want)),
+            Act::Sent(count, mail) => Ok(self.count(mail) >= *count as usize),
+            Act::Owners(count, mail) => Ok(self.owners(mail) >= *count as usize),
+            Act::Told(words) => self.tells(alloc, words),
+        }
+    }
+
+    /// The first record whose events the plain machine refuses.
+    pub fn first_refused(&self, alloc: Global) -> Result<Option<usize>, NoMemory> {
+        self.run.first_refused(alloc)
+    }
+}

@@ -1,0 +1,291 @@
+//! A world in the middle of its run.
+
+use petal_base::{ClientId, NoMemory, OPERATOR, ServerId};
+use petal_machine::{Event, EventError, Machine};
+use petal_msg::{Actor, SharedLetter};
+use petal_world::{Host, Record, Step, WorkEnd, World, WorldError};
+use script_lines::{Answer, Request, Script};
+use std::alloc::Global;
+use world_told::{Told, told_of};
+
+/// A world, and all letters that were sent in it, in order.
+#[derive(Drop)]
+pub struct Run<H: Host> {
+    world: World<H>,
+    pub sent: Vec<SharedLetter>,
+    phase: u32,
+}
+
+impl<H: Host> Run<H> {
+    /// The run of a world that begins.
+    pub fn new(alloc: Global, world: World<H>) -> Run<H> {
+        Run {
+            world,
+            sent: Vec::new(alloc),
+            phase: 0,
+        }
+    }
+
+    /// Takes a step. Gives whether it was one of the world's.
+    fn take(&mut self, alloc: Global, actor: Actor, step: &Step) -> Result<bool, NoMemory> {
+        match self.world.step(alloc, actor, step) {
+            Ok(stepped) => {
+                for letter in stepped.letters.into_vec() {
+                    self.sent.push(letter)?;
+                }
+                Ok(true)
+            }
+            Err(WorldError::NotAllowed) => Ok(false),
+            Err(WorldError::NoMemory) => Err(NoMemory),
+        }
+    }
+
+    /// The client calls its next line.
+    pub fn call(&mut self, alloc: Global, client: ClientId) -> Result<bool, NoMemory> {
+        let called = calls_of(self.world.records(), client);
+        match line_of(self.world.script(), client, called) {
+            Some(line) => self.take(alloc, Actor::Client(client), &Step::Call { line }),
+            None => Ok(false),
+        }
+    }
+
+    /// The client calls this line.
+    pub fn call_line(
+        &mut self,
+        alloc: Global,
+        client: ClientId,
+        line: u32,
+    ) -> Result<bool, NoMemory> {
+        self.take(alloc, Actor::Client(client), &Step::Call { line })
+    }
+
+    /// A letter is handed over.
+    pub fn deliver(&mut self, alloc: Global, letter: SharedLetter) -> Result<bool, NoMemory> {
+        let to = letter.get().to;
+        self.take(alloc, to, &Step::Deliver { letter })
+    }
+
+    /// The server does its next job.
+    pub fn work(&mut self, alloc: Global, server: ServerId) -> Result<bool, NoMemory> {
+        self.take(alloc, Actor::Server(server), &Step::Work(WorkEnd::Done))
+    }
+
+    /// The actor sends again what is not answered.
+    pub fn tick(&mut self, alloc: Global, actor: Actor) -> Result<bool, NoMemory> {
+        self.take(alloc, actor, &Step::Tick)
+    }
+
+    /// The server stops.
+    pub fn stop(&mut self, alloc: Global, server: ServerId) -> Result<bool, NoMemory> {
+        self.take(alloc, Actor::Server(server), &Step::Stop)
+    }
+
+    /// The server is glanced at for this line.
+    pub fn show(&mut self, alloc: Global, server: ServerId, line: u32) -> Result<bool, NoMemory> {
+        let glance = Step::Glance { line, round: 0 };
+        self.take(alloc, Actor::Server(server), &glance)
+    }
+
+    /// The operator's open line, where it stops a server, and that server.
+    pub fn open_stop(&self) -> Option<(u32, ServerId)> {
+        let line = last_call(self.records(), OPERATOR)?;
+        if self.answer(line).is_some() {
+            return None;
+        }
+        let server = stopped_by(self.script(), line)?;
+        Some((line, server))
+    }
+
+    /// What the operator's open line asks for is done: its server stops, where it runs, and is glanced at. Gives whether it was
+    /// done only now.
+    pub fn obey(&mut self, alloc: Global) -> Result<bool, NoMemory> {
+        match self.open_stop() {
+            None => Ok(false),
+            Some((line, server)) => {
+                self.stop(alloc, server)?;
+                self.show(alloc, server, line)
+            }
+        }
+    }
+
+    // Whether each line up to this phase is answered.
+    fn is_answered(&self, phase: u32) -> bool {
+        self.script().lines.as_slice().iter().all(|line| line.phase > phase
+            || self.answer(line.number).is_some())
+    }
+
+    /// Whether each line is answered.
+    pub fn is_over(&self) -> bool {
+        self.is_answered(u32::MAX)
+    }
+
+    /// The next phase begins, where there is one and each line before it is answered. Gives whether it does.
+    pub fn go_on(&mut self) -> Result<bool, NoMemory> {
+        let next = self.phase.saturating_add(1);
+        if next >= self.script().phases || !self.is_answered(self.phase) {
+            return Ok(false);
+        }
+        self.world.enter(next)?;
+        self.phase = next;
+        Ok(true)
+    }
+
+    // Whether each line is answered that was called.
+    fn is_idle(&self) -> bool {
+        let mut called: usize = 0;
+        let mut answered: usize = 0;
+        for record in self.records() {
+            if is_call(&record.step) {
+                called = called.saturating_add(1);
+            }
+            if record.answer.is_some() {
+                answered = answered.saturating_add(1);
+            }
+        }
+        called == answered
+    }
+
+    /// All servers, and all clients but the operator.
+    pub fn actors(&self, alloc: Global) -> Result<Vec<Actor>, NoMemory> {
+        let mut actors = Vec::new(alloc);
+        for server in 0..self.script().servers {
+            actors.push(Actor::Server(server))?;
+        }
+        for client in 0..OPERATOR {
+            actors.push(Actor::Client(client))?;
+        }
+        Ok(actors)
+    }
+
+    /// Whether each line is answered that was called, and those of these that run are at one revision.
+    pub fn agrees(&self, actors: &[Actor]) -> bool {
+        let mut agreed = None;
+        for actor in actors {
+            match (agreed, self.world.rev(*actor)) {
+                (_, None) => {}
+                (None, Some(own)) => agreed = Some(own),
+                (Some(rev), Some(own)) if rev == own => {}
+                (Some(_), Some(_)) => return false,
+            }
+        }
+        self.is_idle()
+    }
+
+    /// The script.
+    pub fn script(&self) -> &Script {
+        self.world.script()
+    }
+
+    /// The records so far.
+    pub fn records(&self) -> &[Record] {
+        self.world.records()
+    }
+
+    /// The answer of a line.
+    pub fn answer(&self, line: u32) -> Option<&Answer> {
+        answer_in(self.world.records(), line)
+    }
+
+    /// What the plain machine is told so far.
+    pub fn events(&self, alloc: Global) -> Result<Vec<Told>, NoMemory> {
+        told_of(alloc, self.world.script(), self.world.records())
+    }
+
+    /// The first record whose events the plain machine refuses, counted from 1.
+    pub fn first_refused(&self, alloc: Global) -> Result<Option<usize>, NoMemory> {
+        let told = self.events(alloc)?;
+        let mut machine = Machine::new(alloc)?;
+        first_refused_by(alloc, &mut machine, told)
+    }
+}
+
+/// Whether the machine takes the event.
+fn is_taken(alloc: Global, machine: &mut Machine, event: Option<Event>) -> Result<bool, NoMemory> {
+    let Some(event) = event else {
+        return Ok(false);
+    };
+    match machine.apply(alloc, event) {
+        Ok(()) => Ok(true),
+        Err(EventError::NotAllowed) => Ok(false),
+        Err(EventError::NoMemory) => Err(NoMemory),
+    }
+}
+
+fn first_refused_by(
+    alloc: Global,
+    machine: &mut Machine,
+    told: Vec<Told>,
+) -> Result<Option<usize>, NoMemory> {
+    for Told { step, event } in told {
+        if !is_taken(alloc, machine, event)? {
+            return Ok(Some(step));
+        }
+    }
+    Ok(None)
+}
+
+/// How many lines the client has called.
+fn calls_of(records: &[Record], client: ClientId) -> usize {
+    records
+        .iter()
+        .filter(|record| record.actor == Actor::Client(client) && is_call(&record.step))
+        .count()
+}
+
+fn is_call(step: &Step) -> bool {
+    match step {
+        Step::Call { line: _ } => true,
+        Step::Deliver { letter: _ }
+        | Step::Tick
+        | Step::Work(_)
+        | Step::Stop
+        | Step::Glance { line: _, round: _ } => false,
+    }
+}
+
+/// The last line that the client has called.
+fn last_call(records: &[Record], client: ClientId) -> Option<u32> {
+    let mut last = None;
+    for record in records {
+        if let (Actor::Client(own), Step::Call { line }) = (record.actor, &record.step) {
+            if own == client {
+                last = Some(*line);
+            }
+        }
+    }
+    last
+}
+
+/// The server that the line stops.
+fn stopped_by(script: &Script, number: u32) -> Option<ServerId> {
+    for line in script.lines.as_slice() {
+        if line.number == number {
+            if let Request::Stop { server } = &line.request {
+                return Some(*server);
+            }
+        }
+    }
+    None
+}
+
+/// The number of the client's line of this rank, from 0.
+fn line_of(script: &Script, client: ClientId, rank: usize) -> Option<u32> {
+    script
+        .lines
+        .as_slice()
+        .iter()
+        .filter(|line| line.client == client)
+        .nth(rank)
+        .map(|line| line.number)
+}
+
+fn answer_in(records: &[Record], line: u32) -> Option<&Answer> {
+    for record in records {
+        if let Some((answered, answer)) = &record.answer {
+            if *answered == line {
+                return Some(answer);
+            }
+        }
+    }
+    None
+}

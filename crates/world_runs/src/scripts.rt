@@ -1,0 +1,57 @@
+//! Scripts by chance.
+
+use crate::chance::Chance;
+use std::alloc::{AllocError, Global};
+
+/// How many lines a script has after those that make its disks. The writes among them have fills of their own.
+const LINES: u8 = 240;
+
+fn client_word(client: usize) -> &'static str {
+    match client {
+        0 => "a",
+        1 => "b",
+        _ => "c",
+    }
+}
+
+/// A client's write or read of one of four blocks of one of two disks.
+fn line_by(alloc: Global, chance: &mut Chance, fill: u8) -> Result<String, AllocError> {
+    let client = client_word(chance.below(3));
+    let block = chance.below(4);
+    let disk = if chance.below(3) == 0 { "log" } else { "vol" };
+    if chance.below(2) == 0 {
+        format!(in alloc; "{client} write {disk} {block} fill {fill}\n")
+    } else {
+        format!(in alloc; "{client} read {disk} {block}\n")
+    }
+}
+
+fn add_lines(alloc: Global, chance: &mut Chance, text: &mut String) -> Result<(), AllocError> {
+    for fill in 1..=LINES {
+        let line = line_by(alloc, chance, fill)?;
+        text.push_str(line.as_str())?;
+    }
+    Ok(())
+}
+
+/// A script of three servers and three clients. Each write takes a slot more while it is under way, so that some find none.
+pub fn script_by(alloc: Global, chance: &mut Chance) -> Result<String, AllocError> {
+    let slots = 3 + chance.below(3);
+    let mut text = format!(in alloc;
+        "servers 3 slots {slots}\na disk vol on 0 1 2\nb disk log on 1 2\n"
+    )?;
+    add_lines(alloc, chance, &mut text)?;
+    Ok(text)
+}
+
+/// The same over five servers, two of which the operator stops.
+pub fn script_with_stops(alloc: Global, chance: &mut Chance) -> Result<String, AllocError> {
+    let slots = 3 + chance.below(3);
+    let first = chance.below(5);
+    let second = (first + 1 + chance.below(4)) % 5;
+    let mut text = format!(in alloc;
+        "servers 5 slots {slots}\na disk vol on 0 1 2\nb disk log on 3 4\nop stop {first}\nop stop {second}\n"
+    )?;
+    add_lines(alloc, chance, &mut text)?;
+    Ok(text)
+}

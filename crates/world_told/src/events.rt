@@ -1,0 +1,273 @@
+//! What the plain machine is told of a history.
+//!
+//! This says again, from the records alone, what the definition of a history's events says over the worlds of the rules. A put
+//! is not told by itself: that of a second server by the letter that tells its lead, in the same step; that of a lead that is
+//! ahead when its second server is taken out by its copy on its way; and that of a server that writes alone, later than the
+//! definition has it, by the letter that ends the write. Until then nobody reads the block.
+
+use crate::choices::Choices;
+use crate::disks::{Disks, Done, Link};
+use crate::operations::{Operation, ahead_on, bytes_of, is_replicated_in, replicated_by};
+use crate::reads::accepted;
+use crate::writes::Writers;
+use petal_base::{ClientId, NoMemory, SharedBlock};
+use petal_history::Record;
+use petal_machine::{Event, WriteEnd};
+use petal_msg::{Actor, Body, Letter, SharedLetter};
+use petal_rules::Step;
+use script_lines::{Answer, Request, Script};
+use std::alloc::Global;
+
+/// An event, and the number of the record that tells it, from 1. There is no event where a copy counts that no write under way
+/// has asked for.
+#[derive(Drop)]
+pub struct Told {
+    pub step: usize,
+    pub event: Option<Event>,
+}
+
+/// A record, its number, and the records before and after it.
+#[derive(Drop)]
+struct Here<'a> {
+    step: usize,
+    before: &'a [Record],
+    own: &'a Record,
+    later: &'a [Record],
+}
+
+/// What is told so far of a script's history, and the clients as they are so far.
+#[derive(Drop)]
+struct Telling<'a> {
+    alloc: Global,
+    script: &'a Script,
+    writers: Writers,
+    choices: Choices,
+    disks: Disks,
+    told: Vec<Told>,
+}
+
+/// What a line asks for.
+fn request_of(script: &Script, number: u32) -> Option<&Request> {
+    for line in script.lines.as_slice() {
+        if line.number == number {
+            return Some(&line.request);
+        }
+    }
+    None
+}
+
+/// The word of what is told.
+fn word_of(told: &Told) -> &'static str {
+    match &told.event {
+        None => "nothing",
+        Some(Event::Make { disk: _ }) => "make",
+        Some(Event::Freeze { disk: _, snap: _ }) => "freeze",
+        Some(Event::Begin(_)) => "begin",
+        Some(Event::Take(_)) => "take",
+        Some(Event::End(_, _)) => "end",
+        Some(Event::Look { .. }) => "look",
+    }
+}
+
+/// Whether these words are those of what is told, but for the disks that are made.
+pub fn tells(told: &[Told], words: &[&str]) -> bool {
+    let mut at = 0;
+    for told in told {
+        let word = word_of(told);
+        if word != "make" {
+            if words.get(at) != Some(&word) {
+                return false;
+            }
+            at += 1;
+        }
+    }
+    at == words.len()
+}
+
+/// How many disks are told to be made.
+pub fn made(told: &[Told]) -> usize {
+    told.iter().filter(|told| word_of(told) == "make").count()
+}
+
+/// How a write ends that is answered so.
+fn end_of(answer: &Answer) -> WriteEnd {
+    match answer {
+        Answer::Ok | Answer::Data(_) => WriteEnd::Ok,
+        Answer::NoSpace => WriteEnd::NoSpace,
+        Answer::Unavailable | Answer::Failed => WriteEnd::Unavailable,
+        Answer::NoDisk | Answer::NoSnap | Answer::Exists | Answer::Moving => WriteEnd::NoDisk,
+    }
+}
+
+/// A read that gives these bytes.
+fn look_by(request: &Request, bytes: &SharedBlock) -> Result<Option<Event>, NoMemory> {
+    let Request::Read { name, snap, block } = request else {
+        return Ok(None);
+    };
+    Ok(Some(Event::Look {
+        disk: name.again(),
+        snap: snap.as_ref().map(|snap| snap.again()),
+        block: *block,
+        bytes: bytes.share()?,
+    }))
+}
+
+impl<'a> Telling<'a> {
+    fn tell(&mut self, step: usize, event: Option<Event>) -> Result<(), NoMemory> {
+        self.told.push(Told { step, event })?;
+        Ok(())
+    }
+
+    // What the commands do that the step chose.
+    fn chooses(&mut self, here: &Here) -> Result<Done, NoMemory> {
+        let before = self.choices.note_all(here.own.sent.as_slice())?;
+        let mut done = Done::new(self.alloc);
+        for command in self.choices.chosen_from(before) {
+            self.disks.apply(command, &mut done)?;
+        }
+        Ok(done)
+    }
+
+    fn makes(&mut self, step: usize, done: Done) -> Result<(), NoMemory> {
+        for disk in done.made {
+            self.tell(step, Some(Event::Make { disk }))?;
+        }
+        Ok(())
+    }
+
+    fn begin(&mut self, step: usize, client: ClientId, line: u32) -> Result<(), NoMemory> {
+        let Some(request) = request_of(self.script, line) else {
+            return Ok(());
+        };
+        match self.writers.call(self.alloc, client, request)? {
+            Some(write) => self.tell(step, Some(Event::Begin(write))),
+            None => Ok(()),
+        }
+    }
+
+    fn begins(&mut self, here: &Here) -> Result<(), NoMemory> {
+        match (here.own.actor, &here.own.step) {
+            (Actor::Client(client), Step::Call { line }) => self.begin(here.step, client, *line),
+            _ => Ok(()),
+        }
+    }
+
+    fn take(&mut self, here: &Here, operation: Operation) -> Result<(), NoMemory> {
+        let disk = self.disks.name(operation.cell.map);
+        let write = match (disk, bytes_of(here.before, operation)) {
+            (Some(disk), Some(bytes)) => self.writers.take(disk, operation.cell.block, bytes)?,
+            _ => None,
+        };
+        self.tell(here.step, write.map(Event::Take))
+    }
+
+    // A second server says for the first time that it has put its copy.
+    fn takes_second(&mut self, here: &Here, letter: &Letter) -> Result<(), NoMemory> {
+        match replicated_by(letter) {
+            Some(operation) if !is_replicated_in(here.before, operation) => {
+                self.take(here, operation)
+            }
+            _ => Ok(()),
+        }
+    }
+
+    // A server says that a write is written which was not told to have taken effect: it has put it alone.
+    fn takes_last(&mut self, here: &Here, letter: &Letter) -> Result<(), NoMemory> {
+        let (Actor::Client(client), Body::Written { seq }) = (letter.to, &letter.body) else {
+            return Ok(());
+        };
+        match self.writers.take_last(client, *seq)? {
+            Some(write) => self.tell(here.step, Some(Event::Take(write))),
+            None => Ok(()),
+        }
+    }
+
+    // The copies of the link's primary count from now on: what it has put ahead of its second server takes effect.
+    fn takes_ahead(&mut self, here: &Here, link: &Link) -> Result<(), NoMemory> {
+        for operation in ahead_on(self.alloc, here.before, link)? {
+            self.take(here, operation)?;
+        }
+        Ok(())
+    }
+
+    fn takes(&mut self, here: &Here, done: &Done) -> Result<(), NoMemory> {
+        for letter in here.own.sent.as_slice() {
+            self.takes_second(here, letter.get())?;
+            self.takes_last(here, letter.get())?;
+        }
+        for link in &done.passed {
+            self.takes_ahead(here, link)?;
+        }
+        Ok(())
+    }
+
+    fn look(
+        &mut self,
+        here: &Here,
+        letter: &SharedLetter,
+        bytes: &SharedBlock,
+    ) -> Result<(), NoMemory> {
+        let Some(line) = accepted(here.later, letter.get()) else {
+            return Ok(());
+        };
+        let Some(request) = request_of(self.script, line) else {
+            return Ok(());
+        };
+        match look_by(request, bytes)? {
+            Some(event) => self.tell(here.step, Some(event)),
+            None => Ok(()),
+        }
+    }
+
+    fn looks(&mut self, here: &Here) -> Result<(), NoMemory> {
+        for letter in here.own.sent.as_slice() {
+            if let Body::Data { seq: _, bytes } = &letter.get().body {
+                self.look(here, letter, bytes)?;
+            }
+        }
+        Ok(())
+    }
+
+    fn ends(&mut self, here: &Here) -> Result<(), NoMemory> {
+        let (Actor::Client(client), Some((_line, answer))) = (here.own.actor, &here.own.answer)
+        else {
+            return Ok(());
+        };
+        match self.writers.answer(client) {
+            Some(write) => self.tell(here.step, Some(Event::End(write, end_of(answer)))),
+            None => Ok(()),
+        }
+    }
+}
+
+fn tell_all(telling: &mut Telling, records: &[Record]) -> Result<(), NoMemory> {
+    for at in 0..records.len() {
+        let here = Here {
+            step: at + 1,
+            before: &records[..at],
+            own: &records[at],
+            later: &records[at + 1..],
+        };
+        telling.begins(&here)?;
+        let done = telling.chooses(&here)?;
+        telling.takes(&here, &done)?;
+        telling.makes(here.step, done)?;
+        telling.looks(&here)?;
+        telling.ends(&here)?;
+    }
+    Ok(())
+}
+
+/// The events of a script's history, in order.
+pub fn told_of(alloc: Global, script: &Script, records: &[Record]) -> Result<Vec<Told>, NoMemory> {
+    let mut telling = Telling {
+        alloc,
+        script,
+        writers: Writers::new(alloc)?,
+        choices: Choices::new(alloc, script.servers),
+        disks: Disks::new(alloc),
+        told: Vec::new(alloc),
+    };
+    tell_all(&mut telling, records)?;
+    Ok(telling.told)
+}

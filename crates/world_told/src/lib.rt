@@ -1,0 +1,15 @@
+//! What the plain machine is told of a history, worked out from its records alone, once more and apart from the definition of a
+//! history's events.
+//!
+//! To the layer above it promises no more than safety; that the machine takes what is told is what tests look at. It knows
+//! nothing of how a run comes about.
+#![tactic(auto)]
+
+mod choices;
+mod disks;
+mod events;
+mod operations;
+mod reads;
+mod writes;
+
+pub use events::{Told, made, tells, told_of};
