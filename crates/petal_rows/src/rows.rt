@@ -99,9 +99,7 @@ fn servers_that_stop(rt: HostRuntime) -> Result<(), Fail> {
             shows: "the lead of a block stops, and its neighbour goes on; a second stop of it does nothing",
             start: "servers 3 slots 4\na disk vol on 0 1 2\n",
             lines: "a write vol 0 fill 7\nwait\nop stop 0\nop stop 0\nwait\na read vol 0\nwait\nb write vol 0 fill 8\nwait\na read vol 0\n",
-            written: &[
-                "2: ok\n3: ok\n5: ok\n6: ok\n8: data 65536x7\n10: ok\n12: data 65536x8\n",
-            ],
+            written: &["2: ok\n3: ok\n5: ok\n6: ok\n8: data 65536x7\n10: ok\n12: data 65536x8\n"],
             ..RUN
         },
         Row {
