@@ -114,7 +114,7 @@ class Phase:
 
     def answers(self):
         """Which answers are right, by number of line."""
-        self.stop_servers()
+        self.answer_stops()
         self.make_disks()
         served = [use for use in self.lines if isinstance(use, Use) and self.is_served(use)]
         self.find_servers(served)
@@ -123,7 +123,7 @@ class Phase:
         self.world.stopped |= self.stopping
         return self.allowed
 
-    def stop_servers(self):
+    def answer_stops(self):
         """The operator is always told that the server has stopped."""
         for line in self.lines:
             if isinstance(line, Stop):
@@ -197,6 +197,7 @@ class Phase:
         return [server for server in self.running[use.number] if server not in self.stopping]
 
     def was_unavailable(self, use):
+        """Whether its client was told that both servers have stopped."""
         if self.stays(use):
             return False
         if self.running[use.number] and self.heard is None:
@@ -208,7 +209,7 @@ class Phase:
         afterwards."""
         alone = len({use.client for use in writes}) == 1
         if not alone and writes:
-            self.stop_where_slots_may_run_out(writes)
+            self.give_up_where_slots_may_run_out(writes)
         for use in writes:
             self.allowed[use.number] |= self.outcomes_of(use) if alone else {"ok"}
             self.note_effect(use)
@@ -236,7 +237,7 @@ class Phase:
             for server in self.running[use.number]:
                 self.world.take_slot(server, use.spot, answer == "ok" and server not in self.stopping)
 
-    def stop_where_slots_may_run_out(self, writes):
+    def give_up_where_slots_may_run_out(self, writes):
         """Each client has one write open at a time, which takes a slot more than what stays."""
         fresh, writers = defaultdict(set), defaultdict(set)
         for use in writes:

@@ -112,6 +112,9 @@ def many_disks(count, *nets):
     lines += [f"{CLIENTS[(disk + 2) % 8]} read d{disk} {block}" for disk in range(count) for block in (0, 1, 2)]
     return joined(lines)
 
+# More slots than all writes of a mixed script can take.
+PLENTY = 160
+
 def mixed_line(draw, clients, names, makes):
     """A request of one of the clients, about one of the disks or a name that none has. A line that makes a disk lacks its servers."""
     client, name = draw.choice(clients), draw.choice(names)
@@ -141,9 +144,9 @@ def mixed_phase(draw, clients, names, servers, makes):
 def mixed_phases(draw, servers, most, nets, stops_of=None):
     """Phases of a mixed script of at most so many disks. Where servers stop, most disks are made first, and `stops_of` gives the
     phases that come before the next one, and the lines that stand in it."""
-    alone = draw.randrange(4) == 0
+    alone = draw.randrange(2 if stops_of else 4) == 0
     names = [f"d{number}" for number in range(draw.randint(1, most))]
-    lines = [f"servers {servers} slots {draw.randint(1, 6) if alone else 1024}", *(net.replace("_", " ") for net in nets)]
+    lines = [f"servers {servers} slots {draw.randint(1, 6) if alone else PLENTY}", *(net.replace("_", " ") for net in nets)]
     makes, clients = 16, list(CLIENTS[: draw.randint(1, 8)])
     if stops_of:
         makes -= len(names)
@@ -189,7 +192,18 @@ def stops(seed, *nets):
 
     return joined(mixed_phases(draw, servers, 4, nets, stops_of))
 
-MAKERS = {"many_disks": many_disks, "mixed": mixed, "stops": stops, "text": text, "bytes": bytes_of, "nothing": nothing, "work": work, "busy": busy,
+def amid(slots, stopped, delay, *nets):
+    """A client writes block 2, on servers 2 and 3, again and again, and reads it. After so many lines of the operator one of the two
+    stops. Then blocks are written until the slots run out."""
+    lines = [f"servers 5 slots {slots}", *(net.replace("_", " ") for net in nets), "a disk vol on 0 1 2 3 4", "wait"]
+    lines += ["a write vol 2 fill 1", "op stop 0", "wait"]
+    lines += ["op stop 0"] * int(delay) + [f"op stop {stopped}"]
+    lines += [line for turn in range(4) for line in (f"a write vol 2 fill {10 + turn}", "a read vol 2", "b read vol 2")]
+    lines += ["wait", "b read vol 2", "wait"]
+    lines += [f"b write vol {block} fill {block}" for block in range(2, 22, 5)] + ["wait"]
+    return joined(lines + [f"c read vol {block}" for block in range(2, 22, 5)])
+
+MAKERS = {"many_disks": many_disks, "mixed": mixed, "stops": stops, "amid": amid, "text": text, "bytes": bytes_of, "nothing": nothing, "work": work, "busy": busy,
           "all_servers": all_servers, "patterns": patterns, "sized": sized, "requests": requests, "phases": phases, "large": large}
 
 def made(words):
