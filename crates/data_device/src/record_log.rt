@@ -81,6 +81,13 @@ impl RecordLog {
         }
     }
 
+    /// How many records the journal has.
+    pub fn count(&self) -> u32
+        ensures { result ≡ self.now.region.count }
+    {
+        self.journal.count()
+    }
+
     /// Whether the journal has all its records.
     pub fn is_full(&self) -> bool
         ensures { result ≡ (self.now.region.count == 65536) }

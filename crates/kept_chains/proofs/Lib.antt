@@ -2,3 +2,4 @@ pub mod Puts
 pub mod Chains
 pub mod InOrder
 pub mod Kept
+pub mod Commits

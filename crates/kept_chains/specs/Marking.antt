@@ -1,5 +1,6 @@
 -- Commits of a store that set a mark or take one away.
 use Rattle.std.specs.Prelude.{◌≡◌, ◌+◌, length, Result, IfErr, IsErrOf, OnOk}
+use Rattle.petal_disk.specs.Disk.{LeavesOnly}
 use Rattle.petal_disk.specs.declared.disk.Disk.{Ghosts}
 use Rattle.petal_rules.specs.Store.{Store}
 use Rattle.server_store.specs.Errors.{IsMarkError, HasFault}
@@ -8,6 +9,7 @@ use Rattle.server_store.specs.Shown.{Holds}
 use Rattle.data_device.specs.declared.error.StoreError.{StoreError}
 use Rattle.data_device.specs.declared.error.StoreError.TheVariants.{JournalFull, NoMemory}
 use Rattle.kept_chains.specs.Kept.{store_of}
+use Rattle.kept_chains.specs.Standing.{StandsAsEither}
 
 -- the rule has one record more than the journal has room for, and nothing changed
 pub record IsFull {D : Type 0} (before after : Holdings D) (rule : Store) : Type 0 where
@@ -15,12 +17,15 @@ pub record IsFull {D : Type 0} (before after : Holdings D) (rule : Store) : Type
   pub over : rule.records ≡ length before.log.records + 1
   pub same : after ≡ before
 
--- the store is what the rule says where the device tells its bytes, and the device that showed it shows it still. Its entries
--- and tickets stay, whatever comes; one that was refused for memory changed nothing
+-- the store is what the rule says where the device tells its bytes, and the device that showed it shows it still; a crash at
+-- any moment leaves the store before, or that of the rule. Its entries and tickets stay, whatever comes; one that was refused
+-- for memory changed nothing
 pub record IsCommit {D T : Type 0} (device : Ghosts D) (before after : Holdings D) (result : Result T StoreError) (rule : Store) : Type 0 where
   pub done : OnOk result (device.told → store_of after ≡ rule)
   pub holds : device.told → Holds before (device.seen before.disk) (device.may_leave before.disk)
       → OnOk result (Holds after (device.seen after.disk) (device.may_leave after.disk))
+  pub moments : device.told → Holds before (device.seen before.disk) (device.may_leave before.disk)
+      → LeavesOnly device.moment device.left_since before.disk after.disk (StandsAsEither (store_of before) rule)
   pub tickets : after.tickets ≡ before.tickets
   pub kept : device.told → after.entries ≡ before.entries
   pub errors : IfErr result IsMarkError

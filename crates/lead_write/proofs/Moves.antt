@@ -186,6 +186,7 @@ module _ {D : Type 0} (here : Here) (side : Side) (store : Holdings D) (op : Pen
     keeps = subst (HasTickets (put cell_cmp side.pending op.cell (with_mark_at op kind is)) side.last side.own side.apart) (sym commit.tickets)
         (tickets.kept_moved side.pending side.last side.own side.apart store.tickets h op.cell (with_mark_at op kind is) (needs ∙ ap not (sym (flag_put op.stage kind is))));
     holds = commit.holds;
+    moments = commit.moments;
     still = λ no. absurd (cc);
     same = λ no. absurd (cc);
     kept = tt;

@@ -1,8 +1,11 @@
 -- A write that is opened.
-use Rattle.std.proofs.Common.{◌≡◌, ◌+◌, ℕ, Bool, true, length, Some, None, refl, sym, ap, ◌∙◌, IsSome, arith}
+use Rattle.std.proofs.Common.{◌≡◌, ◌+◌, ℕ, Bool, true, length, Some, None, Result, Err, OnErr, refl, sym, subst, ap, ◌∙◌, IsSome, arith}
 use Rattle.petal_base.specs.declared.cell.Cell.{Cell}
+use Rattle.petal_disk.specs.Disk.{LeavesOnly}
+use Rattle.petal_disk.specs.declared.disk.Disk.{Ghosts}
 use Rattle.petal_table.specs.Table.{Table, at, put, without}
 use Rattle.petal_rules.specs.Server.{Here, Own}
+use Rattle.petal_rules.specs.Server.{Done as Rule}
 use Rattle.petal_rules.specs.Store.{Store, cell_cmp}
 use Rattle.petal_rules.specs.Writes.{Wanted, goes_on, opened, opens, operation}
 use Rattle.petal_rules.proofs.CellTables.{cell_cmp_total, cell_same}
@@ -10,7 +13,11 @@ use Rattle.server_store.specs.Holdings.{Holdings}
 use Rattle.server_store.specs.Tickets as lists
 use Rattle.kept_chains.proofs.Puts.{without_new}
 use Rattle.kept_chains.specs.Kept.{store_of}
-use Rattle.pair_side.specs.Done.{IsFull}
+use Rattle.kept_chains.specs.Standing.{StandsAsEither}
+use Rattle.pair_side.specs.declared.done.Done.{Done}
+use Rattle.pair_side.specs.declared.error.WorkError.{WorkError}
+use Rattle.pair_side.specs.declared.error.WorkError.TheVariants.{JournalFull, NoMemory}
+use Rattle.pair_side.specs.Done.{HasFault, HoldsAt, IsDone, IsFull}
 use Rattle.pair_side.specs.Side.{Side, HasTicketsAt, needs_own, own_of, pairs_of}
 use Rattle.pair_side.specs.Slots.{IsOutAt}
 use Rattle.pair_side.proofs.Tickets as tickets
@@ -79,3 +86,24 @@ module _ {D : Type 0} (here : Here) (want : Wanted) (side : Side) (store : Holdi
           );
       same = (side_back mid held full.same.0 full.same.1 last side_is, store_back mid held full.same.0 full.same.1 left store_is);
     }
+
+    -- what its first stage leaves, as seen from before it was opened; unless that was refused, as it is taken back then
+    pub opened_done : (device : Ghosts D) (last : Side) (left : Holdings D) (result : Result Done WorkError) (room : Bool) → room ≡ true
+        → ¬ (result ≡ Err NoMemory) → ¬ (result ≡ Err JournalFull) → IsDone device here new last after left result (goes_on here (own_of new after) want.cell)
+        → IsDone device here side last store left result (opens here (own_of side store) want room)
+    opened_done device last left result room is memory full stage =
+        rw is (subst (λ (rule : Rule). IsDone device here side last store left result rule) (ap (λ (own : Own). goes_on here own want.cell) opened_is) (record {
+          done = stage.done;
+          keeps = stage.keeps;
+          holds = λ told holds. stage.holds told (subst (HoldsAt device) (sym begun.store) holds);
+          moments = λ told holds.
+              subst (λ (s : Holdings D). LeavesOnly device.moment device.left_since s.disk left.disk
+              (StandsAsEither (store_of s) (goes_on here (own_of new after) want.cell).own.store)) begun.store
+              (stage.moments told (subst (HoldsAt device) (sym begun.store) holds));
+          still = λ no. absurd (memory no);
+          same = λ no. absurd (memory no);
+          kept = subst (λ (s : Holdings D). OnErr result (device.told → left.entries ≡ s.entries)) begun.store stage.kept;
+          full = λ no. absurd (full no);
+          cause = subst (λ (s : Holdings D). HasFault (device.faults s.disk) (device.faults left.disk) result) begun.store stage.cause;
+          run = subst (λ (s : Holdings D). device.came_to s.disk left.disk) begun.store stage.run;
+        }))

@@ -165,7 +165,8 @@ fn opens<D: Disk>(
             takes_back(side, store, want.cell, number);
             Err(WorkError::JournalFull)
         }
-        done => done,
+        Err(WorkError::Failed) => Err(WorkError::Failed),
+        Ok(done) => Ok(done),
     }
 }
 

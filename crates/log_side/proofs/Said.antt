@@ -1,19 +1,20 @@
 -- A job of the log without a call of the device is one that may have made one.
-use Rattle.std.proofs.Common.{◌≡◌, inl, inr, ℕ, ◌+◌, ◌≤◌, ◌<◌, Bool, true, if◌then◌else◌, List, [], ◌∷◌, ◌++◌, length, length-append, Result, Ok, Err, IsErrOf, refl, sym, ap, ◌∙◌, arith}
+use Rattle.std.proofs.Common.{◌≡◌, inl, inr, ℕ, ◌+◌, ◌≤◌, ◌<◌, Bool, true, false, if◌then◌else◌, List, [], ◌∷◌, ◌++◌, length, length-append, Result, Ok, Err, IsErrOf, refl, sym, subst, ap, ◌∙◌, arith}
 use Rattle.petal_disk.specs.declared.disk.Disk.{Ghosts}
 use Rattle.petal_disk.specs.Disk.{LeavesOnly}
+use Rattle.petal_disk.proofs.Moments.{started}
 use Rattle.petal_paxos.proofs.Committed.{commits_is}
 use Rattle.petal_paxos.specs.Kept.{AddsNothing, committed}
 use Rattle.petal_paxos.specs.declared.record.StateRecord.{StateRecord}
 use Rattle.petal_rules.specs.Log.{Log, commits}
 use Rattle.petal_rules.specs.Log.{LogDone as Rule}
 use Rattle.state_store.specs.Errors.{IsCommitError}
-use Rattle.state_store.specs.Device.{Keeping, WithOrWithout}
+use Rattle.state_store.specs.Device.{Keeping, StandsForEither}
 use Rattle.state_store.specs.declared.error.StateError.{StateError}
 use Rattle.state_store.specs.declared.error.StateError.TheVariants.{Failed, JournalFull, NoMemory}
 use Rattle.log_side.specs.declared.done.LogDone.{LogDone}
 use Rattle.log_side.specs.Part.{Part}
-use Rattle.log_side.specs.Done.{HoldsAt, HasOneMore, IsLogSaid, IsLogDone}
+use Rattle.log_side.specs.Done.{HoldsAt, IsLogSaid, IsLogDone}
 
 -- a commit was refused for what the job was refused for
 refusal_is : {T : Type 0} (answer : Result LogDone StateError) (refusal : Result T StateError) (e f : StateError)
@@ -21,28 +22,19 @@ refusal_is : {T : Type 0} (answer : Result LogDone StateError) (refusal : Result
 refusal_is answer refusal e f one refused is = cc
 
 module _ {D : Type 0} (device : Ghosts D) where
-  -- what a commit leaves at any moment
-  pub one_more : (old new : D) (records : List StateRecord) (entry : StateRecord)
-      → LeavesOnly device.moment device.left_since old new (λ c. WithOrWithout c records entry)
-      → LeavesOnly device.moment device.left_since old new (λ c. HasOneMore c records)
-  one_more old new records entry left = record {
-    later = left.later;
-    each = λ c h. inr (entry, left.each c h);
-    before = λ t c le h. elim (left.before t c le h) [
-      | inl was ↦ inl was
-      | inr is ↦ inr (inr (entry, is))
-    ];
-  }
+  -- what a crash leaves, where a commit makes the records after it
+  pub left_as : (old new : D) (records made after : List StateRecord) → made ≡ after
+      → LeavesOnly device.moment device.left_since old new (StandsForEither records made)
+      → LeavesOnly device.moment device.left_since old new (StandsForEither records after)
+  left_as old new records made after is =
+      subst (λ (left : List StateRecord). LeavesOnly device.moment device.left_since old new (StandsForEither records left)) is
 
   module _ (stays : (d : D) → device.came_to d d)
       (only_now : (d : D) (c : List ℕ) → device.left_since d (device.moment d) c → device.may_leave d c) where
-    pub still_left : (store : Keeping D) → HoldsAt device store
-        → LeavesOnly device.moment device.left_since store.disk store.disk (λ c. HasOneMore c store.records)
-    still_left store holds = record {
-      later = omega arith;
-      each = λ c h. inl (holds.left c (only_now store.disk c h));
-      before = λ t c le h. inl h;
-    }
+    pub still_left : (store : Keeping D) (after : List StateRecord) → HoldsAt device store
+        → LeavesOnly device.moment device.left_since store.disk store.disk (StandsForEither store.records after)
+    still_left store after holds =
+        started device.moment device.left_since store.disk (StandsForEither store.records after) (λ c left. inl (holds.left c (only_now store.disk c left)))
 
     pub said_done : (old new : Part) (store : Keeping D) (answer : Result LogDone StateError) (rule : Rule)
         → IsLogSaid old new store.records answer rule → IsLogDone device old new store store answer rule
@@ -50,7 +42,7 @@ module _ {D : Type 0} (device : Ghosts D) where
       done = said.done;
       voter = said.voter;
       holds = λ _ h. h;
-      moments = λ _. still_left store;
+      moments = λ _. still_left store rule.log.records;
       kept = tt;
       same = λ no. absurd (cc);
       only = tt;
@@ -65,7 +57,7 @@ module _ {D : Type 0} (device : Ghosts D) where
           done = tt;
           voter = said.voter;
           holds = λ _ _. tt;
-          moments = λ _. still_left store;
+          moments = λ _. still_left store rule.log.records;
           kept = refl;
           same = λ _. (said.err.1, refl);
           only = tt;
@@ -75,31 +67,32 @@ module _ {D : Type 0} (device : Ghosts D) where
           run = stays store.disk;
         })
 
-  -- a commit that was refused leaves what a refused job leaves. A full journal has no room for a record that is needed (X)
-  pub refused_done : {T X : Type 0} (part : Part) (before after : Keeping D) (entry : StateRecord) (e : StateError) (rule : Rule)
-      → (X → length rule.log.records ≡ length before.records + 1)
+  -- a commit that was refused leaves what a refused job leaves, where it makes the records of the rule. A full journal has no
+  -- room for a record that is needed (X)
+  pub refused_done : {T X : Type 0} (part : Part) (before after : Keeping D) (made : List StateRecord) (e : StateError) (rule : Rule)
+      → made ≡ rule.log.records → (X → length made ≡ length before.records + 1)
       → (refusal : Result T StateError) → refusal ≡ Err e
       → (IsErrOf refusal JournalFull → (before.region.count ≡ 65536) × X × (after ≡ before))
       → (IsErrOf refusal NoMemory → after ≡ before)
       → (IsErrOf refusal Failed → device.faults before.disk < device.faults after.disk)
       → after.records ≡ before.records → IsCommitError e
       → (device.told → HoldsAt device before
-      → LeavesOnly device.moment device.left_since before.disk after.disk (λ c. WithOrWithout c before.records entry))
+      → LeavesOnly device.moment device.left_since before.disk after.disk (StandsForEither before.records made))
       → device.faults before.disk ≤ device.faults after.disk → device.came_to before.disk after.disk
       → IsLogDone device part part before after (Err e) rule
-  refused_done part before after entry e rule over refusal refused full memory failed kept only left later run = record {
+  refused_done part before after made e rule is over refusal refused full memory failed kept only left later run = record {
     done = tt;
     voter = refl;
     holds = λ _ _. tt;
-    moments = λ told holds. one_more before.disk after.disk before.records entry (left told holds);
+    moments = λ told holds. left_as before.disk after.disk before.records made rule.log.records is (left told holds);
     kept = kept;
-    same = λ is. (refl, memory (refusal_is _ refusal e NoMemory refl refused is));
+    same = λ out. (refl, memory (refusal_is _ refusal e NoMemory refl refused out));
     only = only;
-    full = λ is.
-        let held = full (refusal_is _ refusal e JournalFull refl refused is) in
-        record { count = held.0; over = over held.1; same = (refl, held.2) };
+    full = λ out.
+        let held = full (refusal_is _ refusal e JournalFull refl refused out) in
+        record { count = held.0; over = ap (λ (rs : List StateRecord). length rs) (sym is) ∙ over held.1; same = (refl, held.2) };
     later = later;
-    failed = λ is. failed (refusal_is _ refusal e Failed refl refused is);
+    failed = λ out. failed (refusal_is _ refusal e Failed refl refused out);
     run = run;
   }
 
@@ -109,6 +102,12 @@ one_over records entry changes =
     let is = commits_is records (records ++ entry ∷ []) entry (inr (changes, refl)) in
     sym (ap (λ (rs : List StateRecord). length rs) is) ∙ length-append records (entry ∷ [])
 
-pub open_over : (log : Log) (b : Bool) (entry : StateRecord) → b ≡ true → ¬ AddsNothing log.records entry
-    → length (if b then commits log entry else log).records ≡ length log.records + 1
-open_over log b entry is changes = rw is (one_over log.records entry changes)
+pub open_over : (records : List StateRecord) (b : Bool) (entry : StateRecord) → b ≡ true → ¬ AddsNothing records entry
+    → length (if b then committed records entry else records) ≡ length records + 1
+open_over records b entry is changes = rw is (one_over records entry changes)
+
+-- the records after a promise or an acceptance that may be refused
+pub open_records : (log : Log) (b : Bool) (entry : StateRecord)
+    → (if b then committed log.records entry else log.records) ≡ (if b then commits log entry else log).records
+open_records log true entry = refl
+open_records log false entry = refl

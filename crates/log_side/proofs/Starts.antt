@@ -30,8 +30,7 @@ module _ (part : Part) (records : List StateRecord) (place round : ℕ) (want : 
       → letters ≡ letters_of who 0 (starts_want part.voter (log_of part records) want).posts
   letters_are who prepare letters next asked are = rw (are, asked, next.round_is, next.place_is) refl
 
-  -- its promise is one record more
-  pub over_is : IsNext part records place round
-      → length (committed records (kind.Promise place (record { round = round; server = part.voter.me }))) ≡ length records + 1
-      → length (starts_want part.voter (log_of part records) want).log.records ≡ length records + 1
-  over_is next more = rw (next.round_is, next.place_is) at more
+  -- the records with its promise
+  pub records_are : IsNext part records place round
+      → committed records (kind.Promise place (record { round = round; server = part.voter.me })) ≡ (starts_want part.voter (log_of part records) want).log.records
+  records_are next = rw (next.round_is, next.place_is) refl

@@ -1,5 +1,5 @@
 -- What a job of the log leaves, and what every such job keeps.
-use Rattle.std.specs.Prelude.{◌≡◌, ◌≤◌, ◌<◌, ◌⊎◌, ◌+◌, ℕ, length, Bool, true, false, List, [], Option, None, Some, ◌∷◌, Result, Err, IfOk, IfErr, OnOk, OnErr}
+use Rattle.std.specs.Prelude.{◌≡◌, ◌≤◌, ◌<◌, ◌+◌, length, Bool, true, false, List, [], Option, None, Some, ◌∷◌, Result, Err, IfOk, IfErr, OnOk, OnErr}
 use Rattle.petal_disk.specs.declared.disk.Disk.{Ghosts}
 use Rattle.petal_disk.specs.Disk.{LeavesOnly}
 use Rattle.petal_msg.specs.declared.letter.Letter.{Letter}
@@ -9,7 +9,7 @@ use Rattle.petal_rules.specs.Log.{LogDone as Rule}
 use Rattle.petal_rules.specs.Server.{Sender, letters_of}
 use Rattle.petal_rules.specs.declared.job.Job.{Job}
 use Rattle.petal_rules.specs.declared.job.Job.TheVariants as job
-use Rattle.state_store.specs.Device.{Keeping, Holds, StandsFor, WithOrWithout}
+use Rattle.state_store.specs.Device.{Keeping, Holds, StandsForEither}
 use Rattle.state_store.specs.Errors.{IsCommitError}
 use Rattle.state_store.specs.declared.error.StateError.{StateError}
 use Rattle.state_store.specs.declared.error.StateError.TheVariants.{Failed, JournalFull, NoMemory}
@@ -39,10 +39,6 @@ pub record IsBy (who : Sender) (left : Log) (done : LogDone) (rule : Rule) : Typ
 abbrev pub HoldsAt : {D : Type 0} → Ghosts D → Keeping D → Type 0
 HoldsAt device store = Holds store.region (device.seen store.disk) (device.may_leave store.disk) store.records
 
--- the records, or what a commit of one more may leave
-abbrev pub HasOneMore : List ℕ → List StateRecord → Type 0
-HasOneMore file records = StandsFor file records ⊎ ((entry : StateRecord) × WithOrWithout file records entry)
-
 -- a job without a call of the device is the rule's; one that was refused, for memory alone, left all as it was
 pub record IsLogSaid (old new : Part) (records : List StateRecord) (result : Result LogDone StateError) (rule : Rule) : Type 0 where
   pub done : IfOk result (λ done. IsBy (sender_of old) (log_of new records) done rule)
@@ -57,7 +53,7 @@ module _ {D : Type 0} where
     pub same : (new ≡ old) × (after ≡ before)
 
   -- a job is the rule's, and any refusal left the records; one for memory left all as it was. A device that stood for the
-  -- records stands for those after the job, and a crash at any moment leaves the records before it, perhaps with one more.
+  -- records stands for those after the job, and a crash at any moment leaves the records before it, or the rule's after it.
   -- `Failed` comes only where the count of faults has risen, and `JournalFull` only where the journal has no room for the
   -- record of the job
   pub record IsLogDone (device : Ghosts D) (old new : Part) (before after : Keeping D) (result : Result LogDone StateError) (rule : Rule) : Type 0 where
@@ -65,7 +61,7 @@ module _ {D : Type 0} where
     pub voter : new.voter ≡ old.voter
     pub holds : device.told → HoldsAt device before → OnOk result (HoldsAt device after)
     pub moments : device.told → HoldsAt device before
-        → LeavesOnly device.moment device.left_since before.disk after.disk (λ c. HasOneMore c before.records)
+        → LeavesOnly device.moment device.left_since before.disk after.disk (StandsForEither before.records rule.log.records)
     pub kept : OnErr result (after.records ≡ before.records)
     pub same : result ≡ Err NoMemory → (new ≡ old) × (after ≡ before)
     pub only : IfErr result IsCommitError

@@ -1,2 +1,5 @@
 pub mod Casting
 pub mod Ticking
+pub mod Seen
+pub mod Recovering
+pub mod Faults

@@ -2,7 +2,7 @@
 use Rattle.std.proofs.Common.{◌≡◌, List, Result, Ok, Err}
 use Rattle.std.specs.Prelude.{IfOk, OnOk}
 use Rattle.kept_chains.specs.Kept.{store_of}
-use Rattle.memory_server.specs.Server.{site_of}
+use Rattle.memory_server.specs.Server.{whole_after, whole_of}
 use Rattle.petal_base.specs.declared.memory.NoMemory.{NoMemory}
 use Rattle.petal_msg.specs.declared.letter.Letter.{Letter}
 use Rattle.petal_paxos.specs.declared.record.StateRecord.{StateRecord}
@@ -12,13 +12,12 @@ use Rattle.petal_rules.specs.declared.step.Step.TheVariants.{Tick}
 use Rattle.server_core.specs.Core.{Core, acted, here_in, server_of}
 use Rattle.server_store.specs.Holdings.{Holdings}
 use Rattle.state_store.specs.Device.{Keeping}
-use Rattle.world_desks.specs.Desks.{site_after}
 
 -- whatever its stores hold, its core's tick is that of the server
 pub tick_site : {D : Type 0} (old new : Core) (store : Holdings D) (state : Keeping D) (result : Result (List Letter) NoMemory)
     → IfOk result (λ letters. (stored : Store) (records : List StateRecord) → acted new stored records letters ≡ ticks (here_in old) (server_of old stored records))
     → new.log.voter ≡ old.log.voter
-    → OnOk result (site_of (record { core = new; store = store; state = state }) ≡ site_after (site_of (record { core = old; store = store; state = state })) Tick)
+    → OnOk result (whole_of (record { core = new; store = store; state = state }) ≡ whole_after (whole_of (record { core = old; store = store; state = state })) Tick)
 tick_site old new store state (Ok letters) is voter = λ i. record {
   me = (voter i).me;
   servers = (voter i).servers;

@@ -1,6 +1,7 @@
 -- A server with its two stores, as the rules see it.
 use Rattle.kept_chains.specs.Kept.{store_of}
-use Rattle.world_desks.specs.Desks.{Site}
+use Rattle.petal_rules.specs.declared.step.Step.{Step}
+use Rattle.world_desks.specs.Desks.{Site, acted_at, left_of}
 use Rattle.server_core.specs.Core.{Core, server_of}
 use Rattle.log_side.specs.Done as logs
 use Rattle.pair_side.specs.Done.{HoldsAt}
@@ -15,13 +16,24 @@ pub record Mounted (D : Type 0) : Type 0 where
   pub store : Holdings D
   pub state : Keeping D
 
--- its number, how many servers there are and the server of the rules
-abbrev pub site_of : {D : Type 0} → Mounted D → Site
-site_of mounted = record {
+-- its number, how many servers there are and the server of the rules, with all that it has in memory
+abbrev pub whole_of : {D : Type 0} → Mounted D → Site
+whole_of mounted = record {
   me = mounted.core.log.voter.me;
   servers = mounted.core.log.voter.servers;
   server = server_of mounted.core (store_of mounted.store) mounted.state.records;
 }
+
+-- what is left of the server
+abbrev pub left_at : Site → Site
+left_at site = record site { server = left_of site.server }
+
+abbrev pub site_of : {D : Type 0} → Mounted D → Site
+site_of mounted = left_at (whole_of mounted)
+
+-- the server after a step, with all that it has in memory
+abbrev pub whole_after : Site → Step → Site
+whole_after site step = record site { server = (acted_at site step).server }
 
 -- the tickets stand where they are needed, and the devices show the stores
 pub record Stands {D : Type 0} (device : Ghosts D) (mounted : Mounted D) : Type 0 where

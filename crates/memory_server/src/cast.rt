@@ -9,13 +9,13 @@ ghost use Rattle.memory_server.specs.Server.{site_of};
 
 use crate::MemServer;
 use petal_base::{NoMemory, Sequence};
-use petal_disk::{Disk, MemDisk};
+use petal_disk::{Disk, MemDisk, Planned};
 use script_lines::Script;
 use std::alloc::Global;
 
 fn started(alloc: Global, servers: u8, slots: u32) -> Result<Sequence<MemServer>, NoMemory>
     ensures sites { IfOk result (λ members. map site_of members ≡ map (first_site servers slots) (range_with_len 0 servers)) }
-    ensures devices { IfOk result (λ members. All (λ server. ⟦<MemDisk as Disk>⟧.size server.store.disk ≡ slot_start slots) members) }
+    ensures devices { IfOk result (λ members. All (λ server. ⟦<Planned<MemDisk> as Disk>⟧.size server.store.disk ≡ slot_start slots) members) }
 {
     let mut members = Sequence::new(alloc);
     for me in 0..servers {
@@ -31,7 +31,7 @@ fn started(alloc: Global, servers: u8, slots: u32) -> Result<Sequence<MemServer>
 /// Out of memory.
 pub fn members(alloc: Global, script: &Script) -> Result<Sequence<MemServer>, NoMemory>
     ensures sites { IfOk result (λ members. map site_of members ≡ first_sites script.now) }
-    ensures devices { IfOk result (λ members. All (λ server. ⟦<MemDisk as Disk>⟧.size server.store.disk ≡ slot_start script.now.slots) members) }
+    ensures devices { IfOk result (λ members. All (λ server. ⟦<Planned<MemDisk> as Disk>⟧.size server.store.disk ≡ slot_start script.now.slots) members) }
 {
     let members = started(alloc, script.servers, script.slots)?;
     Ok(members)

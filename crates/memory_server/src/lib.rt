@@ -5,6 +5,7 @@
 #![tactic(auto)]
 
 mod cast;
+mod recovery;
 mod server;
 
 pub use cast::members;

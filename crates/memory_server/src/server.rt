@@ -6,12 +6,13 @@ ghost use Rattle.petal_paxos.specs.declared.record.StateRecord.TheVariants.{Inc}
 ghost use Rattle.petal_rules.specs.Server.{first_server};
 ghost use Rattle.petal_rules.specs.declared.step.Step.TheVariants.{Stop, Work};
 ghost use Rattle.petal_rules.specs.declared.step.WorkEnd.TheVariants.{Done};
-ghost use Rattle.world_desks.specs.Desks.{acted_at, site_after};
+ghost use Rattle.world_desks.specs.Desks.{acted_at, end_in, ended, may_take};
 ghost use Rattle.server_store.specs.Slots.{slot_start};
-ghost use Rattle.memory_server.specs.Server.{site_of};
+ghost use Rattle.memory_server.specs.Server.{left_at, site_of, whole_after, whole_of};
 
+use crate::recovery::{Counts, reopen};
 use petal_base::{NoMemory, Rev, Sequence, ServerId};
-use petal_disk::{Disk, MemDisk};
+use petal_disk::{Disk, MemDisk, Plan, Planned, Which};
 use petal_msg::Letter;
 use petal_rules::{Step, WorkEnd};
 use server_core::{ServerCore, WorkError};
@@ -19,28 +20,33 @@ use server_store::{DATA_START, SLOT_BYTES, Store};
 use state_store::{DEVICE_BYTES, StateStore};
 use std::alloc::Global;
 use std::marker::Model;
-use world_desks::Host;
+use world_desks::{Host, Taken};
+
+/// A disk in memory, of which one call can be made to fail.
+type Device = Planned<MemDisk>;
 
 /// A server with its store and its state store, each on a disk in memory. Contracts see the core and what the stores hold.
 #[derive(Drop)]
 pub struct MemServer {
     core: ServerCore,
-    store: Store<MemDisk>,
-    state: StateStore<MemDisk>,
+    store: Store<Device>,
+    state: StateStore<Device>,
+    // what is in memory does not fit the devices, so that no job can be done
     over: bool,
 }
 
 impl Model for MemServer {
     ghost use Rattle.std.specs.Prelude.{◌≡◌, false};
     ghost use Rattle.petal_disk.specs.declared.memory_disk.MemDisk.{MemDisk};
+    ghost use Rattle.petal_disk.specs.declared.planned.Planned.{Planned};
     ghost use Rattle.pair_side.specs.Side.{HasTicketsAt};
     ghost use Rattle.memory_server.specs.Server.{Mounted, Stands};
 
-    ghost Value = { Mounted MemDisk };
+    ghost Value = { Mounted (Planned MemDisk) };
 
     ghost view = { λ s. record { core = s.core; store = s.store; state = s.state } };
 
-    ghost invariant = { λ s. s.over ≡ false → Stands ⟦<MemDisk as Disk>⟧ (record { core = s.core; store = s.store; state = s.state }) };
+    ghost invariant = { λ s. s.over ≡ false → Stands ⟦<Planned<MemDisk> as Disk>⟧ (record { core = s.core; store = s.store; state = s.state }) };
 }
 
 fn both(a: bool, b: bool) -> bool
@@ -49,15 +55,25 @@ fn both(a: bool, b: bool) -> bool
     a && b
 }
 
+/// A step of which no device failed.
+fn done(letters: Sequence<Letter>) -> Taken
+    ensures { result ≡ record { letters = letters; end = Done } }
+{
+    Taken {
+        letters,
+        end: WorkEnd::Done,
+    }
+}
+
 /// The state store of a server that runs for the first time.
-fn first_state(alloc: Global) -> Result<StateStore<MemDisk>, NoMemory>
+fn first_state(alloc: Global) -> Result<StateStore<Device>, NoMemory>
     ensures records { IfOk result (λ state. state.records ≡ Inc 1 ∷ []) }
-    ensures holds { IfOk result (λ state. logs.HoldsAt ⟦<MemDisk as Disk>⟧ state) }
+    ensures holds { IfOk result (λ state. logs.HoldsAt ⟦<Planned<MemDisk> as Disk>⟧ state) }
 {
     let Ok(disk) = MemDisk::new(alloc, DEVICE_BYTES) else {
         return Err(NoMemory);
     };
-    match StateStore::format(alloc, disk, 1) {
+    match StateStore::format(alloc, Planned::new(disk), 1) {
         Ok(state) => Ok(state),
         Err(_) => Err(NoMemory),
     }
@@ -76,14 +92,14 @@ impl MemServer {
         slots: u32,
     ) -> Result<MemServer, NoMemory>
         ensures site { IfOk result (λ server. site_of server ≡ record { me = me; servers = servers; server = first_server true slots }) }
-        ensures device { IfOk result (λ server. ⟦<MemDisk as Disk>⟧.size server.store.disk ≡ slot_start slots) }
+        ensures device { IfOk result (λ server. ⟦<Planned<MemDisk> as Disk>⟧.size server.store.disk ≡ slot_start slots) }
     {
         let Ok(disk) = MemDisk::new(alloc, DATA_START + SLOT_BYTES * u64::from(slots)) else {
             return Err(NoMemory);
         };
         let core = ServerCore::start(alloc, me, servers)?;
         let state = first_state(alloc)?;
-        match Store::format(alloc, disk, slots, false) {
+        match Store::format(alloc, Planned::new(disk), slots, false) {
             Ok(store) => Ok(MemServer {
                 core,
                 store,
@@ -94,10 +110,20 @@ impl MemServer {
         }
     }
 
+    /// From now on this plan counts at the device, and no earlier one.
+    pub fn arm(&mut self, device: Which, plan: Plan)
+        ensures { site_of self.new ≡ site_of self.old }
+    {
+        match device {
+            Which::Data => self.store.arm(plan),
+            Which::State => self.state.arm(plan),
+        }
+    }
+
     /// It stops, where it runs.
     fn stop(&mut self, alloc: Global) -> Result<Sequence<Letter>, NoMemory>
-        ensures site { OnOk result (site_of self.new ≡ site_after (site_of self.old) Stop) }
-        ensures letters { IfOk result (λ letters. letters ≡ (acted_at (site_of self.old) Stop).letters) }
+        ensures site { OnOk result (whole_of self.new ≡ whole_after (whole_of self.old) Stop) }
+        ensures letters { IfOk result (λ letters. letters ≡ (acted_at (whole_of self.old) Stop).letters) }
     {
         if !self.core.is_running() {
             return Err(NoMemory);
@@ -105,22 +131,63 @@ impl MemServer {
         Ok(self.core.stop(alloc))
     }
 
-    /// Does the first job of the queue. A server whose journal is full stops.
-    fn work(&mut self, alloc: Global) -> Result<Sequence<Letter>, NoMemory>
-        ensures site { OnOk result (site_of self.new ≡ site_after (site_of self.old) (Work Done)) }
-        ensures letters { IfOk result (λ letters. letters ≡ (acted_at (site_of self.old) (Work Done)).letters) }
+    /// Does the first job of the queue. A server whose journal is full stops, and so does one of which a device fails: then the
+    /// devices tell whether the commit was made.
+    fn work(&mut self, alloc: Global) -> Result<Taken, NoMemory>
+        ensures site { IfOk result (λ taken. site_of self.new ≡ left_at (whole_after (whole_of self.old) (Work taken.end))) }
+        ensures letters { IfOk result (λ taken. taken.letters ≡ (acted_at (whole_of self.old) (Work taken.end)).letters) }
     {
-        if self.over || self.core.spent(&self.store) {
+        if self.over || !self.core.is_running() || self.core.spent(&self.store) {
             return Err(NoMemory);
         }
+        // as many slots as a number of 32 bits can tell
+        let _slots = self.store.slots();
+        let before = Counts::of(&self.store, &self.state);
         match self.core.work(alloc, &mut self.store, &mut self.state) {
-            Ok(Some(letters)) => Ok(letters),
-            Ok(None) => Ok(Sequence::new(alloc)),
-            Err(WorkError::JournalFull) => self.stop(alloc),
-            Err(_) => {
+            Ok(Some(letters)) => Ok(done(letters)),
+            Ok(None) => Ok(done(Sequence::new(alloc))),
+            Err(WorkError::JournalFull) => Ok(done(self.stop(alloc)?)),
+            Err(WorkError::Failed) => {
+                self.over = true;
+                let letters = self.core.stop(alloc);
+                let end = WorkEnd::Fault(reopen(alloc, &mut self.store, &mut self.state, before)?);
+                Ok(Taken { letters, end })
+            }
+            Err(WorkError::NoMemory) => {
                 self.over = true;
                 Err(NoMemory)
             }
+        }
+    }
+
+    /// Takes the step, whatever it has in memory.
+    fn act(&mut self, alloc: Global, step: &Step) -> Result<Taken, NoMemory>
+        ensures site { IfOk result (λ taken. site_of self.new ≡ left_at (whole_after (whole_of self.old) (ended step.now taken.end))) }
+        ensures letters { IfOk result (λ taken. taken.letters ≡ (acted_at (whole_of self.old) (ended step.now taken.end)).letters) }
+        ensures end { IfOk result (λ taken. taken.end ≡ end_in (ended step.now taken.end)) }
+    {
+        match step {
+            Step::Call { line: _ } => Ok(done(Sequence::new(alloc))),
+            Step::Deliver { letter } => {
+                self.core.deliver(letter.share()?)?;
+                Ok(done(Sequence::new(alloc)))
+            }
+            Step::Tick => Ok(done(self.core.tick(alloc)?)),
+            Step::Work(_) => self.work(alloc),
+            Step::Stop => Ok(done(self.stop(alloc)?)),
+            Step::Glance { line, round } => Ok(done(self.core.glance(alloc, *line, *round)?)),
+        }
+    }
+
+    /// Whether it runs, or the step is one that a server takes that has stopped.
+    fn may_take(&self, step: &Step) -> bool
+        ensures { result ≡ may_take step.now self.now.core.running }
+    {
+        match step {
+            Step::Tick | Step::Work(_) | Step::Stop => self.core.is_running(),
+            Step::Call { line: _ }
+            | Step::Deliver { letter: _ }
+            | Step::Glance { line: _, round: _ } => true,
         }
     }
 }
@@ -130,19 +197,11 @@ impl Host for MemServer {
 
     ghost seen = { site_of };
 
-    fn step(&mut self, alloc: Global, step: &Step) -> Result<Sequence<Letter>, NoMemory> {
-        match step {
-            Step::Call { line: _ } => Ok(Sequence::new(alloc)),
-            Step::Deliver { letter } => {
-                self.core.deliver(letter.share()?)?;
-                Ok(Sequence::new(alloc))
-            }
-            Step::Tick => self.core.tick(alloc),
-            Step::Work(WorkEnd::Done) => self.work(alloc),
-            Step::Work(WorkEnd::Fault(_)) => Err(NoMemory),
-            Step::Stop => self.stop(alloc),
-            Step::Glance { line, round } => self.core.glance(alloc, *line, *round),
+    fn step(&mut self, alloc: Global, step: &Step) -> Result<Taken, NoMemory> {
+        if !self.may_take(step) {
+            return Err(NoMemory);
         }
+        self.act(alloc, step)
     }
 
     fn is_running(&self) -> bool {
@@ -150,7 +209,7 @@ impl Host for MemServer {
     }
 
     fn is_idle(&self) -> bool {
-        self.core.is_idle()
+        !self.core.is_running() || self.core.is_idle()
     }
 
     fn is_spent(&self) -> bool {
@@ -158,6 +217,10 @@ impl Host for MemServer {
     }
 
     fn rev(&self) -> Rev {
-        self.core.rev()
+        if self.core.is_running() {
+            self.core.rev()
+        } else {
+            0
+        }
     }
 }

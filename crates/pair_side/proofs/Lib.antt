@@ -2,5 +2,4 @@ pub mod Tickets
 pub mod Said
 pub mod Kept
 pub mod Blank
-pub mod Commits
 pub mod Crossings

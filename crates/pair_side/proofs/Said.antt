@@ -1,16 +1,18 @@
 -- A job without a call of the device is one that may have made one.
-use Rattle.std.proofs.Common.{◌≡◌, Result, Ok, Err, refl, sym, subst, ap, ◌∙◌, arith}
+use Rattle.std.proofs.Common.{◌≡◌, ℕ, List, Result, Ok, Err, refl, sym, subst, ap, ◌∙◌, arith}
 use Rattle.petal_disk.specs.declared.disk.Disk.{Ghosts}
 use Rattle.petal_rules.specs.Server.{Here}
 use Rattle.petal_rules.specs.Server as rules
 use Rattle.server_store.specs.Holdings.{Holdings}
+use Rattle.kept_chains.proofs.Commits.{still_moments}
 use Rattle.pair_side.specs.declared.error.WorkError.{WorkError}
 use Rattle.pair_side.specs.declared.error.WorkError.TheVariants.{JournalFull, NoMemory}
 use Rattle.pair_side.specs.declared.done.Done.{Done}
 use Rattle.pair_side.specs.Side.{Side}
 use Rattle.pair_side.specs.Done.{HoldsAt, IsFull, IsSaid, IsDone}
 
-module _ {D : Type 0} (device : Ghosts D) (stays : (d : D) → device.came_to d d) where
+module _ {D : Type 0} (device : Ghosts D) (stays : (d : D) → device.came_to d d)
+    (only_now : (d : D) (c : List ℕ) → device.left_since d (device.moment d) c → device.may_leave d c) where
   -- where the device is as it was
   run_same : (old new : Holdings D) → new.disk ≡ old.disk → device.came_to old.disk new.disk
   run_same old new same = subst (device.came_to old.disk) (sym same) (stays old.disk)
@@ -31,6 +33,7 @@ module _ {D : Type 0} (device : Ghosts D) (stays : (d : D) → device.came_to d 
     done = λ _. said.done;
     keeps = said.keeps;
     holds = λ _. shown_still old_store new_store said.store;
+    moments = λ _. still_moments device only_now old_store new_store rule.own.store (disk_is old_store new_store said.store);
     still = λ no. absurd (cc);
     same = λ no. absurd (cc);
     kept = tt;
@@ -42,6 +45,7 @@ module _ {D : Type 0} (device : Ghosts D) (stays : (d : D) → device.came_to d 
     done = tt;
     keeps = tt;
     holds = λ _ _. tt;
+    moments = λ _. still_moments device only_now old_store new_store rule.own.store (disk_is old_store new_store said.store);
     still = λ _ _. shown_still old_store new_store said.store;
     same = λ _. (said.err.1, said.err.2 ∙ ap (λ (s : Holdings D). record old_store { disk = s.disk }) (sym said.err.2));
     kept = λ _. entries_are old_store new_store said.store;
@@ -62,6 +66,7 @@ module _ {D : Type 0} (device : Ghosts D) (stays : (d : D) → device.came_to d 
         done = tt;
         keeps = tt;
         holds = λ _ _. tt;
+        moments = λ _. still_moments device only_now before after rule.own.store disk;
         still = λ no. absurd (cc);
         same = λ no. absurd (cc);
         kept = λ _. ap (λ (s : Holdings D). s.entries) full.same.1;

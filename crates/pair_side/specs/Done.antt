@@ -1,6 +1,7 @@
 -- What a job leaves, and what every job keeps.
 use Rattle.std.specs.Prelude.{◌≡◌, ◌≤◌, ◌<◌, ℕ, ◌+◌, ◌-◌, ◌^◌, length, List, [], ◌∷◌, Option, None, Some, Result, Err, IfOk, IfErr, OnOk, OnErr}
 use Rattle.petal_base.specs.declared.cell.Cell.{Cell}
+use Rattle.petal_disk.specs.Disk.{LeavesOnly}
 use Rattle.petal_disk.specs.declared.disk.Disk.{Ghosts}
 use Rattle.petal_msg.specs.declared.letter.Letter.{Letter}
 use Rattle.physical_map.specs.Entries.{top_of}
@@ -10,6 +11,8 @@ use Rattle.petal_rules.specs.declared.job.Job.{Job}
 use Rattle.petal_rules.specs.declared.job.Job.TheVariants as job
 use Rattle.server_store.specs.Holdings.{Holdings, listed}
 use Rattle.server_store.specs.Shown.{Holds}
+use Rattle.kept_chains.specs.Kept.{store_of}
+use Rattle.kept_chains.specs.Standing.{StandsAsEither}
 use Rattle.pair_side.specs.declared.error.WorkError.{WorkError}
 use Rattle.pair_side.specs.declared.error.WorkError.TheVariants.{Failed, JournalFull, NoMemory}
 use Rattle.pair_side.specs.declared.done.Done.{Done}
@@ -59,11 +62,14 @@ module _ {D : Type 0} where
 
   -- a job is the rule's where the device tells its bytes, and the tickets still stand where they are needed; a device that showed
   -- the store shows it after the job too, and after one that was refused for memory, which left all but the device's state as it
-  -- was. Any other refusal left the entries. `JournalFull` comes only where the journal has no room for the record of the job
+  -- was. A crash at any moment leaves the store before the job, or the rule's after it. Any other refusal left the entries.
+  -- `JournalFull` comes only where the journal has no room for the record of the job
   pub record IsDone (device : Ghosts D) (here : Here) (old new : Side) (before after : Holdings D) (result : Result Done WorkError) (rule : Rule) : Type 0 where
     pub done : IfOk result (λ done. device.told → IsBy here (own_of new after) done rule)
     pub keeps : OnOk result (HasTicketsAt new after)
     pub holds : device.told → HoldsAt device before → OnOk result (HoldsAt device after)
+    pub moments : device.told → HoldsAt device before
+        → LeavesOnly device.moment device.left_since before.disk after.disk (StandsAsEither (store_of before) rule.own.store)
     pub still : result ≡ Err NoMemory → device.told → HoldsAt device before → HoldsAt device after
     pub same : result ≡ Err NoMemory → (new ≡ old) × (after ≡ record before { disk = after.disk })
     pub kept : OnErr result (device.told → after.entries ≡ before.entries)

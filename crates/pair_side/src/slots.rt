@@ -3,10 +3,12 @@
 ghost use Rattle.std.specs.Prelude.{◌≡◌, ◌+◌, ◌++◌, ◌∷◌, [], nat_lt, true, false, ℕ, None, Some, IsSome, IfOk, OnOk, OnErr, IfErr, IsErrOf};
 ghost use Rattle.std.specs.List.Sorted.{IsStrictlySortedBy};
 ghost use Rattle.std.specs.Map.{keys_of};
+ghost use Rattle.petal_disk.specs.Disk.{LeavesOnly};
 ghost use Rattle.petal_table.specs.Table.{at, put, without};
 ghost use Rattle.petal_rules.specs.Store.{cell_cmp, free_of, with_entry};
 ghost use Rattle.server_store.specs.Tickets as lists;
 ghost use Rattle.kept_chains.specs.Kept.{store_of};
+ghost use Rattle.kept_chains.specs.Standing.{StandsAsEither};
 ghost use Rattle.pair_side.specs.declared.error.WorkError.TheVariants as error;
 ghost use Rattle.pair_side.specs.Done.{HasFault, HoldsAt};
 ghost use Rattle.pair_side.specs.Slots.{IsKept, IsStop, IsOutAt};
@@ -58,6 +60,8 @@ pub fn spend<D: Disk>(
     ensures sorted { IsStrictlySortedBy cell_cmp (keys_of table.old) }
     ensures kept { OnErr result (D.told → store.new.entries ≡ store.old.entries) }
     ensures holds { D.told → HoldsAt D.Disk store.old → OnOk result (HoldsAt D.Disk store.new) }
+    ensures moments { D.told → HoldsAt D.Disk store.old → LeavesOnly D.moment D.left_since store.old.disk store.new.disk
+        (StandsAsEither (store_of store.old) (with_entry (store_of store.old) key (record { version = version; bytes = block.now }))) }
     ensures errors { IfErr result IsStop }
     ensures full { IsErrOf result error.JournalFull → (store.old.log.region.count ≡ 65536) × (table.new ≡ table.old) × (store.new ≡ store.old) }
     ensures cause { HasFault (D.faults store.old.disk) (D.faults store.new.disk) result }

@@ -5,7 +5,7 @@ ghost use Rattle.petal_disk.specs.Disk.{LeavesOnly};
 ghost use Rattle.paxos_core.specs.Needs.{Needs};
 ghost use Rattle.petal_paxos.specs.Member.{put};
 ghost use Rattle.petal_paxos.specs.Acceptor.{is_open, on_prepare, prepare_reply, on_accept, accept_reply};
-ghost use Rattle.state_store.specs.Device.{Holds, WithOrWithout};
+ghost use Rattle.state_store.specs.Device.{Holds, StandsForEither, WithOrWithout};
 ghost use Rattle.state_store.specs.Errors.{IsCommitError};
 ghost use Rattle.petal_paxos.specs.Kept.{acceptor_of, committed};
 ghost use Rattle.petal_paxos.specs.declared.record.StateRecord.TheVariants as kind;
@@ -33,7 +33,8 @@ pub fn on_prepare<D: Disk>(
     ensures holds { D.told → Holds store.old.region (D.seen store.old.disk) (D.may_leave store.old.disk) store.old.records
         → OnOk result (Holds store.new.region (D.seen store.new.disk) (D.may_leave store.new.disk) store.new.records) }
     ensures any_moment { D.told → Holds store.old.region (D.seen store.old.disk) (D.may_leave store.old.disk) store.old.records
-        → LeavesOnly D.moment D.left_since store.old.disk store.new.disk (λ c. WithOrWithout c store.old.records (kind.Promise place ballot)) }
+        → LeavesOnly D.moment D.left_since store.old.disk store.new.disk (StandsForEither store.old.records
+        (if is_open (acceptor_of store.old.records place) ballot then committed store.old.records (kind.Promise place ballot) else store.old.records)) }
     ensures either { D.told → Holds store.old.region (D.seen store.old.disk) (D.may_leave store.old.disk) store.old.records
         → WithOrWithout (D.seen store.new.disk) store.old.records (kind.Promise place ballot) }
     ensures full { IsErrOf result error.JournalFull → (store.old.region.count ≡ 65536) × Needs store.old.records place ballot (kind.Promise place ballot) × (store.new ≡ store.old) }
@@ -79,7 +80,8 @@ pub fn on_accept<D: Disk>(
     ensures holds { D.told → Holds store.old.region (D.seen store.old.disk) (D.may_leave store.old.disk) store.old.records
         → OnOk result (Holds store.new.region (D.seen store.new.disk) (D.may_leave store.new.disk) store.new.records) }
     ensures any_moment { D.told → Holds store.old.region (D.seen store.old.disk) (D.may_leave store.old.disk) store.old.records
-        → LeavesOnly D.moment D.left_since store.old.disk store.new.disk (λ c. WithOrWithout c store.old.records (kind.Accepted place ballot command.now)) }
+        → LeavesOnly D.moment D.left_since store.old.disk store.new.disk (StandsForEither store.old.records
+        (if is_open (acceptor_of store.old.records place) ballot then committed store.old.records (kind.Accepted place ballot command.now) else store.old.records)) }
     ensures either { D.told → Holds store.old.region (D.seen store.old.disk) (D.may_leave store.old.disk) store.old.records
         → WithOrWithout (D.seen store.new.disk) store.old.records (kind.Accepted place ballot command.now) }
     ensures full { IsErrOf result error.JournalFull → (store.old.region.count ≡ 65536) × Needs store.old.records place ballot (kind.Accepted place ballot command.now) × (store.new ≡ store.old) }

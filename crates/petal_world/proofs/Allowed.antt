@@ -15,6 +15,7 @@ use Rattle.petal_world.specs.Seats.{seat_of}
 use Rattle.world_desks.specs.Waiting.{AreBehind, AreRising}
 use Rattle.petal_world.specs.Actors.{Actors, Shows}
 use Rattle.world_desks.proofs.Awaiting.{waiting_rise, before_from_behind, behind_from_before}
+use Rattle.world_desks.proofs.Left.{left_spent}
 use Rattle.world_desks.proofs.Ranges.{IsAt, at_range, get_range}
 
 never : {X : Type 0} (o : Option X) (x : X) → o ≡ None → o ≡ Some x → ⊥
@@ -96,11 +97,12 @@ module _ (setting : Setting) (w : World) (actors : Actors) (n : ℕ) (what : Ste
   pub server_exact : (b : Bool) → desk.clock < greatest_u64 → received what < greatest_u64 → server.is_spent_server desk.site.server ≡ false → (IsTrue b ↔ MayServer what w n) → IsTrue b ↔ MayStep setting w (actor.Server n) what
   server_exact b clock receives goes_on may =
       let less : w.server_clocks n < greatest_u64 = subst (λ (d : Desk). d.clock < greatest_u64) held.value clock in
-      let fresh = subst (λ (d : Desk). server.is_spent_server d.site.server ≡ false) held.value goes_on in
+      let fresh = sym (left_spent (w.servers n)) ∙ subst (λ (d : Desk). server.is_spent_server d.site.server ≡ false) held.value goes_on in
       ((λ t. record { may = (held.within, may.0 t); clock = less; receives = receives; goes_on = fresh }), (λ step. may.1 step.may.1))
 
   pub server_spent : server.is_spent_server desk.site.server ≡ true → MayStep setting w (actor.Server n) what → ⊥
-  server_spent spent step = clash _ step.goes_on (subst (λ (d : Desk). server.is_spent_server d.site.server ≡ true) held.value spent)
+  server_spent spent step = clash _ step.goes_on
+      (sym (left_spent (w.servers n)) ∙ subst (λ (d : Desk). server.is_spent_server d.site.server ≡ true) held.value spent)
 
   pub server_late : greatest_u64 ≤ desk.clock → MayStep setting w (actor.Server n) what → ⊥
   server_late late step =

@@ -3,3 +3,4 @@ pub mod Allowed
 pub mod Acting
 pub mod Playing
 pub mod Starting
+pub mod Ending

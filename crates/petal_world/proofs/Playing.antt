@@ -8,15 +8,17 @@ use Rattle.script_lines.specs.declared.request.Line.{Line}
 use Rattle.petal_rules.specs.World.{Setting, World, MayStep, MayClient, start, clock_of, next_stamp, next_line, setting_of}
 use Rattle.petal_rules.specs.declared.step.Step.{Step}
 use Rattle.petal_rules.specs.declared.step.Step.TheVariants.{Call, Deliver, Tick, Work, Stop, Glance}
+use Rattle.petal_rules.specs.declared.step.WorkEnd.{WorkEnd}
 use Rattle.petal_history.specs.Legal.{IsLegalFrom, Follows, InPhase, CallsInPhase, world_after, stepped}
 use Rattle.petal_history.specs.declared.record.Record.{Record}
 use Rattle.client_core.specs.Core.{is_spent}
 use Rattle.petal_world.specs.declared.seat.Seat.{Seat}
 use Rattle.petal_world.specs.declared.stepped.Stepped.{Stepped}
-use Rattle.world_desks.specs.Desks.{desk_of}
+use Rattle.world_desks.specs.Desks.{desk_of, ended}
 use Rattle.petal_world.specs.Play.{Play, IsKept, LeavesIn, Can, world_of, stamp_of, phase_of, phase_for, record_of, played, told_by}
 use Rattle.petal_world.specs.Seats.{CanTake, seat_of}
 use Rattle.petal_world.specs.Actors.{Actors, Shows}
+use Rattle.petal_world.proofs.Ending.{may_ended, stamp_ended, phase_ended}
 use Rattle.world_desks.proofs.Ranges.{get_range}
 
 -- ### What is kept can take an allowed step
@@ -109,3 +111,27 @@ module _ (play : Play) (actors new : Actors) (who : Actor) (what : Step) (stamp 
         legal = legal_more (setting_of play.script) play.records (start (setting_of play.script)) (record_of play who what) h.legal (follows play who what may);
         shows = λ on. shown;
       })
+
+-- the step that was allowed, with the end that its job had
+module _ (play : Play) (actors new : Actors) (who : Actor) (what : Step) (end : WorkEnd) (stamp phase : ℕ) (told : Stepped)
+    (h : IsKept play actors) (going : play.over ≡ false)
+    (may : MayStep (setting_of play.script) (world_of play) who what)
+    (at : stamp ≡ stamp_of play.floor (world_of play) who what)
+    (during : phase ≡ phase_for what who (setting_of play.script) (world_of play) play.phase)
+    (left : LeavesIn actors who (ended what end) stamp new told) where
+  may_so : MayStep (setting_of play.script) (world_of play) who (ended what end)
+  may_so = may_ended (setting_of play.script) (world_of play) who what end may
+
+  at_so : stamp ≡ stamp_of play.floor (world_of play) who (ended what end)
+  at_so = at ∙ sym (stamp_ended play.floor (world_of play) who what end)
+
+  during_so : phase ≡ phase_for (ended what end) who (setting_of play.script) (world_of play) play.phase
+  during_so = during ∙ sym (phase_ended what end who (setting_of play.script) (world_of play) play.phase)
+
+  pub told_ended : told ≡ told_by play who (ended what end)
+  told_ended = told_so play actors new who (ended what end) stamp phase told h going may_so at_so during_so left
+
+  pub kept_ended : (records : List Record)
+      → records ≡ play.records ++ record { actor = who; stamp = stamp; phase = phase; step = ended what end; sent = told.letters; answer = told.answer } ∷ []
+      → IsKept (record play { records = records }) new
+  kept_ended records are = kept_next play actors new who (ended what end) stamp phase told h going may_so at_so during_so left records are

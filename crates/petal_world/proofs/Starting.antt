@@ -20,6 +20,7 @@ use Rattle.petal_world.specs.Seats.{seat_of, seats_of}
 use Rattle.world_desks.specs.Sent.{Lists}
 use Rattle.petal_world.specs.Actors.{Actors, Shows}
 use Rattle.world_desks.specs.Waiting.{Await}
+use Rattle.world_desks.proofs.Left.{left_rev}
 use Rattle.world_desks.proofs.Letters.{none_sent}
 use Rattle.world_desks.proofs.Ranges.{get_range, at_range}
 
@@ -70,7 +71,7 @@ module _ (setting : Setting) (w : World) (actors : Actors) (who : Actor) (h : Sh
   pub server_rev : (n : ℕ) (desk : Desk) → who ≡ actor.Server n → slice_get actors.desks n ≡ Some desk → (if desk.site.server.life.running then Some (rev_in desk.site.server.log) else None) ≡ rev_of setting w who
   server_rev n desk is at =
       let own = at_range (desk_of setting w) setting.servers n desk (ap (λ desks. slice_get desks n) (sym h.desks) ∙ at) in
-      ap (λ (d : Desk). if d.site.server.life.running then Some (rev_in d.site.server.log) else None) own.value
+      ap (λ (d : Desk). if d.site.server.life.running then Some (rev_in d.site.server.log) else None) own.value ∙ left_rev (w.servers n)
       ∙ ap (λ b. if b && (w.servers n).life.running then Some (rev_in (w.servers n).log) else None) (sym (below n setting.servers own.within))
       ∙ ap (λ a. rev_of setting w a) (sym is)
 

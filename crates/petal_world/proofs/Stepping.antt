@@ -10,12 +10,12 @@ use Rattle.script_lines.specs.declared.answer.Answer.{Answer}
 use Rattle.script_lines.specs.declared.request.Line.{Line}
 use Rattle.petal_rules.specs.Lists.{In, put_at}
 use Rattle.petal_rules.specs.State.{State}
-use Rattle.petal_rules.specs.Log.{LogDone}
+use Rattle.petal_rules.specs.Log.{LogDone, state_in}
 use Rattle.petal_rules.specs.Server.{Done, Here, Post, Sender, Server, letters_of, sender}
 use Rattle.petal_rules.specs.Entries.{applies}
 use Rattle.petal_rules.specs.Jobs.{Acted, does, entered, faults, glance_sender, glances, here_of, operator, shown, is_log_job, is_overfull, job_done, log_does, stops, voter_of, worked, works}
 use Rattle.petal_rules.specs.Clients.{Reaction, client_sender}
-use Rattle.petal_rules.specs.World.{Setting, World, Control, Stepped, controls, step, stamped, clock_of, with_answer, client_step, server_step, next_line, lines_of, client_state, server_state}
+use Rattle.petal_rules.specs.World.{Setting, World, Control, Stepped, MayServer, controls, step, stamped, clock_of, with_answer, client_step, server_step, next_line, lines_of, client_state, server_state}
 use Rattle.petal_rules.specs.declared.job.Job.{Job}
 use Rattle.petal_rules.specs.declared.job.Job.TheVariants as job
 use Rattle.petal_rules.specs.declared.step.CommitEnd.{CommitEnd}
@@ -26,11 +26,12 @@ use Rattle.petal_rules.specs.declared.step.WorkEnd.TheVariants as work_end
 use Rattle.petal_rules.proofs.ListLemmas.{in-append, put_same, put_apart}
 use Rattle.world_desks.specs.declared.name.LetterName.{LetterName}
 use Rattle.petal_world.specs.declared.seat.Seat.{Seat}
-use Rattle.world_desks.specs.Desks.{Desk, desk_of, site_after}
+use Rattle.world_desks.specs.Desks.{Desk, desk_of, left_of, site_after}
 use Rattle.petal_world.specs.Seats.{seat_of, reacted_at}
 use Rattle.world_desks.specs.Sent.{Lists, with_letters}
 use Rattle.world_desks.specs.Waiting.{Await}
 use Rattle.petal_world.specs.Actors.{Actors, Shows, without_answered, client_letters, with_client, server_letters, with_server}
+use Rattle.world_desks.proofs.Left.{StepsLeft, allowed, steps_left}
 use Rattle.world_desks.proofs.Ranges.{set_range, same_range}
 use Rattle.world_desks.proofs.Letters.{IsPast, lists_all, step_letters_new, of_step}
 use Rattle.world_desks.proofs.Awaiting.{one_answered}
@@ -205,16 +206,26 @@ server_posts (Work (work_end.Fault end)) state n stamp server = fault_posts end 
 server_posts Stop state n stamp server = stop_posts (here_of state n server) server stamp
 server_posts (Glance line round) state n stamp server = glance_posts line round (here_of state n server) server stamp
 
-module _ (setting : Setting) (w : World) (actors : Actors) (h : Shows setting w actors) (n : ℕ) (what : Step) (stamp : ℕ) where
+module _ (setting : Setting) (w : World) (actors : Actors) (h : Shows setting w actors) (n : ℕ) (what : Step) (stamp : ℕ) (may : MayServer what w n) where
   abbrev desk : Desk
   desk = desk_of setting w n
 
   abbrev by_server : Stepped
   by_server = step (actor.Server n) what setting w stamp
 
+  abbrev acts_so : Acted
+  acts_so = server_step what (server_state setting w n) n (w.servers n)
+
+  -- what is left of the server shows the step as the server does
+  left : StepsLeft setting.servers n (w.servers n) what
+  left = steps_left setting.servers n (w.servers n) what (allowed w n what may)
+
+  own_letters : stamped stamp acts_so.letters ≡ server_letters desk what stamp
+  own_letters = ap (λ (letters : List Letter). stamped stamp letters) (sym left.letters)
+
   server_sent : by_server.world.sent ≡ server_letters desk what stamp ++ w.sent
   unfolding step
-  server_sent = refl
+  server_sent = ap (λ (letters : List Letter). letters ++ w.sent) own_letters
 
   server_clock : clock_of by_server.world (actor.Server n) ≡ stamp
   unfolding step
@@ -231,13 +242,10 @@ module _ (setting : Setting) (w : World) (actors : Actors) (h : Shows setting w 
     | inr ne ↦ let e = put_apart w.server_clocks n stamp m ne in omega arith
   ]
 
-  abbrev acts_so : Acted
-  acts_so = server_step what (server_state setting w n) n (w.servers n)
-
   own_desk : record { site = site_after desk.site what; clock = stamp } ≡ desk_of setting by_server.world n
   unfolding step
   own_desk =
-      let server : acts_so.server ≡ put_at w.servers n acts_so.server n = sym (put_same w.servers n acts_so.server) in
+      let server = left.left ∙ ap (λ (s : Server). left_of s) (sym (put_same w.servers n acts_so.server)) in
       let clock : stamp ≡ put_at w.server_clocks n stamp n = sym (put_same w.server_clocks n stamp) in
       λ i. record { site = record { me = n; servers = setting.servers; server = server i }; clock = clock i }
 
@@ -246,7 +254,7 @@ module _ (setting : Setting) (w : World) (actors : Actors) (h : Shows setting w 
   other_desk k ne =
       let server : w.servers k ≡ put_at w.servers n acts_so.server k = sym (put_apart w.servers n acts_so.server k ne) in
       let clock : w.server_clocks k ≡ put_at w.server_clocks n stamp k = sym (put_apart w.server_clocks n stamp k ne) in
-      λ i. record { site = record { me = k; servers = setting.servers; server = server i }; clock = clock i }
+      λ i. record { site = record { me = k; servers = setting.servers; server = left_of (server i) }; clock = clock i }
 
   same_seat : (c : ℕ) → seat_of setting w c ≡ seat_of setting by_server.world c
   unfolding step
@@ -261,7 +269,7 @@ module _ (setting : Setting) (w : World) (actors : Actors) (h : Shows setting w 
   server_controls = ap (λ (own : Control). controls what n own) h.control
 
   abbrev posts : ArePosted (actor.Server n) stamp (server_letters desk what stamp)
-  posts = server_posts what (server_state setting w n) n stamp (w.servers n)
+  posts = server_posts what (state_in setting.servers (left_of (w.servers n)).log) n stamp (left_of (w.servers n))
 
   -- what is kept after a server's step is that of the world after it
   pub server_shows : n < setting.servers → clock_of w (actor.Server n) < stamp → Shows setting by_server.world (with_server actors n desk what stamp)
@@ -278,4 +286,4 @@ module _ (setting : Setting) (w : World) (actors : Actors) (h : Shows setting w 
 
   pub server_gives : (by_server.letters ≡ server_letters desk what stamp) × (by_server.answer ≡ None)
   unfolding step
-  server_gives = (refl, refl)
+  server_gives = (own_letters, refl)

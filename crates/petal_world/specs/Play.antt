@@ -14,6 +14,7 @@ use Rattle.petal_history.specs.Legal.{IsLegal, world_after}
 use Rattle.petal_history.specs.declared.record.Record.{Record}
 use Rattle.client_core.specs.Core.{is_spent}
 use Rattle.petal_world.specs.declared.stepped.Stepped.{Stepped}
+use Rattle.world_desks.specs.Desks.{end_in}
 use Rattle.world_desks.specs.Playable.{AreOrdered}
 use Rattle.petal_world.specs.Seats.{CanTake}
 use Rattle.petal_world.specs.Actors.{Actors, Shows}
@@ -77,9 +78,9 @@ record_of play who what = record {
 abbrev pub played : Play → Actor → Step → Play
 played play who what = record play { records = play.records ++ record_of play who what ∷ [] }
 
--- what the step tells
+-- what the step tells: the letters that it sent, the answer that it gave, and how its job ended
 abbrev pub told_by : Play → Actor → Step → Stepped
-told_by play who what = record { letters = (done_by play who what).letters; answer = (done_by play who what).answer }
+told_by play who what = record { letters = (done_by play who what).letters; answer = (done_by play who what).answer; end = end_in what }
 
 -- the revision of a running server or a client
 abbrev pub rev_of : Setting → World → Actor → Option ℕ
@@ -102,7 +103,8 @@ pub record IsKept (play : Play) (actors : Actors) : Type 0 where
 -- in every world of which this is kept, a step leaves and tells what the rule says
 abbrev pub Leaves : Setting → World → Actor → Step → ℕ → Actors → Stepped → Type 0
 Leaves setting w who what stamp new told =
-    Shows setting (step who what setting w stamp).world new × (told ≡ record { letters = (step who what setting w stamp).letters; answer = (step who what setting w stamp).answer })
+    Shows setting (step who what setting w stamp).world new
+    × (told ≡ record { letters = (step who what setting w stamp).letters; answer = (step who what setting w stamp).answer; end = end_in what })
 
 abbrev pub LeavesIn : Actors → Actor → Step → ℕ → Actors → Stepped → Type 0
 LeavesIn actors who what stamp new told = (setting : Setting) (w : World) → Shows setting w actors → MayStep setting w who what → clock_of w who < stamp → Leaves setting w who what stamp new told

@@ -2,7 +2,8 @@
 
 ghost use Rattle.std.specs.Prelude.{◌≡◌, ◌<◌, false, None, Some, length, slice_get, IfOk, IfSome};
 ghost use Rattle.client_core.specs.Core.{is_spent};
-ghost use Rattle.world_desks.specs.Desks.{Desk};
+ghost use Rattle.petal_rules.specs.declared.step.WorkEnd.TheVariants.{Done};
+ghost use Rattle.world_desks.specs.Desks.{Desk, end_in, ended};
 ghost use Rattle.petal_world.specs.Seats.{CanTake, reacted_at};
 ghost use Rattle.petal_world.specs.Actors.{client_letters, server_letters, with_client, with_server};
 ghost use Rattle.petal_world.specs.declared.seat.Seat.{Seat};
@@ -11,7 +12,7 @@ use crate::control::Control;
 use crate::seats::Seats;
 use crate::stepped::Stepped;
 use petal_base::{ClientId, NoMemory, ServerId, Stamp};
-use petal_rules::Step;
+use petal_rules::{Step, WorkEnd};
 use std::alloc::Global;
 use std::marker::Model;
 use world_desks::Host;
@@ -51,7 +52,8 @@ impl<H: Host> Actors<H> {
         requires can { IfSome (slice_get self.old.seats client) (λ seat. CanTake step.now seat.core.client) }
         requires goes_on { IfSome (slice_get self.old.seats client) (λ seat. is_spent seat.core.client ≡ false) }
         ensures { IfOk result (λ stepped. (seat : Seat) → slice_get self.old.seats client ≡ Some seat
-            → (stepped ≡ record { letters = client_letters seat step.now stamp; answer = (reacted_at seat step.now).1.answer }) × (self.new ≡ with_client self.old client seat step.now stamp)) }
+            → (stepped ≡ record { letters = client_letters seat step.now stamp; answer = (reacted_at seat step.now).1.answer; end = Done })
+            × (self.new ≡ with_client self.old client seat step.now stamp)) }
     {
         let reaction = self.seats.step(alloc, client, step, stamp)?;
         let letters = stamped(alloc, reaction.letters, stamp)?;
@@ -62,10 +64,11 @@ impl<H: Host> Actors<H> {
         Ok(Stepped {
             letters,
             answer: reaction.answer,
+            end: WorkEnd::Done,
         })
     }
 
-    /// A server takes a step, with this stamp.
+    /// A server takes a step, with this stamp. How a job ends is for the devices to say.
     pub fn serve(
         &mut self,
         alloc: Global,
@@ -75,15 +78,17 @@ impl<H: Host> Actors<H> {
     ) -> Result<Stepped, NoMemory>
         requires { server < length self.old.desks }
         ensures { IfOk result (λ stepped. (desk : Desk) → slice_get self.old.desks server ≡ Some desk
-            → (stepped ≡ record { letters = server_letters desk step.now stamp; answer = None }) × (self.new ≡ with_server self.old server desk step.now stamp)) }
+            → (stepped ≡ record { letters = server_letters desk (ended step.now stepped.end) stamp; answer = None; end = end_in (ended step.now stepped.end) })
+            × (self.new ≡ with_server self.old server desk (ended step.now stepped.end) stamp)) }
     {
-        let letters = self.desks.step(alloc, server, step, stamp)?;
-        let letters = stamped(alloc, letters, stamp)?;
+        let taken = self.desks.step(alloc, server, step, stamp)?;
+        let letters = stamped(alloc, taken.letters, stamp)?;
         self.sent.add_all(letters.as_slice())?;
         self.control.note(server, step);
         Ok(Stepped {
             letters,
             answer: None,
+            end: taken.end,
         })
     }
 }

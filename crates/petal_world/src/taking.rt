@@ -3,6 +3,7 @@
 ghost use Rattle.std.specs.Prelude.{◌≡◌, ◌<◌, ◌+◌, ℕ, Some, None, if◌then◌else◌, max, IfOk};
 ghost use Rattle.petal_rules.specs.World.{Setting, World, MayStep, clock_of, next_line, next_stamp, greatest_u64};
 ghost use Rattle.petal_rules.specs.declared.step.Step.{Step};
+ghost use Rattle.world_desks.specs.Desks.{ended};
 ghost use Rattle.petal_world.specs.Play.{Can, LeavesIn, phase_for, phase_of, rev_of, stamp_of};
 ghost use Rattle.petal_world.specs.Actors.{Shows};
 
@@ -104,7 +105,7 @@ impl<H: Host> Actors<H> {
         }
     }
 
-    /// An actor takes a step that it can take, with this stamp.
+    /// An actor takes a step that it can take, with this stamp. How a job ends is for the devices to say.
     pub fn act(
         &mut self,
         alloc: Global,
@@ -113,7 +114,7 @@ impl<H: Host> Actors<H> {
         stamp: Stamp,
     ) -> Result<Stepped, NoMemory>
         requires { Can self.old actor step.now }
-        ensures { IfOk result (λ stepped. LeavesIn self.old actor step.now stamp self.new stepped) }
+        ensures { IfOk result (λ stepped. LeavesIn self.old actor (ended step.now stepped.end) stamp self.new stepped) }
     {
         match actor {
             Actor::Server(server) => self.serve(alloc, server, step, stamp),

@@ -4,7 +4,7 @@ ghost use Rattle.std.specs.Prelude.{◌≡◌, ◌+◌, ◌++◌, ◌∷◌, [],
 ghost use Rattle.petal_history.specs.Legal.{IsLegal};
 ghost use Rattle.petal_rules.specs.World.{MayStep, greatest_u64, setting_of};
 ghost use Rattle.petal_world.specs.Play.{Can, LeavesIn, entered, played, rev_of, told_by, world_of};
-ghost use Rattle.world_desks.specs.Desks.{first_sites};
+ghost use Rattle.world_desks.specs.Desks.{ended, first_sites};
 ghost use Rattle.world_desks.specs.Playable.{AreNumbered, AreOrdered};
 ghost use Rattle.petal_world.specs.declared.error.WorldError.TheVariants as error;
 
@@ -20,7 +20,7 @@ use script_lines::{Answer, Script};
 use std::alloc::Global;
 use std::marker::Model;
 use world_desks::Host;
-use world_desks::copies::{answer_again, step_again};
+use world_desks::copies::{answer_again, step_taken};
 use world_desks::desks::Desks;
 use world_desks::sent::Sent;
 use world_desks::waiting::Waiting;
@@ -66,7 +66,7 @@ fn given_again(answer: &Option<(u32, Answer)>) -> Result<Option<(u32, Answer)>, 
     }
 }
 
-/// The record of a step, which shares its letters and its answer with what the step tells.
+/// The record of the step that was taken, which shares its letters and its answer with what the step tells.
 fn record(
     alloc: Global,
     actor: Actor,
@@ -75,19 +75,27 @@ fn record(
     step: &Step,
     stepped: &Stepped,
 ) -> Result<Record, NoMemory>
-    ensures { IfOk result (λ own. own ≡ record { actor = actor; stamp = stamp; phase = phase; step = step.now; sent = stepped.now.letters; answer = stepped.now.answer }) }
+    ensures { IfOk result (λ own. own
+        ≡ record {
+          actor = actor;
+          stamp = stamp;
+          phase = phase;
+          step = ended step.now stepped.now.end;
+          sent = stepped.now.letters;
+          answer = stepped.now.answer;
+        }) }
 {
     Ok(Record {
         actor,
         stamp,
         phase,
-        step: step_again(step)?,
+        step: step_taken(step, stepped.end)?,
         sent: shared(stepped.letters.as_slice(), alloc)?,
         answer: given_again(&stepped.answer)?,
     })
 }
 
-/// Takes a step that can be taken, and keeps its record.
+/// Takes a step that can be taken, and keeps the record of it with the end that its job had.
 fn take<H: Host>(
     alloc: Global,
     actors: &mut Actors<H>,
@@ -98,7 +106,16 @@ fn take<H: Host>(
     step: &Step,
 ) -> Result<Stepped, NoMemory>
     requires { Can actors.old actor step.now }
-    ensures ok { IfOk result (λ stepped. (records.new ≡ records.old ++ record { actor = actor; stamp = stamp; phase = phase; step = step.now; sent = stepped.letters; answer = stepped.answer } ∷ []) × LeavesIn actors.old actor step.now stamp actors.new stepped) }
+    ensures ok { IfOk result (λ stepped. (records.new
+        ≡ records.old ++ record {
+          actor = actor;
+          stamp = stamp;
+          phase = phase;
+          step = ended step.now stepped.end;
+          sent = stepped.letters;
+          answer = stepped.answer;
+        } ∷ [])
+        × LeavesIn actors.old actor (ended step.now stepped.end) stamp actors.new stepped) }
     ensures err { OnErr result (records.new ≡ records.old) }
 {
     let stepped = actors.act(alloc, actor, step, stamp)?;
@@ -161,12 +178,14 @@ impl<H: Host> World<H> {
         self.actors.rev(actor)
     }
 
-    /// Takes a step, and tells the letters that it sent and the answer that it gave. `NotAllowed` comes exactly where the
-    /// step is not one of the world's in this state. After it ran out of memory the step did not happen, and none follows.
+    /// Takes a step, and tells the letters that it sent, the answer that it gave and how its job ended. How a job ends is for
+    /// the devices to say, whatever end the step names: the step with the end that is told is the one that was taken, and its
+    /// record is kept. `NotAllowed` comes exactly where the step is not one of the world's in this state, which is so of a job
+    /// with each end or with none. After it ran out of memory the step did not happen, and none follows.
     pub fn step(&mut self, alloc: Global, actor: Actor, step: &Step) -> Result<Stepped, WorldError>
         ensures allowed { OnOk result (MayStep (setting_of self.old.script) (world_of self.old) actor step.now) }
-        ensures ok { OnOk result (self.new ≡ played self.old actor step.now) }
-        ensures told { IfOk result (λ stepped. stepped ≡ told_by self.old actor step.now) }
+        ensures ok { IfOk result (λ stepped. self.new ≡ played self.old actor (ended step.now stepped.end)) }
+        ensures told { IfOk result (λ stepped. stepped ≡ told_by self.old actor (ended step.now stepped.end)) }
         ensures not_allowed { IsErrOf result error.NotAllowed → MayStep (setting_of self.old.script) (world_of self.old) actor step.now → ⊥ }
         ensures unchanged { IsErrOf result error.NotAllowed → self.new ≡ self.old }
         ensures no_memory { IsErrOf result error.NoMemory → self.new ≡ record self.old { over = true } }

@@ -48,6 +48,8 @@ pub enum Act<'a> {
     Told(&'a [&'a str]),
     /// So many disks were made.
     Made(u32),
+    /// So many jobs ended since a device failed.
+    Failed(u32),
 }
 
 /// The words by which the plain machine's events are told.
@@ -134,6 +136,7 @@ pub fn act_of<'a>(words: &'a [&'a str]) -> Result<Act<'a>, usize> {
         ["agree"] => Ok(Act::Agree(None)),
         ["agree", "without", who] => Ok(Act::Agree(Some(actor(who, 3)?))),
         ["made", count] => Ok(Act::Made(number(count, 2)?)),
+        ["failed", count] => Ok(Act::Failed(number(count, 2)?)),
         [who, "calls", line] => Ok(Act::Call(client(who, 1)?, number(line, 3)?)),
         [who, "works"] => Ok(Act::Work(server(who, 1)?)),
         [who, "works", "off"] => Ok(Act::WorkOff(server(who, 1)?)),

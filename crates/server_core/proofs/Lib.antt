@@ -5,3 +5,4 @@ pub mod Works
 pub mod Stops
 pub mod Refused
 pub mod Ticks
+pub mod Pairing

@@ -1,21 +1,34 @@
 -- A job of the log that is refused.
-use Rattle.std.proofs.Common.{◌≡◌, Some, Err, refl}
+use Rattle.std.proofs.Common.{◌≡◌, Some, Result, Err, refl}
 use Rattle.std.specs.Prelude.{slice_get}
-use Rattle.log_side.specs.Done.{IsLogDone}
-use Rattle.log_side.specs.Part.{log_of}
+use Rattle.log_side.proofs.Said.{left_as}
+use Rattle.log_side.specs.Done.{HoldsAt, IsLogDone}
+use Rattle.log_side.specs.Part.{Part, log_of}
+use Rattle.log_side.specs.declared.done.LogDone.{LogDone}
+use Rattle.petal_disk.specs.Disk.{LeavesOnly}
 use Rattle.petal_disk.specs.declared.disk.Disk.{Ghosts}
 use Rattle.petal_rules.specs.Jobs.{log_does}
 use Rattle.petal_rules.specs.Log.{LogDone as Rule}
+use Rattle.petal_rules.specs.Store.{Store}
 use Rattle.petal_rules.specs.declared.job.Job.{Job}
-use Rattle.server_core.specs.Core.{Core}
+use Rattle.server_core.specs.Core.{Core, left_by_first}
 use Rattle.server_core.specs.Kind.{kind_of}
 use Rattle.server_core.specs.Steps.{IsFullLog, IsLogWork, of_state}
 use Rattle.server_core.specs.declared.queue.Kind.TheVariants.{OfLog}
 use Rattle.server_core.proofs.Rooms.{full_records}
-use Rattle.server_core.proofs.Works.{log_stops}
-use Rattle.state_store.specs.Device.{Keeping}
+use Rattle.server_core.proofs.Works.{log_left, log_stops}
+use Rattle.state_store.specs.Device.{Keeping, StandsForEither}
 use Rattle.state_store.specs.declared.error.StateError.{StateError}
 use Rattle.state_store.specs.declared.error.StateError.TheVariants as state
+
+-- what a crash within a job of the log leaves, as what the first job of the queue leaves
+pub log_moments : {D : Type 0} (device : Ghosts D) (old : Core) (before after : Keeping D) (first : Job)
+    → slice_get old.queue 0 ≡ Some first → kind_of first ≡ OfLog → {new : Part} {result : Result LogDone StateError}
+    → IsLogDone device old.log new before after result (log_does old.log.voter (log_of old.log before.records) first)
+    → device.told → HoldsAt device before → (store : Store)
+    → LeavesOnly device.moment device.left_since before.disk after.disk (StandsForEither before.records (left_by_first old store before.records).log.records)
+log_moments device old before after first there kind done told holds store =
+    left_as device before.disk after.disk before.records _ _ (log_left old store before.records first there kind) (done.moments told holds)
 
 module _ {D : Type 0} (device : Ghosts D) (old new : Core) (before after : Keeping D) (first : Job)
     (there : slice_get old.queue 0 ≡ Some first) (kind : kind_of first ≡ OfLog)
@@ -41,7 +54,7 @@ module _ {D : Type 0} (device : Ghosts D) (old new : Core) (before after : Keepi
     life = (running, done.voter);
     side = side;
     holds = λ _ _. tt;
-    moments = done.moments;
+    moments = log_moments device old before after first there kind done;
     same = λ no. absurd (cc);
     kept = done.kept;
     full = λ no. absurd (cc);
@@ -55,7 +68,7 @@ module _ {D : Type 0} (device : Ghosts D) (old new : Core) (before after : Keepi
     life = (running, done.voter);
     side = side;
     holds = λ _ _. tt;
-    moments = done.moments;
+    moments = log_moments device old before after first there kind done;
     same = λ no. absurd (cc);
     kept = done.kept;
     full = λ _. is_full done;
@@ -67,7 +80,7 @@ module _ {D : Type 0} (device : Ghosts D) (old new : Core) (before after : Keepi
     life = (running, done.voter);
     side = side;
     holds = λ _ _. tt;
-    moments = done.moments;
+    moments = log_moments device old before after first there kind done;
     same = λ _. let same = done.same refl in (same_core same.0, same.1);
     kept = done.kept;
     full = λ no. absurd (cc);

@@ -19,7 +19,7 @@ use Rattle.petal_rules.specs.Server.{Done, Here, Own, Server}
 use Rattle.petal_rules.specs.Store.{Store}
 use Rattle.petal_rules.specs.declared.job.Job.{Job}
 use Rattle.petal_rules.specs.declared.job.Job.TheVariants as job
-use Rattle.server_core.specs.Core.{Core, acted, here_in, server_of}
+use Rattle.server_core.specs.Core.{Core, acted, after_first, here_in, left_by_first, server_of}
 use Rattle.server_core.specs.Kind.{kind_of}
 use Rattle.server_core.specs.declared.queue.Kind.TheVariants.{Applies, OfLog, OfPairs}
 
@@ -61,10 +61,17 @@ apply_first (job.Start ∷ rest) is = absurd (cc)
 
 -- ### Room
 
+front_is : (queue : List Job) (first : Job) → slice_get queue 0 ≡ Some first → queue ≡ first ∷ drop 1 queue
+front_is [] first is = absurd (cc)
+front_is (j ∷ rest) first is = let same : j ≡ first = cc in ap (λ (k : Job). k ∷ rest) same
+
 first_done : (here : Here) (server : Server) (queue : List Job) (first : Job) → slice_get queue 0 ≡ Some first
     → works here server queue ≡ where_room here server (job_done here server first (drop 1 queue))
-first_done here server [] first is = absurd (cc)
-first_done here server (j ∷ rest) first is = let same : j ≡ first = cc in ap (λ (k : Job). where_room here server (job_done here server k rest)) same
+first_done here server queue first is = ap (works here server) (front_is queue first is)
+
+first_left : (here : Here) (server : Server) (queue : List Job) (first : Job) → slice_get queue 0 ≡ Some first
+    → after_first here server queue ≡ (job_done here server first (drop 1 queue)).server
+first_left here server queue first is = ap (after_first here server) (front_is queue first is)
 
 -- the first job, where one was looked at
 pub first_is : (queue : List Job) (first : Job) (P : Job → Type 0) → IsSomeAnd (slice_get queue 0) P → first ≡ slice_index_or queue 0 first
@@ -79,7 +86,7 @@ many : (n : ℕ) → n ≡ journal_records + 1 → nat_lt journal_records n ≡ 
 many n is = grind (arith, nat_tests)
 
 -- where both journals have room for what the job leaves
-fits : (here : Here) (server : Server) (left : Acted) → left.server.own.store.records ≤ journal_records → length left.server.log.records ≤ journal_records
+pub fits : (here : Here) (server : Server) (left : Acted) → left.server.own.store.records ≤ journal_records → length left.server.log.records ≤ journal_records
     → where_room here server left ≡ left
 fits here server left store records =
     rw (few left.server.own.store.records store, few (length left.server.log.records) records) refl
@@ -118,6 +125,10 @@ module _ (core : Core) (store : Store) (records : List StateRecord)
       first_done here server core.queue first there ∙ ap (where_room here server) (job_pair here server first (drop 1 core.queue) kind)
       ∙ fits here server (worked here server (drop 1 core.queue) done) few_store few_log
 
+  pub pair_left : done.own.store ≡ (left_by_first core store records).own.store
+  pair_left = sym (ap (λ (it : Server). it.own.store)
+      (first_left here server core.queue first there ∙ ap (λ (left : Acted). left.server) (job_pair here server first (drop 1 core.queue) kind)))
+
   pub pair_stops : done.own.store.records ≡ journal_records + 1 → works here server core.queue ≡ stops here server
   pair_stops more =
       first_done here server core.queue first there ∙ ap (where_room here server) (job_pair here server first (drop 1 core.queue) kind)
@@ -149,6 +160,11 @@ module _ (core : Core) (store : Store) (records : List StateRecord)
       first_done at it core.queue first there
       ∙ ap (where_room at it) (job_log at it first (drop 1 core.queue) kind)
       ∙ ap (λ (voter : Voter). where_room at it (entered_by voter)) (voter_is core)
+
+  pub log_left : (rule_of core.log.voter).log.records ≡ (left_by_first core store records).log.records
+  log_left = sym (ap (λ (it : Server). it.log.records)
+      (first_left at it core.queue first there ∙ ap (λ (left : Acted). left.server) (job_log at it first (drop 1 core.queue) kind
+      ∙ ap (λ (voter : Voter). entered_by voter) (voter_is core))))
 
   pub log_works : store.records ≤ journal_records → length (rule_of core.log.voter).log.records ≤ journal_records
       → works at it core.queue ≡ entered_by core.log.voter

@@ -1,5 +1,5 @@
 -- A server in memory, and the server of the rules that it is with its two stores.
-use Rattle.std.specs.Prelude.{◌≡◌, ◌≤◌, ◌<◌, ◌⊎◌, ℕ, ◌==◌, ◌||◌, Bool, List, [], Option, None, Some, Result, Err}
+use Rattle.std.specs.Prelude.{◌≡◌, ◌≤◌, ◌<◌, ◌⊎◌, ℕ, ◌==◌, ◌||◌, Bool, List, [], ◌∷◌, Option, None, Some, Result, Err}
 use Rattle.log_side.specs.Part.{Part, log_of, state_of}
 use Rattle.pair_side.specs.Side.{Side, pairs_of}
 use Rattle.pair_side.specs.declared.error.WorkError.{WorkError}
@@ -10,7 +10,7 @@ use Rattle.petal_paxos.specs.declared.record.StateRecord.{StateRecord}
 use Rattle.petal_rules.specs.Store.{Store, top_of}
 use Rattle.petal_rules.specs.Log.{Voter}
 use Rattle.petal_rules.specs.Server.{Server, Here, letters_of}
-use Rattle.petal_rules.specs.Jobs.{Acted, down_posts, works}
+use Rattle.petal_rules.specs.Jobs.{Acted, down_posts, job_done, works}
 use Rattle.petal_rules.specs.World.{greatest_u64}
 use Rattle.petal_rules.specs.declared.job.Job.{Job}
 
@@ -41,6 +41,15 @@ farewell_of voter = letters_of (record { from = actor.Server voter.me; inc = vot
 -- the server and its letters after a call
 abbrev pub acted : Core → Store → List StateRecord → List Letter → Acted
 acted core store records letters = record { server = server_of core store records; letters = letters }
+
+-- a server after the first job of its queue, where that meets room in both journals
+abbrev pub after_first : Here → Server → List Job → Server
+after_first here server [] = server
+after_first here server (first ∷ rest) = (job_done here server first rest).server
+
+-- the server after its first job, with this store and these records before it
+abbrev pub left_by_first : Core → Store → List StateRecord → Server
+left_by_first core store records = after_first (here_in core) (server_of core store records) core.queue
 
 -- the first job is done as the rule says; without a job nothing is
 abbrev pub IsWork : (old : Core) → Store → List StateRecord → (new : Core) → Store → List StateRecord → Option (List Letter) → Type 0

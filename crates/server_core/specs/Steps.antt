@@ -2,6 +2,7 @@
 use Rattle.std.specs.Prelude.{◌≡◌, ◌≤◌, ◌⊎◌, length, List, Result, Err, IfOk, OnOk, OnErr}
 use Rattle.petal_base.specs.declared.memory.NoMemory.{NoMemory as OutOfMemory}
 use Rattle.kept_chains.specs.Kept.{store_of}
+use Rattle.kept_chains.specs.Standing.{StandsAsEither}
 use Rattle.log_side.specs.Done as logs
 use Rattle.pair_side.specs.Done.{HasFault, HoldsAt}
 use Rattle.pair_side.specs.Side.{HasTicketsAt}
@@ -13,9 +14,9 @@ use Rattle.petal_msg.specs.declared.letter.Letter.{Letter}
 use Rattle.petal_paxos.specs.declared.record.StateRecord.{StateRecord}
 use Rattle.petal_rules.specs.Jobs.{journal_records, stops, works}
 use Rattle.petal_rules.specs.Store.{Store}
-use Rattle.server_core.specs.Core.{Core, acted, here_in, server_of}
+use Rattle.server_core.specs.Core.{Core, acted, here_in, left_by_first, server_of}
 use Rattle.server_store.specs.Holdings.{Holdings}
-use Rattle.state_store.specs.Device.{Keeping}
+use Rattle.state_store.specs.Device.{Keeping, StandsForEither}
 use Rattle.state_store.specs.declared.error.StateError.{StateError}
 use Rattle.state_store.specs.declared.error.StateError.TheVariants as state
 
@@ -47,6 +48,9 @@ module _ {D : Type 0} where
     pub life : (new.running ≡ old.running) × (new.log ≡ old.log)
     pub keeps : OnOk result (HasTicketsAt new.side after)
     pub holds : device.told → HoldsAt device before → OnOk result (HoldsAt device after)
+    pub moments : device.told → HoldsAt device before → (records : List StateRecord)
+        → LeavesOnly device.moment device.left_since before.disk after.disk
+        (StandsAsEither (store_of before) (left_by_first old (store_of before) records).own.store)
     pub still : result ≡ Err NoMemory → device.told → HoldsAt device before → HoldsAt device after
     pub same : result ≡ Err NoMemory → (new ≡ old) × (after ≡ record before { disk = after.disk })
     pub kept : OnErr result (device.told → after.entries ≡ before.entries)
@@ -68,8 +72,9 @@ module _ {D : Type 0} where
     pub life : (new.running ≡ old.running) × (new.log.voter ≡ old.log.voter)
     pub side : new.side ≡ old.side
     pub holds : device.told → logs.HoldsAt device before → OnOk result (logs.HoldsAt device after)
-    pub moments : device.told → logs.HoldsAt device before
-        → LeavesOnly device.moment device.left_since before.disk after.disk (λ c. logs.HasOneMore c before.records)
+    pub moments : device.told → logs.HoldsAt device before → (store : Store)
+        → LeavesOnly device.moment device.left_since before.disk after.disk
+        (StandsForEither before.records (left_by_first old store before.records).log.records)
     pub same : result ≡ Err NoMemory → (new ≡ old) × (after ≡ before)
     pub kept : OnErr result (after.records ≡ before.records)
     pub full : result ≡ Err JournalFull → IsFullLog device old new before after

@@ -11,12 +11,14 @@ ghost use Rattle.petal_rules.specs.State.{State};
 ghost use Rattle.petal_rules.specs.Store as stores;
 ghost use Rattle.petal_rules.specs.World.{greatest_u64};
 ghost use Rattle.kept_chains.specs.Kept.{store_of};
+ghost use Rattle.kept_chains.specs.Standing.{StandsAsEither};
 ghost use Rattle.pair_side.specs.declared.error.WorkError.TheVariants as error;
 ghost use Rattle.pair_side.specs.Side.{HasTicketsAt, own_of, pairs_of};
 ghost use Rattle.pair_side.specs.Done.{HasVersions, HoldsAt};
-ghost use Rattle.server_core.specs.Core.{HasFaults, IsWork, is_spent};
+ghost use Rattle.server_core.specs.Core.{HasFaults, IsWork, is_spent, left_by_first};
 ghost use Rattle.server_core.specs.Kind.{kind_of};
 ghost use Rattle.server_core.specs.Steps.{IsApplied, IsFullWork, IsLogWork, IsPairWork, of_state};
+ghost use Rattle.state_store.specs.Device.{StandsForEither};
 ghost use Rattle.server_core.specs.declared.queue.Kind.TheVariants.{Applies, OfLog, OfPairs};
 
 use crate::jobs::does;
@@ -99,7 +101,8 @@ fn stages_of_next<D: Disk>(
 
 impl ServerCore {
     /// Does the first job of the queue, with at most one commit, and gives its letters, with the stamp 0; None exactly where there
-    /// is no job. Where a device showed its store, now and after any crash, it shows the store after the job.
+    /// is no job. Where a device showed its store, now and after any crash, it shows the store after the job; a crash at any
+    /// moment leaves the store before it, or the one that the rule leaves.
     ///
     /// # Errors
     /// `Failed` where one of the devices failed: the entries and the records are as they were, and the server is to be stopped.
@@ -119,6 +122,8 @@ impl ServerCore {
         ensures life { (self.new.running ≡ self.old.running) × (self.new.log.voter ≡ self.old.log.voter) }
         ensures keeps { OnOk result (HasTicketsAt self.new.side store.new) }
         ensures holds { D.told → HoldsAt D.Disk store.old → OnOk result (HoldsAt D.Disk store.new) }
+        ensures moments { D.told → HoldsAt D.Disk store.old → LeavesOnly D.moment D.left_since store.old.disk store.new.disk
+            (StandsAsEither (store_of store.old) (left_by_first self.old (store_of store.old) state.old.records).own.store) }
         ensures still { result ≡ Err error.NoMemory → D.told → HoldsAt D.Disk store.old → HoldsAt D.Disk store.new }
         ensures same { result ≡ Err error.NoMemory
             → (self.new ≡ self.old) × (store.new ≡ record store.old { disk = store.new.disk }) × (state.new ≡ state.old) }
@@ -128,7 +133,8 @@ impl ServerCore {
         ensures run { D.came_to store.old.disk store.new.disk }
         ensures state_holds { E.told → logs.HoldsAt E.Disk state.old → OnOk result (logs.HoldsAt E.Disk state.new) }
         ensures state_moments { E.told → logs.HoldsAt E.Disk state.old
-            → LeavesOnly E.moment E.left_since state.old.disk state.new.disk (λ c. logs.HasOneMore c state.old.records) }
+            → LeavesOnly E.moment E.left_since state.old.disk state.new.disk
+            (StandsForEither state.old.records (left_by_first self.old (store_of store.old) state.old.records).log.records) }
         ensures state_kept { OnErr result (state.new.records ≡ state.old.records) }
         ensures state_run { E.came_to state.old.disk state.new.disk }
     {

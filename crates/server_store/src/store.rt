@@ -151,6 +151,32 @@ impl<D: Disk> Store<D> {
         }
     }
 
+    /// Loses what the device does not keep, as in a crash, and reads again what the device then stands for. The answer is whether
+    /// that is a store; where it is not, the device is blank, and what is held is not to be used.
+    ///
+    /// # Errors
+    /// `BadRecord`, `Failed` and `NoMemory`, as of `open`: what is held is not to be used.
+    pub fn reopen(&mut self, alloc: Global) -> Result<bool, StoreError>
+        ensures left { D.told → D.may_leave self.old.disk (D.seen self.new.disk) }
+        ensures same { (slots : ℕ) (fresh : Bool) (recorded : List StoreRecord) (picture : Picture) → IfOk result (λ found. found ≡ true → D.told → slots < 2 ^ 32 → Shows (D.seen self.new.disk) slots fresh recorded picture
+            → Reopened slots fresh recorded picture self.new (D.seen self.new.disk) (D.may_leave self.new.disk)) }
+        ensures no_tickets { IfOk result (λ found. found ≡ true → self.new.tickets ≡ []) }
+        ensures errors { IfErr result IsOpenError }
+        ensures failed { IfErr result (λ e. e ≡ StoreError.Failed → D.faults self.old.disk < D.faults self.new.disk) }
+        ensures later { D.faults self.old.disk ≤ D.faults self.new.disk }
+        ensures run { D.came_to self.old.disk self.new.disk }
+    {
+        self.disk.crash();
+        let Some(found) = read_device(alloc, &mut self.disk)? else {
+            return Ok(false);
+        };
+        self.ledger = found.ledger;
+        self.marks = found.marks;
+        self.fresh = found.fresh;
+        self.log = found.log;
+        Ok(true)
+    }
+
     /// Sets a free slot aside, and all the memory that a put with it needs.
     ///
     /// # Errors
@@ -255,6 +281,7 @@ impl<D: Disk> Store<D> {
         ensures full { IsErrOf result StoreError.JournalFull → (self.old.log.region.count ≡ 65536) × (not (has_mark (record { kind = kind; cell = cell }) self.old.marks) ≡ true) × (self.new ≡ self.old) }
         ensures full_comes { self.old.log.region.count ≡ 65536 → not (has_mark (record { kind = kind; cell = cell }) self.old.marks) ≡ true → IsErrOf result StoreError.JournalFull ⊎ IsErrOf result StoreError.NoMemory }
         ensures memory { IsErrOf result StoreError.NoMemory → self.new ≡ self.old }
+        ensures idle { has_mark (record { kind = kind; cell = cell }) self.old.marks ≡ true → self.new ≡ self.old }
 
         ensures records { OnOk result (self.new.log.records ≡ (if not (has_mark (record { kind = kind; cell = cell }) self.old.marks) then self.old.log.records ++ records.Mark kind cell ∷ [] else self.old.log.records)) }
         ensures unrecorded { OnErr result (self.new.log.records ≡ self.old.log.records) }
@@ -295,6 +322,7 @@ impl<D: Disk> Store<D> {
         ensures errors { IfErr result IsCommitError }
         ensures full { IsErrOf result StoreError.JournalFull ↔ (self.old.log.region.count ≡ 65536) × (has_mark (record { kind = kind; cell = cell }) self.old.marks ≡ true) }
         ensures full_rest { IsErrOf result StoreError.JournalFull → self.new ≡ self.old }
+        ensures idle { has_mark (record { kind = kind; cell = cell }) self.old.marks ≡ false → self.new ≡ self.old }
 
         ensures records { OnOk result (self.new.log.records ≡ (if has_mark (record { kind = kind; cell = cell }) self.old.marks then self.old.log.records ++ records.Unmark kind cell ∷ [] else self.old.log.records)) }
         ensures unrecorded { OnErr result (self.new.log.records ≡ self.old.log.records) }
@@ -485,6 +513,20 @@ impl<D: Disk> Store<D> {
         ensures order { IsInOrder key_held self.now.entries }
     {
         self.ledger.free()
+    }
+
+    /// How many slots there are.
+    pub fn slots(&self) -> u32
+        ensures { result ≡ self.now.slots }
+    {
+        self.ledger.count()
+    }
+
+    /// How many records the journal has.
+    pub fn records(&self) -> u32
+        ensures { result ≡ self.now.log.region.count }
+    {
+        self.log.count()
     }
 
     /// Whether the journal has all its records.

@@ -70,6 +70,13 @@ impl Ledger {
         &self.slots
     }
 
+    /// How many slots there are.
+    pub fn count(&self) -> u32
+        ensures { result ≡ self.now.slots }
+    {
+        self.slots.count()
+    }
+
     /// How many slots are neither in use nor promised.
     pub fn free(&self) -> u32
         ensures value { result ≡ self.now.slots - (length self.now.entries + length self.now.tickets) }

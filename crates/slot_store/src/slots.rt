@@ -69,6 +69,13 @@ impl SlotStore {
         self.usage.give(slot);
     }
 
+    /// How many slots there are.
+    pub fn count(&self) -> u32
+        ensures { result ≡ length self.now.used }
+    {
+        self.usage.count()
+    }
+
     /// How many slots are not in use.
     pub fn free(&self) -> u32
         ensures { result ≡ free_in self.now.used }

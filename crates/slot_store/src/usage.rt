@@ -87,6 +87,13 @@ impl Usage {
         self.used[slot as usize] = false;
     }
 
+    /// How many slots there are.
+    pub fn count(&self) -> u32
+        ensures { result ≡ length self.now }
+    {
+        self.used.len() as u32
+    }
+
     /// How many slots are not in use.
     pub fn free(&self) -> u32
         ensures { result ≡ free_in self.now }

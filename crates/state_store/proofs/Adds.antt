@@ -1,5 +1,5 @@
 -- What a record about one place changes: the row of that place alone.
-use Rattle.std.proofs.Common.{◌≡◌, ◌⊎◌, inl, ℕ, Bool, true, false, if◌then◌else◌, ◌==◌, List, refl, sym, ap, subst, ◌∙◌, arith, ◌≢◌, Result, Ok, Err, OnOk, IsErrOf}
+use Rattle.std.proofs.Common.{◌≡◌, ◌⊎◌, inl, ℕ, Bool, true, false, if◌then◌else◌, ◌==◌, List, refl, sym, ap, subst, ◌∙◌, arith, ◌≢◌, [], ◌∷◌, ◌++◌, length-append, inr, ⊎_elim, Result, Ok, Err, OnOk, IsErrOf}
 use Rattle.std.proofs.lemmas.Bool.Decides.{nat_tests}
 use Rattle.petal_command.specs.declared.ballot.Ballot.{Ballot}
 use Rattle.petal_command.specs.declared.command.Command.{Command}
@@ -8,6 +8,10 @@ use Rattle.petal_paxos.specs.declared.record.StateRecord.TheVariants.{Promise, A
 use Rattle.petal_paxos.specs.declared.record.Row.{Row}
 use Rattle.state_store.specs.declared.error.StateError.{StateError}
 use Rattle.state_store.specs.declared.error.StateError.TheVariants as error
+use Rattle.petal_disk.specs.Disk.{LeavesOnly}
+use Rattle.petal_disk.specs.declared.disk.Disk.{Ghosts}
+use Rattle.petal_disk.proofs.Moments.{weaker}
+use Rattle.state_store.specs.Device.{StandsForEither, WithOrWithout}
 use Rattle.state_store.specs.Errors.{IsAppendError}
 use Rattle.petal_paxos.specs.Kept.{row_after, inc_after, row_of, inc_of, promise_row, accept_row, choose_row, AddsNothing}
 
@@ -61,3 +65,10 @@ append_errors error.NoMemory h room = absurd h
 
 pub err_of : {T E : Type 0} (r : Result T E) (e x : E) → r ≡ Err e → e ≡ x → IsErrOf r x
 err_of r e x is same = subst (λ y. r ≡ Err y) same is
+
+-- what a crash leaves of a commit, with its record or without it
+pub one_more : {D : Type 0} (device : Ghosts D) (old new : D) (records : List StateRecord) (entry : StateRecord)
+    → LeavesOnly device.moment device.left_since old new (λ c. WithOrWithout c records entry)
+    → LeavesOnly device.moment device.left_since old new (StandsForEither records (records ++ entry ∷ []))
+one_more device old new records entry run = weaker device.moment device.left_since old new _ _ run
+    (λ c. ⊎_elim (λ was. inl was) (λ now. inr (now, length-append records (entry ∷ []))))

@@ -1,5 +1,5 @@
 -- What a state device stands for: a header of 64 bytes, and behind 4,096 bytes a journal of 65,536 records of 128 bytes.
-use Rattle.std.specs.Prelude.{ℕ, ◌≡◌, ◌≢◌, ◌⊎◌, ◌≤◌, ◌<◌, List, [], ◌∷◌, ◌++◌, map, length, take, replicate, ⊤}
+use Rattle.std.specs.Prelude.{ℕ, ◌≡◌, ◌≢◌, ◌⊎◌, ◌+◌, ◌≤◌, ◌<◌, List, [], ◌∷◌, ◌++◌, map, length, take, replicate, ⊤}
 use Rattle.block_journal.specs.Records.{Stands, IsOpen, body_at}
 use Rattle.block_journal.specs.Region.{Region}
 use Rattle.petal_paxos.specs.declared.record.StateRecord.{StateRecord}
@@ -41,6 +41,10 @@ pub record IsBadOn (file : List ℕ) (index : ℕ) : Type 0 where
 -- the records, with one more or without it
 abbrev pub WithOrWithout : List ℕ → List StateRecord → StateRecord → Type 0
 WithOrWithout file records entry = StandsFor file records ⊎ StandsFor file (records ++ entry ∷ [])
+
+-- the records before a commit, or those after it, which are one more
+abbrev pub StandsForEither : List StateRecord → List StateRecord → List ℕ → Type 0
+StandsForEither before after file = StandsFor file before ⊎ (StandsFor file after × (length after ≡ length before + 1))
 
 -- the device of a store stands for its records, now and after any crash, and its journal counts them
 pub record Holds (region : Region) (seen : List ℕ) (may_leave : List ℕ → Type 0) (records : List StateRecord) : Type 0 where

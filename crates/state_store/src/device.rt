@@ -1,6 +1,6 @@
 //! The device of a state store, with its journal of records.
 
-ghost use Rattle.std.specs.Prelude.{◌≡◌, ◌⊎◌, ◌≤◌, ◌<◌, ◌↔◌, ◌++◌, [], ◌∷◌, ℕ, List, OnOk, IfOk, IfErr, IsErrOf, take, ◌≢◌, Some, None, false};
+ghost use Rattle.std.specs.Prelude.{◌≡◌, ◌⊎◌, ◌≤◌, ◌<◌, ◌↔◌, ◌++◌, [], ◌∷◌, ℕ, List, OnOk, IfOk, IfErr, OnErr, IsErrOf, take, ◌≢◌, Some, None, false};
 ghost use Rattle.petal_disk.specs.Plans.{beneath, plan_state};
 ghost use Rattle.petal_disk.specs.Disk.{LeavesOnly, Only};
 ghost use Rattle.petal_disk.specs.Keeping.{KeepsDevice};
@@ -119,6 +119,35 @@ impl<D: Disk> Device<D> {
             },
             Err(error) => Err((disk, error)),
         }
+    }
+
+    /// Loses what the device does not keep, as in a crash, and reads again the records that the device then stands for, and what
+    /// these give.
+    pub fn reopen(&mut self, alloc: Global) -> Result<Kept, StateError>
+        ensures left { D.told → D.may_leave self.old.disk (D.seen self.new.disk) }
+        ensures same { (records : List StateRecord) → OnOk result (D.told → StandsFor (D.seen self.new.disk) records → self.new.records ≡ records) }
+        ensures holds { (records : List StateRecord) → OnOk result (D.told → StandsFor (D.seen self.new.disk) records → Holds self.new.region (D.seen self.new.disk) (D.may_leave self.new.disk) self.new.records) }
+        ensures rows { IfOk result (λ kept. (place : ℕ) → row_at kept.places place ≡ row_of self.new.records place) }
+        ensures inc { IfOk result (λ kept. kept.inc ≡ inc_of self.new.records) }
+        ensures err { OnErr result (self.new.records ≡ self.old.records) }
+        ensures failed { IsErrOf result error.Failed → D.faults self.old.disk < D.faults self.new.disk }
+        ensures not_full { ¬ IsErrOf result error.JournalFull }
+    {
+        self.disk.crash();
+        let (journal, register) = read_device(alloc, &mut self.disk)?;
+        self.journal = journal;
+        self.history = register.history;
+        Ok(Kept {
+            places: register.places,
+            inc: register.inc,
+        })
+    }
+
+    /// How many records there are.
+    pub fn count(&self) -> u32
+        ensures { result ≡ self.now.region.count }
+    {
+        self.journal.count()
     }
 
     /// Commits one record more: whole, or at any crash not at all. It takes no memory.

@@ -5,10 +5,10 @@ ghost use Rattle.petal_disk.specs.Plans.{beneath, plan_state};
 ghost use Rattle.petal_disk.specs.Disk.{LeavesOnly};
 ghost use Rattle.petal_disk.specs.Keeping.{KeepsDevice};
 ghost use Rattle.block_journal.specs.Records.{Counts};
-ghost use Rattle.state_store.specs.Device.{header, bodies_of, AreSpelled, StandsFor, Holds, WithOrWithout, LeftByFormat, IsBadOn};
+ghost use Rattle.state_store.specs.Device.{header, bodies_of, AreSpelled, StandsFor, StandsForEither, Holds, WithOrWithout, LeftByFormat, IsBadOn};
 ghost use Rattle.state_store.specs.Errors.{IsAppendError, IsCommitError};
 ghost use Rattle.petal_paxos.specs.declared.record.StateRecord.{StateRecord};
-ghost use Rattle.petal_paxos.specs.Kept.{row_of, row_after, inc_of, inc_after, AddsNothing, Commits};
+ghost use Rattle.petal_paxos.specs.Kept.{row_of, row_after, inc_of, inc_after, AddsNothing, Commits, committed};
 ghost use Rattle.petal_paxos.specs.declared.record.Row.{Row};
 ghost use Rattle.petal_paxos.specs.declared.record.StateRecord.TheVariants as kind;
 ghost use Rattle.state_store.specs.declared.error.StateError.TheVariants as error;
@@ -106,6 +106,31 @@ impl<D: Disk> StateStore<D> {
         }
     }
 
+    /// Loses what the device does not keep, as in a crash, and reads again the records that the device then stands for.
+    ///
+    /// # Errors
+    /// `Blank`, `BadRecord`, `Failed` and `NoMemory`, as of `open`. The records in memory are as they were, and are not to be used.
+    pub fn reopen(&mut self, alloc: Global) -> Result<(), StateError>
+        ensures left { D.told → D.may_leave self.old.disk (D.seen self.new.disk) }
+        ensures same { (records : List StateRecord) → OnOk result (D.told → StandsFor (D.seen self.new.disk) records → self.new.records ≡ records) }
+        ensures holds { (records : List StateRecord) → OnOk result (D.told → StandsFor (D.seen self.new.disk) records → Holds self.new.region (D.seen self.new.disk) (D.may_leave self.new.disk) self.new.records) }
+        ensures err { OnErr result (self.new.records ≡ self.old.records) }
+        ensures failed { IsErrOf result error.Failed → D.faults self.old.disk < D.faults self.new.disk }
+        ensures not_full { ¬ IsErrOf result error.JournalFull }
+    {
+        let kept = self.device.reopen(alloc)?;
+        self.places = kept.places;
+        self.inc = kept.inc;
+        Ok(())
+    }
+
+    /// How many records there are.
+    pub fn records(&self) -> u32
+        ensures { result ≡ self.now.region.count }
+    {
+        self.device.count()
+    }
+
     /// The incarnation of the server.
     pub fn inc(&self) -> Inc
         ensures { result ≡ inc_of self.now.records }
@@ -184,7 +209,7 @@ impl<D: Disk> StateStore<D> {
         ensures either { D.told → Holds self.old.region (D.seen self.old.disk) (D.may_leave self.old.disk) self.old.records
             → WithOrWithout (D.seen self.new.disk) self.old.records (kind.Promise place ballot) }
         ensures any_moment { D.told → Holds self.old.region (D.seen self.old.disk) (D.may_leave self.old.disk) self.old.records
-            → LeavesOnly D.moment D.left_since self.old.disk self.new.disk (λ c. WithOrWithout c self.old.records (kind.Promise place ballot)) }
+            → LeavesOnly D.moment D.left_since self.old.disk self.new.disk (StandsForEither self.old.records (committed self.old.records (kind.Promise place ballot))) }
         ensures later { D.faults self.old.disk ≤ D.faults self.new.disk }
         ensures run { D.came_to self.old.disk self.new.disk }
     {
@@ -215,7 +240,7 @@ impl<D: Disk> StateStore<D> {
         ensures either { D.told → Holds self.old.region (D.seen self.old.disk) (D.may_leave self.old.disk) self.old.records
             → WithOrWithout (D.seen self.new.disk) self.old.records (kind.Accepted place ballot command.now) }
         ensures any_moment { D.told → Holds self.old.region (D.seen self.old.disk) (D.may_leave self.old.disk) self.old.records
-            → LeavesOnly D.moment D.left_since self.old.disk self.new.disk (λ c. WithOrWithout c self.old.records (kind.Accepted place ballot command.now)) }
+            → LeavesOnly D.moment D.left_since self.old.disk self.new.disk (StandsForEither self.old.records (committed self.old.records (kind.Accepted place ballot command.now))) }
         ensures later { D.faults self.old.disk ≤ D.faults self.new.disk }
         ensures run { D.came_to self.old.disk self.new.disk }
     {
@@ -248,7 +273,7 @@ impl<D: Disk> StateStore<D> {
         ensures either { D.told → Holds self.old.region (D.seen self.old.disk) (D.may_leave self.old.disk) self.old.records
             → WithOrWithout (D.seen self.new.disk) self.old.records (kind.Chosen place command.now) }
         ensures any_moment { D.told → Holds self.old.region (D.seen self.old.disk) (D.may_leave self.old.disk) self.old.records
-            → LeavesOnly D.moment D.left_since self.old.disk self.new.disk (λ c. WithOrWithout c self.old.records (kind.Chosen place command.now)) }
+            → LeavesOnly D.moment D.left_since self.old.disk self.new.disk (StandsForEither self.old.records (committed self.old.records (kind.Chosen place command.now))) }
         ensures later { D.faults self.old.disk ≤ D.faults self.new.disk }
         ensures run { D.came_to self.old.disk self.new.disk }
     {
@@ -277,7 +302,7 @@ impl<D: Disk> StateStore<D> {
         ensures either { D.told → Holds self.old.region (D.seen self.old.disk) (D.may_leave self.old.disk) self.old.records
             → WithOrWithout (D.seen self.new.disk) self.old.records entry.now }
         ensures any_moment { D.told → Holds self.old.region (D.seen self.old.disk) (D.may_leave self.old.disk) self.old.records
-            → LeavesOnly D.moment D.left_since self.old.disk self.new.disk (λ c. WithOrWithout c self.old.records entry.now) }
+            → LeavesOnly D.moment D.left_since self.old.disk self.new.disk (StandsForEither self.old.records (committed self.old.records entry.now)) }
         ensures later { D.faults self.old.disk ≤ D.faults self.new.disk }
         ensures run { D.came_to self.old.disk self.new.disk }
     {

@@ -5,6 +5,8 @@
 #[cfg(test)]
 mod chances;
 #[cfg(test)]
+mod faults;
+#[cfg(test)]
 mod rows;
 #[cfg(test)]
 mod takeovers;

@@ -1,13 +1,52 @@
 -- The servers of a world.
-use Rattle.std.specs.Prelude.{ℕ, List, map}
+use Rattle.std.specs.Prelude.{ℕ, Bool, true, List, [], map, if◌then◌else◌}
 use Rattle.std.specs.List.{range_with_len}
 use Rattle.script_lines.specs.declared.script.Script.{Script}
-use Rattle.petal_rules.specs.Log.{state_in}
-use Rattle.petal_rules.specs.Server.{Server}
+use Rattle.petal_rules.specs.Log.{first_log, state_in}
+use Rattle.petal_rules.specs.Server.{Server, no_pairs}
 use Rattle.petal_rules.specs.Jobs.{Acted}
 pub use Rattle.petal_rules.specs.World.{is_spent_server}
 use Rattle.petal_rules.specs.World.{Setting, World, server_step, setting_of, start}
 use Rattle.petal_rules.specs.declared.step.Step.{Step}
+use Rattle.petal_rules.specs.declared.step.Step.TheVariants.{Tick, Work, Stop}
+use Rattle.petal_rules.specs.declared.step.WorkEnd.{WorkEnd}
+use Rattle.petal_rules.specs.declared.step.WorkEnd.TheVariants.{Done}
+
+-- ### What is left of a server
+
+-- what stands on a server's two devices
+abbrev pub on_devices : Server → Server
+on_devices server = record {
+  life = server.life;
+  log = record first_log { records = server.log.records };
+  own = record { pairs = no_pairs; store = record server.own.store { tickets = 0 } };
+  queue = [];
+}
+
+-- all of a server that runs, and what stands on the two devices of one that has stopped
+abbrev pub left_of : Server → Server
+left_of server = if server.life.running then server else on_devices server
+
+-- a server that has stopped drops letters and is glanced at, and takes no other step
+abbrev pub may_take : Step → (running : Bool) → Bool
+may_take Tick running = running
+may_take (Work end) running = running
+may_take Stop running = running
+may_take _ running = true
+
+-- ### How a job ends
+
+-- the step that was taken: how a job ended is told by the devices
+abbrev pub ended : Step → WorkEnd → Step
+ended (Work named) end = Work end
+ended what end = what
+
+-- how the job of a step ended; a step without a job is done
+abbrev pub end_in : Step → WorkEnd
+end_in (Work end) = end
+end_in _ = Done
+
+-- ### Servers and their steps
 
 -- a server's number, how many servers there are, and what the rules know of it
 pub record Site : Type 0 where
@@ -19,9 +58,9 @@ pub record Site : Type 0 where
 abbrev pub acted_at : Site → Step → Acted
 acted_at site step = server_step step (state_in site.servers site.server.log) site.me site.server
 
--- the server after it
+-- what is left of the server after it
 abbrev pub site_after : Site → Step → Site
-site_after site step = record site { server = (acted_at site step).server }
+site_after site step = record site { server = left_of (acted_at site step).server }
 
 -- a server and the stamp of its last step
 pub record Desk : Type 0 where
@@ -31,7 +70,7 @@ pub record Desk : Type 0 where
 -- what a world keeps of one server
 abbrev pub desk_of : Setting → World → ℕ → Desk
 desk_of setting w n = record {
-  site = record { me = n; servers = setting.servers; server = w.servers n };
+  site = record { me = n; servers = setting.servers; server = left_of (w.servers n) };
   clock = w.server_clocks n;
 }
 

@@ -1,9 +1,10 @@
 //! Requests, lines, answers and steps once more, with their blocks and letters shared.
 
 ghost use Rattle.std.specs.Prelude.{◌≡◌, IfOk};
+ghost use Rattle.world_desks.specs.Desks.{ended};
 
 use petal_base::NoMemory;
-use petal_rules::Step;
+use petal_rules::{Step, WorkEnd};
 use script_lines::{Answer, Line, Request};
 
 /// The same request again. It takes no memory.
@@ -78,9 +79,9 @@ pub fn answer_again(answer: &Answer) -> Result<Answer, NoMemory>
     Ok(answer.clone()?)
 }
 
-/// The same step again.
-pub fn step_again(step: &Step) -> Result<Step, NoMemory>
-    ensures { IfOk result (λ again. again ≡ step.now) }
+/// The step that was taken, where its job ended so.
+pub fn step_taken(step: &Step, end: WorkEnd) -> Result<Step, NoMemory>
+    ensures { IfOk result (λ taken. taken ≡ ended step.now end) }
 {
     match step {
         Step::Call { line } => Ok(Step::Call { line: *line }),
@@ -88,7 +89,7 @@ pub fn step_again(step: &Step) -> Result<Step, NoMemory>
             letter: letter.share()?,
         }),
         Step::Tick => Ok(Step::Tick),
-        Step::Work(end) => Ok(Step::Work(*end)),
+        Step::Work(_) => Ok(Step::Work(end)),
         Step::Stop => Ok(Step::Stop),
         Step::Glance { line, round } => Ok(Step::Glance {
             line: *line,

@@ -1,12 +1,11 @@
 //! The servers of a world.
 
-ghost use Rattle.std.specs.Prelude.{◌≡◌, ◌<◌, Some, length, map, slice_get, slice_set, option_copied, IfOk, OnOk};
-ghost use Rattle.world_desks.specs.Desks.{acted_at, first_desk, site_after};
+ghost use Rattle.std.specs.Prelude.{◌≡◌, ◌<◌, Some, length, map, slice_get, slice_set, option_copied, IfOk};
+ghost use Rattle.world_desks.specs.Desks.{acted_at, end_in, ended, first_desk, site_after};
 ghost use Rattle.world_desks.specs.Desks as view;
 
-use crate::Host;
+use crate::{Host, Taken};
 use petal_base::{NoMemory, Sequence, ServerId, Stamp};
-use petal_msg::Letter;
 use petal_rules::Step;
 use std::alloc::Global;
 use std::marker::Model;
@@ -42,19 +41,15 @@ impl<H: Host> Model for Desks<H> {
 }
 
 impl<H: Host> Desk<H> {
-    /// A step of the server, with its stamp.
-    fn step(
-        &mut self,
-        alloc: Global,
-        step: &Step,
-        stamp: Stamp,
-    ) -> Result<Sequence<Letter>, NoMemory>
-        ensures desk { OnOk result (self.new ≡ record { site = site_after self.old.site step.now; clock = stamp }) }
-        ensures letters { IfOk result (λ letters. letters ≡ (acted_at self.old.site step.now).letters) }
+    /// A step of the server, with its stamp. How a job ends is for the devices to say.
+    fn step(&mut self, alloc: Global, step: &Step, stamp: Stamp) -> Result<Taken, NoMemory>
+        ensures desk { IfOk result (λ taken. self.new ≡ record { site = site_after self.old.site (ended step.now taken.end); clock = stamp }) }
+        ensures letters { IfOk result (λ taken. taken.letters ≡ (acted_at self.old.site (ended step.now taken.end)).letters) }
+        ensures end { IfOk result (λ taken. taken.end ≡ end_in (ended step.now taken.end)) }
     {
-        let letters = self.host.step(alloc, step)?;
+        let taken = self.host.step(alloc, step)?;
         self.clock = stamp;
-        Ok(letters)
+        Ok(taken)
     }
 }
 
@@ -77,18 +72,19 @@ impl<H: Host> Desks<H> {
         self.desks.get(server as usize)
     }
 
-    /// A step of one server, with its stamp.
+    /// A step of one server, with its stamp. How a job ends is for the devices to say.
     pub fn step(
         &mut self,
         alloc: Global,
         server: ServerId,
         step: &Step,
         stamp: Stamp,
-    ) -> Result<Sequence<Letter>, NoMemory>
+    ) -> Result<Taken, NoMemory>
         requires { server < length self.old }
-        ensures { IfOk result (λ letters. (desk : view.Desk) → slice_get self.old server ≡ Some desk
-            → (letters ≡ (acted_at desk.site step.now).letters)
-            × (self.new ≡ slice_set self.old server (record { site = site_after desk.site step.now; clock = stamp }))) }
+        ensures step { IfOk result (λ taken. (desk : view.Desk) → slice_get self.old server ≡ Some desk
+            → (taken.letters ≡ (acted_at desk.site (ended step.now taken.end)).letters)
+            × (self.new ≡ slice_set self.old server (record { site = site_after desk.site (ended step.now taken.end); clock = stamp }))) }
+        ensures end { IfOk result (λ taken. taken.end ≡ end_in (ended step.now taken.end)) }
     {
         self.desks[server as usize].step(alloc, step, stamp)
     }

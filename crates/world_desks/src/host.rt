@@ -1,23 +1,35 @@
 //! One server of a world.
 
-ghost use Rattle.std.specs.Prelude.{◌≡◌, ◌↔◌, [], IfOk, OnOk, IsTrue};
+ghost use Rattle.std.specs.Prelude.{◌≡◌, ◌↔◌, [], IfOk, IsTrue};
 ghost use Rattle.petal_rules.specs.Log.{rev_of};
-ghost use Rattle.world_desks.specs.Desks.{Site, acted_at, is_spent_server, site_after};
+ghost use Rattle.world_desks.specs.Desks.{Site, acted_at, end_in, ended, is_spent_server, site_after};
 
 use petal_base::{NoMemory, Rev, Sequence};
 use petal_msg::Letter;
-use petal_rules::Step;
+use petal_rules::{Step, WorkEnd};
 use std::alloc::Global;
+
+/// What a server's step gives.
+#[derive(Drop)]
+pub struct Taken {
+    /// The letters that it sends, without their stamps.
+    pub letters: Sequence<Letter>,
+    /// How the job ended; `Done` for a step without a job.
+    pub end: WorkEnd,
+}
 
 /// A server with its store, as a world steps it.
 pub trait Host: Drop {
-    /// Its number, how many servers there are, and what the rules know of it.
+    /// Its number, how many servers there are, and what the rules know of it: of a server that has stopped no more than what
+    /// stands on its two devices.
     ghost seen: { Self → Site };
 
-    /// Takes a step. The letters have no stamp yet. After it ran out of memory nothing is said of the server.
-    fn step(&mut self, alloc: Global, step: &Step) -> Result<Sequence<Letter>, NoMemory>
-        ensures site { OnOk result (seen self.new ≡ site_after (seen self.old) step.now) }
-        ensures letters { IfOk result (λ letters. letters ≡ (acted_at (seen self.old) step.now).letters) };
+    /// Takes a step. How a job ends is for the devices to say, whatever end the step names; the server and the letters are
+    /// those of the step with the end that is given. After it ran out of memory nothing is said of the server.
+    fn step(&mut self, alloc: Global, step: &Step) -> Result<Taken, NoMemory>
+        ensures site { IfOk result (λ taken. seen self.new ≡ site_after (seen self.old) (ended step.now taken.end)) }
+        ensures letters { IfOk result (λ taken. taken.letters ≡ (acted_at (seen self.old) (ended step.now taken.end)).letters) }
+        ensures end { IfOk result (λ taken. taken.end ≡ end_in (ended step.now taken.end)) };
 
     /// Whether it runs.
     fn is_running(&self) -> bool
@@ -31,7 +43,7 @@ pub trait Host: Drop {
     fn is_spent(&self) -> bool
         ensures { result ≡ is_spent_server (seen self.now).server };
 
-    /// Its revision of the global state.
+    /// Its revision of the global state; 0 where it has stopped.
     fn rev(&self) -> Rev
         ensures { result ≡ rev_of (seen self.now).server.log };
 }

@@ -13,5 +13,5 @@ pub mod sent;
 pub mod stamping;
 pub mod waiting;
 
-pub use host::Host;
+pub use host::{Host, Taken};
 pub use order::are_in_order;

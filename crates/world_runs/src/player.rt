@@ -284,6 +284,7 @@ impl<H: Host> Player<H> {
             Act::PlayOut => play(alloc, &mut self.run),
             Act::Agree(without) => self.agree(alloc, *without),
             Act::Made(count) => Ok(self.made(alloc)? == *count as usize),
+            Act::Failed(count) => Ok(self.run.failed() == *count as usize),
             Act::Line(line, want) => Ok(is_so(&self.run, *line, want)),
             Act::Sent(count, mail) => Ok(self.count(mail) >= *count as usize),
             Act::Owners(count, mail) => Ok(self.owners(mail) >= *count as usize),

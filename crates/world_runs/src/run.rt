@@ -181,6 +181,14 @@ impl<H: Host> Run<H> {
         self.world.records()
     }
 
+    /// How many jobs ended since a device failed.
+    pub fn failed(&self) -> usize {
+        self.records()
+            .iter()
+            .filter(|record| has_failed(&record.step))
+            .count()
+    }
+
     /// The answer of a line.
     pub fn answer(&self, line: u32) -> Option<&Answer> {
         answer_in(self.world.records(), line)
@@ -230,6 +238,14 @@ fn calls_of(records: &[Record], client: ClientId) -> usize {
         .iter()
         .filter(|record| record.actor == Actor::Client(client) && is_call(&record.step))
         .count()
+}
+
+/// Whether a device failed in the job.
+fn has_failed(step: &Step) -> bool {
+    match step {
+        Step::Work(WorkEnd::Fault(_)) => true,
+        _ => false,
+    }
 }
 
 fn is_call(step: &Step) -> bool {

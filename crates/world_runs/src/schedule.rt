@@ -29,6 +29,7 @@
 //! | `line 8 as 7` | it is answered with the same block as line 7 |
 //! | `told begin take end` | of all that the plain machine is told so far, but for the disks that are made, these are the events |
 //! | `made 2` | the plain machine is told so far that so many disks are made |
+//! | `failed 1` | so many jobs ended so far since a device failed |
 //! | `sent 4 write a>1` | at least so many letters of this kind and way were sent |
 //! | `owners 8 data 0>a` | the block that the last such letter brings has at least so many owners |
 //!

@@ -18,6 +18,6 @@ returns-in-Some-clause-job g c =
 pub returns-in-None-clause-job : goal.returns-in-None-clause-job
 returns-in-None-clause-job g c =
     let is = sym c.in_ok-op.ensures.value ∙ c.in-None.is in
-    let law = (g.met.D.Disk g.world.𝓛 g.world.𝓜 g.world.𝓡 ((λ s x. x), (λ x. x), (λ x. x), λ x. x)).stays in
+    let law = g.met.D.Disk g.world.𝓛 g.world.𝓜 g.world.𝓡 ((λ s x. x), (λ x. x), (λ x. x), λ x. x) in
     rw (← (goes_none c.args.here.now (own_of c.args.side.now c.args.store.now) c.args.cell is))
-    (said_done g.D.Disk law c.args.here.now _ _ _ _ c.silent.result _ c.silent.ensures)
+    (said_done g.D.Disk law.stays law.only_now c.args.here.now _ _ _ _ c.silent.result _ c.silent.ensures)

@@ -36,6 +36,7 @@ returns-clause-job g c =
           puts_keeps c.args.here.now before c.args.store.now c.args.op.now h m c.set_put.new.self c.spend.new.table slot.0 c.next_version-version.result c.spend.new.store.tickets
           table c.in_ok-spend.ensures.sorted slot.1 c.in_ok-spend.ensures.table (c.in_ok-spend.ensures.tickets slot.0 slot.1);
       holds = c.in_ok-spend.ensures.holds;
+      moments = rw c.next_version-version.ensures at c.in_ok-spend.ensures.moments;
       still = λ no. absurd (cc);
       same = λ no. absurd (cc);
       kept = tt;

@@ -3,7 +3,7 @@ use Rattle.kept_chains.specs.Kept.{store_of}
 use Rattle.pair_side.proofs.Said.{all_same, full_done, said_done}
 use Rattle.petal_rules.specs.Store.{free_of}
 use Rattle.lead_write.specs.Wanted.{wanted}
-use Rattle.lead_write.proofs.Opens.{full_back, opened_tickets, slot_some, slot_out, side_back, store_back}
+use Rattle.lead_write.proofs.Opens.{full_back, opened_done, opened_tickets, slot_some, slot_out, side_back, store_back}
 use Rattle.lead_write.proofs.write.opens.Goals as goal
 
 pub goes_on-requires-clause-tickets : goal.goes_on-requires-clause-tickets
@@ -23,14 +23,14 @@ takes_back-requires-clause-out g c κs within =
 
 pub returns-in-Err-NoMemory-clause-job : goal.returns-in-Err-NoMemory-clause-job
 returns-in-Err-NoMemory-clause-job g c =
-    let law = (g.met.D.Disk g.world.𝓛 g.world.𝓜 g.world.𝓡 ((λ s x. x), (λ x. x), (λ x. x), λ x. x)).stays in
+    let law = g.met.D.Disk g.world.𝓛 g.world.𝓜 g.world.𝓡 ((λ s x. x), (λ x. x), (λ x. x), λ x. x) in
     let h = rw (← c.side.view_is) at c.requires.tickets in
     let none = rw (← c.side.view_is) at c.requires.none in
     let begun = rw (← c.side.view_is) at (c.in_ok-begins.ensures.yes c.if-not-branch.false) in
     let side_is = (c.in-Err-NoMemory.ensures.job.same (ap Err c.in-Err-NoMemory.field-0-is)).0 in
     let store_is = c.in-Err-NoMemory.ensures.same (ap Err c.in-Err-NoMemory.field-0-is) in
     rw (← c.side.view_is)
-    (said_done g.D.Disk law c.args.here.now _ _ _ _ _ _
+    (said_done g.D.Disk law.stays law.only_now c.args.here.now _ _ _ _ _ _
     (all_same c.args.here.now _ c.takes_back.new.side c.args.store.now c.takes_back.new.store _
     (side_back c.args.here.now (wanted c.args.want.now) _ c.args.store.now h none c.begins.new.side c.begins.new.store begun c.goes_on.new.side c.goes_on.new.store
     side_is store_is c.takes_back.new.side c.takes_back.ensures.side)
@@ -57,14 +57,26 @@ takes_back-requires-in-Err-JournalFull-clause-out g c κs within =
 
 pub returns-in-Err-JournalFull-clause-job : goal.returns-in-Err-JournalFull-clause-job
 returns-in-Err-JournalFull-clause-job g c =
-    let law = (g.met.D.Disk g.world.𝓛 g.world.𝓜 g.world.𝓡 ((λ s x. x), (λ x. x), (λ x. x), λ x. x)).stays in
+    let law = g.met.D.Disk g.world.𝓛 g.world.𝓜 g.world.𝓡 ((λ s x. x), (λ x. x), (λ x. x), λ x. x) in
     let h = rw (← c.side.view_is) at c.requires.tickets in
     let none = rw (← c.side.view_is) at c.requires.none in
     let begun = rw (← c.side.view_is) at (c.in_ok-begins.ensures.yes c.if-not-branch.false) in
     let room = sym c.in_ok-begins.ensures.room ∙ c.if-not-branch.false in
     rw (← c.side.view_is)
-    (full_done g.D.Disk law c.args.here.now _ _ _ _ _
+    (full_done g.D.Disk law.stays law.only_now c.args.here.now _ _ _ _ _
     (full_back c.args.here.now (wanted c.args.want.now) _ c.args.store.now h none c.begins.new.side c.begins.new.store begun
     c.goes_on.new.side c.takes_back-in-Err-JournalFull.new.side c.goes_on.new.store c.takes_back-in-Err-JournalFull.new.store
     (nat_lt 0 (free_of (store_of c.args.store.now))) room (c.in-Err-JournalFull.ensures.job.full (ap Err c.in-Err-JournalFull.field-0-is))
     c.takes_back-in-Err-JournalFull.ensures.side c.takes_back-in-Err-JournalFull.ensures.store))
+
+pub returns-in-Ok-clause-job : goal.returns-in-Ok-clause-job
+returns-in-Ok-clause-job g c =
+    opened_done c.args.here.now (wanted c.args.want.now) c.args.side.now c.args.store.now c.requires.tickets c.requires.none c.begins.new.side c.begins.new.store
+    (c.in_ok-begins.ensures.yes c.if-not-branch.false) g.D.Disk c.goes_on.new.side c.goes_on.new.store _ (nat_lt 0 (free_of (store_of c.args.store.now)))
+    (sym c.in_ok-begins.ensures.room ∙ c.if-not-branch.false) (λ no. absurd (cc)) (λ no. absurd (cc)) c.in-Ok.ensures.job
+
+pub returns-in-Err-Failed-clause-job : goal.returns-in-Err-Failed-clause-job
+returns-in-Err-Failed-clause-job g c =
+    opened_done c.args.here.now (wanted c.args.want.now) c.args.side.now c.args.store.now c.requires.tickets c.requires.none c.begins.new.side c.begins.new.store
+    (c.in_ok-begins.ensures.yes c.if-not-branch.false) g.D.Disk c.goes_on.new.side c.goes_on.new.store _ (nat_lt 0 (free_of (store_of c.args.store.now)))
+    (sym c.in_ok-begins.ensures.room ∙ c.if-not-branch.false) (λ no. absurd (cc)) (λ no. absurd (cc)) (rw c.in-Err-Failed.field-0-is at c.in-Err-Failed.ensures.job)

@@ -1,13 +1,14 @@
 use Rattle.std.proofs.Common.{◌≡◌, ℕ, [], length}
 use Rattle.std.proofs.lemmas.List.Elements.{All-append, All-cons, All-nil}
 use Rattle.petal_disk.specs.declared.memory_disk.MemDisk.{MemDisk}
+use Rattle.petal_disk.specs.declared.planned.Planned.{Planned}
 use Rattle.server_store.specs.Slots.{slot_start}
 use Rattle.memory_server.specs.Server.{Mounted, site_of}
 use Rattle.memory_server.proofs.Casting.{cast_more}
 use Rattle.memory_server.proofs.cast.started.Goals as goal
 
-abbrev fits : ℕ → Mounted MemDisk → Type 0
-fits slots server = length server.store.disk.now.items ≡ slot_start slots
+abbrev fits : ℕ → Mounted (Planned MemDisk) → Type 0
+fits slots server = length server.store.disk.disk.now.items ≡ slot_start slots
 
 pub loop-me-preserved : goal.loop-me-preserved
 loop-me-preserved c =

@@ -44,6 +44,7 @@ returns-clause-job g c =
           follows_keeps here side c.args.store.now c.cell-cell.result c.args.op h c.replace.new.self c.spend.new.table slot.0 c.spend.new.store.tickets
           c.replace.ensures c.in_ok-spend.ensures.sorted slot.1 c.in_ok-spend.ensures.table (c.in_ok-spend.ensures.tickets slot.0 slot.1);
       holds = c.in_ok-spend.ensures.holds;
+      moments = rw c.next_version-version.ensures at c.in_ok-spend.ensures.moments;
       still = λ no. absurd (cc);
       same = λ no. absurd (cc);
       kept = tt;

@@ -12,8 +12,9 @@ returns-in-Ok g c =
     let new = c.answer_read.new.store in
     let same = c.answer_read.ensures.same in
     let may : readable here.state here.me c.args.cell ≡ true = sym c.readable.ensures ∙ c.if-not-readable.false in
-    after_read g.D.Disk here side old new c.says.result _ _ same
-    c.answer_read.ensures.holds c.answer_read.ensures.cause.later c.answer_read.ensures.run
+    let read = c.answer_read.ensures in
+    let only_now = (g.met.D.Disk g.world.𝓛 g.world.𝓜 g.world.𝓡 ((λ s x. x), (λ x. x), (λ x. x), λ x. x)).only_now in
+    after_read g.D.Disk only_now here side old new same read.device read.holds read.run c.says.result _ _ read.cause.later
     (λ told. told_is here (own_of side new) (own_of side old) c.args.client c.args.seq c.args.cell c.args.epoch c.in-Ok.reply c.said.result
     (ap (λ store. own_of side store) same) may (c.in-Ok.ensures.reply told) c.said.ensures)
     c.says.ensures

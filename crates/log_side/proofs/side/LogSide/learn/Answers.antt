@@ -1,11 +1,11 @@
 use Rattle.std.proofs.Common.{refl, ap, rules}
 use Rattle.petal_paxos.proofs.Committed.{commits_is}
-use Rattle.petal_paxos.specs.Kept.{known_at}
+use Rattle.petal_paxos.specs.Kept.{committed, known_at}
 use Rattle.petal_paxos.specs.declared.record.StateRecord.TheVariants as kind
 use Rattle.petal_rules.specs.Entries.{learns}
 use Rattle.log_side.specs.Part.{log_of}
 use Rattle.log_side.proofs.FollowUps.{learnt_jobs}
-use Rattle.log_side.proofs.Said.{one_more, one_over, refused_done}
+use Rattle.log_side.proofs.Said.{one_over, refused_done}
 use Rattle.log_side.proofs.side.LogSide.learn.Goals as goal
 
 pub returns-in-Ok-clause-done : goal.returns-in-Ok-clause-done
@@ -21,8 +21,7 @@ returns-in-Ok-clause-done g c =
       };
       voter = refl;
       holds = search rules;
-      moments = λ told holds.
-          one_more g.D.Disk old.disk new.disk old.records (kind.Chosen c.args.place c.args.command.now) (c.in-Ok.ensures.any_moment told holds);
+      moments = c.in-Ok.ensures.any_moment;
       kept = tt;
       same = λ no. absurd (cc);
       only = tt;
@@ -37,6 +36,6 @@ unfolding learns
 returns-in-Err-clause-done g c =
     let entry = kind.Chosen c.args.place c.args.command.now in
     let refused = c.in-Err.ensures in
-    refused_done g.D.Disk c.args.self.now c.args.state.now c.choose.new.self entry c.in-Err.error _
+    refused_done g.D.Disk c.args.self.now c.args.state.now c.choose.new.self (committed c.args.state.now.records entry) c.in-Err.error _ refl
     (one_over c.args.state.now.records entry)
     _ refl refused.full refused.memory refused.failed refused.err refused.only refused.any_moment refused.later refused.run

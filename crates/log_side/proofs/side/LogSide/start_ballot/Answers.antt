@@ -1,9 +1,10 @@
 use Rattle.std.proofs.Common.{refl, rules}
 use Rattle.petal_paxos.proofs.Committed.{commits_is}
+use Rattle.petal_paxos.specs.Kept.{committed}
 use Rattle.petal_paxos.specs.declared.record.StateRecord.TheVariants as kind
 use Rattle.log_side.specs.Part.{sender_of}
-use Rattle.log_side.proofs.Said.{one_more, one_over, refused_done}
-use Rattle.log_side.proofs.Starts.{IsNext, log_is, letters_are, over_is}
+use Rattle.log_side.proofs.Said.{left_as, one_over, refused_done}
+use Rattle.log_side.proofs.Starts.{IsNext, log_is, letters_are, records_are}
 use Rattle.log_side.proofs.side.LogSide.start_ballot.Goals as goal
 
 pub returns-in-Ok : goal.returns-in-Ok
@@ -27,7 +28,9 @@ returns-in-Ok g c =
       });
       voter = rw c.begin-prepare.ensures.begun refl;
       holds = search rules;
-      moments = λ told holds. one_more g.D.Disk old.disk new.disk old.records entry (rw c.me.ensures at (c.in-Ok.ensures.any_moment told holds));
+      moments = λ told holds.
+          left_as g.D.Disk old.disk new.disk old.records (committed old.records entry) _ (records_are part old.records place round want next)
+          (rw c.me.ensures at (c.in-Ok.ensures.any_moment told holds));
       kept = tt;
       same = λ no. absurd (cc);
       only = tt;
@@ -48,6 +51,6 @@ returns-in-Err g c =
     let refused = rw c.me.ensures at c.in-Err.ensures in
     let wanted = rw c.in-Some.is at c.in_ok-found.ensures.some in
     rw (wanted old.records)
-    (refused_done g.D.Disk part old c.promise.new.self entry c.in-Err.error _
-    (λ changes. over_is part old.records place round c.in-Some.want next (one_over old.records entry changes))
+    (refused_done g.D.Disk part old c.promise.new.self (committed old.records entry) c.in-Err.error _
+    (records_are part old.records place round c.in-Some.want next) (one_over old.records entry)
     _ refl refused.full refused.memory refused.failed refused.err refused.only refused.any_moment refused.later refused.run)

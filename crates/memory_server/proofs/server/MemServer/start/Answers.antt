@@ -1,6 +1,7 @@
 -- No ticket is out, and both devices were made to show their stores.
 use Rattle.std.proofs.Common.{ap}
 use Rattle.petal_disk.specs.declared.memory_disk.MemDisk.{MemDisk}
+use Rattle.petal_disk.specs.declared.planned.Planned.{Planned}
 use Rattle.server_store.specs.Holdings.{Holdings}
 use Rattle.server_core.specs.Core.{Core}
 use Rattle.pair_side.proofs.Blank.{blank}
@@ -9,7 +10,7 @@ use Rattle.memory_server.proofs.server.MemServer.start.Goals as goal
 pub invariant_of-result : goal.invariant_of-result
 invariant_of-result c = λ on. record {
   tickets = blank c.in_ok-core.core.side c.in-Ok-format.store (ap (λ (core : Core). core.side) c.in_ok-core.ensures)
-      (ap (λ (store : Holdings MemDisk). store.tickets) c.in-Ok-format.ensures.ok);
+      (ap (λ (store : Holdings (Planned MemDisk)). store.tickets) c.in-Ok-format.ensures.ok);
   store = c.in-Ok-format.ensures.holds tt;
   state = c.in_ok-state.ensures.holds;
 }

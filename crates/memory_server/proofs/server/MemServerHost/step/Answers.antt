@@ -1,17 +1,16 @@
-use Rattle.std.proofs.Common.{ap}
-use Rattle.kept_chains.specs.Kept.{store_of}
-use Rattle.petal_rules.specs.Jobs.{Acted}
+-- What a server sends, and what is left of it.
+use Rattle.std.proofs.Common.{sym, ◌∙◌}
 use Rattle.server_core.proofs.Steps.{of_each}
-use Rattle.memory_server.proofs.Ticking.{tick_site}
+use Rattle.memory_server.specs.Server.{whole_of}
+use Rattle.memory_server.proofs.Seen.{seen_after, seen_letters}
 use Rattle.memory_server.proofs.server.MemServerHost.step.Goals as goal
 
-pub returns-in-Tick-clause-site : goal.returns-in-Tick-clause-site
-returns-in-Tick-clause-site c =
-    let it = c.self-in-Tick.inside in
-    rw (c.in-Tick.is, ← c.self-in-Tick.view_is) (tick_site it.core c.tick.new.self it.store it.state c.tick.result c.tick.ensures.ok c.tick.ensures.life.1)
+pub returns-clause-site : goal.returns-clause-site
+returns-clause-site c =
+    of_each _ _ (λ taken. seen_after (whole_of c.args.self.now) c.args.step.now taken.end (sym c.may_take.ensures ∙ c.if-not-may_take.false)
+    (whole_of c.act.new.self)) c.act.result c.act.ensures.site
 
-pub returns-in-Glance-clause-letters : goal.returns-in-Glance-clause-letters
-returns-in-Glance-clause-letters c =
-    let it = c.self-in-Glance.inside in
-    rw (c.in-Glance.is, ← c.self-in-Glance.view_is)
-    (of_each _ _ (λ letters is. ap (λ (acted : Acted). acted.letters) (is (store_of it.store) it.state.records)) c.glance.result c.glance.ensures)
+pub returns-clause-letters : goal.returns-clause-letters
+returns-clause-letters c =
+    of_each _ _ (λ taken. seen_letters (whole_of c.args.self.now) c.args.step.now taken.end (sym c.may_take.ensures ∙ c.if-not-may_take.false)
+    taken.letters) c.act.result c.act.ensures.letters

@@ -1,4 +1,4 @@
-use Rattle.std.proofs.Common.{◌≡◌, ◌≤◌, ◌++◌, length, refl, ap, ◌∙◌, arith}
+use Rattle.std.proofs.Common.{◌≤◌, ◌++◌, length, refl, ap, ◌∙◌, arith}
 use Rattle.log_side.specs.Part.{state_of}
 use Rattle.kept_chains.specs.Kept.{store_of}
 use Rattle.petal_rules.specs.Jobs.{journal_records}

@@ -1,6 +1,6 @@
 use Rattle.std.proofs.Common.{refl}
 use Rattle.server_core.specs.Core.{Core}
-use Rattle.server_core.proofs.Refused.{refused_work}
+use Rattle.server_core.proofs.Refused.{log_moments, refused_work}
 use Rattle.server_core.proofs.Rooms.{few_records}
 use Rattle.server_core.proofs.Works.{first_is, log_worked}
 use Rattle.server_core.proofs.server.ServerCore.work_log.Goals as goal
@@ -22,7 +22,7 @@ returns-in-Ok g c =
       life = rw (← c.self.view_is) (refl, done.voter);
       side = rw (← c.self.view_is) refl;
       holds = done.holds;
-      moments = done.moments;
+      moments = rw (← c.self.view_is) (log_moments g.E.Disk old c.args.state.now c.does.new.state job first is done);
       same = λ no. absurd (cc);
       kept = tt;
       full = λ no. absurd (cc);

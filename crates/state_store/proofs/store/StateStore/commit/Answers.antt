@@ -1,8 +1,11 @@
-use Rattle.std.proofs.Common.{◌≡◌, inl, inr, ap, refl, ◌∙◌}
-use Rattle.state_store.specs.Device.{Keeping}
+use Rattle.std.proofs.Common.{◌≡◌, ◌++◌, ◌∷◌, [], List, inl, inr, ap, refl, subst, ◌∙◌}
+use Rattle.petal_disk.specs.Disk.{LeavesOnly}
+use Rattle.petal_paxos.proofs.Committed.{commits_is}
+use Rattle.petal_paxos.specs.declared.record.StateRecord.{StateRecord}
+use Rattle.state_store.specs.Device.{Keeping, StandsForEither}
 use Rattle.petal_paxos.specs.Kept.{row_of}
 use Rattle.state_record.specs.Rows.{row_at}
-use Rattle.state_store.proofs.Adds.{still_nothing, adds_something, on_ok}
+use Rattle.state_store.proofs.Adds.{still_nothing, adds_something, on_ok, one_more}
 use Rattle.state_store.proofs.store.StateStore.commit.Goals as goal
 
 pub returns-then-keeps-clause-ok : goal.returns-then-keeps-clause-ok
@@ -25,3 +28,11 @@ returns-clause-full g c is_full =
     let is : row_at c.self.inside.places c.args.place ≡ row_of c.args.self.now.records c.args.place = c.self.invariant.0 c.args.place ∙ ap (λ (s : Keeping g.row.D.Denot). row_of s.records c.args.place) c.self.view_is in
     let full = c.add.ensures.full is_full in
     (full.0, adds_something c.args.self.now.records c.args.entry.now c.args.place _ is (c.keeps.ensures.apart c.if-keeps.false), full.1)
+
+pub returns-clause-any_moment : goal.returns-clause-any_moment
+returns-clause-any_moment g c told holds =
+    let is : row_at c.self.inside.places c.args.place ≡ row_of c.args.self.now.records c.args.place = c.self.invariant.0 c.args.place ∙ ap (λ (s : Keeping g.row.D.Denot). row_of s.records c.args.place) c.self.view_is in
+    let changes = adds_something c.args.self.now.records c.args.entry.now c.args.place _ is (c.keeps.ensures.apart c.if-keeps.false) in
+    subst (λ (after : List StateRecord). LeavesOnly g.D.Disk.moment g.D.Disk.left_since c.args.self.now.disk c.add.new.self.disk (StandsForEither c.args.self.now.records after))
+    (commits_is c.args.self.now.records (c.args.self.now.records ++ c.args.entry.now ∷ []) c.args.entry.now (inr (changes, refl)))
+    (one_more g.D.Disk c.args.self.now.disk c.add.new.self.disk c.args.self.now.records c.args.entry.now (c.add.ensures.any_moment told holds))

@@ -1,0 +1,69 @@
+//! A device fails in the middle of a run, and its server stops.
+
+use memory_runs::{Failing, play_failing};
+use petal_base::ServerId;
+use petal_disk::{CallKind, Which};
+use std::alloc::Global;
+use std::test::Fail;
+use world_runs::Row;
+
+// Of three servers, server 0 leads block 0, and server 1 is second.
+const SCRIPT: &str =
+    "servers 3 slots 4\na disk vol on 0 1 2\nwait\na write vol 0 fill 7\nwait\nb read vol 0\n";
+
+/// Each of the first calls of the device since the run began fails in turn.
+fn each_call(alloc: Global, server: ServerId, device: Which, calls: u32) -> Result<(), Fail> {
+    let row = Row {
+        shows: "a device fails, and each line is answered as if none had",
+        script: SCRIPT,
+        steps: "play out; failed 1; line 2 ok; line 4 ok; line 6 fill 7",
+    };
+    for at in 1..calls.saturating_add(1) {
+        let failing = Failing {
+            server,
+            device,
+            kind: CallKind::Any,
+            at,
+        };
+        play_failing(alloc, &row, failing)?;
+    }
+    Ok(())
+}
+
+#[test]
+fn each_call_of_the_leads_data_device(rt: HostRuntime) -> Result<(), Fail> {
+    each_call(rt.alloc(), 0, Which::Data, 15)
+}
+
+#[test]
+fn each_call_of_the_seconds_data_device(rt: HostRuntime) -> Result<(), Fail> {
+    each_call(rt.alloc(), 1, Which::Data, 6)
+}
+
+#[test]
+fn calls_of_the_leads_state_device(rt: HostRuntime) -> Result<(), Fail> {
+    each_call(rt.alloc(), 0, Which::State, 8)
+}
+
+#[test]
+fn calls_of_the_seconds_state_device(rt: HostRuntime) -> Result<(), Fail> {
+    each_call(rt.alloc(), 1, Which::State, 8)
+}
+
+#[test]
+fn a_put_that_fails(rt: HostRuntime) -> Result<(), Fail> {
+    let row = Row {
+        shows: "the lead's device fails as it puts: its server stops, and nothing of the write is left there",
+        script: SCRIPT,
+        steps: "a calls 2; agree; wait; a calls 4; write a>0; 0 works; reserve 0>1; 1 works; reserved 1>0; 0 works; failed 0;
+            0 works; failed 1; not 0 works; not 0 ticks; sent 1 down 0>1; sent 1 down 0>2; not sent 1 replicate 0>1; told begin; agree; line 4 ok;
+            wait; b calls 6; agree; line 6 fill 7; told begin take end look",
+    };
+    let failing = Failing {
+        server: 0,
+        device: Which::Data,
+        kind: CallKind::Write,
+        at: 3,
+    };
+    play_failing(rt.alloc(), &row, failing)
+}

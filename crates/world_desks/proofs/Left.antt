@@ -1,0 +1,98 @@
+-- What is left of a server, and of it after a step.
+use Rattle.std.proofs.Common.{◌≡◌, ℕ, Bool, true, false, List, Some, None, refl, ap}
+use Rattle.std.specs.Prelude.{if◌then◌else◌}
+use Rattle.petal_msg.specs.declared.letter.Letter.{Letter}
+use Rattle.petal_rules.specs.Log.{Log, rev_of, state_in}
+use Rattle.petal_rules.specs.Server.{Life, Own, Server}
+use Rattle.petal_rules.specs.World.{World, MayServer, is_spent_server, server_step}
+use Rattle.petal_rules.specs.declared.job.Job.{Job}
+use Rattle.petal_rules.specs.declared.step.Step.{Step}
+use Rattle.petal_rules.specs.declared.step.Step.TheVariants.{Call, Deliver, Tick, Work, Stop, Glance}
+use Rattle.world_desks.specs.Desks.{acted_at, left_of, may_take, on_devices}
+
+-- a server of these parts
+abbrev made : (running : Bool) (inc : ℕ) (log : Log) (own : Own) (queue : List Job) → Server
+made running inc log own queue = record { life = record { running = running; inc = inc }; log = log; own = own; queue = queue }
+
+-- nothing is lost of a server that runs
+pub left_running : (server : Server) → server.life.running ≡ true → left_of server ≡ server
+left_running server on = ap (λ b. if b then server else on_devices server) on
+
+-- whether it runs, and as which incarnation, is not lost
+pub left_life : (server : Server) → (left_of server).life ≡ server.life
+left_life server = by_life server.life.running server
+  where
+    by_life : (b : Bool) (server : Server) → (if b then server else on_devices server).life ≡ server.life
+    by_life true server = refl
+    by_life false server = refl
+
+pub left_runs : (server : Server) → (left_of server).life.running ≡ server.life.running
+left_runs server = ap (λ (life : Life). life.running) (left_life server)
+
+spent_by : (running : Bool) (inc : ℕ) (log : Log) (own : Own) (queue : List Job)
+    → is_spent_server (left_of (made running inc log own queue)) ≡ is_spent_server (made running inc log own queue)
+spent_by true inc log own queue = refl
+spent_by false inc log own queue = refl
+
+-- what has stopped is not spent
+pub left_spent : (server : Server) → is_spent_server (left_of server) ≡ is_spent_server server
+left_spent server = spent_by server.life.running server.life.inc server.log server.own server.queue
+
+rev_by : (running : Bool) (inc : ℕ) (log : Log) (own : Own) (queue : List Job)
+    → (if (left_of (made running inc log own queue)).life.running then Some (rev_of (left_of (made running inc log own queue)).log) else None)
+    ≡ (if running then Some (rev_of log) else None)
+rev_by true inc log own queue = refl
+rev_by false inc log own queue = refl
+
+-- the revision of a server that runs
+pub left_rev : (server : Server)
+    → (if (left_of server).life.running then Some (rev_of (left_of server).log) else None) ≡ (if server.life.running then Some (rev_of server.log) else None)
+left_rev server = rev_by server.life.running server.life.inc server.log server.own server.queue
+
+-- ### Steps
+
+-- at what is left of a server the step sends the same letters, and leaves what is left of the server after it
+pub record StepsLeft (servers n : ℕ) (server : Server) (what : Step) : Type 0 where
+  pub letters : (acted_at (record { me = n; servers = servers; server = left_of server }) what).letters
+      ≡ (server_step what (state_in servers server.log) n server).letters
+  pub left : left_of (acted_at (record { me = n; servers = servers; server = left_of server }) what).server
+      ≡ left_of (server_step what (state_in servers server.log) n server).server
+
+runs : (servers n : ℕ) (server : Server) (what : Step) → server.life.running ≡ true → StepsLeft servers n server what
+runs servers n server what on = record {
+  letters = ap (λ (s : Server). (acted_at (record { me = n; servers = servers; server = s }) what).letters) (left_running server on);
+  left = ap (λ (s : Server). left_of (acted_at (record { me = n; servers = servers; server = s }) what).server) (left_running server on);
+}
+
+calls : (servers n line : ℕ) (running : Bool) (inc : ℕ) (log : Log) (own : Own) (queue : List Job)
+    → StepsLeft servers n (made running inc log own queue) (Call line)
+calls servers n line true inc log own queue = record { letters = refl; left = refl }
+calls servers n line false inc log own queue = record { letters = refl; left = refl }
+
+receives : (servers n : ℕ) (letter : Letter) (running : Bool) (inc : ℕ) (log : Log) (own : Own) (queue : List Job)
+    → StepsLeft servers n (made running inc log own queue) (Deliver letter)
+receives servers n letter true inc log own queue = record { letters = refl; left = refl }
+receives servers n letter false inc log own queue = record { letters = refl; left = refl }
+
+shows : (servers n line round : ℕ) (running : Bool) (inc : ℕ) (log : Log) (own : Own) (queue : List Job)
+    → StepsLeft servers n (made running inc log own queue) (Glance line round)
+shows servers n line round true inc log own queue = record { letters = refl; left = refl }
+shows servers n line round false inc log own queue = record { letters = refl; left = refl }
+
+-- a step that it may take
+pub steps_left : (servers n : ℕ) (server : Server) (what : Step) → may_take what server.life.running ≡ true → StepsLeft servers n server what
+steps_left servers n s (Call line) on = calls servers n line s.life.running s.life.inc s.log s.own s.queue
+steps_left servers n s (Deliver letter) on = receives servers n letter s.life.running s.life.inc s.log s.own s.queue
+steps_left servers n s Tick on = runs servers n s Tick on
+steps_left servers n s (Work end) on = runs servers n s (Work end) on
+steps_left servers n s Stop on = runs servers n s Stop on
+steps_left servers n s (Glance line round) on = shows servers n line round s.life.running s.life.inc s.log s.own s.queue
+
+-- as it may each step that is allowed
+pub allowed : (w : World) (n : ℕ) (what : Step) → MayServer what w n → may_take what (w.servers n).life.running ≡ true
+allowed w n (Call line) may = refl
+allowed w n (Deliver letter) may = refl
+allowed w n Tick may = may
+allowed w n (Work end) may = may.0
+allowed w n Stop may = may.runs
+allowed w n (Glance line round) may = refl
