@@ -77,9 +77,14 @@ pub fn play(alloc: Global, row: &Row) -> Result<(), Fail> {
     play_row(alloc, row, start(alloc, row.script)?)
 }
 
+/// The run of a script's text that begins, in which a call of a device fails.
+pub fn start_failing(alloc: Global, text: &str, failing: Failing) -> Result<Run<MemServer>, Fail> {
+    let script = read_script(alloc, text.as_bytes())?;
+    let hosts = armed(members(alloc, &script)?, failing);
+    Ok(Run::new(alloc, world_of(alloc, script, hosts)?))
+}
+
 /// Plays a row in which a call of a device fails.
 pub fn play_failing(alloc: Global, row: &Row, failing: Failing) -> Result<(), Fail> {
-    let script = read_script(alloc, row.script.as_bytes())?;
-    let hosts = armed(members(alloc, &script)?, failing);
-    play_row(alloc, row, Run::new(alloc, world_of(alloc, script, hosts)?))
+    play_row(alloc, row, start_failing(alloc, row.script, failing)?)
 }

@@ -1,9 +1,10 @@
-//! Worlds stepped by chance, in which two of five servers stop.
+//! Worlds stepped by chance, in which servers stop: two of five by the operator's lines, or one since a device fails.
 
-use memory_runs::start;
+use memory_runs::{Failing, start, start_failing};
+use petal_disk::{CallKind, Which};
 use std::alloc::Global;
 use std::test::Fail;
-use world_runs::{Chance, Count, script_with_stops, simulate};
+use world_runs::{Chance, Count, script_by, script_with_stops, simulate};
 
 fn simulate_seed(alloc: Global, seed: u32) -> Result<Count, Fail> {
     let mut chance = Chance::new(seed);
@@ -21,5 +22,38 @@ fn worlds_by_chance(rt: HostRuntime) -> Result<(), Fail> {
     assert!(rt; all.answered >= 400, "{all:?}");
     assert!(rt; all.unavailable >= 5, "{all:?}");
     assert!(rt; all.stops >= 30, "{all:?}");
+    Ok(())
+}
+
+/// One of the first calls of one of the first three servers' devices.
+fn failing_by(chance: &mut Chance) -> Failing {
+    Failing {
+        server: chance.below(3) as u8,
+        device: if chance.below(2) == 0 {
+            Which::Data
+        } else {
+            Which::State
+        },
+        kind: CallKind::Any,
+        at: chance.below(40).saturating_add(1) as u32,
+    }
+}
+
+fn simulate_failing(alloc: Global, seed: u32) -> Result<Count, Fail> {
+    let mut chance = Chance::new(seed);
+    let text = script_by(alloc, &mut chance)?;
+    let failing = failing_by(&mut chance);
+    let run = start_failing(alloc, text.as_str(), failing)?;
+    simulate(alloc, seed, chance, run)
+}
+
+#[test]
+fn worlds_whose_devices_fail(rt: HostRuntime) -> Result<(), Fail> {
+    let mut all = Count::new();
+    for seed in 1..21 {
+        all = all.and(simulate_failing(rt.alloc(), seed)?);
+    }
+    assert!(rt; all.answered >= 400, "{all:?}");
+    assert!(rt; all.faults >= 12, "{all:?}");
     Ok(())
 }

@@ -138,14 +138,15 @@ impl Choice {
     }
 }
 
-/// How many lines were answered in some runs, how many of these with `nospace` and with `unavailable`, and how often a server
-/// was stopped.
+/// How many lines were answered in some runs, how many of these with `nospace` and with `unavailable`, how often a server was
+/// stopped, and in how many jobs a device failed.
 #[derive(Clone, Copy, Debug, PartialEq, Eq)]
 pub struct Count {
     pub answered: usize,
     pub no_space: usize,
     pub unavailable: usize,
     pub stops: usize,
+    pub faults: usize,
 }
 
 impl Count {
@@ -156,6 +157,7 @@ impl Count {
             no_space: 0,
             unavailable: 0,
             stops: 0,
+            faults: 0,
         }
     }
 
@@ -166,6 +168,7 @@ impl Count {
             no_space: self.no_space.saturating_add(more.no_space),
             unavailable: self.unavailable.saturating_add(more.unavailable),
             stops: self.stops.saturating_add(more.stops),
+            faults: self.faults.saturating_add(more.faults),
         }
     }
 }
@@ -186,9 +189,11 @@ fn counted<H: Host>(run: &Run<H>) -> Count {
             no_space: usize::from(is_no_space(answer)),
             unavailable: usize::from(is_unavailable(answer)),
             stops: 0,
+            faults: 0,
         });
     }
     count.stops = stops(run);
+    count.faults = run.failed();
     count
 }
 
