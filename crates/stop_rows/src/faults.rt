@@ -30,14 +30,32 @@ fn each_call(alloc: Global, server: ServerId, device: Which, calls: u32) -> Resu
     Ok(())
 }
 
+/// There are no more calls than these: where the next one is to fail, none does.
+fn no_more_calls(alloc: Global, server: ServerId, device: Which, calls: u32) -> Result<(), Fail> {
+    let row = Row {
+        shows: "no call of the device is left to fail",
+        script: SCRIPT,
+        steps: "play out; failed 0; line 2 ok; line 4 ok; line 6 fill 7",
+    };
+    let failing = Failing {
+        server,
+        device,
+        kind: CallKind::Any,
+        at: calls.saturating_add(1),
+    };
+    play_failing(alloc, &row, failing)
+}
+
 #[test]
 fn each_call_of_the_leads_data_device(rt: HostRuntime) -> Result<(), Fail> {
-    each_call(rt.alloc(), 0, Which::Data, 15)
+    each_call(rt.alloc(), 0, Which::Data, 16)?;
+    no_more_calls(rt.alloc(), 0, Which::Data, 16)
 }
 
 #[test]
 fn each_call_of_the_seconds_data_device(rt: HostRuntime) -> Result<(), Fail> {
-    each_call(rt.alloc(), 1, Which::Data, 6)
+    each_call(rt.alloc(), 1, Which::Data, 8)?;
+    no_more_calls(rt.alloc(), 1, Which::Data, 8)
 }
 
 #[test]
