@@ -40,3 +40,12 @@ stop_in server asked _ = None
 abbrev pub stop_of : ℕ → Option Asked → Option ℕ
 stop_of server None = None
 stop_of server (Some asked) = stop_in server asked asked.request
+
+-- the request's line, where it starts this server
+abbrev pub start_in : ℕ → Asked → Request → Option ℕ
+start_in server asked (request.Start other) = if other == server then Some asked.line else None
+start_in server asked _ = None
+
+abbrev pub start_of : ℕ → Option Asked → Option ℕ
+start_of server None = None
+start_of server (Some asked) = start_in server asked asked.request

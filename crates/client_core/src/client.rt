@@ -7,7 +7,7 @@ ghost use Rattle.petal_rules.specs.State.{servers_of};
 ghost use Rattle.petal_rules.specs.Clients.{Client, first_client, called, heard, hears_of, next_entries, takes_entries, then_goes_out, ticked, asking, goes_out_where};
 ghost use Rattle.petal_rules.specs.World.{turn_of};
 ghost use Rattle.client_core.specs.Core.{at_core, is_spent, state_of};
-ghost use Rattle.client_core.specs.Open.{answers_where, outcome, stop_of, with_send, with_witnesses};
+ghost use Rattle.client_core.specs.Open.{answers_where, outcome, start_of, stop_of, with_send, with_witnesses};
 ghost use Rattle.client_core.specs.Learning.{learnt};
 
 use crate::hearing::Heard;
@@ -155,6 +155,16 @@ impl ClientCore {
         match &self.asked {
             None => None,
             Some(open) => open.stops(server),
+        }
+    }
+
+    /// The line of the open request, where it starts this server.
+    pub fn starts(&self, server: ServerId) -> Option<u32>
+        ensures { result ≡ start_of server self.now.client.asked }
+    {
+        match &self.asked {
+            None => None,
+            Some(open) => open.starts(server),
         }
     }
 

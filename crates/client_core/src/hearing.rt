@@ -2,13 +2,13 @@
 
 ghost use Rattle.std.specs.Prelude.{◌≡◌, ℕ, Some, IfOk, if◌then◌else◌};
 ghost use Rattle.petal_rules.specs.State.{State};
-ghost use Rattle.petal_rules.specs.Clients.{Client, hears};
+ghost use Rattle.petal_rules.specs.Clients.{Client, hears, seen_answer};
 ghost use Rattle.client_core.specs.Open.{outcome};
 
 use crate::open::Open;
 use petal_base::{NoMemory, Rev, Seq};
 use petal_msg::Body;
-use script_lines::Answer;
+use script_lines::{Answer, Request};
 
 /// What comes of a reply.
 #[derive(Drop)]
@@ -37,6 +37,17 @@ fn again_if(counts: bool) -> Heard
     if counts { Heard::Again } else { Heard::Nothing }
 }
 
+/// What the operator's line is answered, once its server was glanced at: a start has failed where the server does not run.
+fn seen_answer(request: &Request, running: bool) -> Option<Answer>
+    ensures { result ≡ seen_answer request.now running }
+{
+    match request {
+        Request::Stop { server: _ } => Some(Answer::Ok),
+        Request::Start { server: _ } => Some(if running { Answer::Ok } else { Answer::Failed }),
+        _ => None,
+    }
+}
+
 impl Open {
     /// What a letter that comes at a revision means for this request.
     pub fn hear(&self, rev: Rev, body: &Body) -> Result<Heard, NoMemory>
@@ -59,10 +70,15 @@ impl Open {
             )),
             Body::BlockBusy { seq } | Body::Held { seq } => Ok(again_if(self.counts(rev, *seq))),
             Body::WrongRev { seq } => Ok(again_if(*seq == self.seq)),
-            Body::Seen { line, .. } => Ok(answered_if(
-                *line == self.line && self.request.is_stop(),
-                Answer::Ok,
-            )),
+            Body::Seen { line, running, .. } => {
+                if *line != self.line {
+                    return Ok(Heard::Nothing);
+                }
+                match seen_answer(&self.request, *running) {
+                    Some(answer) => Ok(Heard::Answered(answer)),
+                    None => Ok(Heard::Nothing),
+                }
+            }
             Body::Down { .. }
             | Body::Propose { .. }
             | Body::Pax(_)

@@ -2,7 +2,7 @@
 
 ghost use Rattle.std.specs.Prelude.{◌≡◌, IfOk};
 ghost use Rattle.petal_rules.specs.Clients.{counts};
-ghost use Rattle.client_core.specs.Open.{bytes_sent, stop_in, with_send, with_witnesses};
+ghost use Rattle.client_core.specs.Open.{bytes_sent, start_in, stop_in, with_send, with_witnesses};
 
 use petal_base::{NoMemory, Rev, Seq, ServerId, SharedBlock};
 use script_lines::Request;
@@ -84,6 +84,22 @@ impl Open {
     {
         match &self.request {
             Request::Stop { server: other } => {
+                if *other == server {
+                    Some(self.line)
+                } else {
+                    None
+                }
+            }
+            _ => None,
+        }
+    }
+
+    /// The request's line, where it starts this server.
+    pub fn starts(&self, server: ServerId) -> Option<u32>
+        ensures { result ≡ start_in server self.now self.now.request }
+    {
+        match &self.request {
+            Request::Start { server: other } => {
                 if *other == server {
                     Some(self.line)
                 } else {

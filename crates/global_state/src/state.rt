@@ -1,9 +1,9 @@
 //! The state as the layers above see it.
 
-ghost use Rattle.std.specs.Prelude.{◌≡◌, ◌<◌, ◌-◌, ◌^◌, IfOk, OnOk, OnErr, option_copied};
+ghost use Rattle.std.specs.Prelude.{◌≡◌, ◌<◌, ◌-◌, ◌^◌, IfOk, OnOk, OnErr, option_copied, slice_get};
 ghost use Rattle.global_tables.specs.View.{head};
 ghost use Rattle.petal_state.specs.State.{start, inc_of};
-ghost use Rattle.petal_state.specs.Command.{after};
+ghost use Rattle.petal_state.specs.Command.{after, may_join};
 ghost use Rattle.petal_state.specs.Bound.{IsWithin};
 
 use global_tables::Fence;
@@ -83,6 +83,13 @@ impl GlobalState {
         ensures { result ≡ inc_of self.now server }
     {
         self.tables.inc_of(server)
+    }
+
+    /// Whether a server that is Out may come In as this incarnation: it was In as an earlier one only.
+    pub fn may_join(&self, server: ServerId, inc: Inc) -> bool
+        ensures { result ≡ may_join (slice_get self.now.view.members server) inc }
+    {
+        state_fold::may_join(self.tables.view.member(server), inc)
     }
 
     /// The active fence.

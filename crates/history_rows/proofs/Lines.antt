@@ -1,16 +1,31 @@
 -- The operator's open lines, and what is below what.
-use Rattle.std.proofs.Common.{ℕ, ◌<◌, arith}
+use Rattle.std.proofs.Common.{◌≡◌, ℕ, ◌<◌, ◌==◌, false, true, Some, subst, arith}
 use Rattle.std.proofs.lemmas.Bool.Decides.{nat_tests}
+use Rattle.script_lines.specs.declared.request.Request.{Request}
 use Rattle.script_lines.specs.declared.request.Request.TheVariants as request
 use Rattle.petal_rules.specs.Clients.{Asked}
-use Rattle.petal_rules.specs.World.{greatest_u64}
+use Rattle.petal_rules.specs.World.{greatest_u32, greatest_u64}
+use Rattle.petal_rules.proofs.Tests.{number_itself, same_some, true_false}
 
--- the operator's request of this number, which stops server 1
+-- the operator's request of this number
+abbrev pub asks_for : Request → (line seq : ℕ) → Asked
+asks_for what line seq = record { line = line; seq = seq; request = what; turn = 1; rev = 1; witnesses = 0 }
+
+-- it stops server 1, or starts it
 abbrev pub asked_for : (line seq : ℕ) → Asked
-asked_for line seq = record { line = line; seq = seq; request = request.Stop 1; turn = 1; rev = 1; witnesses = 0 }
+asked_for line seq = asks_for (request.Stop 1) line seq
+
+abbrev pub start_of : (line seq : ℕ) → Asked
+start_of line seq = asks_for (request.Start 1) line seq
+
+pub apart : (line other : ℕ) → (line == other) ≡ false → Some line ≡ Some other → ⊥
+apart line other not_same is = let same : line ≡ other = same_some is in true_false (subst (λ n. (line == n) ≡ true) same (number_itself line)) not_same
 
 pub one_of_three : 1 < 3
 one_of_three = grind (arith, nat_tests)
+
+pub one_life : 1 < greatest_u32
+one_life = grind (arith, nat_tests)
 
 pub none_yet : 0 < greatest_u64
 none_yet = grind (arith, nat_tests)
@@ -20,3 +35,9 @@ one_step = grind (arith, nat_tests)
 
 pub two_steps : 2 < greatest_u64
 two_steps = grind (arith, nat_tests)
+
+pub three_steps : 3 < greatest_u64
+three_steps = grind (arith, nat_tests)
+
+pub four_steps : 4 < greatest_u64
+four_steps = grind (arith, nat_tests)

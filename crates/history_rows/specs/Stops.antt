@@ -30,11 +30,14 @@ ready_server =
     record first { log = crowd_log }
 
 -- the world in which the disk was made, and all have heard of it: client 0 has had its answer
-abbrev pub ready : World
-ready = record (start trio) {
+abbrev pub ready_for : Setting → World
+ready_for setting = record (start setting) {
   servers = λ n. ready_server;
   clients = λ c. record first_client { applied = crowd_disk ∷ []; seq = if c == 0 then 1 else 0 };
 }
+
+abbrev pub ready : World
+ready = ready_for trio
 
 -- the world after these acts, from that one
 abbrev pub trio_after : List Act → World

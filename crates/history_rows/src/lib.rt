@@ -1,10 +1,15 @@
-//! Histories that are worked by hand: what the rules say of runs in which servers stop. The crate has no code of its own.
+//! Histories that are worked by hand: what the rules say of runs in which servers stop and return. The crate has no code of its own.
 #![tactic(auto)]
 
+mod boots;
 mod faults;
 mod stops;
 mod takeover;
 
+pub use boots::{
+    a_boot_fails, a_line_starts_a_server, a_server_joins_again,
+    a_start_of_a_running_server_does_nothing,
+};
 pub use faults::{
     a_device_fails_after_a_put, a_device_fails_before_a_put, a_full_journal_stops_a_server,
 };

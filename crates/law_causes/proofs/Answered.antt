@@ -23,12 +23,14 @@ use Rattle.petal_history.specs.Order.{AreRising}
 use Rattle.petal_history.specs.declared.record.Record.{Record}
 use Rattle.script_lines.specs.declared.script.Script.{Script}
 use Rattle.petal_rules.specs.Lists.{In}
-use Rattle.petal_rules.specs.State.{State}
-use Rattle.petal_rules.specs.Clients.{Client, Asked, Reaction, is_read, is_stop, is_write, command_of, refusal, verdict_for, verdict_answer, is_witness}
+use Rattle.petal_rules.specs.State.{State, is_in}
+use Rattle.petal_rules.specs.Clients.{Client, Asked, Reaction, is_read, is_write, command_of, refusal, seen_answer, verdict_for, verdict_answer, is_witness}
 use Rattle.petal_rules.specs.World.{Setting, World, lines_of, chosen_log, chosen_state, state_at, with_answer, setting_of, start}
-use Rattle.petal_rules.proofs.Tests.{same_some, none_some, same_numbers, both_true, all_put}
+use Rattle.petal_rules.proofs.Tests.{by_test, same_some, none_some, same_numbers, both_true, all_put}
 use Rattle.law_state.specs.Plain.{IsPlainLog}
 use Rattle.law_state.proofs.Places.{get_front, in_get}
+use Rattle.law_state.proofs.Ages.{between}
+use Rattle.law_state.proofs.Disks.{first_at_start}
 use Rattle.law_state.proofs.Entries.{log_plain}
 use Rattle.law_state.proofs.Steady.{front_plain, log_below, log_steady}
 use Rattle.law_steps.specs.Turned.{Turned, IsSame, StaysOpen, IsReason, By_verdict, By_witness, IsJudged, Goes_on, Begins, Reads, Ends, Shown, Judges, answer_of}
@@ -95,10 +97,6 @@ no_command_read c seq _ h = refl
 no_command_write : (c seq : ℕ) (asked : Request) → is_write asked ≡ true → command_of c seq asked ≡ None
 no_command_write c seq (request.Disk name tuple) h = absurd (cc)
 no_command_write c seq _ h = refl
-
-no_command_stop : (c seq : ℕ) (asked : Request) → is_stop asked ≡ true → command_of c seq asked ≡ None
-no_command_stop c seq (request.Disk name tuple) h = absurd (cc)
-no_command_stop c seq _ h = refl
 
 none_of : {X : Type 0} (o : Option X) → is_some o ≡ false → o ≡ None
 none_of None h = refl
@@ -287,8 +285,13 @@ module _ (setting : Setting) (last : World) (plain : IsPlainLog setting.servers 
   write_cause c seq asked ending.Written is = subst (λ o. CauseOf setting last c seq asked o answer.Ok) (sym (no_command_write c seq asked is)) tt
   write_cause c seq asked ending.Full is = subst (λ o. CauseOf setting last c seq asked o answer.NoSpace) (sym (no_command_write c seq asked is)) tt
 
-  stop_cause : (c seq : ℕ) (asked : Request) → is_stop asked ≡ true → CauseOf setting last c seq asked (command_of c seq asked) answer.Ok
-  stop_cause c seq asked is = subst (λ o. CauseOf setting last c seq asked o answer.Ok) (sym (no_command_stop c seq asked is)) tt
+  seen_cause : (c seq : ℕ) (asked : Request) (running : Bool) (given : Answer) → seen_answer asked running ≡ Some given
+      → CauseOf setting last c seq asked (command_of c seq asked) given
+  seen_cause c seq (request.Stop server) running given e = subst (CauseOf setting last c seq (request.Stop server) None) (same_some e) tt
+  seen_cause c seq (request.Start server) running given e =
+      subst (CauseOf setting last c seq (request.Start server) None) (same_some e)
+      (by_test (CauseOf setting last c seq (request.Start server) None) running answer.Ok answer.Failed (λ t. tt) (λ t. tt))
+  seen_cause c seq _ running given e = none_some refl e
 
   reacted_kept : (heard : ℕ → Body → Type 0) (c : ℕ) (client : Client) (in_call : Bool) (reacted : Reaction)
       → ((asked : Asked) → client.asked ≡ Some asked → IsOpenFor setting.lines c asked)
@@ -321,11 +324,11 @@ module _ (setting : Setting) (last : World) (plain : IsPlainLog setting.servers 
         answer_given number asked.line given (answer_of how) e
         (caused_by c asked (answer_of how) (before asked is) (write_cause c asked.seq asked.request how write));
   }
-  reacted_kept heard c client _ _ before part (Shown asked rev round inc running full told is stops) = record {
+  reacted_kept heard c client _ _ before part (Shown asked rev round inc running full told is shown seen) = record {
     open_for = λ other e. none_some refl e;
     answered = λ number given e.
-        answer_given number asked.line given answer.Ok e
-        (caused_by c asked answer.Ok (before asked is) (stop_cause c asked.seq asked.request stops));
+        answer_given number asked.line given shown e
+        (caused_by c asked shown (before asked is) (seen_cause c asked.seq asked.request running shown seen));
   }
   reacted_kept heard c client _ _ before part (Judges after asked told is gone seq judged) = record {
     open_for = λ other e. none_some gone e;
@@ -428,10 +431,10 @@ module _ (script : Script) (records : List Record) (firm : AreFirm (setting_of s
           (subst (λ k. CauseOf setting last h.client (k + 1) line.request (command_of h.client (k + 1) line.request) given) place
           (subst (λ (l : Line). CauseOf setting last h.client (h.before + 1) l.request (command_of h.client (h.before + 1) l.request) given) same h.cause))
 
-  -- where every server runs, no answer is `Unavailable`
-  pub never_unavailable_after : ((n : ℕ) → n < script.servers → (last.servers n).life.running ≡ true) → (number : ℕ)
+  -- where every server still is In as its first incarnation, no answer is `Unavailable`
+  pub never_unavailable_after : ((n : ℕ) → n < script.servers → is_in (chosen_state setting last) n 1 ≡ true) → (number : ℕ)
       → In (number, answer.Unavailable) last.answers → ⊥
-  never_unavailable_after runs number told = by (kept_end.answers number answer.Unavailable told)
+  never_unavailable_after ins number told = by (kept_end.answers number answer.Unavailable told)
     where
       verdicts : (v : Rattle.global_tables.specs.declared.disk.Verdict.Verdict) → verdict_answer v ≡ Some answer.Unavailable → ⊥
       verdicts verdict.Ok e = absurd (cc)
@@ -455,9 +458,13 @@ module _ (script : Script) (records : List Record) (firm : AreFirm (setting_of s
           let front = take (h.place + 1) whole in
           let proper : IsPlainLog script.servers front = plain_front script.servers whole (h.place + 1) plain_end in
           let many = (log_plain script.servers front proper).many in
+          let upto = log_below script.servers [] front proper (record { later = front; is = refl }) in
           let below = log_below script.servers front whole plain_end (take_front whole (h.place + 1)) in
           never_unavailable (state_at setting last (h.place + 1)) (log_steady script.servers front proper)
-          (λ n low. below.ups n ((firm_after setting (start setting) records firm).runs n (runs n (subst (λ k. n < k) many low)))) asked h.so
+          (λ n low.
+          let one = subst (λ k. n < k) many low in
+          between (first_state script.servers) (state_at setting last (h.place + 1)) (chosen_state setting last) n 1 (upto.ages n) (below.ages n)
+          (first_at_start script.servers n one) (ins n one)) asked h.so
 
       by : HasCause setting last plain_end disks number answer.Unavailable → ⊥
       by h = cause_never h.client (h.before + 1) h.line.request (command_of h.client (h.before + 1) h.line.request) h.cause

@@ -10,9 +10,9 @@ use Rattle.global_tables.specs.declared.disk.Latest.{Latest}
 use Rattle.global_tables.specs.declared.disk.Verdict.{Verdict}
 use Rattle.global_tables.specs.declared.disk.Verdict.TheVariants as verdict
 use Rattle.petal_command.specs.declared.command.Command.{Command}
-use Rattle.petal_command.specs.declared.command.Command.TheVariants.{Leave, MakeDisk, Witness}
+use Rattle.petal_command.specs.declared.command.Command.TheVariants.{Join, Leave, MakeDisk, Witness}
 use Rattle.petal_state.specs.State.{State, is_up_as, latest, told}
-use Rattle.petal_state.specs.Command.{is_new, with_disk, leave, make_disk, act, after}
+use Rattle.petal_state.specs.Command.{is_new, may_join, with_disk, leave, make_disk, act, after}
 use Rattle.petal_state.specs.Fence.{settled}
 use Rattle.petal_rules.proofs.Tests.{by_test, same_or_apart}
 use Rattle.law_state.specs.Plain.{IsPlain}
@@ -67,6 +67,8 @@ leave_queue s server inc quiet = by_test (λ (t : State). t.view.queue ≡ []) (
 act_queue : (servers : ℕ) (e : Command) (s : State) → IsPlain servers e → s.view.queue ≡ [] → (act e s).view.queue ≡ []
 act_queue servers (MakeDisk client seq name tuple) s plain quiet = ap (λ view. view.queue) (make_view s client seq name tuple) ∙ quiet
 act_queue servers (Witness client seq turn) s plain quiet = quiet
+act_queue servers (Join server inc blank) s plain quiet =
+    by_test (λ (t : State). t.view.queue ≡ []) (may_join (slice_get s.view.members server) inc) _ s (λ may. quiet) (λ no. quiet)
 act_queue servers (Leave server inc) s plain quiet = leave_queue s server inc quiet
 act_queue servers _ s plain quiet = absurd plain
 
@@ -151,6 +153,10 @@ telling servers s (MakeDisk d q n t) c plain quiet =
     making_tells s c d q n t (ap (λ (x : State). latest x c) (after_is servers (MakeDisk d q n t) s plain quiet))
 telling servers s (Witness client seq turn) c plain quiet =
     Same (ap (λ (x : State). latest x c) (after_is servers (Witness client seq turn) s plain quiet)) (λ seq name tuple e low. absurd (cc))
+telling servers s (Join server inc blank) c plain quiet =
+    Same (ap (λ (x : State). latest x c) (after_is servers (Join server inc blank) s plain quiet)
+    ∙ by_test (λ (t : State). latest t c ≡ latest s c) (may_join (slice_get s.view.members server) inc) _ s (λ may. refl) (λ no. refl))
+    (λ seq name tuple e low. absurd (cc))
 telling servers s (Leave server inc) c plain quiet =
     Same (ap (λ (x : State). latest x c) (after_is servers (Leave server inc) s plain quiet)
     ∙ by_test (λ (t : State). latest t c ≡ latest s c) (is_up_as s server inc) _ s (λ up. refl) (λ out. refl)) (λ seq name tuple e low. absurd (cc))

@@ -3,5 +3,9 @@ pub mod Folds
 pub mod Verdicts
 pub mod Answered
 pub mod Served
+pub mod Saying
 pub mod Revisions
+pub mod Lines
 pub mod Stops
+pub mod Glances
+pub mod Once

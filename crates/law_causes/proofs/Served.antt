@@ -1,4 +1,5 @@
--- In a state in which every server is In, each read and write of a known disk has a server: none is refused for want of one.
+-- In a state in which every server is In as its first incarnation, each read and write of a known disk has a server: none is refused
+-- for want of one.
 use Rattle.std.proofs.Common.{◌≡◌, ◌≢◌, ◌<◌, ◌≤◌, ◌+◌, ◌==◌, ◌&&◌, ℕ, zero, suc, Bool, true, false, if◌then◌else◌, List, ◌∷◌, length, Option, Some, None, is_some, refl, sym, ap, ◌∙◌, subst, inl, inr, arith}
 use Rattle.std.proofs.lemmas.Bool.Decides.{nat_tests}
 use Rattle.std.specs.Prelude.{filter}
@@ -7,7 +8,7 @@ use Rattle.petal_base.specs.declared.cell.Cell.{Cell}
 use Rattle.global_tables.specs.declared.link.LinkRow.{LinkRow}
 use Rattle.global_tables.specs.declared.link.LinkState.TheVariants.{Both}
 use Rattle.petal_state.specs.CellState.{cell_link}
-use Rattle.petal_state.specs.State.{is_up}
+use Rattle.petal_state.specs.State.{is_up_as}
 use Rattle.petal_state.specs.declared.answer.DiskView.{DiskView}
 use Rattle.script_lines.specs.declared.answer.Answer.TheVariants as answer
 use Rattle.script_lines.specs.declared.request.Request.{Request}
@@ -17,6 +18,7 @@ use Rattle.petal_rules.specs.State.{State, servers_of, find, lead, readable}
 use Rattle.petal_rules.proofs.Tests.{none_some, same_numbers, true_false}
 use Rattle.law_state.specs.Rows.{ByBoth, ByOne}
 use Rattle.law_state.specs.Steady.{IsLinked, IsSteady}
+use Rattle.law_state.proofs.Ages.{in_up}
 use Rattle.law_state.proofs.Cells.{both_lead, both_reader}
 use Rattle.law_state.proofs.Roles.{primary_is_one}
 
@@ -40,14 +42,14 @@ not_empty n more = by (n == 0) refl
     by true e is = absurd (grind (arith, nat_tests))
     by false e is = absurd (cc)
 
-module _ (s : State) (steady : IsSteady s) (ups : (n : ℕ) → n < servers_of s → is_up s n ≡ true) where
+module _ (s : State) (steady : IsSteady s) (ins : (n : ℕ) → n < servers_of s → is_up_as s n 1 ≡ true) where
   -- both servers of each link serve it
   in_both : (row : LinkRow) (cell : Cell) → IsLinked s cell row → row.state ≡ Both
   in_both row cell linked = elim linked.served [
     | ByBoth so one other ↦ so
     | ByOne holder other so between out ↦ elim between [
-      | inl pair ↦ true_false (ups row.secondary linked.secondary) (ap (is_up s) pair.1 ∙ out)
-      | inr pair ↦ true_false (ups row.primary linked.primary) (ap (is_up s) pair.0 ∙ out)
+      | inl pair ↦ true_false (ins row.secondary linked.secondary) (ap (λ k. is_up_as s k 1) pair.1 ∙ out)
+      | inr pair ↦ true_false (ins row.primary linked.primary) (ap (λ k. is_up_as s k 1) pair.0 ∙ out)
     ]
   ]
 
@@ -65,7 +67,7 @@ module _ (s : State) (steady : IsSteady s) (ups : (n : ℕ) → n < servers_of s
   first_reads cell row is =
       let linked = steady.linked cell row is in
       both_reader s cell row is linked (in_both row cell linked) row.primary
-      ∙ (λ i. ups row.primary linked.primary i && primary_is_one row row.primary refl i)
+      ∙ (λ i. in_up s row.primary 1 (ins row.primary linked.primary) i && primary_is_one row row.primary refl i)
 
   read_served : (name : List ℕ) (snap : Option (List ℕ)) (block : ℕ) (o : Option DiskView) → find s name ≡ o
       → read_refusal s o snap block ≢ Some answer.Unavailable

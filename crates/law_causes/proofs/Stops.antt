@@ -1,5 +1,6 @@
--- A server that ran at the start and does not run at the end stopped in a step of its own, and the rule of that step says why.
-use Rattle.std.proofs.Common.{◌≡◌, ◌++◌, ◌<◌, ℕ, true, false, List, [], ◌∷◌, refl, sym, ap, ◌∙◌, subst, inl, inr, arith}
+-- A server that ran at the start and does not run at the end stopped in a step of its own, since which it has not run, and the rule of
+-- that step says why.
+use Rattle.std.proofs.Common.{◌≡◌, ◌⊎◌, ◌++◌, ◌<◌, ℕ, true, false, List, [], ◌∷◌, refl, sym, ap, ◌∙◌, subst, inl, inr, arith, append_assoc}
 use Rattle.std.proofs.lemmas.Bool.Decides.{nat_tests}
 use Rattle.std.specs.Prelude.{nat_lt}
 use Rattle.petal_msg.specs.declared.letter.Actor.{Actor}
@@ -7,28 +8,32 @@ use Rattle.petal_msg.specs.declared.letter.Actor.TheVariants as actor
 use Rattle.script_lines.specs.declared.request.Request.{Request}
 use Rattle.script_lines.specs.declared.request.Request.TheVariants as request
 use Rattle.script_lines.specs.declared.script.Script.{Script}
+use Rattle.petal_state.specs.State.{start as first_state}
 use Rattle.petal_rules.specs.Clients.{is_stop}
 use Rattle.petal_rules.specs.Jobs.{Acted, job_done, works, is_log_job, is_overfull, operator}
-use Rattle.petal_rules.specs.Lists.{put_at}
+use Rattle.petal_rules.specs.Lists.{In, put_at}
 use Rattle.petal_rules.specs.Server.{Here, Server}
-use Rattle.petal_rules.specs.World.{Setting, World, IsStopped_by, MayStop, MayServer, MayActor, acts, server_state, server_step, step, setting_of, start}
+use Rattle.petal_rules.specs.State.{is_in}
+use Rattle.petal_rules.specs.World.{Setting, World, MayStop, MayServer, MayActor, acts, chosen_log, chosen_state, server_state, server_step, step, setting_of, start}
 use Rattle.petal_rules.specs.declared.job.Job.{Job}
 use Rattle.petal_rules.specs.declared.job.Job.TheVariants as job
 use Rattle.petal_rules.specs.declared.step.Step.{Step}
-use Rattle.petal_rules.specs.declared.step.Step.TheVariants.{Call, Deliver, Tick, Work, Stop, Glance}
+use Rattle.petal_rules.specs.declared.step.Step.TheVariants.{Call, Deliver, Tick, Work, Stop, Boot, Glance}
+use Rattle.petal_rules.specs.declared.step.WorkEnd.{WorkEnd}
 use Rattle.petal_rules.specs.declared.step.WorkEnd.TheVariants as work_end
 use Rattle.petal_rules.proofs.ListLemmas.{put_same, put_apart}
 use Rattle.petal_rules.proofs.Tests.{by_bool, by_test, same_or_apart, true_false}
 use Rattle.petal_history.specs.Legal.{IsLegal, stepped, world_after}
 use Rattle.petal_history.specs.Sound.{IsSound}
 use Rattle.petal_history.specs.declared.record.Record.{Record}
-use Rattle.law_answers.proofs.Places.{line_at}
+use Rattle.law_state.proofs.Disks.{first_at_start}
+use Rattle.law_log.specs.Requested.{NoneBoots}
+use Rattle.law_log.proofs.Histories.{who_runs_is_in}
+use Rattle.law_log.proofs.Unbooted.{unbooted}
 use Rattle.law_steps.specs.Happens.{own_place}
-use Rattle.law_steps.proofs.Firms.{always_firm}
 use Rattle.law_steps.proofs.Histories.{front_legal}
-use Rattle.law_causes.specs.Stops.{IsReasonToStop, Was_told, Device_failed, Journal_full, HasReasonToStop, NoneIsStopped, NoneStopsByItself}
-use Rattle.law_causes.proofs.Answered.{open_after}
-use Rattle.law_causes.proofs.Asked.{disks_are_asked}
+use Rattle.law_causes.specs.Stops.{IsReasonToStop, Was_told, Device_failed, Journal_full, HasReasonToStop, NoneIsStopped, NoneStopsByItself, StaysDown}
+use Rattle.law_causes.proofs.Lines.{line_of, open_for, stops_is}
 
 -- ### One step
 
@@ -66,6 +71,7 @@ module _ (setting : Setting) (w : World) (n : ℕ) (told : MayStop w n → IsRea
   server_why (Work work_end.Done) may = works_why server.queue refl
   server_why (Work (work_end.Fault end)) may = λ rests. Device_failed end refl
   server_why Stop may = λ rests. told may
+  server_why (Boot end) may = true_false ran may.rests
   server_why (Glance line round) may = true_false ran
 
   -- a server stops in a step of its own
@@ -96,32 +102,41 @@ record Ceases (setting : Setting) (w : World) (records : List Record) (n : ℕ) 
   behind : List Record
   is : records ≡ front ++ own ∷ behind
   ran : ((world_after setting w front).servers n).life.running ≡ true
-  rests : ((stepped setting (world_after setting w front) own).world.servers n).life.running ≡ false
+  since : StaysDown setting (stepped setting (world_after setting w front) own).world behind n
 
-ceases : (setting : Setting) (w : World) (records : List Record) (n : ℕ) → (w.servers n).life.running ≡ true
-    → ((world_after setting w records).servers n).life.running ≡ false → Ceases setting w records n
-ceases setting w [] n ran rests = true_false ran rests
-ceases setting w (own ∷ later) n ran rests =
+-- who stays down does not run at first
+down_now : (setting : Setting) (w : World) (records : List Record) (n : ℕ) → StaysDown setting w records n → (w.servers n).life.running ≡ false
+down_now setting w [] n down = down
+down_now setting w (own ∷ later) n down = down.0
+
+-- who does not run at the end has not run at all, or ceased to
+ceases : (setting : Setting) (w : World) (records : List Record) (n : ℕ) → ((world_after setting w records).servers n).life.running ≡ false
+    → StaysDown setting w records n ⊎ Ceases setting w records n
+ceases setting w [] n rests = inl rests
+ceases setting w (own ∷ later) n rests =
     let v = (stepped setting w own).world in
-    by_bool (v.servers n).life.running
-    (λ on. let c = ceases setting v later n on rests in record {
-      front = own ∷ c.front;
-      own = c.own;
-      behind = c.behind;
-      is = ap (λ records. own ∷ records) c.is;
-      ran = c.ran;
-      rests = c.rests;
-    })
-    (λ off. record { front = []; own = own; behind = later; is = refl; ran = ran; rests = off })
+    elim (ceases setting v later n rests) [
+      | inl since ↦ by_bool (w.servers n).life.running
+          (λ on. inr (record { front = []; own = own; behind = later; is = refl; ran = on; since = since }))
+          (λ off. inl (off, since))
+      | inr c ↦ inr (record {
+        front = own ∷ c.front;
+        own = c.own;
+        behind = c.behind;
+        is = ap (λ records. own ∷ records) c.is;
+        ran = c.ran;
+        since = c.since;
+      })
+    ]
 
 -- a server that may be stopped was told so by a line of the script
 told_by_line : (script : Script) (records : List Record) → IsSound script → IsLegal script records → (n : ℕ)
     → (let w = world_after (setting_of script) (start (setting_of script)) records in MayStop w n → IsReasonToStop (setting_of script) w n Stop)
 told_by_line script records sound legal n may =
-    let firm = always_firm script records sound legal in
-    let o = open_after script records firm legal (disks_are_asked script records sound legal) operator may.by.asked may.by.open_line in
-    let l = line_at script.lines operator o.before o.line o.is in
-    Was_told o.line refl l.0 (sym o.request_is ∙ may.by.request_is) l.1 (subst (IsStopped_by _ n) (sym may.by.line_is ∙ o.line_is) may.by)
+    let w = world_after (setting_of script) (start (setting_of script)) records in
+    let o = open_for script records sound legal operator may.asked may.opened.is in
+    Was_told may.asked o.line refl (sym o.request_is ∙ stops_is may.asked.request n may.stops)
+    (line_of script.lines w may.asked o may.opened)
 
 pub stops_for_a_reason : (script : Script) (records : List Record) → IsSound script → IsLegal script records → (n : ℕ) → n < script.servers
     → ((world_after (setting_of script) (start (setting_of script)) records).servers n).life.running ≡ false
@@ -129,18 +144,24 @@ pub stops_for_a_reason : (script : Script) (records : List Record) → IsSound s
 stops_for_a_reason script records sound legal n low rests =
     let setting = setting_of script in
     let ran : nat_lt n script.servers ≡ true = grind (arith, nat_tests) in
-    let c = ceases setting (start setting) records n ran rests in
-    let parts = front_legal setting (start setting) c.front (c.own ∷ c.behind) (subst (IsLegal script) c.is legal) in
-    let s = step_why setting (world_after setting (start setting) c.front) n (told_by_line script c.front sound parts.0 n) c.ran c.own.actor c.own.step
-    c.own.stamp parts.1.0.may.may c.rests in
-    record {
-      front = c.front;
-      own = c.own;
-      behind = c.behind;
-      is = c.is;
-      stops = record { who = s.0; ran = c.ran; rests = c.rests };
-      why = s.1;
-    }
+    elim (ceases setting (start setting) records n rests) [
+      | inl down ↦ true_false ran (down_now setting (start setting) records n down)
+      | inr c ↦
+          let w = world_after setting (start setting) c.front in
+          let parts = front_legal setting (start setting) c.front (c.own ∷ c.behind) (subst (IsLegal script) c.is legal) in
+          let down = down_now setting (stepped setting w c.own).world c.behind n c.since in
+          let s = step_why setting w n (told_by_line script c.front sound parts.0 n) c.ran c.own.actor c.own.step c.own.stamp
+          parts.1.0.may.may down in
+          record {
+            front = c.front;
+            own = c.own;
+            behind = c.behind;
+            is = c.is;
+            stops = record { who = s.0; ran = c.ran; rests = down };
+            why = s.1;
+            since = c.since;
+          }
+    ]
 
 -- ### Where no server stops
 
@@ -148,7 +169,7 @@ no_line_stops : (asked : Request) (n : ℕ) → asked ≡ request.Stop n → is_
 no_line_stops asked n is none = true_false (ap is_stop is) none
 
 -- where no line stops a server and none stops by itself, all of them run
-pub all_run : (script : Script) (records : List Record) → IsSound script → IsLegal script records → NoneIsStopped script.lines
+all_run : (script : Script) (records : List Record) → IsSound script → IsLegal script records → NoneIsStopped script.lines
     → NoneStopsByItself (setting_of script) (start (setting_of script)) records → (n : ℕ) → n < script.servers
     → ((world_after (setting_of script) (start (setting_of script)) records).servers n).life.running ≡ true
 all_run script records sound legal lines itself n low = by_bool (last.servers n).life.running (λ on. on)
@@ -162,7 +183,57 @@ all_run script records sound legal lines itself n low = by_bool (last.servers n)
 
     by : HasReasonToStop setting (start setting) records n → ⊥
     by h = elim h.why [
-      | Was_told line step there asks own open_now ↦ no_line_stops line.request n asks (lines line there)
+      | Was_told asked line step asks given ↦ no_line_stops line.request n asks (lines line given.there)
       | Device_failed end step ↦ itself h.front h.own h.behind n h.is (record { stops = h.stops; end = work_end.Fault end; works = step })
       | Journal_full first rest step queue full ↦ itself h.front h.own h.behind n h.is (record { stops = h.stops; end = work_end.Done; works = step })
     ]
+
+-- ### Where no server stops, none boots
+
+none_itself_before : (setting : Setting) (w : World) (front behind : List Record) → NoneStopsByItself setting w (front ++ behind)
+    → NoneStopsByItself setting w front
+none_itself_before setting w front behind none one own other n is stops =
+    none one own (other ++ behind) n (ap (λ records. records ++ behind) is ∙ append_assoc one (own ∷ other) behind) stops
+
+record IsPart (own : Record) (records : List Record) : Type 0 where
+  front : List Record
+  behind : List Record
+  is : records ≡ front ++ own ∷ behind
+
+part_of : (own : Record) (records : List Record) → In own records → IsPart own records
+unfolding In
+part_of own [] there = absurd there
+part_of own (first ∷ later) (inl e) = record { front = []; behind = later; is = ap (λ r. r ∷ later) (sym e) }
+part_of own (first ∷ later) (inr there) =
+    let p = part_of own later there in record { front = first ∷ p.front; behind = p.behind; is = ap (λ rs. first ∷ rs) p.is }
+
+-- a server that boots did not run
+was_down : (setting : Setting) (w : World) (who : Actor) (end : WorkEnd) → MayActor who (Boot end) setting w
+    → (n : ℕ) × (n < setting.servers) × ((w.servers n).life.running ≡ false)
+was_down setting w (actor.Server n) end may = (n, may.0, may.1.rests)
+was_down setting w (actor.Client c) end may = absurd may.1
+
+none_boots : (script : Script) (records : List Record) → IsSound script → IsLegal script records → NoneIsStopped script.lines
+    → NoneStopsByItself (setting_of script) (start (setting_of script)) records → NoneBoots records
+none_boots script records sound legal lines itself own there end is =
+    let setting = setting_of script in
+    let p = part_of own records there in
+    let parts = front_legal setting (start setting) p.front (own ∷ p.behind) (subst (IsLegal script) p.is legal) in
+    let w = world_after setting (start setting) p.front in
+    let none = none_itself_before setting (start setting) p.front (own ∷ p.behind)
+    (subst (NoneStopsByItself setting (start setting)) p.is itself) in
+    let down = was_down setting w own.actor end (subst (λ what. MayActor own.actor what setting w) is parts.1.0.may.may) in
+    true_false (all_run script p.front sound parts.0 lines none down.0 down.1) down.2
+
+-- so every server still is In as its first incarnation
+pub all_in : (script : Script) (records : List Record) → IsSound script → IsLegal script records → NoneIsStopped script.lines
+    → NoneStopsByItself (setting_of script) (start (setting_of script)) records → (n : ℕ) → n < script.servers
+    → is_in (chosen_state (setting_of script) (world_after (setting_of script) (start (setting_of script)) records)) n 1 ≡ true
+all_in script records sound legal lines itself n low =
+    let setting = setting_of script in
+    let w = world_after setting (start setting) records in
+    let first : (w.servers n).life.inc ≡ 1 = unbooted script records (none_boots script records sound legal lines itself) n in
+    let at_start = subst (λ k. is_in (first_state script.servers) n k ≡ true) (sym first) (first_at_start script.servers n low) in
+    subst (λ k. is_in (chosen_state setting w) n k ≡ true) first
+    (who_runs_is_in script records sound legal n [] (all_run script records sound legal lines itself n low)
+    (record { later = chosen_log setting w; is = refl }) at_start)

@@ -1,12 +1,12 @@
 -- Why a server stops.
-use Rattle.std.specs.Prelude.{◌≡◌, ◌++◌, ℕ, List, ◌∷◌, true, false}
+use Rattle.std.specs.Prelude.{◌≡◌, ◌++◌, ℕ, List, [], ◌∷◌, true, false}
 use Rattle.petal_msg.specs.declared.letter.Actor.TheVariants as actor
 use Rattle.script_lines.specs.declared.request.Line.{Line}
 use Rattle.script_lines.specs.declared.request.Request.TheVariants as request
-use Rattle.petal_rules.specs.Clients.{is_stop}
-use Rattle.petal_rules.specs.Jobs.{job_done, is_overfull, operator}
+use Rattle.petal_rules.specs.Clients.{Asked, is_stop}
+use Rattle.petal_rules.specs.Jobs.{job_done, is_overfull}
 use Rattle.petal_rules.specs.Lists.{In}
-use Rattle.petal_rules.specs.World.{Setting, World, IsStopped_by}
+use Rattle.petal_rules.specs.World.{Setting, World}
 use Rattle.petal_rules.specs.declared.job.Job.{Job}
 use Rattle.petal_rules.specs.declared.step.CommitEnd.{CommitEnd}
 use Rattle.petal_rules.specs.declared.step.Step.{Step}
@@ -16,6 +16,7 @@ use Rattle.petal_rules.specs.declared.step.WorkEnd.TheVariants as work_end
 use Rattle.petal_history.specs.Legal.{stepped, world_after}
 use Rattle.petal_history.specs.declared.record.Record.{Record}
 use Rattle.law_steps.specs.Happens.{own_place}
+use Rattle.law_causes.specs.Lines.{IsLineOf}
 
 -- the server ran, and does not run after this step of its own
 pub record Stops (setting : Setting) (w : World) (own : Record) (n : ℕ) : Type 0 where
@@ -26,13 +27,18 @@ pub record Stops (setting : Setting) (w : World) (own : Record) (n : ℕ) : Type
 -- why it stops in such a step: a line of the script that the operator has open tells it to; a device failed; or what the first
 -- job of its queue leaves has a journal with more records than there is room for
 pub data IsReasonToStop (setting : Setting) (w : World) (n : ℕ) (what : Step) : Type 0 where
-  Was_told : (line : Line) → what ≡ Stop → In line setting.lines → line.request ≡ request.Stop n → line.client ≡ operator
-      → IsStopped_by w n line.number → IsReasonToStop setting w n what
+  Was_told : (asked : Asked) (line : Line) → what ≡ Stop → line.request ≡ request.Stop n → IsLineOf setting.lines w asked line
+      → IsReasonToStop setting w n what
   Device_failed : (end : CommitEnd) → what ≡ Work (work_end.Fault end) → IsReasonToStop setting w n what
   Journal_full : (first : Job) (rest : List Job) → what ≡ Work work_end.Done → (w.servers n).queue ≡ first ∷ rest
       → is_overfull (job_done (own_place setting w n) (w.servers n) first rest).server ≡ true → IsReasonToStop setting w n what
 
--- one of the records is of a step in which the server stopped, for such a reason
+-- the server does not run, and after none of the records does
+abbrev pub StaysDown : Setting → World → List Record → ℕ → Type 0
+StaysDown setting w [] n = (w.servers n).life.running ≡ false
+StaysDown setting w (own ∷ later) n = ((w.servers n).life.running ≡ false) × StaysDown setting (stepped setting w own).world later n
+
+-- one of the records is of a step in which the server stopped, for such a reason, and it has not run since
 pub record HasReasonToStop (setting : Setting) (w : World) (records : List Record) (n : ℕ) : Type 0 where
   pub front : List Record
   pub own : Record
@@ -40,6 +46,7 @@ pub record HasReasonToStop (setting : Setting) (w : World) (records : List Recor
   pub is : records ≡ front ++ own ∷ behind
   pub stops : Stops setting (world_after setting w front) own n
   pub why : IsReasonToStop setting (world_after setting w front) n own.step
+  pub since : StaysDown setting (stepped setting (world_after setting w front) own).world behind n
 
 -- ### Where no server stops
 

@@ -1,16 +1,19 @@
 //! Why each request is answered so: over every legal history of a sound script, each answer that says what is not there, and
-//! each answer of a `disk` line, comes by its own entry of the chosen log, with a state at its place that says so. And why a
-//! server does not run.
+//! each answer of a `disk` line, comes by its own entry of the chosen log, with a state at its place that says so; and each
+//! answer of a line that names a server comes by that line's one glance. And why a server does not run, or a start of it fails.
 //!
-//! To the layers above it promises this of answers, of what clients are told of revisions, and of servers that stop. It speaks
+//! To the layers above it promises this of answers, of what clients are told of revisions, and of servers that stop or fail to boot. It speaks
 //! of definitions alone, and knows nothing of code.
 #![tactic(auto)]
 
-ghost use Rattle.std.specs.Prelude.{◌≡◌, ◌<◌, ℕ, List, false};
+ghost use Rattle.std.specs.Prelude.{◌≡◌, ◌<◌, ℕ, List, false, Some};
 ghost use Rattle.petal_msg.specs.declared.body.Body.TheVariants.{WrongRev};
 ghost use Rattle.petal_msg.specs.declared.letter.Letter.{Letter};
+ghost use Rattle.script_lines.specs.Requests.{names};
+ghost use Rattle.script_lines.specs.declared.request.Line.{Line};
 ghost use Rattle.script_lines.specs.declared.script.Script.{Script};
-ghost use Rattle.script_lines.specs.declared.answer.Answer.TheVariants.{Unavailable};
+ghost use Rattle.script_lines.specs.declared.answer.Answer.{Answer};
+ghost use Rattle.script_lines.specs.declared.answer.Answer.TheVariants.{Failed, Unavailable};
 ghost use Rattle.petal_rules.specs.Lists.{In};
 ghost use Rattle.petal_rules.specs.World.{setting_of, start};
 ghost use Rattle.petal_history.specs.Causes.{AreCaused};
@@ -18,6 +21,8 @@ ghost use Rattle.petal_history.specs.Legal.{IsLegal, world_after};
 ghost use Rattle.petal_history.specs.Order.{AreRising};
 ghost use Rattle.petal_history.specs.Sound.{IsSound};
 ghost use Rattle.petal_history.specs.declared.record.Record.{Record};
+ghost use Rattle.law_causes.specs.Fails.{HasReasonToFail};
+ghost use Rattle.law_causes.specs.Glances.{HasGlance};
 ghost use Rattle.law_causes.specs.Reasons.{HasReason};
 ghost use Rattle.law_causes.specs.Stops.{HasReasonToStop, NoneIsStopped, NoneStopsByItself};
 
@@ -26,10 +31,22 @@ pub fn answers_are_caused()
     ensures { (script : Script) (records : List Record) → IsSound script → AreRising script.lines → IsLegal script records → AreCaused (setting_of script) (world_after (setting_of script) (start (setting_of script)) records) }
 {}
 
-/// A server of the script that does not run at the end stopped in a step of its own, for a reason: the operator's open line
-/// told it to, a device failed, or a journal was full.
+/// A server of the script that does not run at the end stopped in a step of its own, and has not run since, for a reason: the
+/// operator's open line told it to, a device failed, or a journal was full.
 pub fn a_server_stops_for_a_reason()
     ensures { (script : Script) (records : List Record) → IsSound script → IsLegal script records → (n : ℕ) → n < script.servers → ((world_after (setting_of script) (start (setting_of script)) records).servers n).life.running ≡ false → HasReasonToStop (setting_of script) (start (setting_of script)) records n }
+{}
+
+/// A start that is answered `failed` was given to its server, while its line was open, by a boot that left the server stopped: a
+/// device failed, or the journal had no room for the next incarnation.
+pub fn a_start_fails_for_a_reason()
+    ensures { (script : Script) (records : List Record) → IsSound script → AreRising script.lines → IsLegal script records → (number : ℕ) → In (number, Failed) (world_after (setting_of script) (start (setting_of script)) records).answers → HasReasonToFail (setting_of script) (start (setting_of script)) records number }
+{}
+
+/// Each answer of a line that names a server comes by the line's one glance at that server, while the operator had the line open: a
+/// stop is answered `ok`, and the server did not run there; a start `ok` where it ran and `failed` where it did not.
+pub fn a_line_at_a_server_is_answered_by_its_glance()
+    ensures { (script : Script) (records : List Record) → IsSound script → AreRising script.lines → IsLegal script records → (line : Line) (server : ℕ) (given : Answer) → In line script.lines → (names line.request).server ≡ Some server → In (line.number, given) (world_after (setting_of script) (start (setting_of script)) records).answers → HasGlance (setting_of script) (start (setting_of script)) records line server given }
 {}
 
 /// Where no line of the script stops a server, and in no step a server stops by itself, each block of a known disk has its

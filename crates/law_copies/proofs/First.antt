@@ -13,9 +13,10 @@ use Rattle.petal_rules.proofs.ListLemmas.{put_same, put_apart}
 use Rattle.petal_rules.proofs.Tests.{same_or_apart}
 use Rattle.petal_history.specs.Claims.{IsMarked, MarksFirst}
 use Rattle.petal_history.specs.Legal.{IsLegal, stepped, world_after}
+use Rattle.petal_history.specs.Sound.{IsSound}
 use Rattle.petal_history.specs.declared.record.Record.{Record}
 use Rattle.law_state.proofs.Cells.{leads_so}
-use Rattle.law_steps.specs.Happens.{Happens, Serves, Turns, Serving, Goes, Ends, Stays, By_job, By_entry, Handled, own_place}
+use Rattle.law_steps.specs.Happens.{Happens, Serves, Turns, Serving, Goes, Ends, Stays, Wakes, Fails, By_job, By_entry, Handled, own_place}
 use Rattle.law_steps.specs.Ready.{Ready, AreFirm}
 use Rattle.law_steps.proofs.Fronts.{below_itself}
 use Rattle.law_steps.proofs.Histories.{front_firm, front_legal, firm_now, rests_after, start_rests, happens, own_steady, chosen_steady, chosen_below}
@@ -26,13 +27,15 @@ use Rattle.law_copies.proofs.Marking.{job_marked}
 module _ (setting : Setting) (state : State) (w : World) (ready : Ready setting state w) (good : Good setting state w) where
   server_first : (k : ℕ) (what : Step) (acted : Acted) → Serving setting w k what acted → (cell : Cell) → is_lead (server_state setting w k) k cell ≡ true
       → chain_in acted.server.own.store.chains cell ≢ chain_in (w.servers k).own.store.chains cell → IsMarked (w.servers k).own.store cell
-  server_first k what _ (Goes _ _ queue runs (By_job log done same did) queued works) cell lead changed =
+  server_first k what _ (Goes _ _ queue runs (By_job log done same did seat) queued works) cell lead changed =
       (job_marked (Handled w k) (own_place setting w k) (w.servers k).own (own_steady setting w ready.firm k) (ready.rests.pending k) (good.marks k) done did).first cell lead changed
   server_first k what _ (Goes _ _ queue runs (By_entry log entry more front) queued works) cell lead changed = absurd (changed refl)
-  server_first k what _ (Ends _ _ runs (By_job log done same did)) cell lead changed =
+  server_first k what _ (Ends _ _ runs (By_job log done same did seat)) cell lead changed =
       (job_marked (Handled w k) (own_place setting w k) (w.servers k).own (own_steady setting w ready.firm k) (ready.rests.pending k) (good.marks k) done did).first cell lead changed
   server_first k what _ (Ends _ _ runs (By_entry log entry more front)) cell lead changed = absurd (changed refl)
   server_first k what _ (Stays who posts from shown) cell lead changed = absurd (changed refl)
+  server_first k what _ (Wakes booted asleep) cell lead changed = absurd (changed refl)
+  server_first k what _ (Fails booted asleep) cell lead changed = absurd (changed refl)
 
   happens_first : (v : World) → Happens setting state w v → (n : ℕ) (cell : Cell) → is_lead (server_state setting w n) n cell ≡ true
       → chain_in (v.servers n).own.store.chains cell ≢ chain_in (w.servers n).own.store.chains cell → IsMarked (w.servers n).own.store cell
@@ -48,9 +51,9 @@ module _ (setting : Setting) (state : State) (w : World) (ready : Ready setting 
   ]
   happens_first _ (Turns c stamp in_call reacted lt c_lt turned onward) n cell lead changed = absurd (changed refl)
 
-pub marks_first : (script : Script) (records : List Record) → AreFirm (setting_of script) (start (setting_of script)) records → IsLegal script records
+pub marks_first : (script : Script) (records : List Record) → IsSound script → AreFirm (setting_of script) (start (setting_of script)) records → IsLegal script records
     → MarksFirst script records
-marks_first script records firm legal front back own e n cell =
+marks_first script records sound firm legal front back own e n cell =
     let setting = setting_of script in
     let w = world_after setting (start setting) front in
     let v = (stepped setting w own).world in
@@ -61,7 +64,7 @@ marks_first script records firm legal front back own e n cell =
     let next = firm_now setting v back firms.1.2 in
     let below = chosen_below setting w v next firms.1.1 in
     let rests = rests_after setting (start setting) front firms.0 (start_rests script) parts.0 in
-    let good = good_above script front firms.0 parts.0 state (chosen_steady setting v next) below in
+    let good = good_above script front sound firms.0 parts.0 state (chosen_steady setting v next) below in
     let what = happens setting w own rests now parts.1.0 next state (below_itself state) in
     record {
       marked = λ leads changed. happens_first setting state w (record { rests = rests; firm = now; below = below }) good v what n cell

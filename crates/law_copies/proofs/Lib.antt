@@ -1,8 +1,12 @@
 pub mod Moves
 pub mod Marks
+pub mod Sharing
 pub mod Frames
 pub mod Crossed
 pub mod Jobs
 pub mod Marking
+pub mod Copied
+pub mod Worked
+pub mod Entered
 pub mod Copying
 pub mod First

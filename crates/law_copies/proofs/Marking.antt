@@ -10,7 +10,7 @@ use Rattle.petal_table.specs.Table.{Table, at, put, without}
 use Rattle.petal_msg.specs.declared.body.Body.{Body}
 use Rattle.petal_msg.specs.declared.operation.Pending.{Pending}
 use Rattle.petal_msg.specs.declared.operation.Stage.{Stage}
-use Rattle.petal_rules.specs.State.{is_lead, is_second, is_alone_on, in_both}
+use Rattle.petal_rules.specs.State.{is_lead, is_second, in_both}
 use Rattle.petal_rules.specs.Store.{Store, cell_cmp, chain_in, version_of, is_marked, mark_on, with_mark_on, without_mark_on}
 use Rattle.petal_rules.specs.Server.{Own, Here, Done}
 use Rattle.petal_rules.specs.Writes.{operation, opened, marks, puts, unmarks, with_mark_at, with_pending, with_reserved, with_paired, follows}
@@ -18,7 +18,7 @@ use Rattle.petal_rules.proofs.CellTables.{cell_same, cell_apart, cell_gone, cell
 use Rattle.petal_rules.proofs.Tests.{same_some, none_some, true_false, is_the_one}
 use Rattle.petal_history.specs.Claims.{IsMarked}
 use Rattle.law_state.specs.Steady.{IsSteady}
-use Rattle.law_state.proofs.Alone.{alone_not_both, lead_first, second_both, first_primary, second_secondary, has_secondary}
+use Rattle.law_state.proofs.Alone.{lead_first, second_both, first_primary, second_secondary, has_secondary}
 use Rattle.law_steps.specs.DidLead.{DidLead, Asks_for, Repeats, Is_full, Opens, Marks, Puts, Gives_up, Unmarks, Closes, Opens_alone, Marks_alone, Puts_alone, Unmarks_alone, Closes_alone, Taken}
 use Rattle.law_steps.specs.DidSecond.{DidSecond, Sets_apart, Promises, Declines, Follows}
 use Rattle.law_steps.specs.Did.{Did, Ignores, Refuses, By_read, By_lead, By_second}
@@ -111,11 +111,19 @@ unmark_have base op have h q other is = elim (same_cell_or_apart q op.cell) [
 abbrev pub IsKept : Store → Store → Cell → Type 0
 IsKept old new cell = (chain_in new.chains cell ≡ chain_in old.chains cell) × (IsMarked old cell → IsMarked new cell)
 
--- operations find their marks; of a cell that it holds alone the server keeps copy and marks, or leaves the block marked; and it
--- changed the copy of a cell that it leads only where the block was marked
+-- where the busy mark goes from one cell, those of others stay
+unmark_keeps : (store : Store) (cell q : Cell) → q ≢ cell → (kind : MarkKind) → is_marked store kind q ≡ true
+    → is_marked (without_mark_on store Busy cell) kind q ≡ true
+unmark_keeps store cell q ne Busy there = unmark_apart store Busy cell q ne ∙ there
+unmark_keeps store cell q ne Stale there = stale_kept store cell q ∙ there
+
+-- operations find their marks; of a cell that is not in Both the server keeps copy and marks, or leaves the block marked; marks on
+-- cells that it does not lead stay; and it changed the copy of a cell that it leads only where the block was marked
 pub record KeepsMarks (here : Here) (old new : Own) : Type 0 where
   pub marks : HaveMarks new.pairs.pending new.store
-  pub covers : (cell : Cell) → is_alone_on here.state here.me cell ≡ true → IsKept old.store new.store cell ⊎ IsMarked new.store cell
+  pub covers : (cell : Cell) → in_both here.state cell ≡ false → IsKept old.store new.store cell ⊎ IsMarked new.store cell
+  pub stays : (kind : MarkKind) (cell : Cell) → is_lead here.state here.me cell ≡ false → is_marked old.store kind cell ≡ true
+      → is_marked new.store kind cell ≡ true
   pub first : (cell : Cell) → is_lead here.state here.me cell ≡ true → chain_in new.store.chains cell ≢ chain_in old.store.chains cell
       → IsMarked old.store cell
 
@@ -128,7 +136,8 @@ quiet : (here : Here) (old new : Own) → HaveMarks new.pairs.pending new.store 
     → KeepsMarks here old new
 quiet here old new have chains grown = record {
   marks = have;
-  covers = λ cell on. inl (ap (λ c. chain_in c cell) chains, grown_marked old.store new.store cell grown);
+  covers = λ cell off. inl (ap (λ c. chain_in c cell) chains, grown_marked old.store new.store cell grown);
+  stays = λ kind cell off there. grown kind cell there;
   first = λ cell lead changed. absurd (changed (ap (λ c. chain_in c cell) chains));
 }
 
@@ -152,16 +161,17 @@ module _ (heard : Body → Type 0) (here : Here) (own : Own) (steady : IsSteady 
       quiet here own (marks base op kind).own (mark_have base op kind h flags) (ap (λ (s : Store). s.chains) store)
       (subst (λ (s : Store). Grown s (with_mark_on base.store kind op.cell)) store (λ other cell there. mark_kept base.store kind other op.cell cell there))
 
+  -- the busy mark goes from a cell that the server leads
   unmarking : (base : Own) (op : Pending) → base.store ≡ own.store → HaveMarks base.pairs.pending base.store → HasMarks op base.store op.cell
-      → (is_alone_on here.state here.me op.cell ≡ true → op.stage.stale ≡ true) → M (unmarks base op Busy).own
-  unmarking base op store h flags stale =
+      → is_lead here.state here.me op.cell ≡ true → (in_both here.state op.cell ≡ false → op.stage.stale ≡ true) → M (unmarks base op Busy).own
+  unmarking base op store h flags lead stale =
       let new = without_mark_on base.store Busy op.cell in
       let chains : new.chains ≡ own.store.chains = ap (λ (s : Store). s.chains) store in
       record {
         marks = unmark_have base op h flags;
-        covers = λ cell on. elim (same_cell_or_apart cell op.cell) [
+        covers = λ cell off. elim (same_cell_or_apart cell op.cell) [
           | inl e ↦ inr (subst (λ (c : Cell). IsMarked new c) (sym e)
-              (inr (stale_kept base.store op.cell op.cell ∙ flags.stale (stale (subst (λ (c : Cell). is_alone_on here.state here.me c ≡ true) e on)))))
+              (inr (stale_kept base.store op.cell op.cell ∙ flags.stale (stale (subst (λ (c : Cell). in_both here.state c ≡ false) e off)))))
           | inr ne ↦ inl (
             ap (λ c. chain_in c cell) chains,
             subst (λ (s : Store). IsMarked s cell → IsMarked new cell) store (λ m. elim m [
@@ -170,7 +180,11 @@ module _ (heard : Body → Type 0) (here : Here) (own : Own) (steady : IsSteady 
             ]),
           )
         ];
-        first = λ cell lead changed. absurd (changed (ap (λ c. chain_in c cell) chains));
+        stays = λ kind cell off there. elim (same_cell_or_apart cell op.cell) [
+          | inl e ↦ true_false lead (subst (λ (c : Cell). is_lead here.state here.me c ≡ false) e off)
+          | inr ne ↦ unmark_keeps base.store op.cell cell ne kind (subst (λ (s : Store). is_marked s kind cell ≡ true) (sym store) there)
+        ];
+        first = λ cell led changed. absurd (changed (ap (λ c. chain_in c cell) chains));
       }
 
   putting : (base : Own) (op : Pending) → base.store ≡ own.store → HaveMarks base.pairs.pending base.store → HasMarks op base.store op.cell
@@ -184,10 +198,11 @@ module _ (heard : Body → Type 0) (here : Here) (own : Own) (steady : IsSteady 
       record {
         marks = put_have base.pairs.pending new.store op.cell two (grown_have base.pairs.pending base.store new.store grown h)
             (same_flags op two new.store op.cell refl refl (grown_has base.store new.store op op.cell grown flags));
-        covers = λ cell on. elim (same_cell_or_apart cell op.cell) [
+        covers = λ cell off. elim (same_cell_or_apart cell op.cell) [
           | inl e ↦ inr (subst (λ (c : Cell). IsMarked new.store c) (sym e) (grown_marked base.store new.store op.cell grown marked))
           | inr ne ↦ inl (chain cell ne, subst (λ (s : Store). IsMarked s cell → IsMarked new.store cell) store (grown_marked base.store new.store cell grown))
         ];
+        stays = λ kind cell off there. grown kind cell (subst (λ (s : Store). is_marked s kind cell ≡ true) (sym store) there);
         first = λ cell lead changed. elim (same_cell_or_apart cell op.cell) [
           | inl e ↦ subst (λ (c : Cell). IsMarked own.store c) (sym e) (subst (λ (s : Store). IsMarked s op.cell) store marked)
           | inr ne ↦ absurd (changed (chain cell ne))
@@ -198,9 +213,6 @@ module _ (heard : Body → Type 0) (here : Here) (own : Own) (steady : IsSteady 
 
   keyed_at : (op : Pending) → at cell_cmp own.pairs.pending op.cell ≡ Some op → cell_of op.key ≡ op.cell
   keyed_at op is = (ready.staged op.cell op is).keyed
-
-  not_alone : (cell : Cell) → in_both here.state cell ≡ true → is_alone_on here.state here.me cell ≡ true → {B : Type 0} → B
-  not_alone cell both on = true_false both (alone_not_both here.state here.me cell on)
 
   -- an operation of the first server, with a flag more that is no mark's
   told_have : (op new : Pending) → at cell_cmp own.pairs.pending op.cell ≡ Some op → new.stage.busy ≡ op.stage.busy → new.stage.stale ≡ op.stage.stale
@@ -248,7 +260,7 @@ module _ (heard : Body → Type 0) (here : Here) (own : Own) (steady : IsSteady 
   lead_marked _ (Unmarks op h is both stage) =
       let one = with_paired op in
       let t = told_have op one is refl refl in
-      unmarking (with_pending own one) one refl t.0 t.1 (λ on. not_alone op.cell both on)
+      unmarking (with_pending own one) one refl t.0 t.1 (ready.staged op.cell op is).lead (λ off. true_false both off)
   lead_marked _ (Closes op is both stage) = same_store _ (gone_have own.pairs.pending own.store op.cell have) refl refl
   lead_marked _ (Opens_alone want new on) =
       let op = operation here own.pairs.next want in
@@ -269,7 +281,7 @@ module _ (heard : Body → Type 0) (here : Here) (own : Own) (steady : IsSteady 
   lead_marked _ (Unmarks_alone now op taken on stale put busy) =
       let t = taking own now op taken in
       let h = taken_have now op taken in
-      unmarking now op t.store h.0 h.1 (λ f. stale)
+      unmarking now op t.store h.0 h.1 (ready.staged op.cell t.old t.was).lead (λ f. stale)
   lead_marked _ (Closes_alone now op taken on stale put free) =
       let t = taking own now op taken in
       let h = taken_have now op taken in
@@ -295,10 +307,11 @@ module _ (heard : Body → Type 0) (here : Here) (own : Own) (steady : IsSteady 
       let chain : (q : Cell) → q ≢ cell → chain_in new.store.chains q ≡ chain_in own.store.chains q = λ q ne. chain_apart own.store.chains cell _ q ne in
       record {
         marks = grown_have own.pairs.pending own.store new.store grown have;
-        covers = λ q on. elim (same_cell_or_apart q cell) [
-          | inl e ↦ not_alone cell both (subst (λ (c : Cell). is_alone_on here.state here.me c ≡ true) e on)
+        covers = λ q off. elim (same_cell_or_apart q cell) [
+          | inl e ↦ true_false both (subst (λ (c : Cell). in_both here.state c ≡ false) e off)
           | inr ne ↦ inl (chain q ne, grown_marked own.store new.store q grown)
         ];
+        stays = λ kind q off there. grown kind q there;
         first = λ q lead changed. elim (same_cell_or_apart q cell) [
           | inl e ↦ not_lead cell s (subst (λ (c : Cell). is_lead here.state here.me c ≡ true) e lead)
           | inr ne ↦ absurd (changed (chain q ne))

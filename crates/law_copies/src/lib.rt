@@ -27,8 +27,9 @@ pub fn an_unequal_block_is_marked()
     ensures { (script : Script) (records : List Record) → IsSound script → IsLegal script records → (cell : Cell) → Covered (chosen_state (setting_of script) (world_after (setting_of script) (start (setting_of script)) records)) (world_after (setting_of script) (start (setting_of script)) records) cell }
 {}
 
-/// And what goes with it: while neither of a cell's two servers holds it alone by its own state, the second one is no further
-/// than the lead has given numbers out, and each letter that was ever sent between the two tells what is so, or what is past.
+/// And what goes with it, by the two stores as they are and by what each server had in memory of the cell when it last shared it:
+/// while neither of a cell's two servers holds it alone by its own state, the second one is no further than the lead has given
+/// numbers out, and each letter that was ever sent between the two tells what is so, or what is past.
 pub fn letters_between_two_servers()
     ensures { (script : Script) (records : List Record) → IsSound script → IsLegal script records → Good (setting_of script) (chosen_state (setting_of script) (world_after (setting_of script) (start (setting_of script)) records)) (world_after (setting_of script) (start (setting_of script)) records) }
 {}

@@ -1,9 +1,9 @@
 -- The chosen log of a world whose steps are those of a schedule.
-use Rattle.std.proofs.Common.{◌≡◌, ◌<◌, ◌≤◌, ◌+◌, ◌⊎◌, inl, inr, ℕ, true, List, length, Some, None, subst, arith}
+use Rattle.std.proofs.Common.{◌≡◌, ◌<◌, ◌≤◌, ◌+◌, ◌⊎◌, inl, inr, ℕ, true, false, List, length, Some, None, subst, arith}
 use Rattle.std.specs.Prelude.{slice_get}
 use Rattle.std.proofs.lemmas.Bool.Decides.{nat_tests}
 use Rattle.petal_command.specs.declared.command.Command.{Command}
-use Rattle.petal_command.specs.declared.command.Command.TheVariants.{Leave}
+use Rattle.petal_command.specs.declared.command.Command.TheVariants.{Join, Leave}
 use Rattle.petal_paxos.specs.Chosen.{IsChosenBy, chosen_at}
 use Rattle.petal_paxos.specs.Schedule.{run, begin, IsChosen}
 use Rattle.petal_paxos.specs.Schedule as schedule
@@ -15,16 +15,16 @@ use Rattle.petal_msg.specs.declared.body.Body.TheVariants as body
 use Rattle.petal_msg.specs.declared.letter.Letter.{Letter}
 use Rattle.petal_rules.specs.Agreement.{IsTold, HasSchedule}
 use Rattle.petal_rules.specs.Lists.{In as Among}
-use Rattle.petal_state.specs.State.{is_up}
+use Rattle.petal_state.specs.Command.{state_after}
 use Rattle.petal_rules.specs.State.{is_in}
 use Rattle.petal_rules.specs.World.{Setting, World, devices, chosen_log, chosen_state}
 use Rattle.petal_rules.proofs.Tests.{by_bool, none_some, true_false}
 use Rattle.law_state.specs.Firm.{Firm}
 use Rattle.law_state.specs.Plain.{IsPlainLog}
-use Rattle.law_state.proofs.Disks.{log_in, who_is_out}
+use Rattle.law_state.proofs.Disks.{who_is_in, who_is_out}
 use Rattle.law_log.specs.Logged.{IsBacked, IsSaidBy, Logged}
-use Rattle.law_log.specs.Requested.{IsCalledFor}
-use Rattle.law_log.proofs.Facts.{IsFair, told_chosen, chosen_wanted, chosen_once, told_wanted, called_plain, leave_stopped}
+use Rattle.law_log.specs.Requested.{HasStopped, IsCalledFor}
+use Rattle.law_log.proofs.Facts.{IsFair, told_chosen, chosen_wanted, chosen_once, told_wanted, called_plain, join_begun, leave_stopped}
 use Rattle.law_log.proofs.Lists.{at_among}
 use Rattle.law_log.proofs.Worlds.{IsGrown}
 
@@ -81,19 +81,30 @@ module _ (setting : Setting) (w : World) (fair : IsFair setting) (l : Logged set
   plain : IsPlainLog setting.servers (chosen_log setting w)
   plain c i = called_plain setting w fair c (called_for c i)
 
-  -- a server that runs has no Leave chosen, so it is In
-  runs_up : (n : ℕ) → (w.servers n).life.running ≡ true → is_up (chosen_state setting w) n ≡ true
-  runs_up n runs = by_bool (is_up (chosen_state setting w) n) (λ up. up)
-      (λ out. elim (leave_stopped setting w n 1 (called_for (Leave n 1) (who_is_out setting.servers (chosen_log setting w) n plain (l.is.known n runs) out))) [
+  -- an incarnation that was In by a front of the log, and is not by the whole, has its Leave chosen, so it has stopped
+  pub out_stopped : (n inc : ℕ) (front : List Command) → IsPrefix front (chosen_log setting w) → is_in (state_after setting.servers front) n inc ≡ true
+      → is_in (chosen_state setting w) n inc ≡ false → HasStopped w n inc
+  out_stopped n inc front prefix was out =
+      leave_stopped setting w n inc (called_for (Leave n inc) (who_is_out setting.servers front (chosen_log setting w) n inc plain prefix was out))
+
+  -- a server that runs has no Leave of its incarnation chosen, so where it was In as itself it still is
+  pub runs_in : (n : ℕ) (front : List Command) → (w.servers n).life.running ≡ true → IsPrefix front (chosen_log setting w)
+      → is_in (state_after setting.servers front) n (w.servers n).life.inc ≡ true → is_in (chosen_state setting w) n (w.servers n).life.inc ≡ true
+  runs_in n front runs prefix was = by_bool (is_in (chosen_state setting w) n (w.servers n).life.inc) (λ up. up)
+      (λ out. elim (out_stopped n (w.servers n).life.inc front prefix was out) [
         | inl gone ↦ true_false runs gone.0
-        | inr later ↦ let one = l.is.incs n in absurd (omega arith)
+        | inr later ↦ absurd (omega arith)
       ])
 
-  pub runs_in : (n : ℕ) → (w.servers n).life.running ≡ true → is_in (chosen_state setting w) n 1 ≡ true
-  runs_in n runs = (log_in setting.servers (chosen_log setting w) plain).up n (runs_up n runs)
+  -- who is In is so with an incarnation that has begun
+  pub in_begun : (n inc : ℕ) → is_in (chosen_state setting w) n inc ≡ true → inc ≤ (w.servers n).life.inc
+  in_begun n inc is = elim (who_is_in setting.servers (chosen_log setting w) n inc plain is) [
+    | inl one ↦ let low = l.is.first n in omega arith
+    | inr joined ↦ (join_begun setting w n inc joined.0 (called_for (Join n inc joined.0) joined.1)).1
+  ]
 
   pub firm : Firm setting w
-  firm = record { servers = agrees.servers; clients = agrees.clients; plain = plain; runs = runs_up }
+  firm = record { servers = agrees.servers; clients = agrees.clients; plain = plain; runs = runs_in }
 
   news_told : (letter : Letter) → Among letter w.sent → (after : ℕ) (commands : List Command) → letter.body ≡ body.News after commands
       → (i : ℕ) (command : Command) → slice_get commands i ≡ Some command → IsTold P (after + i + 1) command

@@ -16,7 +16,7 @@ use Rattle.script_lines.specs.declared.request.Request.TheVariants as request
 use Rattle.petal_state.specs.State.{latest}
 use Rattle.petal_state.specs.Command.{after}
 use Rattle.petal_state.specs.declared.answer.DiskView.{DiskView}
-use Rattle.petal_rules.specs.Clients.{Client, Asked, Reaction, Learning, rests, in_turn, readers, cell_on, epoch_for, write_posts, read_posts_at, read_posts, posts_for, command_of, refusal, witness_where, or_command, to_propose, post_in_turn, sends_or_proposes, goes_out, goes_out_where, asking, asks_and_sends, called, replies, is_read, is_write, is_stop, answers, hears, hears_of, verdict_for, answered_where, witnessed, is_witness, judged_by, judged, takes_entry, next_entries, takes_all, then_goes_out, takes_entries, hears_any, heard, ticked}
+use Rattle.petal_rules.specs.Clients.{Client, Asked, Reaction, Learning, rests, in_turn, readers, cell_on, epoch_for, write_posts, read_posts_at, read_posts, posts_for, command_of, refusal, witness_where, or_command, to_propose, post_in_turn, sends_or_proposes, goes_out, goes_out_where, asking, asks_and_sends, called, replies, is_read, is_write, seen_answer, answers, answers_where, hears, hears_of, verdict_for, answered_where, witnessed, is_witness, judged_by, judged, takes_entry, next_entries, takes_all, then_goes_out, takes_entries, hears_any, heard, ticked}
 use Rattle.petal_rules.specs.Lists.{In as Among}
 use Rattle.petal_rules.specs.Posts.{Post}
 use Rattle.petal_rules.specs.State.{State, lead}
@@ -199,10 +199,14 @@ module _ (Told : ℕ → Command → Type 0) (lines : List Line) (me : ℕ) (sta
   again : (client : Client) (asked : Asked) → Fine client → client.asked ≡ Some asked → Reacts Told lines me client.seq (asks_and_sends state me client asked)
   again client asked f e = asks_too client client.seq _ (goes client asked f.applied (f.asked asked e))
 
+  seen : (client : Client) (asked : Asked) → Fine client → (o : Option Answer) → Reacts Told lines me client.seq (answers_where client asked o)
+  seen client asked f None = resting client f
+  seen client asked f (Some given) = answering client asked given f
+
   replied : (client : Client) (asked : Asked) → Fine client → client.asked ≡ Some asked → (rev : ℕ) (what : Body)
       → Reacts Told lines me client.seq (hears state me client asked rev what)
   replied client asked f e rev (body.Seen line round running inc full) =
-      by_test (Reacts Told lines me client.seq) ((line == asked.line) && is_stop asked.request) _ _ (λ _. answering client asked _ f) (λ _. resting client f)
+      by_test (Reacts Told lines me client.seq) (line == asked.line) _ _ (λ _. seen client asked f (seen_answer asked.request running)) (λ _. resting client f)
   replied client asked f e rev (body.Data seq bytes) =
       by_test (Reacts Told lines me client.seq) (replies asked rev (about (body.Data seq bytes)) && is_read asked.request) _ _
       (λ _. answering client asked _ f) (λ _. resting client f)

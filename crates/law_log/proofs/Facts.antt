@@ -1,9 +1,9 @@
 -- What follows from what is kept: one command a place is told, those that are told were asked for, and logs are plain.
-use Rattle.std.proofs.Common.{◌≡◌, ◌≤◌, ◌+◌, inl, inr, ℕ, true, List, Some, refl, sym, subst}
+use Rattle.std.proofs.Common.{◌≡◌, ◌<◌, ◌≤◌, ◌+◌, inl, inr, ℕ, Bool, true, false, List, Some, refl, sym, subst}
 use Rattle.std.specs.Prelude.{slice_get, ◌==◌}
 use Rattle.petal_base.specs.Tuple.{is_tuple}
 use Rattle.petal_command.specs.declared.command.Command.{Command}
-use Rattle.petal_command.specs.declared.command.Command.TheVariants.{Leave, MakeDisk, Witness}
+use Rattle.petal_command.specs.declared.command.Command.TheVariants.{Join, Leave, MakeDisk, Witness}
 use Rattle.petal_command.specs.declared.pax.Pax.TheVariants.{Chosen}
 use Rattle.petal_paxos.specs.Schedule.{run, begin, IsChosen}
 use Rattle.law_agreement.proofs.Runs.{run_holds, begin_holds, one_chosen}
@@ -20,7 +20,7 @@ use Rattle.script_lines.specs.declared.request.Request.TheVariants as request
 use Rattle.law_state.specs.Plain.{IsPlain, IsPlainLog}
 use Rattle.law_state.proofs.Disks.{log_in}
 use Rattle.law_log.specs.Logged.{Logged}
-use Rattle.law_log.specs.Requested.{HasStopped, IsCalledFor, IsLeaving, IsScripted}
+use Rattle.law_log.specs.Requested.{HasBegun, HasStopped, IsCalledFor, IsOfLives, IsScripted}
 use Rattle.law_log.proofs.Lists.{among_at, at_among, kept_among}
 use Rattle.law_log.proofs.Worlds.{MayWant}
 
@@ -74,13 +74,14 @@ scripted_plain setting w fair c s = elim s.so [
   | inr e ↦ subst (IsPlain setting.servers) (sym e.1) tt
 ]
 
-leaving_plain : (servers : ℕ) (w : World) (c : Command) → IsLeaving w c → IsPlain servers c
-leaving_plain servers w (Leave server inc) h = tt
-leaving_plain servers w _ h = absurd h
+lives_plain : (servers : ℕ) (w : World) (c : Command) → IsOfLives w c → IsPlain servers c
+lives_plain servers w (Leave server inc) h = tt
+lives_plain servers w (Join server inc blank) h = h.2
+lives_plain servers w _ h = absurd h
 
 pub called_plain : (setting : Setting) (w : World) → IsFair setting → (c : Command) → IsCalledFor setting w c → IsPlain setting.servers c
 called_plain setting w fair c (inl s) = scripted_plain setting w fair c s
-called_plain setting w fair c (inr h) = leaving_plain setting.servers w c h
+called_plain setting w fair c (inr h) = lives_plain setting.servers w c h
 
 -- no line of a script asks for a Leave
 not_asked : {B : Type 0} (client seq server inc : ℕ) (asked : Request) → command_of client seq asked ≡ Some (Leave server inc) → B
@@ -94,6 +95,19 @@ leave_stopped setting w server inc (inl s) = elim s.so [
   | inr e ↦ (let f : Leave server inc ≡ Witness s.client (s.before + 1) e.0 = e.1 in absurd cc)
 ]
 leave_stopped setting w server inc (inr h) = h
+
+-- nor for a Join
+not_asked_join : {B : Type 0} (client seq server inc : ℕ) (blank : Bool) (asked : Request) → command_of client seq asked ≡ Some (Join server inc blank) → B
+not_asked_join client seq server inc blank (request.Disk name tuple) e =
+    let f : MakeDisk client seq name tuple ≡ Join server inc blank = same_some e in absurd cc
+not_asked_join client seq server inc blank _ e = none_some refl e
+
+pub join_begun : (setting : Setting) (w : World) (server inc : ℕ) (blank : Bool) → IsCalledFor setting w (Join server inc blank) → (1 < inc) × HasBegun w server inc × (blank ≡ false)
+join_begun setting w server inc blank (inl s) = elim s.so [
+  | inl e ↦ not_asked_join s.client (s.before + 1) server inc blank s.line.request e
+  | inr e ↦ (let f : Join server inc blank ≡ Witness s.client (s.before + 1) e.0 = e.1 in absurd cc)
+]
+join_begun setting w server inc blank (inr h) = h
 
 module _ (setting : Setting) (w : World) (fair : IsFair setting) (l : Logged setting w) where
   pub applied_plain : (n : ℕ) → IsPlainLog setting.servers (w.servers n).log.applied

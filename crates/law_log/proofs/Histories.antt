@@ -1,5 +1,5 @@
 -- The laws, over every legal history of a sound script.
-use Rattle.std.proofs.Common.{◌≡◌, ◌++◌, ℕ, true, false, List, [], ◌∷◌, refl, sym, ap, ◌∙◌, subst}
+use Rattle.std.proofs.Common.{◌≡◌, ◌<◌, ◌≤◌, ◌++◌, ℕ, true, false, List, [], ◌∷◌, refl, sym, ap, ◌∙◌, subst}
 use Rattle.petal_command.specs.declared.command.Command.{Command}
 use Rattle.petal_command.specs.declared.command.Command.TheVariants.{Leave}
 use Rattle.petal_msg.specs.declared.body.Body.TheVariants as body
@@ -14,11 +14,12 @@ use Rattle.petal_rules.specs.Agreement.{HasSchedule}
 use Rattle.petal_rules.specs.Lists.{In}
 use Rattle.petal_rules.specs.State.{is_in}
 use Rattle.petal_rules.specs.World.{Setting, World, start, setting_of, chosen_log, chosen_state}
-use Rattle.petal_rules.proofs.Tests.{by_bool, true_false}
+use Rattle.petal_paxos.specs.Kept.{inc_of}
+use Rattle.petal_state.specs.Command.{state_after}
 use Rattle.law_state.specs.Firm.{Firm}
 use Rattle.law_log.specs.Logged.{IsBacked, IsSaidBy, Logged}
-use Rattle.law_log.specs.Requested.{HasStopped, IsCalledFor}
-use Rattle.law_log.proofs.Chosen.{agrees, firm, called_for, runs_in, has_schedule, grown_log}
+use Rattle.law_log.specs.Requested.{HasBegun, HasStopped, IsCalledFor}
+use Rattle.law_log.proofs.Chosen.{agrees, firm, called_for, in_begun, out_stopped, runs_in, has_schedule, grown_log}
 use Rattle.law_log.proofs.Facts.{IsFair, leave_stopped}
 use Rattle.law_log.proofs.Steps.{history_goes, start_logged}
 
@@ -47,16 +48,29 @@ pub chosen_is_called_for : (script : Script) (records : List Record) → IsSound
 chosen_is_called_for script records sound legal command i =
     called_for (setting_of script) (At script records) (sound_fair script sound) (logged script records sound legal) command i
 
--- a server that runs is In by the chosen state
-pub who_runs_is_in : (script : Script) (records : List Record) → IsSound script → IsLegal script records → (n : ℕ)
-    → ((At script records).servers n).life.running ≡ true → is_in (chosen_state (setting_of script) (At script records)) n 1 ≡ true
-who_runs_is_in script records sound legal n runs =
-    runs_in (setting_of script) (At script records) (sound_fair script sound) (logged script records sound legal) n runs
+-- a server that runs, and was In as itself, is so by the chosen state
+pub who_runs_is_in : (script : Script) (records : List Record) → IsSound script → IsLegal script records → (n : ℕ) (front : List Command)
+    → ((At script records).servers n).life.running ≡ true → IsPrefix front (chosen_log (setting_of script) (At script records))
+    → is_in (state_after script.servers front) n ((At script records).servers n).life.inc ≡ true
+    → is_in (chosen_state (setting_of script) (At script records)) n ((At script records).servers n).life.inc ≡ true
+who_runs_is_in script records sound legal n front runs prefix was =
+    runs_in (setting_of script) (At script records) (sound_fair script sound) (logged script records sound legal) n front runs prefix was
 
-pub out_has_stopped : (script : Script) (records : List Record) → IsSound script → IsLegal script records → (n : ℕ)
-    → is_in (chosen_state (setting_of script) (At script records)) n 1 ≡ false → ((At script records).servers n).life.running ≡ false
-out_has_stopped script records sound legal n out = by_bool ((At script records).servers n).life.running
-    (λ runs. true_false (who_runs_is_in script records sound legal n runs) out) (λ e. e)
+pub out_has_stopped : (script : Script) (records : List Record) → IsSound script → IsLegal script records → (n inc : ℕ) (front : List Command)
+    → IsPrefix front (chosen_log (setting_of script) (At script records)) → is_in (state_after script.servers front) n inc ≡ true
+    → is_in (chosen_state (setting_of script) (At script records)) n inc ≡ false → HasStopped (At script records) n inc
+out_has_stopped script records sound legal n inc front prefix was out =
+    out_stopped (setting_of script) (At script records) (sound_fair script sound) (logged script records sound legal) n inc front prefix was out
+
+-- who is In has begun
+pub who_is_in_has_begun : (script : Script) (records : List Record) → IsSound script → IsLegal script records → (n inc : ℕ)
+    → is_in (chosen_state (setting_of script) (At script records)) n inc ≡ true → HasBegun (At script records) n inc
+who_is_in_has_begun script records sound legal n inc is =
+    in_begun (setting_of script) (At script records) (sound_fair script sound) (logged script records sound legal) n inc is
+
+pub who_runs_is_one : (script : Script) (records : List Record) → IsSound script → IsLegal script records → (n : ℕ)
+    → ((At script records).servers n).life.running ≡ true → n < script.servers
+who_runs_is_one script records sound legal n runs = (logged script records sound legal).is.known n runs
 
 -- who has a Leave chosen, or of whom a Down tells, has stopped
 pub chosen_leaves : (script : Script) (records : List Record) → IsSound script → IsLegal script records → (server inc : ℕ)
@@ -72,10 +86,14 @@ told_stops script records sound legal letter server inc i is =
     leave_stopped (setting_of script) (At script records) server inc
     (subst (IsBacked p (IsCalledFor (setting_of script) (At script records)) (IsSaidBy p letter.from)) is (l.is.sent letter i))
 
--- no server boots yet
+-- incarnations count from 1, and a server's is the one on its device
 pub first_incs : (script : Script) (records : List Record) → IsSound script → IsLegal script records → (n : ℕ)
-    → ((At script records).servers n).life.inc ≡ 1
-first_incs script records sound legal n = (logged script records sound legal).is.incs n
+    → 1 ≤ ((At script records).servers n).life.inc
+first_incs script records sound legal n = (logged script records sound legal).is.first n
+
+pub kept_incs : (script : Script) (records : List Record) → IsSound script → IsLegal script records → (n : ℕ)
+    → inc_of ((At script records).servers n).log.records ≡ ((At script records).servers n).life.inc
+kept_incs script records sound legal n = (logged script records sound legal).is.incs n
 
 -- ### A longer history
 

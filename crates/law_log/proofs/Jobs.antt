@@ -14,6 +14,8 @@ use Rattle.petal_msg.specs.declared.letter.Actor.TheVariants as actor
 use Rattle.petal_msg.specs.declared.letter.Letter.{Letter}
 use Rattle.petal_paxos.specs.Acceptor.{is_open}
 use Rattle.petal_paxos.specs.Kept.{acceptor_of, known_at}
+use Rattle.petal_paxos.specs.Kept.{inc_of as told_inc}
+use Rattle.petal_paxos.proofs.Committed.{inc_accepted, inc_chosen, inc_promise}
 use Rattle.petal_paxos.specs.Member.{In}
 use Rattle.petal_paxos.specs.Proposer.{Step, hear}
 use Rattle.petal_paxos.specs.Schedule.{sent, World}
@@ -21,10 +23,10 @@ use Rattle.petal_paxos.specs.declared.phase.Heard.{Heard}
 use Rattle.petal_paxos.specs.declared.phase.Heard.TheVariants.{Nothing, Send, Refused}
 use Rattle.petal_paxos.specs.declared.phase.Heard.TheVariants.{Chosen as Decided}
 use Rattle.petal_paxos.specs.declared.phase.Phase.{Phase}
-use Rattle.petal_paxos.specs.declared.phase.Phase.TheVariants.{Idle, Collecting, Voting}
+use Rattle.petal_paxos.specs.declared.phase.Phase.TheVariants.{Idle}
 use Rattle.petal_state.specs.State.{inc_of}
 use Rattle.petal_rules.specs.Agreement.{IsTold, IsProposer}
-use Rattle.petal_rules.specs.Ballots.{is_due, own_leave, leave_before, with_leave, wanted, on_down, on_propose, on_pax, starts, starts_for, hears_of_ballot, proposes, greatest_place}
+use Rattle.petal_rules.specs.Ballots.{is_due, own_leave, leave_before, with_leave, wanted, on_down, on_propose, on_pax, first_wanted, starts, starts_for, hears_of_ballot, proposes}
 use Rattle.petal_rules.specs.Entries.{learns, applies_then, unknown_from, learns_first, on_news, with_entry, applies, applies_known, before_known, known_run, on_ask}
 use Rattle.petal_rules.specs.Jobs.{log_does, hears_log}
 use Rattle.petal_rules.specs.Lists.{In as Among}
@@ -72,7 +74,7 @@ run_by log place command later h None is i e = none_some refl e
 run_by log place command later h (Some first) is zero e = let at : place + 0 ≡ place = omega arith in ap (known log) at ∙ is ∙ e
 run_by log place command later h (Some first) is (suc i) e = let at : place + suc i ≡ place + 1 + i = omega arith in ap (known log) at ∙ h i e
 
-run_known : (log : Log) (most place i : ℕ) (command : Command) → slice_get (known_run log place most) i ≡ Some command → known log (place + i) ≡ Some command
+pub run_known : (log : Log) (most place i : ℕ) (command : Command) → slice_get (known_run log place most) i ≡ Some command → known log (place + i) ≡ Some command
 run_known log zero place i command e = none_some refl e
 run_known log (suc most) place i command e =
     run_by log place command (known_run log (place + 1) most) (λ i. run_known log most (place + 1) i command) (known log place) refl i e
@@ -100,19 +102,21 @@ pub record Outcome (servers n : ℕ) (log : Log) (own : Job) (p : World) (Good :
   pub wants : (command : Command) → Among command done.log.wants → Fine command
   pub leaves : (command : Command) → Among command done.log.leaves → Fine command
   pub follows : (letter : Letter) → Among (job.Letter letter) done.jobs → own ≡ job.Letter letter
+  pub incs : told_inc done.log.records ≡ told_inc log.records
 
--- the same is wanted
+-- the same is wanted, and the incarnation is the same
 record WantsSame (before later : Log) : Type 0 where
   wants : later.wants ≡ before.wants
   leaves : later.leaves ≡ before.leaves
+  incs : told_inc later.records ≡ told_inc before.records
 
 -- ### Letters of a ballot
 
 out_wants : (voter : Voter) (log : Log) (step : Step) (said : Heard) → WantsSame log (proposes voter log step said).log
-out_wants voter log step Nothing = record { wants = refl; leaves = refl }
-out_wants voter log step (Send said) = record { wants = refl; leaves = refl }
-out_wants voter log step (Decided place command) = record { wants = refl; leaves = refl }
-out_wants voter log step (Refused promised) = record { wants = refl; leaves = refl }
+out_wants voter log step Nothing = record { wants = refl; leaves = refl; incs = refl }
+out_wants voter log step (Send said) = record { wants = refl; leaves = refl; incs = refl }
+out_wants voter log step (Decided place command) = record { wants = refl; leaves = refl; incs = refl }
+out_wants voter log step (Refused promised) = record { wants = refl; leaves = refl; incs = refl }
 
 out_follows : {A : Type 0} (voter : Voter) (log : Log) (step : Step) (said : Heard) (letter : Letter)
     → Among (job.Letter letter) (proposes voter log step said).jobs → A
@@ -123,7 +127,7 @@ out_follows voter log step (Refused promised) letter h = no_follow letter h
 
 learn_wants : (log : Log) (place : ℕ) (command : Command) → WantsSame log (learns log place command).log
 unfolding learns
-learn_wants log place command = record { wants = refl; leaves = refl }
+learn_wants log place command = record { wants = refl; leaves = refl; incs = inc_chosen log.records place command }
 
 learn_follows : {A : Type 0} (log : Log) (place : ℕ) (command : Command) (letter : Letter) → Among (job.Letter letter) (learns log place command).jobs → A
 unfolding learns
@@ -131,9 +135,11 @@ learn_follows log place command letter h = applies_follow letter (known log plac
 
 pax_wants : (voter : Voter) (log : Log) (from : ℕ) (said : Pax) → WantsSame log (hears_of_ballot voter log from said).log
 pax_wants voter log from (pax.Prepare place b) =
-    by_test (WantsSame log) (is_open (acceptor_of log.records place) b) _ _ (λ e. record { wants = refl; leaves = refl }) (λ e. record { wants = refl; leaves = refl })
+    by_test (WantsSame log) (is_open (acceptor_of log.records place) b) _ _
+    (λ e. record { wants = refl; leaves = refl; incs = inc_promise log.records place b }) (λ e. record { wants = refl; leaves = refl; incs = refl })
 pax_wants voter log from (pax.Accept place b command) =
-    by_test (WantsSame log) (is_open (acceptor_of log.records place) b) _ _ (λ e. record { wants = refl; leaves = refl }) (λ e. record { wants = refl; leaves = refl })
+    by_test (WantsSame log) (is_open (acceptor_of log.records place) b) _ _
+    (λ e. record { wants = refl; leaves = refl; incs = inc_accepted log.records place b command }) (λ e. record { wants = refl; leaves = refl; incs = refl })
 pax_wants voter log from (pax.Chosen place command) = learn_wants log place command
 pax_wants voter log from (pax.Promise place b best) = out_wants voter log (hear voter.servers log.phase from (pax.Promise place b best)) _
 pax_wants voter log from (pax.Accepted place b) = out_wants voter log (hear voter.servers log.phase from (pax.Accepted place b)) _
@@ -155,22 +161,13 @@ idle_too : (phase : Phase) (o : Option Phase) → IsProposer true phase o → Is
 idle_too phase None h = h
 idle_too phase (Some there) h = (refl, tt)
 
-start_wants : (voter : Voter) (log : Log) (phase : Phase) (wants : List Command) → WantsSame log (starts_for voter log phase wants).log
-start_wants voter log Idle (want ∷ wants) =
-    by_test (λ (d : LogDone). WantsSame log d.log) (nat_lt (rev_of log) greatest_place) _ _
-    (λ e. record { wants = refl; leaves = refl }) (λ e. record { wants = refl; leaves = refl })
-start_wants voter log Idle [] = record { wants = refl; leaves = refl }
-start_wants voter log (Collecting place ballot want heard best) wants = record { wants = refl; leaves = refl }
-start_wants voter log (Voting place ballot command heard) wants = record { wants = refl; leaves = refl }
+start_wants : (voter : Voter) (log : Log) (o : Option Command) → WantsSame log (starts_for voter log o).log
+start_wants voter log (Some want) = record { wants = refl; leaves = refl; incs = inc_promise log.records _ _ }
+start_wants voter log None = record { wants = refl; leaves = refl; incs = refl }
 
-start_follows : {A : Type 0} (voter : Voter) (log : Log) (phase : Phase) (wants : List Command) (letter : Letter)
-    → Among (job.Letter letter) (starts_for voter log phase wants).jobs → A
-start_follows {A = A} voter log Idle (want ∷ wants) letter h =
-    by_test (λ (d : LogDone). Among (job.Letter letter) d.jobs → A) (nat_lt (rev_of log) greatest_place) _ _ (λ e h. no_follow letter h)
-    (λ e h. no_follow letter h) h
-start_follows voter log Idle [] letter h = no_follow letter h
-start_follows voter log (Collecting place ballot want heard best) wants letter h = no_follow letter h
-start_follows voter log (Voting place ballot command heard) wants letter h = no_follow letter h
+start_follows : {A : Type 0} (voter : Voter) (log : Log) (o : Option Command) (letter : Letter) → Among (job.Letter letter) (starts_for voter log o).jobs → A
+start_follows voter log (Some want) letter h = no_follow letter h
+start_follows voter log None letter h = no_follow letter h
 
 one_more : (c command : Command) (wants : List Command) → Among c (wants ++ command ∷ []) → Among c wants ⊎ (c ≡ command)
 one_more c command wants h = elim (in-append c wants (command ∷ []) h) [
@@ -232,6 +229,7 @@ module _ (servers n inc : ℕ) (small : servers ≤ 256) (member : n < servers) 
     wants = fine;
     leaves = leaving;
     follows = λ letter h. no_follow letter h;
+    incs = refl;
   }
 
   stopped : (own : Job) (server stop : ℕ) → Fine (Leave server stop) → Left own (on_down log server stop)
@@ -241,6 +239,7 @@ module _ (servers n inc : ℕ) (small : servers ≤ 256) (member : n < servers) 
     wants = fine;
     leaves = λ c h. elim (one_leave log.leaves (Leave server stop) c h) [ inl old ↦ leaving c old | inr is ↦ subst Fine (sym is) f ];
     follows = λ letter h. no_follow letter h;
+    incs = refl;
   }
 
   proposed : (own : Job) (command : Command) → Fine command → Left own (on_propose log command)
@@ -252,6 +251,7 @@ module _ (servers n inc : ℕ) (small : servers ≤ 256) (member : n < servers) 
         wants = λ c h. elim (one_more c command log.wants h) [ inl old ↦ fine c old | inr is ↦ subst Fine (sym is) f ];
         leaves = leaving;
         follows = λ letter h. no_follow letter h;
+        incs = refl;
       })
 
   told : (own : Job) (who : Actor) (rev : ℕ) → Left own (on_ask log who rev)
@@ -264,6 +264,7 @@ module _ (servers n inc : ℕ) (small : servers ≤ 256) (member : n < servers) 
     wants = fine;
     leaves = leaving;
     follows = λ letter h. no_follow letter h;
+    incs = refl;
   }
 
   learnt : (own : Job) (place : ℕ) (c : Command) → IsTold p place c → Left own (learns log place c)
@@ -276,6 +277,7 @@ module _ (servers n inc : ℕ) (small : servers ≤ 256) (member : n < servers) 
         wants = still_fine _ (learn_wants log place c);
         leaves = still_leaving _ (learn_wants log place c);
         follows = λ letter h. learn_follows log place c letter h;
+        incs = (learn_wants log place c).incs;
       }
 
   told_first : (letter : Letter) (after : ℕ) (commands : List Command) → ((i : ℕ) (c : Command) → slice_get commands i ≡ Some c → IsTold p (after + i + 1) c)
@@ -300,6 +302,7 @@ module _ (servers n inc : ℕ) (small : servers ≤ 256) (member : n < servers) 
           | inl j ↦ learn_follows log first.0 first.1 own j
           | inr j ↦ only (λ x. job.Letter letter ≡ x) (job.Letter letter) (job.Letter own) j refl
         ];
+        incs = h.incs;
       }
 
   news : (letter : Letter) (after : ℕ) (commands : List Command) → ((i : ℕ) (c : Command) → slice_get commands i ≡ Some c → IsTold p (after + i + 1) c)
@@ -316,6 +319,7 @@ module _ (servers n inc : ℕ) (small : servers ≤ 256) (member : n < servers) 
         wants = still_fine _ (pax_wants voter log from said);
         leaves = still_leaving _ (pax_wants voter log from said);
         follows = λ letter h. pax_follows voter log from said letter h;
+        incs = (pax_wants voter log from said).incs;
       }
   ballots own (actor.Client c) said i = kept own
 
@@ -338,27 +342,34 @@ module _ (servers n inc : ℕ) (small : servers ≤ 256) (member : n < servers) 
     wants = λ c h. fine c (kept_among (λ other. not (same_command other entry)) log.wants c h);
     leaves = leaving;
     follows = λ letter h. applies_follow letter None _ h;
+    incs = refl;
   }
 
-  fine_wanted : (c : Command) → Among c (wanted voter log) → Fine c
-  fine_wanted c h = elim (in-append c _ log.wants h) [
-    | inl i ↦ elim (all_leaves (own_leave n inc (inc_of (state_in servers log) n)) _ c i) [
-      | inl due ↦ leaving c (kept_among (is_due (state_in servers log)) log.leaves c due)
-      | inr own ↦ own_leaves n inc (inc_of (state_in servers log) n) c (λ earlier lt is. subst Fine (sym is) (own_leaving earlier lt)) own
+  pub fine_wanted : (returning : List Command) → ((c : Command) → Among c returning → Fine c) → (c : Command) → Among c (wanted voter log returning) → Fine c
+  fine_wanted returning back c h = elim (in-append c _ log.wants h) [
+    | inl former ↦ elim (in-append c _ returning former) [
+      | inl i ↦ elim (all_leaves (own_leave n inc (inc_of (state_in servers log) n)) _ c i) [
+        | inl due ↦ leaving c (kept_among (is_due (state_in servers log)) log.leaves c due)
+        | inr own ↦ own_leaves n inc (inc_of (state_in servers log) n) c (λ earlier lt is. subst Fine (sym is) (own_leaving earlier lt)) own
+      ]
+      | inr own ↦ back c own
     ]
     | inr i ↦ fine c i
   ]
 
-  started : (own : Job) → Left own (starts voter log)
+  -- a ballot starts for one of these commands
+  pub started : (own : Job) (wants : List Command) → ((c : Command) → Among c wants → Fine c) → Left own (starts voter log wants)
   unfolding starts
-  started own =
+  started own wants all =
       let at = proposer_there log.phase (p.proposers n) busy.proposer in
-      let turn = start_turn servers n inc small member log p low seen busy Good at.0 at.1 (λ want i. good want (fine_wanted want i)) in
+      let turn = start_turn servers n inc small member log p low seen busy Good at.0 at.1 wants (λ want i. good want (all want i)) in
+      let same = start_wants voter log (first_wanted log.phase (rev_of log) wants) in
       record {
         turn = record { events = turn.events; wanted = turn.wanted; turns = turn.turns };
-        wants = still_fine _ (start_wants voter log log.phase (wanted voter log));
-        leaves = still_leaving _ (start_wants voter log log.phase (wanted voter log));
-        follows = λ letter h. start_follows voter log log.phase (wanted voter log) letter h;
+        wants = still_fine _ same;
+        leaves = still_leaving _ same;
+        follows = λ letter h. start_follows voter log (first_wanted log.phase (rev_of log) wants) letter h;
+        incs = same.incs;
       }
 
   pub applied_next : (own : Job) → Left own (applies log)
@@ -382,4 +393,4 @@ module _ (servers n inc : ℕ) (small : servers ≤ 256) (member : n < servers) 
   job_done (job.Letter letter) backed = letter_done letter letter.body (backed letter refl)
   job_done (job.Stage cell) backed = kept (job.Stage cell)
   job_done job.Apply backed = applied_next job.Apply
-  job_done job.Start backed = started job.Start
+  job_done job.Start backed = kept job.Start

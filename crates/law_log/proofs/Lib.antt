@@ -4,6 +4,9 @@ pub mod Kept
 pub mod Taking
 pub mod Proposing
 pub mod Jobs
+pub mod Boots
+pub mod Stores
+pub mod Unbooted
 pub mod Pairs
 pub mod Worlds
 pub mod Facts

@@ -26,10 +26,10 @@ use Rattle.petal_paxos.specs.declared.record.StateRecord.TheVariants.{Promise}
 use Rattle.law_agreement.proofs.Members.{in_here, in_there}
 use Rattle.law_agreement.proofs.Moves.{not_in_nobody}
 use Rattle.petal_rules.specs.Agreement.{IsTold, IsAskedFor, IsAbout, IsProposer}
-use Rattle.petal_rules.specs.Ballots.{post_of, round_of, next_round, wanted, starts, starts_for, starts_ballot, greatest_place, gives_way, proposes, comes_out, hears_of_ballot}
+use Rattle.petal_rules.specs.Ballots.{post_of, round_of, next_round, first_wanted, starts, starts_for, starts_ballot, greatest_place, gives_way, proposes, comes_out, hears_of_ballot}
 use Rattle.petal_rules.specs.Entries.{learns}
 use Rattle.petal_rules.specs.Lists.{In as Among}
-use Rattle.petal_rules.specs.Log.{Log, LogDone, rev_of, next_place, with_phase}
+use Rattle.petal_rules.specs.Log.{Log, rev_of, next_place, with_phase}
 use Rattle.petal_rules.specs.Server.{Post}
 use Rattle.petal_rules.proofs.Tests.{true_false, by_test, same_some}
 use Rattle.law_log.specs.Logged.{IsSeenAt, AreLow, IsLow, IsBusyAs, IsBacked}
@@ -182,10 +182,11 @@ module _ (servers n inc : ℕ) (small : servers ≤ 256) (member : n < servers) 
   good_want place want good j command (inr h) = absurd h
 
   start_for : (phase : Phase) (wants : List Command) → log.phase ≡ phase → ((want : Command) → Among want wants → Good (next_place log) want)
-      → HasTurn servers n true (starts_for (record { me = n; inc = inc; servers = servers }) log phase wants).log
-      (starts_for (record { me = n; inc = inc; servers = servers }) log phase wants).posts p Good
+      → HasTurn servers n true (starts_for (record { me = n; inc = inc; servers = servers }) log (first_wanted phase (rev_of log) wants)).log
+      (starts_for (record { me = n; inc = inc; servers = servers }) log (first_wanted phase (rev_of log) wants)).posts p Good
   start_for Idle (want ∷ wants) e good =
-      by_test (λ (d : LogDone). HasTurn servers n true d.log d.posts p Good) (nat_lt (rev_of log) greatest_place) _ _
+      by_test (λ (o : Option Command). HasTurn servers n true (starts_for (record { me = n; inc = inc; servers = servers }) log o).log
+      (starts_for (record { me = n; inc = inc; servers = servers }) log o).posts p Good) (nat_lt (rev_of log) greatest_place) (Some want) None
       (λ few.
       let place = next_place log in
       let b : Ballot = record { round = next_round log; server = n } in
@@ -203,10 +204,11 @@ module _ (servers n inc : ℕ) (small : servers ≤ 256) (member : n < servers) 
   start_for (Collecting place ballot want heard best) wants e good = nothing_happens servers n true log [] p Good low seen busy (λ post i. no_posts post i)
   start_for (Voting place ballot command heard) wants e good = nothing_happens servers n true log [] p Good low seen busy (λ post i. no_posts post i)
 
-  pub start_turn : ((want : Command) → Among want (wanted (record { me = n; inc = inc; servers = servers }) log) → Good (next_place log) want)
-      → HasTurn servers n true (starts (record { me = n; inc = inc; servers = servers }) log).log (starts (record { me = n; inc = inc; servers = servers }) log).posts p Good
+  pub start_turn : (wants : List Command) → ((want : Command) → Among want wants → Good (next_place log) want)
+      → HasTurn servers n true (starts (record { me = n; inc = inc; servers = servers }) log wants).log
+      (starts (record { me = n; inc = inc; servers = servers }) log wants).posts p Good
   unfolding starts
-  start_turn good = start_for log.phase (wanted (record { me = n; inc = inc; servers = servers }) log) refl good
+  start_turn wants good = start_for log.phase wants refl good
 
   -- ### Letters of a ballot
 

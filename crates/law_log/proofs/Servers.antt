@@ -1,6 +1,6 @@
 -- Each step of a server keeps what is kept of a world.
-use Rattle.std.proofs.Common.{◌≡◌, ◌<◌, ◌+◌, ◌==◌, inl, inr, ℕ, true, false, not, if◌then◌else◌, List, [], ◌∷◌, ◌++◌, map, Option, Some, None, refl, sym, ap, ◌∙◌, subst, arith}
-use Rattle.std.specs.Prelude.{filter}
+use Rattle.std.proofs.Common.{◌≡◌, ◌<◌, ◌≤◌, ◌+◌, ◌==◌, ◌⊎◌, inl, inr, ℕ, true, false, not, if◌then◌else◌, List, [], ◌∷◌, ◌++◌, map, Option, Some, None, refl, sym, ap, ◌∙◌, subst, arith}
+use Rattle.std.specs.Prelude.{filter, slice_get}
 use Rattle.std.specs.List.{range_with_len, flat_map}
 use Rattle.petal_base.specs.declared.cell.Cell.{Cell}
 use Rattle.petal_command.specs.declared.command.Command.{Command}
@@ -15,13 +15,20 @@ use Rattle.petal_paxos.specs.Schedule.{sent, run, begin}
 use Rattle.petal_paxos.specs.Schedule as schedule
 use Rattle.petal_paxos.specs.declared.phase.Phase.{Phase}
 use Rattle.petal_paxos.specs.declared.phase.Phase.TheVariants.{Idle, Collecting, Voting}
-use Rattle.petal_rules.specs.Agreement.{IsAskedFor}
-use Rattle.petal_rules.specs.Ballots.{ballot_posts, ask_posts, start_jobs, wanted}
+use Rattle.petal_rules.specs.Agreement.{IsAskedFor, IsProposer}
+use Rattle.petal_command.specs.declared.command.Command.TheVariants.{Join}
+use Rattle.petal_paxos.specs.Kept.{inc_of}
+use Rattle.petal_paxos.proofs.Committed.{inc_committed}
+use Rattle.petal_paxos.specs.declared.record.StateRecord.TheVariants.{Inc}
+use Rattle.petal_rules.specs.Ballots.{ballot_posts, ask_posts, start_jobs, starts, wanted}
+use Rattle.petal_rules.specs.Boots.{awake, boots, raised, stays, wakes}
+use Rattle.petal_rules.specs.Returns.{own_join, returning}
+use Rattle.petal_state.specs.Command.{may_join}
 use Rattle.petal_rules.specs.Crossing.{crossed_by, stage_jobs_by, touches_cell}
 use Rattle.petal_rules.specs.Entries.{applies}
-use Rattle.petal_rules.specs.Jobs.{Acted, is_log_job, voter_of, here_of, worked, entered, crossing, job_done, down_posts, stops, is_overfull, works, faults, glances, glance_sender, delivered, tick_posts, ticks, log_does, does, sent_anew}
+use Rattle.petal_rules.specs.Jobs.{Acted, is_log_job, voter_of, here_of, worked, entered, crossing, job_done, down_posts, stops, is_overfull, works, faults, glances, glance_sender, delivered, tick_posts, ticks, log_does, does, sent_anew, wanted_by}
 use Rattle.petal_rules.specs.Lists.{In as Among}
-use Rattle.petal_rules.specs.Log.{LogDone, Voter, known, next_place}
+use Rattle.petal_rules.specs.Log.{LogDone, Voter, known, next_place, rev_of}
 use Rattle.petal_rules.specs.Posts.{Post, Sender, letters_of}
 use Rattle.petal_rules.specs.Server.{Life, Server, Own, Here, Done, sender, stopped}
 use Rattle.petal_rules.specs.State.{State, servers_of}
@@ -31,14 +38,21 @@ use Rattle.petal_rules.specs.declared.job.Job.TheVariants as job
 use Rattle.petal_rules.specs.declared.step.CommitEnd.{CommitEnd}
 use Rattle.petal_rules.specs.declared.step.CommitEnd.TheVariants.{Before, After}
 use Rattle.petal_rules.specs.declared.step.Step.{Step}
-use Rattle.petal_rules.specs.declared.step.Step.TheVariants.{Call, Deliver, Tick, Work, Stop, Glance}
+use Rattle.petal_rules.specs.declared.step.Step.TheVariants.{Call, Deliver, Tick, Work, Stop, Boot, Glance}
+use Rattle.petal_rules.specs.declared.step.WorkEnd.{WorkEnd}
 use Rattle.petal_rules.specs.declared.step.WorkEnd.TheVariants as work_end
 use Rattle.petal_rules.proofs.ListLemmas.{in-append, put_same}
 use Rattle.petal_rules.proofs.Tests.{only, by_test}
 use Rattle.law_log.specs.Logged.{IsBacked, IsSaidBy, IsReached, IsSeenAt, IsBusyAs, Logged}
 use Rattle.law_log.specs.Requested.{IsCalledFor}
-use Rattle.law_log.proofs.Facts.{IsFair, as_many, told_once}
-use Rattle.law_log.proofs.Jobs.{Outcome, applied_next}
+use Rattle.global_tables.specs.declared.fence.Member.TheVariants as member
+use Rattle.law_state.specs.Tables.{IsPlainState}
+use Rattle.law_state.proofs.Ages.{may_by}
+use Rattle.law_state.proofs.Entries.{log_plain}
+use Rattle.law_log.proofs.Facts.{IsFair, applied_plain, as_many, told_once}
+use Rattle.law_log.proofs.Boots.{fail_turn, no_proposer, wake_turn}
+use Rattle.law_log.proofs.Stores.{fresh_crossed, fresh_job}
+use Rattle.law_log.proofs.Jobs.{Outcome, applied_next, fine_wanted, started}
 use Rattle.law_log.proofs.Jobs.{job_done as log_job_done}
 use Rattle.law_log.proofs.Lists.{got}
 use Rattle.law_log.proofs.Pairs.{other_backed, IsQuiet, quiet_job, other_anew}
@@ -76,6 +90,21 @@ reached_next setting w l n = record {
       (at.0, (l.is.servers n).told (i + 1) at.0 ((l.is.servers n).applied i at.0 at.1));
 }
 
+-- its own Join is all that a server wants so that it returns
+join_only : {A : Type 0} (state : State) (me inc : ℕ) (fresh : _) (c : Command)
+    → (may_join (slice_get state.view.members me) inc ≡ true → c ≡ Join me inc fresh → A) → Among c (own_join state me inc fresh) → A
+unfolding Among
+join_only {A} state me inc fresh c so h = by_test (λ (xs : List Command). Among c xs → A) (may_join (slice_get state.view.members me) inc) _ _
+    (λ e i. elim i [ inl is ↦ so e is | inr none ↦ absurd none ]) (λ e i. absurd i) h
+
+-- which is of an incarnation behind the first
+join_later : (servers : ℕ) (state : State) → IsPlainState servers state → (me inc : ℕ) → may_join (slice_get state.view.members me) inc ≡ true → 1 < inc
+join_later servers state p me inc may =
+    let was = may_by (slice_get state.view.members me) inc may in
+    let low : 1 ≤ was.0 = p.members me (member.Out was.0) was.1 in
+    let lt = was.2 in
+    omega arith
+
 -- ### A tick
 
 ballot_backed : (p : schedule.World) (n : ℕ) (voter : Voter) (phase : Phase) → IsAskedFor p n voter.servers phase → (post : Post)
@@ -102,6 +131,10 @@ unfolding Among
 stages_only state None own letter h = absurd h
 stages_only state (Some entry) own letter h = no_stage (filter (λ row. touches_cell state entry row.0) own.pairs.pending) letter h
 
+no_command : {A : Type 0} (c : Command) → Among c [] → A
+unfolding Among
+no_command c h = absurd h
+
 no_jobs : {A : Type 0} (letter : Letter) → Among (job.Letter letter) [] → A
 unfolding Among
 no_jobs letter h = absurd h
@@ -127,12 +160,15 @@ module _ (setting : Setting) (fair : IsFair setting) (w : World) (l : Logged set
 
   -- the log stays as it is, but for which server is asked next
   idle : (to : Server) (posts : List Post) → to.life ≡ (w.servers n).life → to.log.records ≡ (w.servers n).log.records
+      → to.own.store.fresh ≡ (w.servers n).own.store.fresh
       → to.log.applied ≡ (w.servers n).log.applied
       → to.log.phase ≡ (w.servers n).log.phase → to.log.wants ≡ (w.servers n).log.wants → to.log.leaves ≡ (w.servers n).log.leaves
       → ((letter : Letter) → Among (job.Letter letter) to.queue → Among letter w.sent)
       → ((post : Post) → Among post posts → IsBacked P (λ c. ⊥) (λ said. In (sent n said) P.letters) post.body)
       → Acts setting w P n to posts
-  idle to posts life records applied phase wants leaves queued posted = record {
+  idle to posts life records fresh applied phase wants leaves queued posted = record {
+    incs = ap inc_of records ∙ l.is.incs n ∙ sym (ap (λ (x : Life). x.inc) life);
+    fresh = fresh ∙ l.is.fresh n;
     life = subst (IsLaterLife (w.servers n).life) (sym life) (same_life (w.servers n).life);
     wants = λ c i. l.is.wants n c (subst (Among c) wants i);
     leaves = λ c i. l.is.leaves n c (subst (Among c) leaves i);
@@ -143,7 +179,7 @@ module _ (setting : Setting) (fair : IsFair setting) (w : World) (l : Logged set
   }
 
   unchanged : Acts setting w P n (w.servers n) []
-  unchanged = idle (w.servers n) [] refl refl refl refl refl refl (λ other h. l.is.queued n other h) (λ post h. no_posts post h)
+  unchanged = idle (w.servers n) [] refl refl refl refl refl refl refl (λ other h. l.is.queued n other h) (λ post h. no_posts post h)
 
   -- what a job does, and sends at the server's revision
   record Did (acted : Acted) : Type 0 where
@@ -157,23 +193,27 @@ module _ (setting : Setting) (fair : IsFair setting) (w : World) (l : Logged set
 
   -- ### A stop
 
-  down_backed : (to : Server) → to.life.running ≡ false → to.life.inc ≡ (w.servers n).life.inc → (letters : List Letter) (q : schedule.World) (post : Post)
+  -- the incarnation of which a Down tells is over
+  abbrev IsOver : Life → Type 0
+  IsOver life = ((life.running ≡ false) × (here.inc ≤ life.inc)) ⊎ (here.inc < life.inc)
+
+  down_backed : (to : Server) → IsOver to.life → (letters : List Letter) (q : schedule.World) (post : Post)
       → Among post (down_posts n here.inc (servers_of here.state))
       → IsBacked q (IsCalledFor setting (acts w n what stamp (record { server = to; letters = letters })).world) (λ said. In (sent n said) q.letters) post.body
-  down_backed to over same letters q post i =
+  down_backed to over letters q post i =
       let after = (acts w n what stamp (record { server = to; letters = letters })).world in
       let is : after.servers n ≡ to = put_same w.servers n to in
-      let gone : (after.servers n).life.running ≡ false = ap (λ (x : Server). x.life.running) is ∙ over in
-      let inc : (after.servers n).life.inc ≡ here.inc = ap (λ (x : Server). x.life.inc) is ∙ same in
       subst (IsBacked q (IsCalledFor setting after) (λ said. In (sent n said) q.letters))
       (sym (said_to_all (body.Down n here.inc) (filter (λ k. not (k == n)) (range_with_len 0 (servers_of here.state))) post i))
-      (inr (inl (gone, omega (arith, inc))))
+      (inr (subst (λ (x : Server). IsOver x.life) (sym is) over))
 
   -- what the server did stands, and nothing of it is sent
   stops_after : (to : Server) (posts : List Post) → to.life.running ≡ true → Acts setting w P n to posts → GoesBy (stops here to)
   stops_after to posts runs did =
       let over : Acts setting w P n (stopped to) [] = record {
-        life = record { inc = did.life.inc; over = λ e. refl };
+        life = record { inc = did.life.inc; over = λ e. inl refl };
+        incs = did.incs;
+        fresh = did.fresh;
         wants = did.wants;
         leaves = did.leaves;
         queued = λ letter h. no_jobs letter h;
@@ -181,7 +221,7 @@ module _ (setting : Setting) (fair : IsFair setting) (w : World) (l : Logged set
       } in
       server_sends setting w l n stamp what (record { from = actor.Server n; inc = here.inc; rev = 0 }) refl member (stopped to)
       (down_posts n here.inc (servers_of here.state)) [] over
-      (λ post i. down_backed (stopped to) refl did.life.inc (stops here to).letters _ post i)
+      (λ post i. down_backed (stopped to) (inl (refl, did.life.inc)) (stops here to).letters _ post i)
 
   stops_now : Runs → GoesBy (stops here (w.servers n))
   stops_now runs = stops_after (w.servers n) [] runs unchanged
@@ -195,7 +235,7 @@ module _ (setting : Setting) (fair : IsFair setting) (w : World) (l : Logged set
         posts = [];
         letters = refl;
         by = idle (record (w.servers n) { queue = (w.servers n).queue ++ job.Letter letter ∷ [] }) []
-            refl refl refl refl refl refl
+            refl refl refl refl refl refl refl
             (λ other h. elim (in-append (job.Letter other) (w.servers n).queue (job.Letter letter ∷ []) h) [
               | inl old ↦ l.is.queued n other old
               | inr new ↦ (let same : job.Letter other ≡ job.Letter letter = only (λ x. x ≡ job.Letter letter) (job.Letter letter) (job.Letter other) new refl in
@@ -213,10 +253,10 @@ module _ (setting : Setting) (fair : IsFair setting) (w : World) (l : Logged set
         posts = tick_posts here (w.servers n);
         letters = refl;
         by =
-            idle (ticks here (w.servers n)).server (tick_posts here (w.servers n)) refl refl refl refl refl refl
-            (λ other h. elim (in-append (job.Letter other) (w.servers n).queue (start_jobs (w.servers n).log.phase (wanted (voter_of here) (w.servers n).log)) h) [
+            idle (ticks here (w.servers n)).server (tick_posts here (w.servers n)) refl refl refl refl refl refl refl
+            (λ other h. elim (in-append (job.Letter other) (w.servers n).queue (start_jobs (w.servers n).log.phase (wanted_by here (w.servers n))) h) [
               | inl old ↦ l.is.queued n other old
-              | inr new ↦ absurd (start_only (w.servers n).log.phase (wanted (voter_of here) (w.servers n).log) other new)
+              | inr new ↦ absurd (start_only (w.servers n).log.phase (wanted_by here (w.servers n)) other new)
             ])
             (λ post h. elim (in-append post (ballots ++ pairs) (ask_posts (voter_of here) (w.servers n).log) h) [
               | inl former ↦ elim (in-append post ballots pairs former) [
@@ -232,7 +272,7 @@ module _ (setting : Setting) (fair : IsFair setting) (w : World) (l : Logged set
   glances_on line round =
       server_goes setting w l n stamp what (glance_sender here (w.servers n))
       (by_test (λ (who : Sender). who.from ≡ actor.Server n) (w.servers n).life.running _ _ (λ e. refl) (λ e. refl)) member (w.servers n) _
-      (idle (w.servers n) _ refl refl refl refl refl refl (λ other h. l.is.queued n other h)
+      (idle (w.servers n) _ refl refl refl refl refl refl refl (λ other h. l.is.queued n other h)
       (λ post h. only (λ (x : Post). IsBacked P (λ c. ⊥) (λ said. In (sent n said) P.letters) x.body) _ post h
       (by_test (IsBacked P (λ c. ⊥) (λ said. In (sent n said) P.letters)) (w.servers n).life.running _ _ (λ e. tt) (λ e. tt))))
 
@@ -243,10 +283,12 @@ module _ (setting : Setting) (fair : IsFair setting) (w : World) (l : Logged set
     was_queued letter h = l.is.queued n letter (subst (Among (job.Letter letter)) (sym is) (job_there (job.Letter letter) first rest h))
 
     -- a job of the log, whatever it does to the pairs
-    logs : (done : LogDone) (own : Own) (queue : List Job) → Outcome setting.servers n (w.servers n).log first P Good (IsCalledFor setting w) done
+    logs : (done : LogDone) (own : Own) (queue : List Job) → own.store.fresh ≡ (w.servers n).own.store.fresh → Outcome setting.servers n (w.servers n).log first P Good (IsCalledFor setting w) done
         → ((letter : Letter) → Among (job.Letter letter) queue → Among (job.Letter letter) (rest ++ done.jobs))
         → Acts setting w P n (record (w.servers n) { log = done.log; own = own; queue = queue }) done.posts
-    logs done own queue out left = record {
+    logs done own queue fresh out left = record {
+      incs = out.incs ∙ l.is.incs n;
+      fresh = fresh ∙ l.is.fresh n;
       life = same_life (w.servers n).life;
       wants = out.wants;
       leaves = out.leaves;
@@ -258,11 +300,11 @@ module _ (setting : Setting) (fair : IsFair setting) (w : World) (l : Logged set
       turn = subst (λ b. HasTurn setting.servers n b done.log done.posts P Good) (sym runs) out.turn;
     }
 
-    pairs_do : (done : Done) → IsQuiet done → Did (worked here (w.servers n) rest done)
-    pairs_do done quiet = record {
+    pairs_do : (done : Done) → IsQuiet done → done.own.store.fresh ≡ (w.servers n).own.store.fresh → Did (worked here (w.servers n) rest done)
+    pairs_do done quiet fresh = record {
       posts = done.posts;
       letters = refl;
-      by = idle (record (w.servers n) { own = done.own; queue = rest ++ done.jobs }) done.posts refl refl refl refl refl refl
+      by = idle (record (w.servers n) { own = done.own; queue = rest ++ done.jobs }) done.posts refl refl fresh refl refl refl refl
           (λ other h. elim (in-append (job.Letter other) rest done.jobs h) [
             | inl old ↦ was_queued other old
             | inr new ↦ absurd (quiet.jobs other new)
@@ -297,7 +339,8 @@ module _ (setting : Setting) (fair : IsFair setting) (w : World) (l : Logged set
         let entry = known (w.servers n).log (next_place (w.servers n).log) in record {
           posts = done.posts;
           letters = refl;
-          by = logs done (crossed_by here.state entry (w.servers n).own) (rest ++ done.jobs ++ stage_jobs_by here.state entry (w.servers n).own) apply_outcome
+          by = logs done (crossed_by here.state entry (w.servers n).own) (rest ++ done.jobs ++ stage_jobs_by here.state entry (w.servers n).own)
+              (fresh_crossed here.state entry (w.servers n).own) apply_outcome
               (λ letter h. elim (in-append (job.Letter letter) (rest ++ done.jobs) (stage_jobs_by here.state entry (w.servers n).own) h) [
                 | inl old ↦ old
                 | inr new ↦ stages_only here.state entry (w.servers n).own letter new
@@ -310,15 +353,39 @@ module _ (setting : Setting) (fair : IsFair setting) (w : World) (l : Logged set
         (λ e. let done = log_does (voter_of here) (w.servers n).log first in record {
           posts = done.posts;
           letters = refl;
-          by = logs done (w.servers n).own (rest ++ done.jobs) log_outcome (λ letter h. h);
+          by = logs done (w.servers n).own (rest ++ done.jobs) refl log_outcome (λ letter h. h);
         })
-        (λ e. pairs_do (does here (w.servers n).own first) (quiet_job here (w.servers n).own first))
+        (λ e. pairs_do (does here (w.servers n).own first) (quiet_job here (w.servers n).own first) (fresh_job here (w.servers n).own first))
+
+    -- what it wants may be proposed
+    abbrev With : ℕ → LogDone
+    With k = starts (record { me = n; inc = here.inc; servers = k }) (w.servers n).log
+        (wanted (record { me = n; inc = here.inc; servers = k }) (w.servers n).log (returning here (w.servers n).own))
+
+    start_outcome : AnyOutcome (starts (voter_of here) (w.servers n).log (wanted_by here (w.servers n)))
+    start_outcome =
+        subst (λ k. AnyOutcome (With k)) (sym (as_many setting w fair l n))
+        (started setting.servers n here.inc fair.small member (w.servers n).log P l.is.low (l.is.servers n) busy_now (told_once setting w fair.small l)
+        Good (IsCalledFor setting w) (l.is.wants n) (l.is.leaves n) (λ earlier lt. inr (inr lt)) (λ c s. (s, reached_next setting w l n)) first _
+        (fine_wanted setting.servers n here.inc fair.small member (w.servers n).log P l.is.low (l.is.servers n) busy_now (told_once setting w fair.small l)
+        Good (IsCalledFor setting w) (l.is.wants n) (l.is.leaves n) (λ earlier lt. inr (inr lt)) (λ c s. (s, reached_next setting w l n))
+        (returning here (w.servers n).own)
+        (λ c i. join_only here.state n here.inc (w.servers n).own.store.fresh c
+        (λ may is. subst (IsCalledFor setting w) (sym is)
+        (inr (join_later setting.servers here.state (log_plain setting.servers _ (applied_plain setting w fair l n)) n here.inc may, omega arith, l.is.fresh n))) i)))
+
+    starts_one : Did (entered here (w.servers n) rest (starts (voter_of here) (w.servers n).log (wanted_by here (w.servers n))))
+    starts_one = let done = starts (voter_of here) (w.servers n).log (wanted_by here (w.servers n)) in record {
+      posts = done.posts;
+      letters = refl;
+      by = logs done (w.servers n).own (rest ++ done.jobs) refl start_outcome (λ letter h. h);
+    }
 
   does_job : Runs → (first : Job) (rest : List Job) → (w.servers n).queue ≡ first ∷ rest → Did (job_done here (w.servers n) first rest)
   does_job runs job.Apply rest is = crosses runs job.Apply rest is
   does_job runs (job.Letter letter) rest is = either runs (job.Letter letter) rest is
   does_job runs (job.Stage cell) rest is = either runs (job.Stage cell) rest is
-  does_job runs job.Start rest is = either runs job.Start rest is
+  does_job runs job.Start rest is = starts_one runs job.Start rest is
 
   life_kept : Runs → (first : Job) (rest : List Job) → (job_done here (w.servers n) first rest).server.life.running ≡ true
   life_kept runs job.Apply rest = runs
@@ -341,14 +408,67 @@ module _ (setting : Setting) (fair : IsFair setting) (w : World) (l : Logged set
       (λ room. let did = does_job runs first rest is in
       stops_after (job_done here (w.servers n) first rest).server did.posts (life_kept runs first rest) did.by)
 
+  -- ### A boot
+
+  module _ (rests : (w.servers n).life.running ≡ false) where
+    asleep : P.proposers n ≡ None
+    asleep = no_proposer (w.servers n).log.phase (P.proposers n)
+        (subst (λ b. IsProposer b (w.servers n).log.phase (P.proposers n)) rests (l.is.busy n member).proposer)
+
+    raised_inc : inc_of (raised (w.servers n)).log.records ≡ (w.servers n).life.inc + 1
+    raised_inc = inc_committed (w.servers n).log.records (Inc ((w.servers n).life.inc + 1))
+
+    wakes_on : GoesBy (wakes here (awake (raised (w.servers n))))
+    wakes_on =
+        let to = awake (raised (w.servers n)) in
+        let did : Acts setting w P n to [] = record {
+          life = record { inc = omega arith; over = λ e. inr (omega arith) };
+          incs = raised_inc;
+          fresh = l.is.fresh n;
+          wants = λ c i. no_command c i;
+          leaves = λ c i. no_command c i;
+          queued = λ letter h. no_jobs letter h;
+          turn = wake_turn setting.servers n (w.servers n).log P (w.servers n).life.inc (l.is.incs n) l.is.low (l.is.servers n) asleep Good;
+        } in
+        server_sends setting w l n stamp what (record { from = actor.Server n; inc = (w.servers n).life.inc + 1; rev = rev_of to.log }) refl member to
+        (down_posts n here.inc (servers_of here.state)) [] did
+        (λ post i. down_backed to (inr (omega arith)) (wakes here to).letters _ post i)
+
+    stays_on : GoesBy (stays (w.servers n))
+    stays_on = did_goes _ (record { posts = []; letters = refl; by = unchanged })
+
+    fails_on : GoesBy (stays (raised (w.servers n)))
+    fails_on = did_goes _ (record {
+      posts = [];
+      letters = refl;
+      by = record {
+        life = record { inc = omega arith; over = λ e. inl e };
+        incs = raised_inc;
+        fresh = l.is.fresh n;
+        wants = l.is.wants n;
+        leaves = l.is.leaves n;
+        queued = l.is.queued n;
+        turn = subst (λ b. HasTurn setting.servers n b (raised (w.servers n)).log [] P Good) (sym rests)
+            (fail_turn setting.servers n (w.servers n).log P (w.servers n).life.inc (l.is.incs n) l.is.low (l.is.servers n) asleep Good
+            (subst (λ b. IsBusyAs setting.servers n b (w.servers n).log.phase P) rests (l.is.busy n member)));
+      };
+    })
+
+    boots_on : (end : WorkEnd) → GoesBy (boots here (w.servers n) end)
+    boots_on work_end.Done = by_test GoesBy (is_overfull (raised (w.servers n))) _ _ (λ full. stays_on) (λ room. wakes_on)
+    boots_on (work_end.Fault Before) = stays_on
+    boots_on (work_end.Fault After) =
+        by_test (λ (to : Server). GoesBy (stays to)) (is_overfull (raised (w.servers n))) _ _ (λ full. stays_on) (λ room. fails_on)
+
 pub server_steps : (setting : Setting) (fair : IsFair setting) (w : World) (l : Logged setting w) (n stamp : ℕ) (member : n < setting.servers) (what : Step)
     → MayServer what w n → Goes setting w (acts w n what stamp (server_step what (server_state setting w n) n (w.servers n))).world
 server_steps setting fair w l n stamp member (Call line) may = absurd may
 server_steps setting fair w l n stamp member (Deliver letter) may = delivers setting fair w l n stamp (Deliver letter) member letter may.comes.sent
 server_steps setting fair w l n stamp member Tick may = ticks_on setting fair w l n stamp Tick member
 server_steps setting fair w l n stamp member (Work work_end.Done) may =
-    works_on setting fair w l n stamp (Work work_end.Done) member may.0 (w.servers n).queue refl
+    works_on setting fair w l n stamp (Work work_end.Done) member may.acts.runs (w.servers n).queue refl
 server_steps setting fair w l n stamp member (Work (work_end.Fault end)) may =
-    faults_on setting fair w l n stamp (Work (work_end.Fault end)) member may.0 end (w.servers n).queue refl
+    faults_on setting fair w l n stamp (Work (work_end.Fault end)) member may.acts.runs end (w.servers n).queue refl
 server_steps setting fair w l n stamp member Stop may = stops_now setting fair w l n stamp Stop member may.runs
+server_steps setting fair w l n stamp member (Boot end) may = boots_on setting fair w l n stamp (Boot end) member may.rests end
 server_steps setting fair w l n stamp member (Glance line round) may = glances_on setting fair w l n stamp (Glance line round) member line round

@@ -21,7 +21,7 @@ use Rattle.petal_rules.specs.Lists.{In as Among}
 use Rattle.petal_rules.specs.Server.{letters_of}
 use Rattle.petal_rules.specs.World.{Setting, World, start, stamped, reacts, step, MayActor, MayClient, client_step, client_state, calls, next_line}
 use Rattle.petal_rules.specs.declared.step.Step.{Step}
-use Rattle.petal_rules.specs.declared.step.Step.TheVariants.{Call, Deliver, Tick, Work, Stop, Glance}
+use Rattle.petal_rules.specs.declared.step.Step.TheVariants.{Call, Deliver, Tick, Work, Stop, Boot, Glance}
 use Rattle.petal_rules.proofs.ListLemmas.{in-append, in_later, put_same}
 use Rattle.petal_rules.proofs.Tests.{all_put_apart, none_some}
 use Rattle.petal_history.specs.Legal.{IsLegalFrom, stepped, world_after}
@@ -80,6 +80,8 @@ module _ (setting : Setting) (w : World) (l : Logged setting w) (c stamp : ℕ) 
             servers = l.is.servers;
             known = l.is.known;
             incs = l.is.incs;
+            first = l.is.first;
+            fresh = l.is.fresh;
             busy = l.is.busy;
             low = l.is.low;
             sent = λ letter i. elim (in-append letter (stamped stamp (letters_of (client_sender c reacted.client) 0 reacted.posts)) w.sent i) [
@@ -130,6 +132,7 @@ module _ (setting : Setting) (w : World) (l : Logged setting w) (c stamp : ℕ) 
   client_steps Tick may = client_goes _ (ticks_so Told setting.lines c (client_state setting w c) (w.clients c) fine_now)
   client_steps (Work end) may = absurd may
   client_steps Stop may = absurd may
+  client_steps (Boot end) may = absurd may
   client_steps (Glance line round) may = absurd may
 
 -- ### A step, and a history
@@ -176,6 +179,8 @@ start_logged setting = record {
     };
     known = λ s e. within s setting.servers e;
     incs = λ s. refl;
+    first = λ s. omega arith;
+    fresh = λ s. refl;
     busy = λ s lt. record { proposer = (below s setting.servers lt, tt); asked = tt };
     low = record { acceptors = λ s place ballot e. none_some refl e; letters = λ from said h. absurd h };
     sent = λ letter h. absurd h;

@@ -1,12 +1,13 @@
 -- What is kept of a world is kept by what one server does.
-use Rattle.std.proofs.Common.{◌≡◌, ◌<◌, ◌+◌, inl, inr, ℕ, true, false, List, [], ◌∷◌, ◌++◌, refl, sym, ap, ◌∙◌, subst, arith}
+use Rattle.std.proofs.Common.{◌≡◌, ◌<◌, ◌≤◌, ◌+◌, ◌⊎◌, inl, inr, ℕ, true, false, List, [], ◌∷◌, ◌++◌, refl, sym, ap, ◌∙◌, subst, arith}
 use Rattle.petal_command.specs.declared.ballot.Ballot.{Ballot}
 use Rattle.petal_command.specs.declared.command.Command.{Command}
-use Rattle.petal_command.specs.declared.command.Command.TheVariants.{Leave}
+use Rattle.petal_command.specs.declared.command.Command.TheVariants.{Join, Leave}
 use Rattle.petal_command.specs.declared.pax.Pax.{Pax}
 use Rattle.petal_msg.specs.declared.letter.Actor.{Actor}
 use Rattle.petal_msg.specs.declared.letter.Actor.TheVariants as actor
 use Rattle.petal_msg.specs.declared.letter.Letter.{Letter}
+use Rattle.petal_paxos.specs.Kept.{inc_of}
 use Rattle.petal_paxos.specs.Member.{In}
 use Rattle.petal_paxos.specs.Schedule.{Sent, sent, Event, run, begin, happens, IsWanted, Starts, Handed, Stops, Boots}
 use Rattle.petal_paxos.specs.Schedule as schedule
@@ -20,7 +21,7 @@ use Rattle.petal_rules.specs.declared.job.Job.TheVariants as job
 use Rattle.petal_rules.proofs.ListLemmas.{in-append, in_later}
 use Rattle.petal_rules.proofs.Tests.{all_put_apart}
 use Rattle.law_log.specs.Logged.{IsReached, IsSeenAt, IsBusyAs, IsBacked, IsSaidBy, IsLogged, Logged}
-use Rattle.law_log.specs.Requested.{HasStopped, IsCalledFor, IsLeaving, IsScripted}
+use Rattle.law_log.specs.Requested.{HasStopped, IsCalledFor, IsOfLives, IsScripted}
 use Rattle.law_log.proofs.Turns.{Turns, HasTurn, seen_apart, busy_same, told_more, reached_more, backed_more, run_on, wanted_on}
 
 -- ### Letters of a step
@@ -51,30 +52,35 @@ pub record Goes (setting : Setting) (w v : World) : Type 0 where
 abbrev pub MayWant : Setting → World → schedule.World → ℕ → Command → Type 0
 MayWant setting w p place command = IsCalledFor setting w command × IsReached p place
 
--- a life goes on, or is over
+-- a life goes on, or is over, or the next one has begun
 pub record IsLaterLife (before later : Life) : Type 0 where
-  pub inc : later.inc ≡ before.inc
-  pub over : before.running ≡ false → later.running ≡ false
+  pub inc : before.inc ≤ later.inc
+  pub over : before.running ≡ false → (later.running ≡ false) ⊎ (before.inc < later.inc)
 
 stopped_more : (w v : World) (server inc : ℕ) → IsLaterLife (w.servers server).life (v.servers server).life → HasStopped w server inc → HasStopped v server inc
-stopped_more w v server inc later (inl h) = inl (later.over h.0, let e = later.inc in let le = h.1 in omega arith)
+stopped_more w v server inc later (inl h) = elim (later.over h.0) [
+  | inl over ↦ inl (over, let e = later.inc in let le = h.1 in omega arith)
+  | inr raised ↦ inr (let le = h.1 in omega arith)
+]
 stopped_more w v server inc later (inr lt) = inr (let e = later.inc in omega arith)
 
-leaving_more : (w v : World) → ((s : ℕ) → IsLaterLife (w.servers s).life (v.servers s).life) → (c : Command) → IsLeaving w c → IsLeaving v c
-leaving_more w v later (Leave server inc) h = stopped_more w v server inc (later server) h
-leaving_more w v later _ h = absurd h
+lives_more : (w v : World) → ((s : ℕ) → IsLaterLife (w.servers s).life (v.servers s).life) → (c : Command) → IsOfLives w c → IsOfLives v c
+lives_more w v later (Leave server inc) h = stopped_more w v server inc (later server) h
+lives_more w v later (Join server inc blank) h = (h.0, (let e = (later server).inc in let le = h.1 in omega arith), h.2)
+lives_more w v later _ h = absurd h
 
 pub called_more : (setting : Setting) (w v : World) → ((c : Command) → IsScripted setting w c → IsScripted setting v c)
     → ((s : ℕ) → IsLaterLife (w.servers s).life (v.servers s).life) → (c : Command) → IsCalledFor setting w c → IsCalledFor setting v c
 called_more setting w v more later c (inl h) = inl (more c h)
-called_more setting w v more later c (inr h) = inr (leaving_more w v later c h)
+called_more setting w v more later c (inr h) = inr (lives_more w v later c h)
 
 pub same_life : (life : Life) → IsLaterLife life life
-same_life life = record { inc = refl; over = λ e. e }
+same_life life = record { inc = omega arith; over = λ e. inl e }
 
 module _ (setting : Setting) (w : World) (events : List Event) (p : schedule.World) (l : IsLogged setting w events p) (n stamp : ℕ) (what : Step) (who : Sender)
     (member : n < setting.servers) (posts others : List Post) (to : Server)
     (own : who.from ≡ actor.Server n) (life : IsLaterLife (w.servers n).life to.life)
+    (incs : inc_of to.log.records ≡ to.life.inc) (fresh : to.own.store.fresh ≡ false)
     (wants : (c : Command) → Among c to.log.wants → IsCalledFor setting w c) (leaves : (c : Command) → Among c to.log.leaves → IsCalledFor setting w c)
     (queued : (letter : Letter) → Among (job.Letter letter) to.queue → Among letter w.sent) where
   abbrev After : World
@@ -94,7 +100,10 @@ module _ (setting : Setting) (w : World) (events : List Event) (p : schedule.Wor
     servers = all_put_apart w.servers n to (λ s (x : Server). IsSeenAt s x.log.records x.log.applied q)
         (λ s ne. seen_apart s n (w.servers s).log.records (w.servers s).log.applied p q ne t.apart (l.servers s)) t.seen;
     known = all_put_apart w.servers n to (λ s (x : Server). x.life.running ≡ true → s < setting.servers) (λ s ne. l.known s) (λ e. member);
-    incs = all_put_apart w.servers n to (λ s (x : Server). x.life.inc ≡ 1) (λ s ne. l.incs s) (life.inc ∙ l.incs n);
+    incs = all_put_apart w.servers n to (λ s (x : Server). inc_of x.log.records ≡ x.life.inc) (λ s ne. l.incs s) incs;
+    first = all_put_apart w.servers n to (λ s (x : Server). 1 ≤ x.life.inc) (λ s ne. l.first s)
+        (let old = l.first n in let more = life.inc in omega arith);
+    fresh = all_put_apart w.servers n to (λ s (x : Server). x.own.store.fresh ≡ false) (λ s ne. l.fresh s) fresh;
     busy = all_put_apart w.servers n to (λ s (x : Server). s < setting.servers → IsBusyAs setting.servers s x.life.running x.log.phase q)
         (λ s ne lt. busy_same setting.servers s (w.servers s).life.running (w.servers s).log.phase p q t.apart.letters (t.apart.proposers s ne) (l.busy s lt))
         (λ lt. t.busy);
@@ -126,6 +135,8 @@ module _ (setting : Setting) (w : World) (events : List Event) (p : schedule.Wor
 -- a server after a step, as a schedule has it
 pub record Acts (setting : Setting) (w : World) (p : schedule.World) (n : ℕ) (to : Server) (posts : List Post) : Type 0 where
   pub life : IsLaterLife (w.servers n).life to.life
+  pub incs : inc_of to.log.records ≡ to.life.inc
+  pub fresh : to.own.store.fresh ≡ false
   pub wants : (c : Command) → Among c to.log.wants → IsCalledFor setting w c
   pub leaves : (c : Command) → Among c to.log.leaves → IsCalledFor setting w c
   pub queued : (letter : Letter) → Among (job.Letter letter) to.queue → Among letter w.sent
@@ -144,7 +155,7 @@ module _ (setting : Setting) (w : World) (l : Logged setting w) (n stamp : ℕ) 
       → Goes setting w (acts w n what stamp (record { server = to; letters = letters_of who 0 posts })).world
   server_sends to posts others acted posted =
       let q = run setting.servers acted.turn.events P in
-      let kept = kept_by setting w l.events P l.is n stamp what who member posts others to own acted.life acted.wants acted.leaves acted.queued
+      let kept = kept_by setting w l.events P l.is n stamp what who member posts others to own acted.life acted.incs acted.fresh acted.wants acted.leaves acted.queued
       acted.turn.events q acted.turn.wanted acted.turn.turns posted in
       record {
         logged = record {

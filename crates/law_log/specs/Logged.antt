@@ -1,5 +1,5 @@
 -- What is kept of the agreed log from step to step: a schedule of agreement that the world is seen as, and what goes with it.
-use Rattle.std.specs.Prelude.{ℕ, ◌+◌, ◌≡◌, ◌↔◌, ◌<◌, ⊤, Bool, true, List, slice_get, Some}
+use Rattle.std.specs.Prelude.{ℕ, ◌+◌, ◌≡◌, ◌↔◌, ◌<◌, ◌≤◌, ⊤, Bool, true, false, List, slice_get, Some}
 use Rattle.petal_command.specs.declared.ballot.Ballot.{Ballot}
 use Rattle.petal_command.specs.declared.command.Command.{Command}
 use Rattle.petal_command.specs.declared.command.Command.TheVariants.{Leave}
@@ -90,7 +90,9 @@ pub record IsOpen (lines : List Line) (c called : ℕ) (asked : Asked) : Type 0 
 pub record IsLogged (setting : Setting) (w : World) (events : List schedule.Event) (p : schedule.World) : Type 0 where
   pub servers : (s : ℕ) → IsSeenAt s (w.servers s).log.records (w.servers s).log.applied p
   pub known : (s : ℕ) → (w.servers s).life.running ≡ true → s < setting.servers
-  pub incs : (s : ℕ) → (w.servers s).life.inc ≡ 1
+  pub incs : (s : ℕ) → inc_of (w.servers s).log.records ≡ (w.servers s).life.inc
+  pub first : (s : ℕ) → 1 ≤ (w.servers s).life.inc
+  pub fresh : (s : ℕ) → (w.servers s).own.store.fresh ≡ false
   pub busy : (s : ℕ) → s < setting.servers → IsBusyAs setting.servers s (w.servers s).life.running (w.servers s).log.phase p
   pub low : AreLow p
   pub sent : (letter : Letter) → Among letter w.sent → IsBacked p (IsCalledFor setting w) (IsSaidBy p letter.from) letter.body

@@ -1,5 +1,5 @@
 -- What a server's step has to show so that each refusal has its reason.
-use Rattle.std.proofs.Common.{◌≡◌, ◌≢◌, ◌≤◌, ◌<◌, ℕ, true, Some, sym, ap, ◌∙◌, subst, ◌⊎◌, inl, inr, arith}
+use Rattle.std.proofs.Common.{◌≡◌, ◌≢◌, ℕ, true, Some, sym, ap, ◌∙◌, subst, ◌⊎◌, inl, inr}
 use Rattle.std.specs.Ordering.{nat_cmp}
 use Rattle.petal_base.specs.declared.cell.Cell.{Cell}
 use Rattle.petal_table.specs.Table.{at}
@@ -11,32 +11,54 @@ use Rattle.petal_msg.specs.declared.operation.Finished.{Finished}
 use Rattle.petal_msg.specs.declared.operation.Pending.{Pending}
 use Rattle.petal_rules.specs.Lists.{In}
 use Rattle.petal_rules.specs.Store.{cell_cmp}
-use Rattle.petal_rules.specs.Server.{Own, Server}
+use Rattle.petal_rules.specs.Log.{state_in}
+use Rattle.petal_rules.specs.State.{in_both}
+use Rattle.petal_rules.specs.Server.{Server}
 use Rattle.petal_rules.specs.Jobs.{Acted}
-use Rattle.petal_rules.specs.World.{World, acts, stamped}
+use Rattle.petal_rules.specs.World.{Setting, World, acts, chosen_log, server_state, stamped}
 use Rattle.petal_rules.specs.declared.step.Step.{Step}
 use Rattle.petal_rules.proofs.ListLemmas.{put_same, put_apart, in-append}
 use Rattle.petal_rules.proofs.Tests.{same_or_apart}
+use Rattle.petal_history.specs.Claims.{IsPrefix}
+use Rattle.law_steps.proofs.Fronts.{front_on}
 use Rattle.law_steps.proofs.Restages.{Was}
 use Rattle.law_copies.specs.Pair.{owns_of}
-use Rattle.law_refusals.specs.Reasons.{Refusals}
+use Rattle.law_refusals.specs.Reasons.{IsPlaced, Refusals}
 
--- what a step has to show: of what the server remembers where it runs on, of what is pending, and of what it sends
-pub record StepRefuses (S : ℕ → ℕ → Type 0) (w : World) (n stamp : ℕ) (acted : Acted) : Type 0 where
+-- no second server told that it has no slot for an operation of this number on the cell
+abbrev pub IsUntold : World → Cell → ℕ → Type 0
+IsUntold w cell number = (letter : Letter) → In letter w.sent → letter.body ≡ body.PairFull number cell → ⊥
+
+-- the operation was pending on the cell, in whatever stage, where its server runs and the cell is in Both
+pub record WasThere (setting : Setting) (w : World) (n : ℕ) (cell : Cell) (op : Pending) : Type 0 where
+  pub was : Was (owns_of w n) cell op
+  pub runs : (w.servers n).life.running ≡ true
+  pub both : in_both (server_state setting w n) cell ≡ true
+
+-- what a step has to show: of what the server remembers where it runs on, of what is pending then, and of what it sends
+pub record StepRefuses (S : ℕ → ℕ → Type 0) (setting : Setting) (w : World) (n stamp : ℕ) (acted : Acted) : Type 0 where
   pub finished : (c : ℕ) (last : Finished) → acted.server.life.running ≡ true → at nat_cmp acted.server.own.pairs.finished c ≡ Some last
       → last.ending ≡ ending.Full → S c last.seq
-  pub pending : (cell : Cell) (op : Pending) → at cell_cmp acted.server.own.pairs.pending cell ≡ Some op
-      → Was (owns_of w n) cell op ⊎ (op.op ≡ (owns_of w n).pairs.next)
-  pub next : (owns_of w n).pairs.next ≤ acted.server.own.pairs.next
+  pub pending : (cell : Cell) (op : Pending) → acted.server.life.running ≡ true → in_both (state_in setting.servers acted.server.log) cell ≡ true
+      → at cell_cmp acted.server.own.pairs.pending cell ≡ Some op → WasThere setting w n cell op ⊎ IsUntold w cell op.op
   pub letters : (letter : Letter) (c seq : ℕ) → In letter (stamped stamp acted.letters) → letter.to ≡ actor.Client c → letter.body ≡ body.Full seq → S c seq
-  pub numbers : (letter : Letter) (number p : ℕ) (cell : Cell) → In letter (stamped stamp acted.letters) → letter.body ≡ body.PairFull number cell
-      → letter.to ≡ actor.Server p → (p ≢ n) × (number < (owns_of w p).pairs.next)
+  pub placed : (letter : Letter) (number : ℕ) (cell : Cell) → In letter (stamped stamp acted.letters) → letter.body ≡ body.PairFull number cell
+      → IsPlaced setting w letter cell
+  pub others : (letter : Letter) (number p : ℕ) (cell : Cell) → In letter (stamped stamp acted.letters) → letter.body ≡ body.PairFull number cell
+      → letter.to ≡ actor.Server p → p ≢ n
   pub declined : (letter : Letter) (number p : ℕ) (cell : Cell) (op : Pending) → In letter (stamped stamp acted.letters)
       → letter.body ≡ body.PairFull number cell → letter.to ≡ actor.Server p → at cell_cmp (owns_of w p).pairs.pending cell ≡ Some op → op.op ≡ number
       → S op.client op.seq
 
-module _ (R S : ℕ → ℕ → Type 0) (w : World) (more : (c seq : ℕ) → R c seq → S c seq) (refusals : Refusals R w) (n stamp : ℕ) (what : Step) (acted : Acted)
-    (step : StepRefuses S w n stamp acted) where
+-- what is chosen stays chosen
+pub still_placed : (setting : Setting) (w v : World) → IsPrefix (chosen_log setting w) (chosen_log setting v) → (letter : Letter) (cell : Cell)
+    → IsPlaced setting w letter cell → IsPlaced setting v letter cell
+still_placed setting w v grows letter cell p =
+    record { front = p.front; stands = front_on p.front _ _ p.stands grows; long = p.long; both = p.both }
+
+module _ (R S : ℕ → ℕ → Type 0) (setting : Setting) (w : World) (more : (c seq : ℕ) → R c seq → S c seq) (refusals : Refusals R setting w) (n stamp : ℕ)
+    (what : Step) (acted : Acted) (step : StepRefuses S setting w n stamp acted)
+    (grows : IsPrefix (chosen_log setting w) (chosen_log setting (acts w n what stamp acted).world)) where
   abbrev later : World
   later = (acts w n what stamp acted).world
 
@@ -45,12 +67,6 @@ module _ (R S : ℕ → ℕ → Type 0) (w : World) (more : (c seq : ℕ) → R 
 
   server_other : (i : ℕ) → i ≢ n → later.servers i ≡ w.servers i
   server_other i ne = put_apart w.servers n acted.server i ne
-
-  own_now : owns_of later n ≡ acted.server.own
-  own_now = ap (λ (x : Server). x.own) server_now
-
-  own_other : (i : ℕ) → i ≢ n → owns_of later i ≡ owns_of w i
-  own_other i ne = ap (λ (x : Server). x.own) (server_other i ne)
 
   finished : (i c : ℕ) (last : Finished) → (later.servers i).life.running ≡ true → at nat_cmp (owns_of later i).pairs.finished c ≡ Some last
       → last.ending ≡ ending.Full → S c last.seq
@@ -65,45 +81,45 @@ module _ (R S : ℕ → ℕ → Type 0) (w : World) (more : (c seq : ℕ) → R 
         (sym (ap (λ (x : Server). at nat_cmp x.own.pairs.finished c) same) ∙ is) how)
   ]
 
-  next_later : (i number : ℕ) → number < (owns_of w i).pairs.next → number < (owns_of later i).pairs.next
-  next_later i number lt = elim (same_or_apart i n) [
-    | inl e ↦
-        let up = step.next in
-        let was : number < (owns_of w n).pairs.next = subst (λ k. number < (owns_of w k).pairs.next) e lt in
-        subst (λ (h : Own). number < h.pairs.next) (sym (ap (owns_of later) e ∙ own_now)) (omega arith)
-    | inr ne ↦ subst (λ (h : Own). number < h.pairs.next) (sym (own_other i ne)) lt
-  ]
-
   -- what was declined is the operation that it was
   old_declined : (letter : Letter) (number p : ℕ) (cell : Cell) (op : Pending) → In letter w.sent → letter.body ≡ body.PairFull number cell
-      → letter.to ≡ actor.Server p → at cell_cmp (owns_of later p).pairs.pending cell ≡ Some op → op.op ≡ number → S op.client op.seq
-  old_declined letter number p cell op h says to is same = elim (same_or_apart p n) [
-    | inl e ↦ elim (step.pending cell op (sym (ap (λ (h : Own). at cell_cmp h.pairs.pending cell) (ap (owns_of later) e ∙ own_now)) ∙ is)) [
-      | inl was ↦
-          subst (S op.client) was.same.seq (subst (λ c. S c was.was.seq) was.same.client
-          (more was.was.client was.was.seq
-          (refusals.declined letter number n cell was.was h says (to ∙ ap actor.Server e) was.is (was.same.number ∙ same))))
-      | inr fresh ↦ let lt = refusals.numbers letter number n cell h says (to ∙ ap actor.Server e) in absurd (omega arith)
-    ]
-    | inr ne ↦ more op.client op.seq (refusals.declined letter number p cell op h says to
-        (sym (ap (λ (h : Own). at cell_cmp h.pairs.pending cell) (own_other p ne)) ∙ is) same)
+      → letter.to ≡ actor.Server p → (later.servers p).life.running ≡ true → in_both (server_state setting later p) cell ≡ true
+      → at cell_cmp (owns_of later p).pairs.pending cell ≡ Some op → op.op ≡ number → S op.client op.seq
+  old_declined letter number p cell op h says to runs both is same = elim (same_or_apart p n) [
+    | inl e ↦
+        let now = ap later.servers e ∙ server_now in
+        elim (step.pending cell op (sym (ap (λ (x : Server). x.life.running) now) ∙ runs)
+        (sym (ap (λ (x : Server). in_both (state_in setting.servers x.log) cell) now) ∙ both)
+        (sym (ap (λ (x : Server). at cell_cmp x.own.pairs.pending cell) now) ∙ is)) [
+          | inl there ↦
+              let was = there.was in
+              subst (S op.client) was.same.seq (subst (λ c. S c was.was.seq) was.same.client
+              (more was.was.client was.was.seq
+              (refusals.declined letter number n cell was.was h says (to ∙ ap actor.Server e) there.runs there.both was.is (was.same.number ∙ same))))
+          | inr untold ↦ absurd (untold letter h (says ∙ ap (λ k. body.PairFull k cell) (sym same)))
+        ]
+    | inr ne ↦
+        let now = server_other p ne in
+        more op.client op.seq (refusals.declined letter number p cell op h says to (sym (ap (λ (x : Server). x.life.running) now) ∙ runs)
+        (sym (ap (λ (x : Server). in_both (state_in setting.servers x.log) cell) now) ∙ both)
+        (sym (ap (λ (x : Server). at cell_cmp x.own.pairs.pending cell) now) ∙ is) same)
   ]
 
-  pub step_refusals : Refusals S later
+  pub step_refusals : Refusals S setting later
   step_refusals = record {
     letters = λ letter c seq h to says. elim (in-append letter _ w.sent h) [
       | inl new ↦ step.letters letter c seq new to says
       | inr old ↦ more c seq (refusals.letters letter c seq old to says)
     ];
     finished = finished;
-    numbers = λ letter number p cell h says to. elim (in-append letter _ w.sent h) [
-      | inl new ↦ next_later p number (step.numbers letter number p cell new says to).1
-      | inr old ↦ next_later p number (refusals.numbers letter number p cell old says to)
-    ];
-    declined = λ letter number p cell op h says to is same. elim (in-append letter _ w.sent h) [
+    placed = λ letter number cell h says. still_placed setting w later grows letter cell (elim (in-append letter _ w.sent h) [
+      | inl new ↦ step.placed letter number cell new says
+      | inr old ↦ refusals.placed letter number cell old says
+    ]);
+    declined = λ letter number p cell op h says to runs both is same. elim (in-append letter _ w.sent h) [
       | inl new ↦
-          let ne = (step.numbers letter number p cell new says to).0 in
-          step.declined letter number p cell op new says to (sym (ap (λ (h : Own). at cell_cmp h.pairs.pending cell) (own_other p ne)) ∙ is) same
-      | inr old ↦ old_declined letter number p cell op old says to is same
+          let ne = step.others letter number p cell new says to in
+          step.declined letter number p cell op new says to (sym (ap (λ (x : Server). at cell_cmp x.own.pairs.pending cell) (server_other p ne)) ∙ is) same
+      | inr old ↦ old_declined letter number p cell op old says to runs both is same
     ];
   }

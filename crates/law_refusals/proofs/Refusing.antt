@@ -1,5 +1,5 @@
 -- Over every legal history, each refusal has a reason.
-use Rattle.std.proofs.Common.{◌≡◌, ℕ, List, [], ◌∷◌, ◌++◌, Bool, true, false, Option, Some, None, refl, sym, ap, ◌∙◌, subst, ◌⊎◌, inl, inr, append_assoc, arith}
+use Rattle.std.proofs.Common.{◌≡◌, ℕ, List, [], ◌∷◌, ◌++◌, Bool, true, false, Option, Some, None, refl, sym, ap, ◌∙◌, subst, ◌⊎◌, inl, inr, append_assoc}
 use Rattle.std.proofs.lemmas.List.{append-nil}
 use Rattle.std.specs.Prelude.{if◌then◌else◌, is_some, length, ◌==◌, map}
 use Rattle.std.specs.Ordering.{nat_cmp}
@@ -17,6 +17,8 @@ use Rattle.petal_msg.specs.declared.letter.Actor.{Actor}
 use Rattle.petal_msg.specs.declared.letter.Actor.TheVariants as actor
 use Rattle.petal_msg.specs.declared.letter.Letter.{Letter}
 use Rattle.petal_msg.specs.declared.operation.Ending.TheVariants as ending
+use Rattle.petal_msg.specs.declared.operation.Finished.{Finished}
+use Rattle.petal_msg.specs.declared.operation.Pending.{Pending}
 use Rattle.script_lines.specs.declared.answer.Answer.{Answer}
 use Rattle.script_lines.specs.declared.answer.Answer.TheVariants as answer
 use Rattle.script_lines.specs.declared.request.Request.{Request}
@@ -26,13 +28,14 @@ use Rattle.petal_state.specs.Command.{state_after}
 use Rattle.petal_state.specs.State.{latest}
 use Rattle.petal_state.specs.declared.answer.DiskView.{DiskView}
 use Rattle.petal_rules.specs.Ballots.{post_of}
-use Rattle.petal_rules.specs.Clients.{Asked, Reaction, client_sender, cell_on, epoch_for, readers, refusal, read_refusal, read_refusal_at, write_refusal, verdict_answer, verdict_for}
+use Rattle.petal_rules.specs.Boots.{awake, raised, stays, wakes}
+use Rattle.petal_rules.specs.Clients.{Asked, Reaction, client_sender, cell_on, epoch_for, readers, refusal, read_refusal, read_refusal_at, seen_answer, write_refusal, verdict_answer, verdict_for}
 use Rattle.petal_rules.specs.Crossing.{crossed}
 use Rattle.petal_rules.specs.Jobs.{Acted, down_posts}
 use Rattle.petal_rules.specs.Lists.{In}
-use Rattle.petal_rules.specs.Log.{Log}
-use Rattle.petal_rules.specs.Server.{Server, Done, Post, Sender, silent, sender, letters_of}
-use Rattle.petal_rules.specs.State.{State, find, lead, servers_of}
+use Rattle.petal_rules.specs.Log.{Log, state_in}
+use Rattle.petal_rules.specs.Server.{Server, Pairs, Done, Post, Sender, silent, sender, letters_of, no_pairs}
+use Rattle.petal_rules.specs.State.{State, find, in_both, lead, servers_of}
 use Rattle.petal_rules.specs.Store.{cell_cmp}
 use Rattle.petal_rules.specs.World.{Setting, World, reacts, step, stamped, start, setting_of, client_step, client_state, server_state, chosen_log, chosen_state, next_line, MayActor}
 use Rattle.petal_rules.specs.declared.job.Job.{Job}
@@ -48,7 +51,9 @@ use Rattle.petal_history.specs.declared.record.Record.{Record}
 use Rattle.law_state.specs.Below.{IsBelow}
 use Rattle.law_state.specs.Firm.{Firm}
 use Rattle.law_state.specs.Steady.{IsSteady}
-use Rattle.law_steps.specs.Happens.{Heard, Handled, IsIdle, Worked, By_job, By_entry, Serving, Goes as Serves_on, Ends as Stops_so, Stays, own_place, without_rev, served_so, stopped_so, shown_so}
+use Rattle.law_state.proofs.Alone.{led_row}
+use Rattle.law_state.proofs.Steady.{front_plain, log_rev}
+use Rattle.law_steps.specs.Happens.{Heard, Handled, IsIdle, Worked, By_job, By_entry, Serving, Goes as Serves_on, Ends as Stops_so, Stays, Wakes, Fails, own_place, without_rev, served_so, stopped_so, shown_so}
 use Rattle.law_steps.specs.Ready.{AreFirm, Ready, Rests}
 use Rattle.law_steps.specs.Turned.{Turned, Goes_on, Begins, Reads, Ends, Shown, Judges, IsReason, By_verdict, By_witness}
 use Rattle.law_steps.proofs.Fronts.{below_itself, below_on}
@@ -58,31 +63,36 @@ use Rattle.law_steps.proofs.Restages.{was_same}
 use Rattle.law_steps.proofs.Sending.{is_ask, turned_asks}
 use Rattle.law_steps.proofs.Serving.{server_serves}
 use Rattle.law_steps.proofs.Turning.{client_turns, is_call}
+use Rattle.law_steps.specs.Waking.{AllMayWake}
 use Rattle.law_copies.specs.Pair.{Good, owns_of}
 use Rattle.law_copies.proofs.Copying.{happens_good, start_good}
+use Rattle.law_copies.proofs.Sharing.{was_both}
+use Rattle.law_steps.specs.Waking.{WakeAlong}
+use Rattle.law_steps.proofs.Waking.{wake_along}
 use Rattle.law_refusals.specs.Reasons.{HadNoSlot, WasRefused, HasReason, FoundBusy, Refusals}
 use Rattle.law_refusals.proofs.Busy.{did_busy, is_busy, not_refused}
-use Rattle.law_refusals.proofs.Frames.{StepRefuses, step_refusals}
-use Rattle.law_refusals.proofs.Jobs.{JobRefuses, Scene, is_full, still, job_refuses, idle_refuses}
+use Rattle.law_refusals.proofs.Frames.{StepRefuses, WasThere, step_refusals, still_placed}
+use Rattle.law_refusals.proofs.Jobs.{JobRefuses, Scene, is_full, job_refuses, idle_refuses}
 
 -- ### Steps
 
 turn_refusals : (R S : ℕ → ℕ → Type 0) (setting : Setting) (w : World) (c stamp : ℕ) (in_call : Bool) (reacted : Reaction)
-    → ((c seq : ℕ) → R c seq → S c seq) → Refusals R w
-    → Turned (Heard w (actor.Client c)) setting.servers setting.lines c (w.clients c) in_call reacted → Refusals S (reacts w c stamp reacted).world
-turn_refusals R S setting w c stamp in_call reacted more refusals turned = record {
+    → ((c seq : ℕ) → R c seq → S c seq) → Refusals R setting w
+    → Turned (Heard w (actor.Client c)) setting.servers setting.lines c (w.clients c) in_call reacted
+    → IsPrefix (chosen_log setting w) (chosen_log setting (reacts w c stamp reacted).world) → Refusals S setting (reacts w c stamp reacted).world
+turn_refusals R S setting w c stamp in_call reacted more refusals turned grows = record {
   letters = λ letter j seq h to says. elim (in-append letter _ w.sent h) [
     | inl new ↦ true_false (asks letter new) (ap is_ask says)
     | inr old ↦ more j seq (refusals.letters letter j seq old to says)
   ];
   finished = λ n j last runs is how. more j last.seq (refusals.finished n j last runs is how);
-  numbers = λ letter number n cell h says to. elim (in-append letter _ w.sent h) [
+  placed = λ letter number cell h says. elim (in-append letter _ w.sent h) [
     | inl new ↦ true_false (asks letter new) (ap is_ask says)
-    | inr old ↦ refusals.numbers letter number n cell old says to
+    | inr old ↦ still_placed setting w (reacts w c stamp reacted).world grows letter cell (refusals.placed letter number cell old says)
   ];
-  declined = λ letter number n cell op h says to is same. elim (in-append letter _ w.sent h) [
+  declined = λ letter number n cell op h says to runs both is same. elim (in-append letter _ w.sent h) [
     | inl new ↦ true_false (asks letter new) (ap is_ask says)
-    | inr old ↦ more op.client op.seq (refusals.declined letter number n cell op old says to is same)
+    | inr old ↦ more op.client op.seq (refusals.declined letter number n cell op old says to runs both is same)
   ];
 }
   where
@@ -103,9 +113,9 @@ glanced_not_full (body.PairFull number cell) e = absurd (let f : Paired ≡ Glan
 glanced_not_full _ e = refl
 
 module _ (R S : ℕ → ℕ → Type 0) (setting : Setting) (w : World) (firm : Firm setting w) (ready : Ready setting (chosen_state setting w) w)
-    (good : Good setting (chosen_state setting w) w) (more : (c seq : ℕ) → R c seq → S c seq) (refusals : Refusals R w) (n stamp : ℕ) where
-  abbrev scene : (T : ℕ → ℕ → Type 0) → ((c seq : ℕ) → R c seq → T c seq) → (w.servers n).life.running ≡ true → Scene R T
-  scene T implied runs = record {
+    (good : Good setting (chosen_state setting w) w) (more : (c seq : ℕ) → R c seq → S c seq) (refusals : Refusals R setting w) (n stamp : ℕ) where
+  abbrev scene : (w.servers n).life.running ≡ true → Scene R S
+  scene runs = record {
     setting = setting;
     state = chosen_state setting w;
     steady = chosen_steady setting w firm;
@@ -114,69 +124,109 @@ module _ (R S : ℕ → ℕ → Type 0) (setting : Setting) (w : World) (firm : 
     good = good;
     n = n;
     runs = runs;
-    more = implied;
+    more = more;
     refusals = refusals;
   }
 
-  -- letters that tell of no want of slots
-  module _ (acted : Acted) (who : Sender) (posts : List Post) (letters : acted.letters ≡ letters_of who 0 posts) where
-    post_in : (letter : Letter) → In letter (stamped stamp acted.letters) → In letter (stamped stamp (letters_of who 0 posts))
-    post_in letter h = subst (λ ls. In letter (stamped stamp ls)) letters h
+  -- a job that applies no entry
+  of_job : (log : Log) (done : Done) (queue : List Job) → (w.servers n).life.running ≡ true → log.applied ≡ (w.servers n).log.applied
+      → JobRefuses S setting w n done.own done.posts → StepRefuses S setting w n stamp (served_so setting w n log done queue)
+  of_job log done queue runs same job =
+      let who = sender (own_place setting w n) in
+      record {
+        finished = λ c last on is how. elim (job.finished c last is how) [
+          | inl was ↦ more c last.seq (refusals.finished n c last runs was how)
+          | inr now ↦ now
+        ];
+        pending = λ cell op on both is.
+            let was_both : in_both (server_state setting w n) cell ≡ true = sym (ap (λ applied. in_both (state_after setting.servers applied) cell) same) ∙ both in
+            elim (job.pending cell op is) [
+              | inl was ↦ inl (record { was = was; runs = runs; both = was_both })
+              | inr untold ↦ inr (untold was_both)
+            ];
+        letters = λ letter c seq h to says.
+            let s = said who stamp 0 done.posts letter h in
+            job.letters s.post c seq s.there (sym s.to ∙ to) (sym s.body ∙ says);
+        placed = λ letter number cell h says.
+            let s = said who stamp 0 done.posts letter h in
+            record {
+              front = (w.servers n).log.applied;
+              stands = firm.servers n;
+              long = sym (s.rev ∙ log_rev setting.servers (w.servers n).log.applied);
+              both = job.placed s.post number cell s.there (sym s.body ∙ says);
+            };
+        others = λ letter number p cell h says to.
+            let s = said who stamp 0 done.posts letter h in
+            job.others s.post number p cell s.there (sym s.body ∙ says) (sym s.to ∙ to);
+        declined = λ letter number p cell op h says to is numbered.
+            let s = said who stamp 0 done.posts letter h in
+            job.declined s.post number p cell op s.there (sym s.body ∙ says) (sym s.to ∙ to) is numbered;
+      }
 
-    of_job : (w.servers n).life.running ≡ true → JobRefuses S w n acted.server.own posts → StepRefuses S w n stamp acted
-    of_job runs job = record {
-      finished = λ c last on is how. elim (job.finished c last is how) [
-        | inl was ↦ more c last.seq (refusals.finished n c last runs was how)
-        | inr now ↦ now
-      ];
-      pending = job.pending;
-      next = job.next;
-      letters = λ letter c seq h to says.
-          let s = said who stamp 0 posts letter (post_in letter h) in
-          job.letters s.post c seq s.there (sym s.to ∙ to) (sym s.body ∙ says);
-      numbers = λ letter number p cell h says to.
-          let s = said who stamp 0 posts letter (post_in letter h) in
-          job.numbers s.post number p cell s.there (sym s.body ∙ says) (sym s.to ∙ to);
-      declined = λ letter number p cell op h says to is same.
-          let s = said who stamp 0 posts letter (post_in letter h) in
-          job.declined s.post number p cell op s.there (sym s.body ∙ says) (sym s.to ∙ to) is same;
+  -- letters that tell of no want of slots
+  module _ (acted : Acted) (who : Sender) (posts : List Post) (letters : acted.letters ≡ letters_of who 0 posts)
+      (unsaid : (post : Post) → In post posts → is_full post.body ≡ false) where
+    no_full : (letter : Letter) → In letter (stamped stamp acted.letters) → is_full letter.body ≡ false
+    no_full letter h =
+        let s = said who stamp 0 posts letter (subst (λ ls. In letter (stamped stamp ls)) letters h) in ap is_full s.body ∙ unsaid s.post s.there
+
+    of_quiet : ((c : ℕ) (last : Finished) → acted.server.life.running ≡ true → at nat_cmp acted.server.own.pairs.finished c ≡ Some last
+        → last.ending ≡ ending.Full → S c last.seq)
+        → ((cell : Cell) (op : Pending) → acted.server.life.running ≡ true → in_both (state_in setting.servers acted.server.log) cell ≡ true
+        → at cell_cmp acted.server.own.pairs.pending cell ≡ Some op → WasThere setting w n cell op)
+        → StepRefuses S setting w n stamp acted
+    of_quiet finished pending = record {
+      finished = finished;
+      pending = λ cell op on both is. inl (pending cell op on both is);
+      letters = λ letter c seq h to says. true_false (ap is_full says) (no_full letter h);
+      placed = λ letter number cell h says. true_false (ap is_full says) (no_full letter h);
+      others = λ letter number p cell h says to. true_false (ap is_full says) (no_full letter h);
+      declined = λ letter number p cell op h says to is same. true_false (ap is_full says) (no_full letter h);
     }
 
-    module _ (unsaid : (post : Post) → In post posts → is_full post.body ≡ false) where
-      no_full : (letter : Letter) → In letter (stamped stamp acted.letters) → is_full letter.body ≡ false
-      no_full letter h = let s = said who stamp 0 posts letter (post_in letter h) in ap is_full s.body ∙ unsaid s.post s.there
+    -- the server does not run: what it remembered is lost
+    of_end : acted.server.life.running ≡ false → StepRefuses S setting w n stamp acted
+    of_end stopped = of_quiet (λ c last on is how. true_false on stopped) (λ cell op on both is. true_false on stopped)
 
-      -- the server stops: what it remembered is lost
-      of_end : acted.server.life.running ≡ false → (T : ℕ → ℕ → Type 0) (said_so : List Post) → JobRefuses T w n acted.server.own said_so
-          → StepRefuses S w n stamp acted
-      of_end stopped T said_so job = record {
-        finished = λ c last on is how. true_false on stopped;
-        pending = job.pending;
-        next = job.next;
-        letters = λ letter c seq h to says. true_false (ap is_full says) (no_full letter h);
-        numbers = λ letter number p cell h says to. true_false (ap is_full says) (no_full letter h);
-        declined = λ letter number p cell op h says to is same. true_false (ap is_full says) (no_full letter h);
-      }
+    -- the server has nothing in memory
+    of_wake : acted.server.own.pairs ≡ no_pairs → StepRefuses S setting w n stamp acted
+    of_wake none = of_quiet
+        (λ c last on is how. none_some (ap (λ (p : Pairs). at nat_cmp p.finished c) none ∙ at-empty nat_cmp c) is)
+        (λ cell op on both is. none_some (ap (λ (p : Pairs). at cell_cmp p.pending cell) none ∙ at-empty cell_cmp cell) is)
 
-      of_still : acted.server ≡ w.servers n → StepRefuses S w n stamp acted
-      of_still same = record {
-        finished = λ c last on is how. more c last.seq (refusals.finished n c last (sym (ap (λ (x : Server). x.life.running) same) ∙ on)
-            (ap (λ (x : Server). at nat_cmp x.own.pairs.finished c) (sym same) ∙ is) how);
-        pending = λ cell op is. inl (was_same (owns_of w n) cell op (ap (λ (x : Server). at cell_cmp x.own.pairs.pending cell) (sym same) ∙ is));
-        next = let e : acted.server.own.pairs.next ≡ (owns_of w n).pairs.next = ap (λ (x : Server). x.own.pairs.next) same in omega arith;
-        letters = λ letter c seq h to says. true_false (ap is_full says) (no_full letter h);
-        numbers = λ letter number p cell h says to. true_false (ap is_full says) (no_full letter h);
-        declined = λ letter number p cell op h says to is same. true_false (ap is_full says) (no_full letter h);
-      }
+    of_still : acted.server ≡ w.servers n → StepRefuses S setting w n stamp acted
+    of_still same = of_quiet
+        (λ c last on is how. more c last.seq (refusals.finished n c last (sym (ap (λ (x : Server). x.life.running) same) ∙ on)
+        (ap (λ (x : Server). at nat_cmp x.own.pairs.finished c) (sym same) ∙ is) how))
+        (λ cell op on both is. record {
+          was = was_same (owns_of w n) cell op (ap (λ (x : Server). at cell_cmp x.own.pairs.pending cell) (sym same) ∙ is);
+          runs = sym (ap (λ (x : Server). x.life.running) same) ∙ on;
+          both = sym (ap (λ (x : Server). in_both (state_in setting.servers x.log) cell) same) ∙ both;
+        })
 
-  -- of a job whose letters are not sent nothing has to be told
-  abbrev Any : ℕ → ℕ → Type 0
-  Any c seq = Unit {0}
-
-  -- what an applied entry leaves
-  entry_refuses : (state : State) (entry : Command) → JobRefuses S w n (crossed state entry (owns_of w n)) []
+  -- what an applied entry leaves: an operation on a cell in Both was on a cell in Both
+  of_entry : (log : Log) (entry : Command) (queue : List Job) → (w.servers n).life.running ≡ true → log.applied ≡ (w.servers n).log.applied ++ entry ∷ []
+      → IsPrefix log.applied (chosen_log setting w)
+      → StepRefuses S setting w n stamp (served_so setting w n log (silent (crossed (server_state setting w n) entry (owns_of w n))) queue)
   unfolding In
-  entry_refuses state entry = still S w n [] (crossed state entry (owns_of w n)) refl refl refl (λ post i. absurd i)
+  of_entry log entry queue runs plus front =
+      of_quiet (served_so setting w n log (silent (crossed (server_state setting w n) entry (owns_of w n))) queue) (sender (own_place setting w n)) [] refl
+      (λ post i. absurd i)
+      (λ c last on is how. more c last.seq (refusals.finished n c last runs is how))
+      (λ cell op on both is.
+      let row = led_row (server_state setting w n) (own_steady setting w firm n) n cell ((ready.rests.pending n).staged cell op is).lead in
+      record {
+        was = was_same (owns_of w n) cell op is;
+        runs = runs;
+        both = was_both setting.servers (w.servers n).log.applied log.applied (front_plain setting.servers _ _ firm.plain front)
+            (record { later = entry ∷ []; is = plus }) cell row.0 row.1 both;
+      })
+
+  abbrev downs : List Post
+  downs = down_posts n (w.servers n).life.inc (servers_of (server_state setting w n))
+
+  downs_not_full : (post : Post) → In post downs → is_full post.body ≡ false
+  downs_not_full post h = all_down n (w.servers n).life.inc _ post h
 
   module _ (what : Step) (now : (c seq : ℕ) → HadNoSlot setting w (actor.Server n) what c seq → S c seq) where
     now_work : what ≡ Work work_end.Done → (c seq : ℕ) → HadNoSlot setting w (actor.Server n) (Work work_end.Done) c seq → S c seq
@@ -184,51 +234,38 @@ module _ (R S : ℕ → ℕ → Type 0) (setting : Setting) (w : World) (firm : 
 
     goes_refuse : (log : Log) (done : Done) (queue : List Job) → (w.servers n).life.running ≡ true → Worked setting w n log done
         → (what ≡ Work work_end.Done) ⊎ IsIdle (own_place setting w n) (owns_of w n) done
-        → StepRefuses S w n stamp (served_so setting w n log done queue)
-    goes_refuse _ _ queue runs (By_job log done same did) (inl works) =
-        of_job (served_so setting w n log done queue) (sender (own_place setting w n)) done.posts refl runs
-        (job_refuses R S (scene S more runs) (now_work works) done did)
-    goes_refuse _ _ queue runs (By_job log done same did) (inr idle) =
-        of_job (served_so setting w n log done queue) (sender (own_place setting w n)) done.posts refl runs (idle_refuses S setting w n done idle)
-    goes_refuse _ _ queue runs (By_entry log entry plus front) works =
-        of_job (served_so setting w n log (silent (crossed (server_state setting w n) entry (owns_of w n))) queue) (sender (own_place setting w n)) [] refl runs
-        (entry_refuses (server_state setting w n) entry)
+        → StepRefuses S setting w n stamp (served_so setting w n log done queue)
+    goes_refuse _ _ queue runs (By_job log done same did seat) (inl works) =
+        of_job log done queue runs same (job_refuses R S (scene runs) (now_work works) done did seat)
+    goes_refuse _ _ queue runs (By_job log done same did seat) (inr idle) = of_job log done queue runs same (idle_refuses S setting w n done idle)
+    goes_refuse _ _ queue runs (By_entry log entry plus front) works = of_entry log entry queue runs plus front
 
-    abbrev downs : List Post
-    downs = down_posts n (w.servers n).life.inc (servers_of (server_state setting w n))
-
-    downs_not_full : (post : Post) → In post downs → is_full post.body ≡ false
-    downs_not_full post h = all_down n (w.servers n).life.inc _ post h
-
-    ends_refuse : (log : Log) (done : Done) → (w.servers n).life.running ≡ true → Worked setting w n log done
-        → StepRefuses S w n stamp (stopped_so setting w n log done)
-    ends_refuse _ _ runs (By_job log done same did) =
-        of_end (stopped_so setting w n log done) (without_rev (own_place setting w n)) downs refl downs_not_full refl Any done.posts
-        (job_refuses R Any (scene Any (λ c seq r. tt) runs) (λ c seq h. tt) done did)
-    ends_refuse _ _ runs (By_entry log entry plus front) =
-        of_end (stopped_so setting w n log (silent (crossed (server_state setting w n) entry (owns_of w n)))) (without_rev (own_place setting w n)) downs refl
-        downs_not_full refl S [] (entry_refuses (server_state setting w n) entry)
-
-    serves_refuse : (acted : Acted) → Serving setting w n what acted → StepRefuses S w n stamp acted
+    serves_refuse : (acted : Acted) → Serving setting w n what acted → StepRefuses S setting w n stamp acted
+    unfolding In
     serves_refuse _ (Serves_on log done queue runs worked queued works) = goes_refuse log done queue runs worked works
-    serves_refuse _ (Stops_so log done runs worked) = ends_refuse log done runs worked
+    serves_refuse _ (Stops_so log done runs worked) =
+        of_end (stopped_so setting w n log done) (without_rev (own_place setting w n)) downs refl downs_not_full refl
     serves_refuse _ (Stays who posts from shown) =
         of_still (shown_so w n who posts) who posts refl (λ post i. glanced_not_full post.body (shown post i)) refl
+    serves_refuse _ (Wakes booted asleep) = of_wake (wakes (own_place setting w n) (awake (raised (w.servers n)))) _ downs refl downs_not_full refl
+    serves_refuse _ (Fails booted asleep) =
+        of_end (stays (raised (w.servers n))) (sender (own_place setting w n)) [] refl (λ post i. absurd i) asleep
 
 module _ (setting : Setting) where
   step_kept : (R S : ℕ → ℕ → Type 0) (w : World) → Firm setting w → Ready setting (chosen_state setting w) w → Good setting (chosen_state setting w) w
       → (who : Actor) (what : Step) (stamp : ℕ) → MayActor who what setting w → Firm setting (step who what setting w stamp).world
+      → IsPrefix (chosen_log setting w) (chosen_log setting (step who what setting w stamp).world)
       → ((c seq : ℕ) → R c seq → S c seq) → ((c seq : ℕ) → HadNoSlot setting w who what c seq → S c seq)
-      → Refusals R w → Refusals S (step who what setting w stamp).world
+      → Refusals R setting w → Refusals S setting (step who what setting w stamp).world
   unfolding step
-  step_kept R S w firm ready good (actor.Server n) what stamp may later more now refusals =
-      step_refusals R S w more refusals n stamp what _
+  step_kept R S w firm ready good (actor.Server n) what stamp may later grows more now refusals =
+      step_refusals R S setting w more refusals n stamp what _
       (serves_refuse R S setting w firm ready good more refusals n stamp what now _
-      (server_serves setting w ready.rests n (own_steady setting w firm n) stamp what may.1 later))
-  step_kept R S w firm ready good (actor.Client c) what stamp may later more now refusals =
+      (server_serves setting w ready.rests n (own_steady setting w firm n) stamp what may.1 later)) grows
+  step_kept R S w firm ready good (actor.Client c) what stamp may later grows more now refusals =
       turn_refusals R S setting w c stamp (is_call what)
       (client_step what (client_state setting w c) c (w.clients c) (next_line setting.lines c (w.clients c))) more refusals
-      (client_turns setting w c what may.1).turned
+      (client_turns setting w c what may.1).turned grows
 
   -- ### Histories
 
@@ -255,12 +292,12 @@ module _ (setting : Setting) where
   pub record Kept (done : List Record) : Type 0 where
     pub rests : Rests setting (W done)
     pub good : Above (Good setting) (W done)
-    pub refusals : Refusals (WasRefused setting done) (W done)
+    pub refusals : Refusals (WasRefused setting done) setting (W done)
 
-  kept_more : (done : List Record) (own : Record) → Kept done → Firm setting (W done) → Firm setting (stepped setting (W done) own).world
+  kept_more : (done : List Record) (own : Record) → AllMayWake setting (W done) → Kept done → Firm setting (W done) → Firm setting (stepped setting (W done) own).world
       → IsPrefix (chosen_log setting (W done)) (chosen_log setting (stepped setting (W done) own).world) → Follows setting (W done) own
       → Kept (done ++ own ∷ [])
-  kept_more done own kept firm later grows follows =
+  kept_more done own wake kept firm later grows follows =
       let w = W done in
       let v = (stepped setting w own).world in
       let up = λ (state : State) (below : IsBelow (chosen_state setting v) state). below_on _ _ _ (chosen_below setting w v later grows) below in
@@ -271,25 +308,27 @@ module _ (setting : Setting) where
       record {
         rests = subst (Rests setting) e (rests_next setting w own kept.rests firm follows later);
         good = subst (Above (Good setting)) e (λ state steady below.
-            happens_good setting state steady w v (ready state (up state below)) (kept.good state steady (up state below))
+            happens_good setting state steady w v wake (ready state (up state below)) (kept.good state steady (up state below))
             (happens setting w own kept.rests firm follows later state below));
-        refusals = subst (Refusals (WasRefused setting (done ++ own ∷ []))) e
+        refusals = subst (Refusals (WasRefused setting (done ++ own ∷ [])) setting) e
             (step_kept (WasRefused setting done) (WasRefused setting (done ++ own ∷ [])) w firm (ready (chosen_state setting w) now)
-            (kept.good (chosen_state setting w) (chosen_steady setting w firm) now) own.actor own.step own.stamp follows.may.may later (refused_more done own)
+            (kept.good (chosen_state setting w) (chosen_steady setting w firm) now) own.actor own.step own.stamp follows.may.may later
+            grows (refused_more done own)
             (refused_now done own) kept.refusals);
       }
 
-  kept_all : (done later : List Record) → Kept done → AreFirm setting (W done) later → IsLegalFrom setting (W done) later → Kept (done ++ later)
-  kept_all done [] kept firm legal = subst Kept (sym (append-nil done)) kept
-  kept_all done (own ∷ later) kept firm legal =
+  kept_all : (done later : List Record) → WakeAlong setting (W done) later → Kept done → AreFirm setting (W done) later → IsLegalFrom setting (W done) later
+      → Kept (done ++ later)
+  kept_all done [] wake kept firm legal = subst Kept (sym (append-nil done)) kept
+  kept_all done (own ∷ later) wake kept firm legal =
       let e = sym (world_more setting (start setting) done own) in
       subst Kept (append_assoc done (own ∷ []) later)
-      (kept_all (done ++ own ∷ []) later
-      (kept_more done own kept firm.0 (firm_now setting _ later firm.2) firm.1 legal.0)
+      (kept_all (done ++ own ∷ []) later (subst (λ w. WakeAlong setting w later) e wake.1)
+      (kept_more done own wake.0 kept firm.0 (firm_now setting _ later firm.2) firm.1 legal.0)
       (subst (λ w. AreFirm setting w later) e firm.2) (subst (λ w. IsLegalFrom setting w later) e legal.1))
 
-  pub kept_from : Kept [] → (records : List Record) → AreFirm setting (start setting) records → IsLegalFrom setting (start setting) records → Kept records
-  kept_from kept records firm legal = kept_all [] records kept firm legal
+  pub kept_from : Kept [] → (records : List Record) → WakeAlong setting (start setting) records → AreFirm setting (start setting) records → IsLegalFrom setting (start setting) records → Kept records
+  kept_from kept records wake firm legal = kept_all [] records wake kept firm legal
 
   -- ### A refused write
 
@@ -352,6 +391,13 @@ module _ (setting : Setting) where
   reason_spaced c asked state entry (By_verdict command own so) = verdict_spaced (latest state c) asked.seq so
   reason_spaced c asked state entry (By_witness none is so) = refusal_spaced state asked.request so
 
+  -- a glance tells of no want of slots
+  glance_spaced : (asked : Request) (running : Bool) → seen_answer asked running ≡ Some answer.NoSpace → ⊥
+  glance_spaced (request.Stop server) running e = let g : answer.Ok ≡ answer.NoSpace = same_some e in cc
+  glance_spaced (request.Start server) true e = let g : answer.Ok ≡ answer.NoSpace = same_some e in cc
+  glance_spaced (request.Start server) false e = let g : answer.Failed ≡ answer.NoSpace = same_some e in cc
+  glance_spaced _ running e = none_some refl e
+
   heard_full : (w : World) (c : ℕ) (in_call : Bool) (reacted : Reaction)
       → Turned (Heard w (actor.Client c)) setting.servers setting.lines c (w.clients c) in_call reacted → (number : ℕ)
       → reacted.answer ≡ Some (number, answer.NoSpace) → HeardFull w c number
@@ -360,7 +406,8 @@ module _ (setting : Setting) where
   heard_full w c _ _ (Reads asked bytes h is reads) number e = absurd (let g : answer.Data bytes ≡ answer.NoSpace = (answer_is e).1 in cc)
   heard_full w c _ _ (Ends asked ending.Written h is writes) number e = absurd (let g : answer.Ok ≡ answer.NoSpace = (answer_is e).1 in cc)
   heard_full w c _ _ (Ends asked ending.Full h is writes) number e = record { asked = asked; is = is; line = (answer_is e).0; heard = h }
-  heard_full w c _ _ (Shown asked rev round inc running full h is stops) number e = absurd (let g : answer.Ok ≡ answer.NoSpace = (answer_is e).1 in cc)
+  heard_full w c _ _ (Shown asked rev round inc running full h is given seen) number e =
+      absurd (glance_spaced asked.request running (seen ∙ ap Some (answer_is e).1))
   heard_full w c _ _ (Judges after asked given is gone seq judged) number e =
       let at = state_after setting.servers (judged.front ++ judged.entry ∷ []) in
       absurd (reason_spaced c asked at judged.entry (subst (λ (x : Answer). IsReason c asked x at judged.entry) (answer_is e).1 judged.reason))
@@ -377,13 +424,13 @@ module _ (setting : Setting) where
       one_client : {i j : ℕ} → actor.Client i ≡ actor.Client j → i ≡ j
       one_client e = cc
 
-  pub no_space : Kept [] → (front : List Record) (own : Record) → AreFirm setting (start setting) (front ++ own ∷ [])
+  pub no_space : Kept [] → (front : List Record) (own : Record) → WakeAlong setting (start setting) front → AreFirm setting (start setting) (front ++ own ∷ [])
       → IsLegalFrom setting (start setting) (front ++ own ∷ []) → (c number : ℕ)
       → own.actor ≡ actor.Client c → own.answer ≡ Some (number, answer.NoSpace) → HasReason setting front c number
-  no_space begun front own firm legal c number who given =
+  no_space begun front own wake firm legal c number who given =
       let parts = front_legal setting (start setting) front (own ∷ []) legal in
       let firms = front_firm setting (start setting) front (own ∷ []) firm in
-      let kept = kept_from begun front firms.0 parts.0 in
+      let kept = kept_from begun front wake firms.0 parts.0 in
       let follows = parts.1.0 in
       let h = answer_heard (W front) own.actor own.step own.stamp c number who follows.may.may (sym follows.answer ∙ given) in
       record {
@@ -404,9 +451,18 @@ module _ (setting : Setting) where
   all_logged me inc (k ∷ others) post (inl e) = ap (λ (p : Post). subject_of p.body) e
   all_logged me inc (k ∷ others) post (inr i) = all_logged me inc others post i
 
+  -- who stops, or boots, says nothing of a busy block
+  downs_quiet : {B : Type 0} (w : World) (n : ℕ) (who : Sender) (stamp servers : ℕ) (letter : Letter) (seq : ℕ)
+      → In letter (stamped stamp (letters_of who 0 (down_posts n (w.servers n).life.inc servers))) → letter.body ≡ body.BlockBusy seq → B
+  downs_quiet w n who stamp servers letter seq h says =
+      let sent = said who stamp 0 (down_posts n (w.servers n).life.inc servers) letter h in
+      true_false (ap is_busy (sym sent.body ∙ says)) (not_refused sent.post.body
+      (ap is_refused (all_logged n (w.servers n).life.inc _ sent.post sent.there)))
+
   serves_busy : (w : World) (n stamp : ℕ) (what : Step) (acted : Acted) → Serving setting w n what acted → (letter : Letter) (seq : ℕ)
       → In letter (stamped stamp acted.letters) → letter.body ≡ body.BlockBusy seq → FoundBusy setting w (actor.Server n) seq
-  serves_busy w n stamp what _ (Serves_on _ _ queue runs (By_job log done same did) queued works) letter seq h says =
+  unfolding In
+  serves_busy w n stamp what _ (Serves_on _ _ queue runs (By_job log done same did seat) queued works) letter seq h says =
       let sent = said (sender (own_place setting w n)) stamp 0 done.posts letter h in
       record {
         server = n;
@@ -416,10 +472,10 @@ module _ (setting : Setting) where
   serves_busy w n stamp what _ (Serves_on _ _ queue runs (By_entry log entry plus front) queued works) letter seq h says =
       let sent = said (sender (own_place setting w n)) stamp 0 [] letter h in absurd (no_posts sent.post sent.there)
   serves_busy w n stamp what _ (Stops_so log done runs worked) letter seq h says =
-      let sent = said (without_rev (own_place setting w n)) stamp 0
-      (down_posts n (w.servers n).life.inc (servers_of (server_state setting w n))) letter h in
-      true_false (ap is_busy (sym sent.body ∙ says)) (not_refused sent.post.body
-      (ap is_refused (all_logged n (w.servers n).life.inc _ sent.post sent.there)))
+      downs_quiet w n (without_rev (own_place setting w n)) stamp (servers_of (server_state setting w n)) letter seq h says
+  serves_busy w n stamp what _ (Wakes booted asleep) letter seq h says =
+      downs_quiet w n _ stamp (servers_of (server_state setting w n)) letter seq h says
+  serves_busy w n stamp what _ (Fails booted asleep) letter seq h says = absurd h
   serves_busy w n stamp what _ (Stays who posts from shown) letter seq h says =
       let sent = said who stamp 0 posts letter h in
       true_false (ap is_busy (sym sent.body ∙ says)) (not_refused sent.post.body (ap is_refused (shown sent.post sent.there)))
@@ -436,26 +492,26 @@ module _ (setting : Setting) where
       true_false (ap is_ask s.body ∙ turned_asks _ setting.servers setting.lines c (w.clients c) (is_call what) reacted
       (client_turns setting w c what may.1).turned s.post s.there) (ap is_ask says)
 
-  pub found_busy : Kept [] → (front : List Record) (own : Record) → AreFirm setting (start setting) (front ++ own ∷ [])
+  pub found_busy : Kept [] → (front : List Record) (own : Record) → WakeAlong setting (start setting) front → AreFirm setting (start setting) (front ++ own ∷ [])
       → IsLegalFrom setting (start setting) (front ++ own ∷ [])
       → (letter : Letter) (seq : ℕ) → In letter own.sent → letter.body ≡ body.BlockBusy seq → FoundBusy setting (W front) own.actor seq
-  found_busy begun front own firm legal letter seq h says =
+  found_busy begun front own wake firm legal letter seq h says =
       let parts = front_legal setting (start setting) front (own ∷ []) legal in
       let firms = front_firm setting (start setting) front (own ∷ []) firm in
-      let kept = kept_from begun front firms.0 parts.0 in
+      let kept = kept_from begun front wake firms.0 parts.0 in
       let follows = parts.1.0 in
       busy_step (W front) (firm_now setting (W front) (own ∷ []) firms.1) kept.rests own.actor own.step own.stamp follows.may.may firms.1.2 letter seq
       (subst (In letter) follows.sent h) says
 
 -- ### From the start
 
-start_refusals : (R : ℕ → ℕ → Type 0) (script : Script) → Refusals R (start (setting_of script))
+start_refusals : (R : ℕ → ℕ → Type 0) (script : Script) → Refusals R (setting_of script) (start (setting_of script))
 unfolding In
 start_refusals R script = record {
   letters = λ letter c seq h to says. absurd h;
   finished = λ n c last runs is how. none_some (at-empty nat_cmp c) is;
-  numbers = λ letter number n cell h says to. absurd h;
-  declined = λ letter number n cell op h says to is same. absurd h;
+  placed = λ letter number cell h says. absurd h;
+  declined = λ letter number n cell op h says to runs both is same. absurd h;
 }
 
 start_kept : (script : Script) → Kept (setting_of script) []
@@ -465,13 +521,20 @@ start_kept script = record {
   refusals = start_refusals (WasRefused (setting_of script) []) script;
 }
 
+wake_front : (script : Script) (front : List Record) (own : Record) → IsSound script → IsLegal script (front ++ own ∷ [])
+    → WakeAlong (setting_of script) (start (setting_of script)) front
+wake_front script front own sound legal =
+    wake_along script front sound (front_legal (setting_of script) (start (setting_of script)) front (own ∷ []) legal).0
+
 pub no_space_reason : (script : Script) (front : List Record) (own : Record) → IsSound script
     → AreFirm (setting_of script) (start (setting_of script)) (front ++ own ∷ []) → IsLegal script (front ++ own ∷ []) → (client line : ℕ)
     → own.actor ≡ actor.Client client → own.answer ≡ Some (line, answer.NoSpace) → HasReason (setting_of script) front client line
-no_space_reason script front own sound firm legal = no_space (setting_of script) (start_kept script) front own firm legal
+no_space_reason script front own sound firm legal =
+    no_space (setting_of script) (start_kept script) front own (wake_front script front own sound legal) firm legal
 
 pub busy_reason : (script : Script) (front : List Record) (own : Record) → IsSound script
     → AreFirm (setting_of script) (start (setting_of script)) (front ++ own ∷ []) → IsLegal script (front ++ own ∷ [])
     → (letter : Letter) (seq : ℕ) → In letter own.sent → letter.body ≡ body.BlockBusy seq
     → FoundBusy (setting_of script) (world_after (setting_of script) (start (setting_of script)) front) own.actor seq
-busy_reason script front own sound firm legal = found_busy (setting_of script) (start_kept script) front own firm legal
+busy_reason script front own sound firm legal =
+    found_busy (setting_of script) (start_kept script) front own (wake_front script front own sound legal) firm legal

@@ -1,7 +1,8 @@
 -- Why a request was refused.
-use Rattle.std.specs.Prelude.{◌≡◌, ◌≤◌, ◌<◌, ◌++◌, ℕ, true, List, ◌∷◌, Some, None}
+use Rattle.std.specs.Prelude.{◌≡◌, ◌≤◌, ◌++◌, ℕ, true, List, ◌∷◌, length, Some, None}
 use Rattle.std.specs.Ordering.{nat_cmp}
 use Rattle.petal_base.specs.declared.cell.Cell.{Cell}
+use Rattle.petal_command.specs.declared.command.Command.{Command}
 use Rattle.petal_table.specs.Table.{at}
 use Rattle.petal_msg.specs.declared.body.Body.TheVariants as body
 use Rattle.petal_msg.specs.declared.letter.Actor.{Actor}
@@ -11,14 +12,16 @@ use Rattle.petal_msg.specs.declared.operation.Ending.TheVariants as ending
 use Rattle.petal_msg.specs.declared.operation.Finished.{Finished}
 use Rattle.petal_msg.specs.declared.operation.Pending.{Pending}
 use Rattle.petal_rules.specs.Lists.{In}
-use Rattle.petal_rules.specs.State.{first, second, is_lead}
+use Rattle.petal_state.specs.Command.{state_after}
+use Rattle.petal_rules.specs.State.{first, second, in_both, is_lead}
 use Rattle.petal_rules.specs.Store.{cell_cmp, free_of}
 use Rattle.petal_rules.specs.Writes.{pending_on}
 use Rattle.petal_rules.specs.Clients.{Asked}
-use Rattle.petal_rules.specs.World.{Setting, World, start, server_state}
+use Rattle.petal_rules.specs.World.{Setting, World, start, chosen_log, server_state}
 use Rattle.petal_rules.specs.declared.step.Step.{Step}
 use Rattle.petal_rules.specs.declared.step.Step.TheVariants.{Work}
 use Rattle.petal_rules.specs.declared.step.WorkEnd.TheVariants as work_end
+use Rattle.petal_history.specs.Claims.{IsPrefix}
 use Rattle.petal_history.specs.Legal.{world_after}
 use Rattle.petal_history.specs.declared.record.Record.{Record}
 use Rattle.law_steps.specs.Operations.{done_to}
@@ -71,13 +74,21 @@ pub record FoundBusy (setting : Setting) (w : World) (who : Actor) (seq : ℕ) :
 
 -- ### What is kept
 
+-- the letter was sent by a state by which its cell is in Both
+pub record IsPlaced (setting : Setting) (w : World) (letter : Letter) (cell : Cell) : Type 0 where
+  pub front : List Command
+  pub stands : IsPrefix front (chosen_log setting w)
+  pub long : length front ≡ letter.rev
+  pub both : in_both (state_after setting.servers front) cell ≡ true
+
 -- where R holds of each request that was refused so far: of each that a letter tells of, or a server that runs remembers, and of
--- the operation of which a second server told its lead that it has no slot
-pub record Refusals (R : ℕ → ℕ → Type 0) (w : World) : Type 0 where
+-- the operation of which a second server told its lead that it has no slot, while the lead runs and its cell is in Both. Numbers
+-- count from 1 in each life, so that such a letter says nothing of the operations of a later one
+pub record Refusals (R : ℕ → ℕ → Type 0) (setting : Setting) (w : World) : Type 0 where
   pub letters : (letter : Letter) (c seq : ℕ) → In letter w.sent → letter.to ≡ actor.Client c → letter.body ≡ body.Full seq → R c seq
   pub finished : (n c : ℕ) (last : Finished) → (w.servers n).life.running ≡ true → at nat_cmp (w.servers n).own.pairs.finished c ≡ Some last
       → last.ending ≡ ending.Full → R c last.seq
-  pub numbers : (letter : Letter) (number n : ℕ) (cell : Cell) → In letter w.sent → letter.body ≡ body.PairFull number cell
-      → letter.to ≡ actor.Server n → number < (w.servers n).own.pairs.next
+  pub placed : (letter : Letter) (number : ℕ) (cell : Cell) → In letter w.sent → letter.body ≡ body.PairFull number cell → IsPlaced setting w letter cell
   pub declined : (letter : Letter) (number n : ℕ) (cell : Cell) (op : Pending) → In letter w.sent → letter.body ≡ body.PairFull number cell
-      → letter.to ≡ actor.Server n → at cell_cmp (w.servers n).own.pairs.pending cell ≡ Some op → op.op ≡ number → R op.client op.seq
+      → letter.to ≡ actor.Server n → (w.servers n).life.running ≡ true → in_both (server_state setting w n) cell ≡ true
+      → at cell_cmp (w.servers n).own.pairs.pending cell ≡ Some op → op.op ≡ number → R op.client op.seq

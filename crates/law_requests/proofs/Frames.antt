@@ -1,5 +1,5 @@
 -- A step of a server keeps what is known of requests.
-use Rattle.std.proofs.Common.{◌≡◌, ◌≤◌, ◌<◌, ◌+◌, ℕ, List, true, Some, None, length, ap, sym, ◌∙◌, subst, ◌⊎◌, inl, inr, arith}
+use Rattle.std.proofs.Common.{◌≡◌, ◌≢◌, ◌≤◌, ◌<◌, ◌+◌, ℕ, List, true, Some, None, length, ap, sym, ◌∙◌, subst, ◌⊎◌, inl, inr, arith}
 use Rattle.petal_base.specs.declared.cell.Cell.{Cell}
 use Rattle.petal_table.specs.Table.{at}
 use Rattle.petal_msg.specs.declared.body.Body.{Body}
@@ -11,24 +11,24 @@ use Rattle.petal_msg.specs.declared.operation.Pending.{Pending}
 use Rattle.petal_history.specs.Claims.{IsPrefix}
 use Rattle.script_lines.specs.declared.request.Line.{Line}
 use Rattle.petal_rules.specs.Lists.{In}
-use Rattle.petal_rules.specs.State.{State, is_lead}
+use Rattle.petal_rules.specs.Log.{state_in}
+use Rattle.petal_rules.specs.State.{State, is_in}
 use Rattle.petal_rules.specs.Store.{cell_cmp}
 use Rattle.petal_rules.specs.Server.{Own, Server}
-use Rattle.petal_rules.specs.Writes.{Wanted}
 use Rattle.petal_rules.specs.Jobs.{Acted}
 use Rattle.petal_rules.specs.World.{Setting, World, acts, server_state, stamped}
 use Rattle.petal_rules.specs.declared.step.Step.{Step}
 use Rattle.petal_rules.proofs.ListLemmas.{put_same, put_apart, in-append}
-use Rattle.petal_rules.proofs.Tests.{same_or_apart, all_put, none_some}
+use Rattle.petal_rules.proofs.Tests.{same_or_apart, all_put, all_put_apart}
 use Rattle.law_state.specs.Firm.{Firm}
 use Rattle.law_state.specs.Plain.{IsPlainLog}
 use Rattle.law_steps.proofs.Fronts.{front_itself}
 use Rattle.law_steps.proofs.Histories.{own_plain}
 use Rattle.law_steps.proofs.Restages.{IsSame, Was}
 use Rattle.law_requests.specs.Asked.{IsWrite, IsOpen}
-use Rattle.law_requests.specs.Known.{seen, done_by, EndKnownAt, Known, KnownLetter, asked_for, PendingFor, Asking}
-use Rattle.law_requests.proofs.Later.{Later, known_later, pending_later, one_cell, one_open}
-use Rattle.law_requests.proofs.Running.{client_plain, open_running}
+use Rattle.law_requests.specs.Known.{Lives, LedBy, lives_after, seen, done_by, EndKnownAt, Known, KnownLetter, asked_for, PendingFor, IsUsed, Has_pending, AskingBy}
+use Rattle.law_requests.proofs.Later.{Later, known_later, pending_later}
+use Rattle.law_requests.proofs.Lives.{Lived, done_now, dones_rise, lived_on, lives_still, ran_same}
 
 -- ### What a job shows
 
@@ -52,7 +52,7 @@ pub record Tells (setting : Setting) (state : State) (w : World) (n : ℕ) (new 
   pub epoch : ℕ
   pub bytes : List ℕ
   pub write : IsWrite state setting.lines client seq cell epoch bytes
-  pub leads : is_lead (server_state setting w n) n cell ≡ true
+  pub led : LedBy (server_state setting w n) n (w.servers n).life.inc cell
   pub old : seq ≤ (w.clients client).seq
   pub past : seq < done_by new client
 
@@ -67,13 +67,13 @@ SaysOk setting state w n new to (body.Write client seq cell epoch bytes) = ⊥
 SaysOk setting state w n new to (body.Read client seq cell epoch) = ⊥
 SaysOk setting state w n new to _ = Unit {0}
 
-pub record JobTells (setting : Setting) (state : State) (w : World) (n : ℕ) (new : Own) : Type 0 where
+pub record JobTells (setting : Setting) (state : State) (w : World) (lives : Lives) (n : ℕ) (new : Own) : Type 0 where
   pub finished : (c : ℕ) → (done_by new c ≡ done_by (w.servers n).own c) ⊎ Ends state setting.lines w n new c
   pub pending : (cell : Cell) (op : Pending) → at cell_cmp new.pairs.pending cell ≡ Some op
-      → Was (w.servers n).own cell op ⊎ PendingFor setting state (seen w) n (asked_for cell op) op.rev
+      → Was (w.servers n).own cell op ⊎ PendingFor setting state (seen lives w) n (lives.ran n) (asked_for cell op) op.rev
 
 -- the operation was opened for the same
-same_want : (cell : Cell) (a b : Pending) → IsSame a b → asked_for cell a ≡ asked_for cell b
+pub same_want : (cell : Cell) (a b : Pending) → IsSame a b → asked_for cell a ≡ asked_for cell b
 same_want cell a b e = λ i. record { client = e.client i; seq = e.seq i; cell = cell; epoch = (e.key i).epoch; bytes = e.bytes i }
 
 -- a world in which requests are as they should be
@@ -81,12 +81,29 @@ pub record Scene : Type 0 where
   pub setting : Setting
   pub state : State
   pub w : World
+  pub lives : Lives
   pub firm : Firm setting w
-  pub asking : Asking setting state w
+  pub asking : AskingBy setting state w lives
 
-module _ (scene : Scene) (n stamp : ℕ) (what : Step) (acted : Acted)
-    (tells : JobTells scene.setting scene.state scene.w n acted.server.own)
-    (more : IsPrefix (scene.w.servers n).log.applied acted.server.log.applied) (plain : IsPlainLog scene.setting.servers acted.server.log.applied) where
+-- what is pending or was finished is that of the incarnation that ran last, which its own state has In
+pub record IsSettled (scene : Scene) (n : ℕ) (new : Server) : Type 0 where
+  pub same : new.life.running ≡ true → new.life.inc ≡ scene.lives.ran n
+  pub seated : is_in (state_in scene.setting.servers new.log) n (scene.lives.ran n) ≡ true
+
+-- what a server's step does to it: it goes on, or begins; its entries are more, and plain; and each operation is of a write that
+-- it is not past
+pub record IsStepped (scene : Scene) (n : ℕ) (new : Server) : Type 0 where
+  pub life : Lived scene.lives n (scene.w.servers n) new
+  pub more : IsPrefix (scene.w.servers n).log.applied new.log.applied
+  pub plain : IsPlainLog scene.setting.servers new.log.applied
+  pub bound : (c : ℕ) → done_by new.own c ≤ (scene.w.clients c).seq + 1
+  pub used : IsUsed new.own → IsSettled scene n new
+  pub pending : (cell : Cell) (op : Pending) → at cell_cmp new.own.pairs.pending cell ≡ Some op
+      → PendingFor scene.setting scene.state (seen scene.lives scene.w) n (scene.lives.ran n) (asked_for cell op) op.rev × (done_by new.own op.client ≤ op.seq)
+
+-- ### The world after a server's step
+
+module _ (scene : Scene) (n stamp : ℕ) (what : Step) (acted : Acted) (step : IsStepped scene n acted.server) where
   abbrev setting : Setting
   setting = scene.setting
 
@@ -96,118 +113,132 @@ module _ (scene : Scene) (n stamp : ℕ) (what : Step) (acted : Acted)
   abbrev w : World
   w = scene.w
 
-  abbrev asking : Asking setting state w
+  abbrev lives : Lives
+  lives = scene.lives
+
+  abbrev asking : AskingBy setting state w lives
   asking = scene.asking
 
   abbrev later : World
   later = (acts w n what stamp acted).world
 
-  abbrev old : Own
-  old = (w.servers n).own
-
-  abbrev new : Own
-  new = acted.server.own
-
-  abbrev P : World → ℕ → Cell → Pending → Type 0
-  P v m cell op = PendingFor setting state (seen v) m (asked_for cell op) op.rev
+  abbrev after : Lives
+  after = lives_after lives later
 
   server_now : later.servers n ≡ acted.server
   server_now = put_same w.servers n acted.server
 
-  -- numbers rise, and stay below the client's next
-  rises : (c : ℕ) → done_by old c ≤ done_by new c
-  rises c = elim (tells.finished c) [ inl e ↦ omega arith | inr ends ↦ let b = ends.before in let a = ends.after in omega arith ]
+  pub steps : (m : ℕ) → Lived lives m (w.servers m) (later.servers m)
+  steps = all_put w.servers n acted.server (λ m (x : Server). Lived lives m (w.servers m) x)
+      (lives_still lives w asking.lived) step.life
 
-  goes_on : Later setting state (seen w) (seen later)
+  pub goes_on : Later setting state (seen lives w) (seen after later)
   goes_on = record {
     seqs = λ c. omega arith;
     clients = λ c. front_itself (w.clients c).applied;
-    clients_plain = client_plain setting w scene.firm;
-    logs = all_put w.servers n acted.server (λ m (x : Server). IsPrefix (w.servers m).log.applied x.log.applied) (λ m. front_itself (w.servers m).log.applied) more;
-    logs_plain = all_put w.servers n acted.server (λ m (x : Server). IsPlainLog setting.servers x.log.applied) (own_plain setting w scene.firm) plain;
-    dones = all_put w.servers n acted.server (λ m (x : Server). (c : ℕ) → done_by (w.servers m).own c ≤ done_by x.own c) (λ m c. omega arith) rises;
+    logs = all_put w.servers n acted.server (λ m (x : Server). IsPrefix (w.servers m).log.applied x.log.applied)
+        (λ m. front_itself (w.servers m).log.applied) step.more;
+    logs_plain = all_put w.servers n acted.server (λ m (x : Server). IsPlainLog setting.servers x.log.applied) (own_plain setting w scene.firm) step.plain;
+    dones = dones_rise lives w later asking.lived steps;
     closes = λ want rev sent is. inl is;
   }
 
-  bound_now : (c : ℕ) → done_by new c ≤ (w.clients c).seq + 1
-  bound_now c = elim (tells.finished c) [
-    | inl same ↦ let b = asking.finished n c in omega arith
-    | inr ends ↦ let b = ends.old in let a = ends.after in omega arith
-  ]
+  ran_here : (acted.server.life.running ≡ true → acted.server.life.inc ≡ lives.ran n) → after.ran n ≡ lives.ran n
+  ran_here same = ran_same lives w later asking.lived steps n
+      (subst (λ (x : Server). x.life.running ≡ true → x.life.inc ≡ lives.ran n) (sym server_now) same)
 
-  -- the operation was pending, or is new
-  was_pending : (cell : Cell) (op : Pending) → Was old cell op ⊎ P w n cell op → P w n cell op
-  was_pending cell op (inr p) = p
-  was_pending cell op (inl s) =
-      subst (λ (k : ℕ). PendingFor setting state (seen w) n (asked_for cell op) k) s.same.rev
-      (subst (λ (want : Wanted). PendingFor setting state (seen w) n want s.was.rev) (same_want cell s.was op s.same) (asking.pending n cell s.was s.is))
+  ran_beside : (m : ℕ) → m ≢ n → after.ran m ≡ lives.ran m
+  ran_beside m ne = ran_same lives w later asking.lived steps m
+      (subst (λ (x : Server). x.life.running ≡ true → x.life.inc ≡ lives.ran m) (sym (put_apart w.servers n acted.server m ne))
+      (λ on. sym (asking.lived.ran m on)))
 
-  -- and no other that was just finished
-  not_past : (cell : Cell) (op : Pending) → at cell_cmp new.pairs.pending cell ≡ Some op → P w n cell op → done_by new op.client ≤ op.seq
-  not_past cell op is p = elim (tells.finished op.client) [
-    | inl same ↦ let u = p.unfinished in omega arith
-    | inr ends ↦
-        let still = open_running setting w scene.firm state n (asked_for cell op) op.rev p ends.runs in
-        let seq : op.seq ≡ ends.seq = one_open (w.clients op.client) op.seq ends.seq still ends.still in
-        let write : IsWrite state setting.lines op.client op.seq ends.cell ends.epoch ends.bytes =
-        subst (λ i. IsWrite state setting.lines op.client i ends.cell ends.epoch ends.bytes) (sym seq) ends.write in
-        let same : cell ≡ ends.cell =
-        one_cell state setting.lines op.client op.seq cell ends.cell op.key.epoch ends.epoch op.bytes ends.bytes p.known.sent.write write in
-        none_some ends.gone (subst (λ (q : Cell). at cell_cmp new.pairs.pending q ≡ Some op) same is)
-  ]
+  done_of : (m : ℕ) → after.ran m ≡ lives.ran m → (c : ℕ) → after.done m (lives.ran m) c ≡ done_by (later.servers m).own c
+  done_of m e c = ap (λ i. after.done m i c) (sym e) ∙ done_now lives w later asking.lived steps m c
 
-  pending_now : (m : ℕ) (cell : Cell) (op : Pending) → at cell_cmp (later.servers m).own.pairs.pending cell ≡ Some op → P later m cell op
+  -- an operation of the incarnation that ran last
+  goes_pending : (m : ℕ) → after.ran m ≡ lives.ran m → (cell : Cell) (op : Pending)
+      → PendingFor setting state (seen lives w) m (lives.ran m) (asked_for cell op) op.rev → done_by (later.servers m).own op.client ≤ op.seq
+      → PendingFor setting state (seen after later) m (after.ran m) (asked_for cell op) op.rev
+  goes_pending m e cell op p le =
+      let now = done_of m e op.client in
+      subst (λ i. PendingFor setting state (seen after later) m i (asked_for cell op) op.rev) (sym e)
+      (pending_later setting state (seen lives w) (seen after later) goes_on m (lives.ran m) (asked_for cell op) op.rev p (omega arith))
+
+  pending_now : (m : ℕ) (cell : Cell) (op : Pending) → at cell_cmp (later.servers m).own.pairs.pending cell ≡ Some op
+      → PendingFor setting state (seen after later) m (after.ran m) (asked_for cell op) op.rev
   pending_now m cell op is = elim (same_or_apart m n) [
     | inl e ↦
-        let server : later.servers m ≡ acted.server = ap (λ i. later.servers i) e ∙ server_now in
-        let there : at cell_cmp new.pairs.pending cell ≡ Some op = sym (ap (λ (x : Server). at cell_cmp x.own.pairs.pending cell) server) ∙ is in
-        let p : P w n cell op = was_pending cell op (tells.pending cell op there) in
-        let le : done_by (later.servers m).own op.client ≤ op.seq =
-        subst (λ (x : Server). done_by x.own op.client ≤ op.seq) (sym server) (not_past cell op there p) in
-        pending_later setting state (seen w) (seen later) goes_on m (asked_for cell op) op.rev (subst (λ i. P w i cell op) (sym e) p) le
+        let server : later.servers m ≡ acted.server = ap later.servers e ∙ server_now in
+        let there : at cell_cmp acted.server.own.pairs.pending cell ≡ Some op =
+        sym (ap (λ (x : Server). at cell_cmp x.own.pairs.pending cell) server) ∙ is in
+        let p = step.pending cell op there in
+        let ran : after.ran m ≡ lives.ran m =
+        subst (λ i. after.ran i ≡ lives.ran i) (sym e) (ran_here (step.used (Has_pending cell op there)).same) in
+        goes_pending m ran cell op (subst (λ i. PendingFor setting state (seen lives w) i (lives.ran i) (asked_for cell op) op.rev) (sym e) p.0)
+        (subst (λ (x : Server). done_by x.own op.client ≤ op.seq) (sym server) p.1)
     | inr ne ↦
         let server : later.servers m ≡ w.servers m = put_apart w.servers n acted.server m ne in
         let there : at cell_cmp (w.servers m).own.pairs.pending cell ≡ Some op =
         sym (ap (λ (x : Server). at cell_cmp x.own.pairs.pending cell) server) ∙ is in
         let p = asking.pending m cell op there in
-        let le : done_by (later.servers m).own op.client ≤ op.seq =
-        subst (λ (x : Server). done_by x.own op.client ≤ op.seq) (sym server) p.unfinished in
-        pending_later setting state (seen w) (seen later) goes_on m (asked_for cell op) op.rev p le
+        let tied = asking.lived.tied m op.client in
+        let un = p.unfinished in
+        goes_pending m (ran_beside m ne) cell op p
+        (subst (λ (x : Server). done_by x.own op.client ≤ op.seq) (sym server) (omega arith))
   ]
 
-  -- ### What it says
-
-  told : (seq rev : ℕ) (to : Actor) → length (w.servers n).log.applied ≡ rev → TellsAt setting state w n new seq to
-      → EndKnownAt setting state (seen later) seq rev (actor.Server n) to
-  told seq rev (actor.Server m) long t = t
-  told seq rev (actor.Client c) long t = record {
-    cell = t.cell;
-    epoch = t.epoch;
-    bytes = t.bytes;
-    write = t.write;
-    old = t.old;
-    at = record { front = (w.servers n).log.applied; lies = goes_on.logs n; long = long };
-    leads = t.leads;
-    past = subst (λ (x : Server). seq < done_by x.own c) (sym server_now) t.past;
-  }
-
-  pub says_known : (rev : ℕ) → length (w.servers n).log.applied ≡ rev → (to : Actor) (what : Body) → SaysOk setting state w n new to what
-      → Known setting state (seen later) (actor.Server n) to rev what
-  says_known rev long to (body.Written seq) h = told seq rev to long h
-  says_known rev long to (body.Full seq) h = told seq rev to long h
-  says_known rev long to (body.Write client seq cell epoch bytes) h = absurd h
-  says_known rev long to (body.Read client seq cell epoch) h = absurd h
-  says_known rev long to _ h = tt
+  used_now : (m : ℕ) → IsUsed (later.servers m).own → is_in (server_state setting later m) m (after.ran m) ≡ true
+  used_now = all_put_apart w.servers n acted.server (λ m (x : Server). IsUsed x.own → is_in (state_in setting.servers x.log) m (after.ran m) ≡ true)
+      (λ m ne u. subst (λ i. is_in (server_state setting w m) m i ≡ true) (sym (ran_beside m ne)) (asking.used m u))
+      (λ u.
+      let k = step.used u in
+      subst (λ i. is_in (state_in setting.servers acted.server.log) n i ≡ true) (sym (ran_here k.same)) k.seated)
 
   -- what a job shows keeps what is known of requests
-  pub job_asking : ((letter : Letter) → In letter (stamped stamp acted.letters) → KnownLetter setting state (seen later) letter)
-      → Asking setting state later
-  job_asking says = record {
+  pub step_asking : ((letter : Letter) → In letter (stamped stamp acted.letters) → KnownLetter setting state (seen after later) letter)
+      → AskingBy setting state later after
+  step_asking says = record {
+    lived = lived_on lives w later asking.lived steps;
     asked = asking.asked;
     letters = λ letter h. elim (in-append letter (stamped stamp acted.letters) w.sent h) [
       | inl new ↦ says letter new
-      | inr sent ↦ known_later setting state (seen w) (seen later) goes_on letter.from letter.to letter.rev letter.body (asking.letters letter sent)
+      | inr sent ↦ known_later setting state (seen lives w) (seen after later) goes_on letter.from letter.to letter.rev letter.body (asking.letters letter sent)
     ];
     pending = pending_now;
-    finished = all_put w.servers n acted.server (λ m (x : Server). (c : ℕ) → done_by x.own c ≤ (w.clients c).seq + 1) asking.finished bound_now;
+    finished = all_put w.servers n acted.server (λ m (x : Server). (c : ℕ) → done_by x.own c ≤ (w.clients c).seq + 1) asking.finished step.bound;
+    used = used_now;
   }
+
+  -- ### What it says
+
+  module _ (runs : (w.servers n).life.running ≡ true) (same : acted.server.life.inc ≡ (w.servers n).life.inc) where
+    past_now : (c : ℕ) → after.done n (w.servers n).life.inc c ≡ done_by acted.server.own c
+    past_now c =
+        let ran = asking.lived.ran n runs in
+        ap (λ i. after.done n i c) (sym ran) ∙ done_of n (ran_here (λ on. same ∙ sym ran)) c ∙ ap (λ (x : Server). done_by x.own c) server_now
+
+    told : (seq rev : ℕ) (to : Actor) → length (w.servers n).log.applied ≡ rev → TellsAt setting state w n acted.server.own seq to
+        → EndKnownAt setting state (seen after later) seq rev (actor.Server n) to
+    told seq rev (actor.Server m) long t = t
+    told seq rev (actor.Client c) long t =
+        let now = past_now c in
+        let past = t.past in
+        record {
+          inc = (w.servers n).life.inc;
+          cell = t.cell;
+          epoch = t.epoch;
+          bytes = t.bytes;
+          write = t.write;
+          old = t.old;
+          at = record { front = (w.servers n).log.applied; lies = goes_on.logs n; long = long };
+          led = record { seated = t.led.seated; leads = t.led.leads };
+          past = omega arith;
+        }
+
+    pub says_known : (rev : ℕ) → length (w.servers n).log.applied ≡ rev → (to : Actor) (what : Body) → SaysOk setting state w n acted.server.own to what
+        → Known setting state (seen after later) (actor.Server n) to rev what
+    says_known rev long to (body.Written seq) h = told seq rev to long h
+    says_known rev long to (body.Full seq) h = told seq rev to long h
+    says_known rev long to (body.Write client seq cell epoch bytes) h = absurd h
+    says_known rev long to (body.Read client seq cell epoch) h = absurd h
+    says_known rev long to _ h = tt

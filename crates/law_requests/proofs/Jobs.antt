@@ -1,5 +1,5 @@
 -- Each kind of job keeps what is known of requests.
-use Rattle.std.proofs.Common.{◌≡◌, ◌≢◌, ◌≤◌, ◌+◌, ℕ, List, [], ◌∷◌, true, false, Some, None, refl, ap, sym, ◌∙◌, subst, inl, inr, arith}
+use Rattle.std.proofs.Common.{◌≡◌, ◌≢◌, ◌≤◌, ◌+◌, ℕ, List, [], ◌∷◌, true, false, Some, None, refl, ap, sym, ◌∙◌, subst, ◌⊎◌, inl, inr, arith}
 use Rattle.std.specs.Ordering.{nat_cmp}
 use Rattle.busy_marks.specs.declared.marks.MarkKind.TheVariants.{Stale}
 use Rattle.petal_base.specs.declared.cell.Cell.{Cell}
@@ -17,13 +17,13 @@ use Rattle.petal_msg.specs.declared.operation.Pending.{Pending}
 use Rattle.petal_state.specs.Command.{state_after}
 use Rattle.petal_rules.specs.Lists.{In}
 use Rattle.petal_rules.specs.Log.{rev_of}
-use Rattle.petal_rules.specs.State.{State, is_lead}
+use Rattle.petal_rules.specs.State.{State, is_in, is_lead}
 use Rattle.petal_rules.specs.Store.{cell_cmp}
 use Rattle.petal_rules.specs.Server.{Own, Here, Post, Done}
-use Rattle.petal_rules.specs.Writes.{Wanted, operation, ended, pending_on, with_mark_at}
+use Rattle.petal_rules.specs.Writes.{Wanted, operation, ended, finishes, pending_on, with_mark_at}
 use Rattle.petal_rules.specs.World.{Setting, World}
 use Rattle.petal_rules.proofs.CellTables.{cell_same, cell_apart, cell_gone}
-use Rattle.petal_rules.proofs.Tests.{same_or_apart, same_some, true_false}
+use Rattle.petal_rules.proofs.Tests.{none_some, same_or_apart, same_some, true_false}
 use Rattle.law_state.specs.Firm.{Firm}
 use Rattle.law_state.proofs.Steady.{log_rev}
 use Rattle.law_steps.specs.Operations.{done_to}
@@ -31,7 +31,7 @@ use Rattle.law_steps.specs.DidRead.{DidRead}
 use Rattle.law_steps.specs.DidLead.{DidLead, IsNew, Asks_for, Repeats, Is_full, Gives_up, Opens, Marks, Puts, Unmarks, Closes, Opens_alone, Marks_alone, Puts_alone, Unmarks_alone, Closes_alone, Asks, A_slot, A_copy, Of_the_log}
 use Rattle.law_steps.specs.DidSecond.{DidSecond}
 use Rattle.law_steps.specs.Did.{Did, Ignores, Refuses, By_read, By_lead, By_second}
-use Rattle.law_steps.specs.Happens.{Handled, own_place}
+use Rattle.law_steps.specs.Happens.{Handled, IsSeated, own_place}
 use Rattle.law_steps.specs.Ready.{Rests}
 use Rattle.law_steps.proofs.Letters.{one_post, posted}
 use Rattle.law_steps.proofs.Restages.{Restages, Was, was_same, stood, marked, has_put, unmarked, was_taken, was_before, marked_alone, put_alone, unmarked_alone}
@@ -39,7 +39,7 @@ use Rattle.law_steps.proofs.Staged.{same_cell_or_apart, put_put}
 use Rattle.law_steps.proofs.Subjects.{of_read, of_second}
 use Rattle.law_steps.proofs.Taking.{taking}
 use Rattle.law_requests.specs.Asked.{IsWrite, IsOpen}
-use Rattle.law_requests.specs.Known.{seen, done_by, WriteKnown, Known, asked_for, PendingFor, Asking}
+use Rattle.law_requests.specs.Known.{Lives, LedBy, seen, done_by, WriteKnown, Known, asked_for, PendingFor, IsUsed, Has_pending, Has_finished, AskingBy}
 use Rattle.law_requests.proofs.Frames.{Ends, Tells, SaysOk, JobTells}
 use Rattle.law_requests.proofs.Later.{tells_request, logged_untold}
 use Rattle.law_requests.proofs.Running.{own_front, open_running, runs_past}
@@ -49,19 +49,19 @@ abbrev Says : Actor → Body → Post → Type 0
 Says to said post = (post.to ≡ to) × (post.body ≡ said)
 
 -- a job tells what it leaves, and says nothing else of requests
-pub record Shows (setting : Setting) (state : State) (w : World) (n : ℕ) (new : Own) (posts : List Post) : Type 0 where
-  pub tells : JobTells setting state w n new
+pub record Shows (setting : Setting) (state : State) (w : World) (lives : Lives) (n : ℕ) (new : Own) (posts : List Post) : Type 0 where
+  pub tells : JobTells setting state w lives n new
   pub says : (post : Post) → In post posts → SaysOk setting state w n new post.to post.body
 
 -- what is known of the letter that a server handles
-pub known_of : (setting : Setting) (state : State) (w : World) → Asking setting state w → (n : ℕ) (said : Body) (h : Handled w n said)
-    → Known setting state (seen w) h.letter.from (actor.Server n) (rev_of (w.servers n).log) said
-known_of setting state w asking n said h =
-    subst (λ (b : Body). Known setting state (seen w) h.letter.from (actor.Server n) (rev_of (w.servers n).log) b) h.is
-    (subst (λ (r : ℕ). Known setting state (seen w) h.letter.from (actor.Server n) r h.letter.body) h.at
-    (subst (λ (a : Actor). Known setting state (seen w) h.letter.from a h.letter.rev h.letter.body) h.own (asking.letters h.letter h.sent)))
+pub known_of : (setting : Setting) (state : State) (w : World) (lives : Lives) → AskingBy setting state w lives → (n : ℕ) (said : Body) (h : Handled w n said)
+    → Known setting state (seen lives w) h.letter.from (actor.Server n) (rev_of (w.servers n).log) said
+known_of setting state w lives asking n said h =
+    subst (λ (b : Body). Known setting state (seen lives w) h.letter.from (actor.Server n) (rev_of (w.servers n).log) b) h.is
+    (subst (λ (r : ℕ). Known setting state (seen lives w) h.letter.from (actor.Server n) r h.letter.body) h.at
+    (subst (λ (a : Actor). Known setting state (seen lives w) h.letter.from a h.letter.rev h.letter.body) h.own (asking.letters h.letter h.sent)))
 
-module _ (setting : Setting) (state : State) (w : World) (firm : Firm setting w) (asking : Asking setting state w) (n : ℕ)
+module _ (setting : Setting) (state : State) (w : World) (lives : Lives) (firm : Firm setting w) (asking : AskingBy setting state w lives) (n : ℕ)
     (runs : (w.servers n).life.running ≡ true) (rests : Rests setting w) where
   abbrev here : Here
   here = own_place setting w n
@@ -70,7 +70,7 @@ module _ (setting : Setting) (state : State) (w : World) (firm : Firm setting w)
   own = (w.servers n).own
 
   abbrev J : Own → List Post → Type 0
-  J new posts = Shows setting state w n new posts
+  J new posts = Shows setting state w lives n new posts
 
   abbrev S : Own → Actor → Body → Type 0
   S new to said = SaysOk setting state w n new to said
@@ -78,19 +78,31 @@ module _ (setting : Setting) (state : State) (w : World) (firm : Firm setting w)
   abbrev hears : Body → Type 0
   hears = Handled w n
 
+  -- the server is In as itself
+  abbrev IsSeat : Type 0
+  IsSeat = is_in here.state n here.inc ≡ true
+
   -- the letter of a write, which has the server's revision
   wanted_known : (want : Wanted) → hears (body.Write want.client want.seq want.cell want.epoch want.bytes)
-      → WriteKnown setting state (seen w) want here.state.rev
+      → WriteKnown setting state (seen lives w) want here.state.rev
   wanted_known want h =
-      subst (λ (r : ℕ). WriteKnown setting state (seen w) want r) (sym (log_rev setting.servers (w.servers n).log.applied))
-      (known_of setting state w asking n _ h)
+      subst (λ (r : ℕ). WriteKnown setting state (seen lives w) want r) (sym (log_rev setting.servers (w.servers n).log.applied))
+      (known_of setting state w lives asking n _ h)
+
+  ran_now : lives.ran n ≡ (w.servers n).life.inc
+  ran_now = asking.lived.ran n runs
 
   -- the server leads the cell at that revision
-  leads_then : (want : Wanted) (k : WriteKnown setting state (seen w) want here.state.rev) → is_lead here.state n want.cell ≡ true
-      → is_lead (state_after setting.servers k.sent.at.front) n want.cell ≡ true
-  leads_then want k lead =
-      subst (λ log. is_lead (state_after setting.servers log) n want.cell ≡ true)
-      (own_front setting w firm want.client n here.state.rev k.sent.at (sym (log_rev setting.servers (w.servers n).log.applied))) lead
+  led_then : (want : Wanted) (k : WriteKnown setting state (seen lives w) want here.state.rev) → IsSeat → is_lead here.state n want.cell ≡ true
+      → LedBy (state_after setting.servers k.sent.at.front) n here.inc want.cell
+  led_then want k seat lead =
+      subst (λ log. LedBy (state_after setting.servers log) n here.inc want.cell)
+      (own_front setting w firm want.client n here.state.rev k.sent.at (sym (log_rev setting.servers (w.servers n).log.applied)))
+      (record { seated = seat; leads = lead })
+
+  -- what has something pending, or has finished something, is In as itself
+  used_seat : IsUsed own → IsSeat
+  used_seat used = subst (λ i. is_in here.state n i ≡ true) ran_now (asking.used n used)
 
   says_as : (new : Own) (to : Actor) (said : Body) (post : Post) → Says to said post → S new to said → S new post.to post.body
   says_as new to said post e h = subst (λ (b : Body). S new post.to b) (sym e.1) (subst (λ (a : Actor). S new a said) (sym e.0) h)
@@ -131,31 +143,39 @@ module _ (setting : Setting) (state : State) (w : World) (firm : Firm setting w)
   ended_says new c seq ending.Full t = t
 
   -- a write that is not finished is open still
-  new_open : (want : Wanted) → IsNew hears here own want → IsOpen (w.clients want.client) want.seq
-  new_open want new =
+  new_open : (want : Wanted) → IsSeat → IsNew hears here own want → IsOpen (w.clients want.client) want.seq
+  new_open want seat new =
       let k = wanted_known want new.wanted in
-      let leads = leads_then want k new.lead in
+      let led = led_then want k seat new.lead in
       elim k.still [
         | inl open_now ↦ open_now.now
         | inr late ↦
-            let lt = runs_past setting w firm want k.sent.at.front n k.sent.at.lies leads runs (late n leads) in
+            let lt = runs_past setting w firm lives want k.sent.at.front n k.sent.at.lies led runs (late n here.inc led) in
             let newer = new.newer in
+            let tied : lives.done n here.inc want.client ≡ done_by own want.client =
+            ap (λ i. lives.done n i want.client) (sym ran_now) ∙ asking.lived.tied n want.client in
             absurd (omega arith)
       ]
 
-  new_pending : (want : Wanted) → IsNew hears here own want → PendingFor setting state (seen w) n want here.state.rev
-  new_pending want new =
+  new_pending : (want : Wanted) → IsSeat → IsNew hears here own want → PendingFor setting state (seen lives w) n (lives.ran n) want here.state.rev
+  new_pending want seat new =
       let k = wanted_known want new.wanted in
-      record { known = k; leads = leads_then want k new.lead; unfinished = new.newer }
+      let newer = new.newer in
+      let tied = asking.lived.tied n want.client in
+      record {
+        known = k;
+        led = subst (λ i. LedBy (state_after setting.servers k.sent.at.front) n i want.cell) (sym ran_now) (led_then want k seat new.lead);
+        unfinished = omega arith;
+      }
 
   -- the server finishes a request
   finish_tells : (new : Own) (c seq : ℕ) (cell : Cell) (epoch : ℕ) (bytes : List ℕ) (how : Ending)
-      → new.pairs.finished ≡ put nat_cmp own.pairs.finished c (record { seq = seq; ending = how }) → is_lead here.state n cell ≡ true
+      → new.pairs.finished ≡ put nat_cmp own.pairs.finished c (record { seq = seq; ending = how }) → LedBy here.state n here.inc cell
       → IsWrite state setting.lines c seq cell epoch bytes → seq ≤ (w.clients c).seq → IsOpen (w.clients c) seq
       → done_by own c ≤ seq → at cell_cmp new.pairs.pending cell ≡ None
       → ((q : Cell) (op : Pending) → at cell_cmp new.pairs.pending q ≡ Some op → Was own q op)
       → J new (record { to = actor.Client c; body = ended seq how } ∷ [])
-  finish_tells new c seq cell epoch bytes how finished leads write old still before gone pending =
+  finish_tells new c seq cell epoch bytes how finished led write old still before gone pending =
       let last : Finished = record { seq = seq; ending = how } in
       let after : done_by new c ≡ seq + 1 = ap (λ t. done_to (at nat_cmp t c)) finished ∙ ap done_to (at_same own.pairs.finished c last) in
       let ends : Ends state setting.lines w n new c = record {
@@ -185,29 +205,29 @@ module _ (setting : Setting) (state : State) (w : World) (firm : Firm setting w)
               epoch = epoch;
               bytes = bytes;
               write = write;
-              leads = leads;
+              led = led;
               old = old;
               past = omega arith;
             }));
       }
 
   -- an operation is opened
-  opens_tells : (want : Wanted) (new : Own) (posts : List Post) (op : Pending) → IsNew hears here own want → asked_for want.cell op ≡ want
+  opens_tells : (want : Wanted) (new : Own) (posts : List Post) (op : Pending) → IsSeat → IsNew hears here own want → asked_for want.cell op ≡ want
       → op.rev ≡ here.state.rev
       → ((c : ℕ) → done_by new c ≡ done_by own c) → at cell_cmp new.pairs.pending want.cell ≡ Some op
       → ((q : Cell) → q ≢ want.cell → at cell_cmp new.pairs.pending q ≡ at cell_cmp own.pairs.pending q)
       → ((post : Post) → In post posts → S new post.to post.body) → J new posts
-  opens_tells want new posts op fresh for rev finished there others says = record {
+  opens_tells want new posts op seat fresh for rev finished there others says = record {
     tells = record {
       finished = λ c. inl (finished c);
       pending = λ cell o is. elim (same_cell_or_apart cell want.cell) [
         | inl e ↦
             let same : op ≡ o = same_some (sym there ∙ ap (at cell_cmp new.pairs.pending) (sym e) ∙ is) in
-            let p : PendingFor setting state (seen w) n (asked_for want.cell op) op.rev =
-            subst (λ (r : ℕ). PendingFor setting state (seen w) n (asked_for want.cell op) r) (sym rev)
-            (subst (λ (x : Wanted). PendingFor setting state (seen w) n x here.state.rev) (sym for) (new_pending want fresh)) in
-            inr (subst (λ (q : Cell). PendingFor setting state (seen w) n (asked_for q o) o.rev) (sym e)
-            (subst (λ (x : Pending). PendingFor setting state (seen w) n (asked_for want.cell x) x.rev) same p))
+            let p : PendingFor setting state (seen lives w) n (lives.ran n) (asked_for want.cell op) op.rev =
+            subst (λ (r : ℕ). PendingFor setting state (seen lives w) n (lives.ran n) (asked_for want.cell op) r) (sym rev)
+            (subst (λ (x : Wanted). PendingFor setting state (seen lives w) n (lives.ran n) x here.state.rev) (sym for) (new_pending want seat fresh)) in
+            inr (subst (λ (q : Cell). PendingFor setting state (seen lives w) n (lives.ran n) (asked_for q o) o.rev) (sym e)
+            (subst (λ (x : Pending). PendingFor setting state (seen lives w) n (lives.ran n) (asked_for want.cell x) x.rev) same p))
         | inr ne ↦ inl (was_same own cell o (sym (others cell ne) ∙ is))
       ];
     };
@@ -229,10 +249,15 @@ module _ (setting : Setting) (state : State) (w : World) (firm : Firm setting w)
       let old = was.was in
       let e = was.same in
       let p = asking.pending n op.cell old was.is in
-      let still = open_running setting w firm state n (asked_for op.cell old) old.rev p runs in
-      let lead = ((rests.pending n).staged op.cell old was.is).lead in
-      finish_tells new op.client op.seq op.cell old.key.epoch old.bytes how finished lead (rw (← e.client, ← e.seq) p.known.sent.write)
-      (rw (← e.client, ← e.seq) p.known.sent.old) (rw (← e.client, ← e.seq) still) (rw (← e.client, ← e.seq) p.unfinished) gone others
+      let still = open_running setting w firm lives state n (asked_for op.cell old) old.rev
+      (subst (λ i. PendingFor setting state (seen lives w) n i (asked_for op.cell old) old.rev) ran_now p) runs in
+      let led : LedBy here.state n here.inc op.cell = record {
+        seated = used_seat (Has_pending op.cell old was.is);
+        leads = ((rests.pending n).staged op.cell old was.is).lead;
+      } in
+      let un : done_by own old.client ≤ old.seq = (let u = p.unfinished in let t = asking.lived.tied n old.client in omega arith) in
+      finish_tells new op.client op.seq op.cell old.key.epoch old.bytes how finished led (rw (← e.client, ← e.seq) p.known.sent.write)
+      (rw (← e.client, ← e.seq) p.known.sent.old) (rw (← e.client, ← e.seq) still) (rw (← e.client, ← e.seq) un) gone others
 
   pub finished_here : (op : Pending) (now : Own) (t : Table Cell Pending) → t ≡ without cell_cmp now.pairs.pending op.cell
       → ((q : Cell) (o : Pending) → pending_on now q ≡ Some o → Was own q o) → (q : Cell) (o : Pending) → at cell_cmp t q ≡ Some o → Was own q o
@@ -246,11 +271,27 @@ module _ (setting : Setting) (state : State) (w : World) (firm : Firm setting w)
       done_tells op new how was (finished ∙ ap (λ t. put nat_cmp t op.client (record { seq = op.seq; ending = how })) same)
       (ap (λ t. at cell_cmp t op.cell) pending ∙ cell_gone now.pairs.pending op.cell) (finished_here op now new.pairs.pending pending others)
 
+  -- a job that finishes a request, or opens an operation, leaves another own
+  open_seat : (want : Wanted) → IsNew hears here own want → (op : Pending) (after : Own) → IsSeat ⊎ (after ≡ own)
+      → at cell_cmp after.pairs.pending want.cell ≡ Some op → IsSeat
+  open_seat want new op after (inl seated) there = seated
+  open_seat want new op after (inr kept) there =
+      none_some new.none (sym (ap (λ (o : Own). at cell_cmp o.pairs.pending want.cell) kept) ∙ there)
+
+  full_seat : (want : Wanted) → IsNew hears here own want → IsSeated here own (finishes own want.client want.seq ending.Full) → IsSeat
+  full_seat want new (inl seated) = seated
+  full_seat want new (inr kept) =
+      let last : Finished = record { seq = want.seq; ending = ending.Full } in
+      let now : done_by own want.client ≡ want.seq + 1 =
+      sym (ap (λ (o : Own). done_by o want.client) kept) ∙ ap done_to (at_same own.pairs.finished want.client last) in
+      let newer = new.newer in
+      absurd (omega arith)
+
   -- each kind of job
-  lead_tells : (done : Done) → DidLead hears here own done → J done.own done.posts
+  lead_tells : (done : Done) → IsSeated here own done → DidLead hears here own done → J done.own done.posts
   unfolding In
-  lead_tells _ (Asks_for posts h) = speaks _ (λ post i. asks_says post (h post i))
-  lead_tells _ (Repeats want last h lead is e) =
+  lead_tells _ seat (Asks_for posts h) = speaks _ (λ post i. asks_says post (h post i))
+  lead_tells _ seat (Repeats want last h lead is e) =
       let k = wanted_known want h in
       let number = e in
       let above : done_by own want.client ≡ last.seq + 1 = ap done_to is in
@@ -259,32 +300,36 @@ module _ (setting : Setting) (state : State) (w : World) (firm : Firm setting w)
         epoch = want.epoch;
         bytes = want.bytes;
         write = k.sent.write;
-        leads = lead;
+        led = record { seated = used_seat (Has_finished want.client (omega arith)); leads = lead };
         old = k.sent.old;
         past = omega arith;
       })))
-  lead_tells _ (Is_full want new no_room) =
+  lead_tells _ seat (Is_full want new no_room) =
       let k = wanted_known want new.wanted in
-      finish_tells _ want.client want.seq want.cell want.epoch want.bytes ending.Full refl new.lead k.sent.write k.sent.old (new_open want new) new.newer new.none
+      let seated = full_seat want new seat in
+      finish_tells _ want.client want.seq want.cell want.epoch want.bytes ending.Full refl (record { seated = seated; leads = new.lead }) k.sent.write k.sent.old
+      (new_open want seated new) new.newer new.none
       (λ q op is. was_same own q op is)
-  lead_tells _ (Gives_up op h is reserved put) = closed_tells op _ own ending.Full (was_same own op.cell op is) (was_same own) refl refl refl
-  lead_tells _ (Opens want new both) =
+  lead_tells _ seat (Gives_up op h is reserved put) = closed_tells op _ own ending.Full (was_same own op.cell op is) (was_same own) refl refl refl
+  lead_tells _ seat (Opens want new both) =
       let op = operation here own.pairs.next want in
-      opens_tells want _ _ op new refl refl (λ c. refl) (cell_same own.pairs.pending want.cell op) (λ q ne. cell_apart own.pairs.pending want.cell op q ne)
+      let there = cell_same own.pairs.pending want.cell op in
+      opens_tells want _ _ op (open_seat want new op _ seat there) new refl refl (λ c. refl) there (λ q ne. cell_apart own.pairs.pending want.cell op q ne)
       (λ post i. says_any _ _ post (posted _ _ post i) (λ to. tt))
-  lead_tells _ (Marks op h is both stage) = restages_tells _ (marked own op is)
-  lead_tells _ (Puts op is both stage) = restages_tells _ (has_put own op is)
-  lead_tells _ (Unmarks op h is both stage) = restages_tells _ (unmarked own op is)
-  lead_tells _ (Closes op is both stage) = closed_tells op _ own ending.Written (was_same own op.cell op is) (was_same own) refl refl refl
-  lead_tells _ (Opens_alone want new alone) =
+  lead_tells _ seat (Marks op h is both stage) = restages_tells _ (marked own op is)
+  lead_tells _ seat (Puts op is both stage) = restages_tells _ (has_put own op is)
+  lead_tells _ seat (Unmarks op h is both stage) = restages_tells _ (unmarked own op is)
+  lead_tells _ seat (Closes op is both stage) = closed_tells op _ own ending.Written (was_same own op.cell op is) (was_same own) refl refl refl
+  lead_tells _ seat (Opens_alone want new alone) =
       let op = operation here own.pairs.next want in
       let two = with_mark_at op Stale true in
-      opens_tells want _ _ two new refl refl (λ c. refl) (cell_same (put cell_cmp own.pairs.pending want.cell op) want.cell two)
+      let there = cell_same (put cell_cmp own.pairs.pending want.cell op) want.cell two in
+      opens_tells want _ _ two (open_seat want new two _ seat there) new refl refl (λ c. refl) there
       (λ q ne. put_put own.pairs.pending want.cell op two q ne) (λ post i. absurd i)
-  lead_tells _ (Marks_alone now op taken alone fresh) = restages_tells _ (marked_alone own now op taken)
-  lead_tells _ (Puts_alone now op taken alone stale put) = restages_tells _ (put_alone own now op taken)
-  lead_tells _ (Unmarks_alone now op taken alone stale put busy) = restages_tells _ (unmarked_alone own now op taken)
-  lead_tells _ (Closes_alone now op taken alone stale put free) =
+  lead_tells _ seat (Marks_alone now op taken alone fresh) = restages_tells _ (marked_alone own now op taken)
+  lead_tells _ seat (Puts_alone now op taken alone stale put) = restages_tells _ (put_alone own now op taken)
+  lead_tells _ seat (Unmarks_alone now op taken alone stale put busy) = restages_tells _ (unmarked_alone own now op taken)
+  lead_tells _ seat (Closes_alone now op taken alone stale put free) =
       closed_tells op _ now ending.Written (was_taken own now op taken) (was_before own now op taken) (taking own now op taken).finished refl refl
 
   read_tells : (done : Done) → DidRead hears here own done → J done.own done.posts
@@ -299,14 +344,14 @@ module _ (setting : Setting) (state : State) (w : World) (firm : Firm setting w)
       (λ cell op is. was_same own cell op (ap (λ t. at cell_cmp t cell) (sym frame.pending) ∙ is))
       (λ post i. nothing_said done.own post.to post.body (ap tells_request (frame.says post i)))
 
-  pub job_tells : (done : Done) → Did hears here own done → J done.own done.posts
+  pub job_tells : (done : Done) → IsSeated here own done → Did hears here own done → J done.own done.posts
   unfolding In
-  job_tells _ Ignores = speaks _ (λ post i. absurd i)
-  job_tells _ (Refuses to said is why) =
+  job_tells _ seat Ignores = speaks _ (λ post i. absurd i)
+  job_tells _ seat (Refuses to said is why) =
       speaks _ (λ post i. says_as own to said post (one_post to said post i) (nothing_said own to said (ap tells_request is)))
-  job_tells _ (By_read done d) = read_tells done d
-  job_tells _ (By_lead done d) = lead_tells done d
-  job_tells _ (By_second done d) = second_tells done d
+  job_tells _ seat (By_read done d) = read_tells done d
+  job_tells _ seat (By_lead done d) = lead_tells done seat d
+  job_tells _ seat (By_second done d) = second_tells done d
 
   -- an entry that is applied leaves what the server leads
   pub crossed_tells : (new : Own) → new.pairs.pending ≡ own.pairs.pending → new.pairs.finished ≡ own.pairs.finished → J new []

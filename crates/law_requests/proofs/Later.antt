@@ -12,19 +12,17 @@ use Rattle.script_lines.specs.declared.request.Line.{Line}
 use Rattle.script_lines.specs.declared.request.Request.{Request}
 use Rattle.script_lines.specs.declared.request.Request.TheVariants as request
 use Rattle.petal_history.specs.Claims.{IsPrefix}
-use Rattle.petal_state.specs.Command.{state_after}
-use Rattle.petal_rules.specs.State.{State, find, is_lead}
+use Rattle.petal_rules.specs.State.{State, find}
 use Rattle.petal_rules.specs.Writes.{Wanted}
 use Rattle.petal_rules.specs.Clients.{Client, Asked, cell_on}
 use Rattle.petal_rules.specs.World.{Setting}
 use Rattle.petal_rules.proofs.Tests.{same_some, true_false}
 use Rattle.law_state.specs.Below.{IsBelow}
 use Rattle.law_state.specs.Plain.{IsPlainLog}
-use Rattle.law_state.proofs.Steady.{front_plain}
 use Rattle.law_steps.proofs.Fronts.{front_on}
 use Rattle.law_requests.specs.Asked.{IsWrite, IsOpen, IsOpenFrom}
-use Rattle.law_requests.specs.Known.{Seen, IsLate, Is_past, Has_no_lead, Has_another, AreLate, IsSent, WriteKnown, EndKnownAt, Known, PendingFor}
-use Rattle.law_requests.proofs.Leads.{alone_stays, none_on, row_on}
+use Rattle.law_requests.specs.Known.{Seen, IsLate, Is_past, Had_no_lead, Has_left, Has_another, AreLate, IsSent, WriteKnown, EndKnownAt, Known, PendingFor}
+use Rattle.law_requests.proofs.Leads.{alone_stays}
 
 disk_named : Request → Option (List ℕ)
 disk_named asked = (names asked).disk
@@ -93,22 +91,19 @@ untold setting state v from to rev _ e = tt
 pub record Later (setting : Setting) (state : State) (v u : Seen) : Type 0 where
   pub seqs : (c : ℕ) → (v.clients c).seq ≤ (u.clients c).seq
   pub clients : (c : ℕ) → IsPrefix (v.clients c).applied (u.clients c).applied
-  pub clients_plain : (c : ℕ) → IsPlainLog setting.servers (u.clients c).applied
   pub logs : (n : ℕ) → IsPrefix (v.logs n) (u.logs n)
   pub logs_plain : (n : ℕ) → IsPlainLog setting.servers (u.logs n)
-  pub dones : (n c : ℕ) → v.done n c ≤ u.done n c
+  pub dones : (n inc c : ℕ) → v.done n inc c ≤ u.done n inc c
   pub closes : (want : Wanted) (rev : ℕ) → (sent : IsSent setting state v want rev) → IsOpenFrom (v.clients want.client) want.seq rev
       → IsOpenFrom (u.clients want.client) want.seq rev ⊎ AreLate setting.servers u want sent.at.front
 
 module _ (setting : Setting) (state : State) (v u : Seen) (later : Later setting state v u) where
-  late_later : (c seq : ℕ) (cell : Cell) (n : ℕ) (front : List Command) → IsPrefix front (v.clients c).applied
-      → is_lead (state_after setting.servers front) n cell ≡ true → IsLate setting.servers v c seq cell n → IsLate setting.servers u c seq cell n
-  late_later c seq cell n front lies leads (Is_past lt) = let le = later.dones n c in Is_past (omega arith)
-  late_later c seq cell n front lies leads (Has_no_lead none) =
-      let plain = front_plain setting.servers _ _ (later.clients_plain c) (later.clients c) in
-      let row = row_on setting.servers front (v.clients c).applied plain lies n cell leads in
-      Has_no_lead (none_on setting.servers (v.clients c).applied (u.clients c).applied (later.clients_plain c) (later.clients c) cell row.0 row.1 none)
-  late_later c seq cell n front lies leads (Has_another other ne alone) =
+  late_later : (front : List Command) (c seq : ℕ) (cell : Cell) (n inc : ℕ) → IsLate setting.servers v front c seq cell n inc
+      → IsLate setting.servers u front c seq cell n inc
+  late_later front c seq cell n inc (Is_past lt) = let le = later.dones n inc c in Is_past (omega arith)
+  late_later front c seq cell n inc (Had_no_lead log more lies none) = Had_no_lead log more (front_on log _ _ lies (later.clients c)) none
+  late_later front c seq cell n inc (Has_left log more lies gone alone) = Has_left log more (front_on log _ _ lies (later.logs n)) gone alone
+  late_later front c seq cell n inc (Has_another other ne alone) =
       Has_another other ne (alone_stays setting.servers (v.logs other) (u.logs other) (later.logs_plain other) (later.logs other) other cell alone)
 
   sent_later : (want : Wanted) (rev : ℕ) → IsSent setting state v want rev → IsSent setting state u want rev
@@ -128,29 +123,31 @@ module _ (setting : Setting) (state : State) (v u : Seen) (later : Later setting
     sent = sent_later want rev k.sent;
     still = elim k.still [
       | inl open_now ↦ later.closes want rev k.sent open_now
-      | inr late ↦ inr (λ n leads. late_later want.client want.seq want.cell n k.sent.at.front k.sent.at.lies leads (late n leads))
+      | inr late ↦ inr (λ n inc led. late_later k.sent.at.front want.client want.seq want.cell n inc (late n inc led))
     ];
   }
 
-  pub pending_later : (n : ℕ) (want : Wanted) (rev : ℕ) → PendingFor setting state v n want rev → u.done n want.client ≤ want.seq
-      → PendingFor setting state u n want rev
+  pub pending_later : (n inc : ℕ) (want : Wanted) (rev : ℕ) → PendingFor setting state v n inc want rev → u.done n inc want.client ≤ want.seq
+      → PendingFor setting state u n inc want rev
   unfolding write_later sent_later
-  pending_later n want rev p le = record { known = write_later want rev p.known; leads = p.leads; unfinished = le }
+  pending_later n inc want rev p le =
+      record { known = write_later want rev p.known; led = record { seated = p.led.seated; leads = p.led.leads }; unfinished = le }
 
   end_later : (seq rev : ℕ) (from to : Actor) → EndKnownAt setting state v seq rev from to → EndKnownAt setting state u seq rev from to
   end_later seq rev (actor.Server n) (actor.Client c) h =
       let up = later.seqs c in
       let old = h.old in
-      let le = later.dones n c in
+      let le = later.dones n h.inc c in
       let lt = h.past in
       record {
+        inc = h.inc;
         cell = h.cell;
         epoch = h.epoch;
         bytes = h.bytes;
         write = h.write;
         old = omega arith;
         at = record { front = h.at.front; lies = front_on h.at.front _ _ h.at.lies (later.logs n); long = h.at.long };
-        leads = h.leads;
+        led = record { seated = h.led.seated; leads = h.led.leads };
         past = omega arith;
       }
   end_later seq rev (actor.Server n) (actor.Server m) h = h

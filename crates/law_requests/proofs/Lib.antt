@@ -1,8 +1,9 @@
-pub mod Fronts
 pub mod Leads
 pub mod Later
+pub mod Lives
 pub mod Running
 pub mod Frames
+pub mod Ended
 pub mod Jobs
 pub mod Turns
 pub mod Turning

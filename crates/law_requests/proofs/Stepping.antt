@@ -1,44 +1,80 @@
 -- What is known of requests is kept by each step.
-use Rattle.std.proofs.Common.{◌≡◌, ◌==◌, ℕ, List, [], ◌∷◌, true, false, length, refl, ap, sym, ◌∙◌, subst, inl}
+use Rattle.std.proofs.Common.{◌≡◌, ◌≢◌, ◌≤◌, ◌<◌, ◌+◌, ◌==◌, ℕ, List, [], ◌∷◌, true, false, Some, length, refl, ap, sym, ◌∙◌, subst, inl, inr, arith}
 use Rattle.std.specs.Prelude.{filter, not}
 use Rattle.std.specs.List.{range_with_len}
+use Rattle.std.specs.Ordering.{nat_cmp}
+use Rattle.petal_base.specs.declared.cell.Cell.{Cell}
+use Rattle.petal_table.specs.Table.{at}
+use Rattle.petal_table.proofs.Rows.{at-empty}
+use Rattle.petal_command.specs.declared.command.Command.{Command}
 use Rattle.petal_msg.specs.Kinds.{subject_of}
 use Rattle.petal_msg.specs.declared.body.Body.{Body}
 use Rattle.petal_msg.specs.declared.body.Body.TheVariants as body
 use Rattle.petal_msg.specs.declared.letter.Actor.{Actor}
+use Rattle.petal_msg.specs.declared.letter.Actor.TheVariants as actor
 use Rattle.petal_msg.specs.declared.letter.Letter.{Letter}
+use Rattle.petal_msg.specs.declared.operation.Pending.{Pending}
+use Rattle.petal_state.specs.Command.{state_after}
 use Rattle.petal_history.specs.Claims.{IsPrefix}
+use Rattle.petal_rules.specs.Boots.{awake, raised, stays, wakes}
+use Rattle.petal_rules.specs.Crossing.{crossed}
 use Rattle.petal_rules.specs.Jobs.{Acted, down_posts}
 use Rattle.petal_rules.specs.Lists.{In}
-use Rattle.petal_rules.specs.Log.{Log}
-use Rattle.petal_rules.specs.Server.{Post, Sender, Done, sender, letters_of}
-use Rattle.petal_rules.specs.State.{State, servers_of}
+use Rattle.petal_rules.specs.Log.{Log, rev_of, state_in}
+use Rattle.petal_rules.specs.Server.{Own, Pairs, Post, Sender, Server, Done, no_pairs, sender, letters_of}
+use Rattle.petal_rules.specs.State.{State, is_in, servers_of}
+use Rattle.petal_rules.specs.Store.{cell_cmp}
+use Rattle.petal_rules.specs.Writes.{Wanted}
 use Rattle.petal_rules.specs.World.{Setting, World, acts, server_state, stamped}
 use Rattle.petal_rules.specs.declared.step.Step.{Step}
+use Rattle.petal_rules.proofs.Tests.{none_some, true_false}
 use Rattle.law_log.proofs.Proposing.{said_to_all}
 use Rattle.law_state.specs.Plain.{IsPlainLog}
 use Rattle.law_state.specs.Steady.{IsSteady}
 use Rattle.law_state.proofs.Steady.{log_rev, front_plain}
-use Rattle.law_steps.specs.Happens.{Happens, Serves, Turns, Serving, Goes, Ends, Stays, Worked, By_job, By_entry, served_so, stopped_so, shown_so, without_rev, own_place}
+use Rattle.law_steps.specs.Happens.{Happens, Serves, Turns, Serving, Goes, Ends, Stays, Wakes, Fails, Worked, By_job, By_entry, served_so, stopped_so, shown_so, without_rev, own_place}
+use Rattle.law_steps.specs.Operations.{done_to}
 use Rattle.law_steps.specs.Ready.{Ready}
+use Rattle.law_steps.specs.Waking.{AllMayWake}
 use Rattle.law_steps.proofs.Fronts.{front_itself, front_same}
-use Rattle.law_steps.proofs.Histories.{own_plain}
+use Rattle.law_steps.proofs.Histories.{own_plain, runs_at}
 use Rattle.law_steps.proofs.Letters.{said}
-use Rattle.law_steps.proofs.Restages.{was_same}
-use Rattle.law_requests.specs.Known.{seen, Known, KnownLetter, Asking}
-use Rattle.law_requests.proofs.Frames.{JobTells, Scene, says_known, job_asking}
+use Rattle.law_requests.specs.Known.{Seen, Lives, AreLives, lives_after, seen, done_by, Known, KnownLetter, PendingFor, IsUsed, Has_pending, Has_finished, AskingBy}
+use Rattle.law_requests.proofs.Ended.{bound_now, pending_new, rises}
+use Rattle.law_requests.proofs.Frames.{Scene, IsSettled, IsStepped, goes_on, says_known, step_asking, steps}
 use Rattle.law_requests.proofs.Jobs.{Shows, job_tells, crossed_tells}
-use Rattle.law_requests.proofs.Later.{tells_request, untold}
+use Rattle.law_requests.proofs.Later.{Later, pending_later, tells_request, untold}
+use Rattle.law_requests.proofs.Lives.{Lived, Goes_on, Begins, done_beside, lives_still}
 use Rattle.law_requests.proofs.Turning.{turn_ok}
-use Rattle.law_requests.proofs.Turns.{turn_asking}
+use Rattle.law_requests.proofs.Turns.{turn_asking, turn_later}
+
+-- time goes on from this world to that one, and each server as the incarnation that it ran as last, or as a new one
+pub record GoesOn (setting : Setting) (state : State) (w v : World) (lives : Lives) : Type 0 where
+  pub later : Later setting state (seen lives w) (seen (lives_after lives v) v)
+  pub steps : (n : ℕ) → Lived lives n (w.servers n) (v.servers n)
+
+-- a write that was known of at an incarnation that has ended is known of later
+pub ended_later : (setting : Setting) (state : State) (w v : World) (lives : Lives) → AreLives w lives → GoesOn setting state w v lives → (n inc : ℕ)
+    (want : Wanted) (rev : ℕ) → inc < (lives_after lives v).ran n → PendingFor setting state (seen lives w) n inc want rev
+    → PendingFor setting state (seen (lives_after lives v) v) n inc want rev
+ended_later setting state w v lives known on n inc want rev lt p =
+    let apart : inc ≢ (lives_after lives v).ran n = λ e. omega arith in
+    let same = done_beside lives w v known on.steps n inc want.client apart in
+    let un = p.unfinished in
+    pending_later setting state (seen lives w) (seen (lives_after lives v) v) on.later n inc want rev p (omega arith)
 
 -- letters that tell of no request
-all_untold : (setting : Setting) (state : State) (v : World) (who : Sender) (stamp : ℕ) (posts : List Post)
+all_untold : (setting : Setting) (state : State) (v : Seen) (who : Sender) (stamp : ℕ) (posts : List Post)
     → ((post : Post) → In post posts → tells_request (subject_of post.body) ≡ false) → (letter : Letter)
-    → In letter (stamped stamp (letters_of who 0 posts)) → KnownLetter setting state (seen v) letter
+    → In letter (stamped stamp (letters_of who 0 posts)) → KnownLetter setting state v letter
 all_untold setting state v who stamp posts none letter i =
     let s = said who stamp 0 posts letter i in
-    untold setting state (seen v) letter.from letter.to letter.rev letter.body (ap (λ (b : Body). tells_request (subject_of b)) s.body ∙ none s.post s.there)
+    untold setting state v letter.from letter.to letter.rev letter.body (ap (λ (b : Body). tells_request (subject_of b)) s.body ∙ none s.post s.there)
+
+-- a server that stops, and one that boots, tell the others
+downs_untold : (n inc servers : ℕ) (post : Post) → In post (down_posts n inc servers) → tells_request (subject_of post.body) ≡ false
+downs_untold n inc servers post i = ap (λ (b : Body). tells_request (subject_of b))
+    (said_to_all (body.Down n inc) (filter (λ k. not (k == n)) (range_with_len 0 servers)) post i)
 
 module _ (scene : Scene) (ready : Ready scene.setting scene.state scene.w) (n stamp : ℕ) (what : Step) where
   abbrev setting : Setting
@@ -50,53 +86,182 @@ module _ (scene : Scene) (ready : Ready scene.setting scene.state scene.w) (n st
   abbrev w : World
   w = scene.w
 
-  worked_shows : (w.servers n).life.running ≡ true → (log : Log) (done : Done) → Worked setting w n log done → Shows setting state w n done.own done.posts
-  worked_shows runs _ _ (By_job log done same did) = job_tells setting state w scene.firm scene.asking n runs ready.rests done did
-  worked_shows runs _ _ (By_entry log entry more front) = crossed_tells setting state w scene.firm scene.asking n runs ready.rests _ refl refl
+  abbrev lives : Lives
+  lives = scene.lives
+
+  abbrev asking : AskingBy setting state w lives
+  asking = scene.asking
+
+  abbrev after : Acted → World
+  after acted = (acts w n what stamp acted).world
+
+  worked_shows : (w.servers n).life.running ≡ true → (log : Log) (done : Done) → Worked setting w n log done
+      → Shows setting state w lives n done.own done.posts
+  worked_shows runs _ _ (By_job log done same did seat) = job_tells setting state w lives scene.firm asking n runs ready.rests done seat did
+  worked_shows runs _ _ (By_entry log entry more front) = crossed_tells setting state w lives scene.firm asking n runs ready.rests _ refl refl
 
   worked_grows : (log : Log) (done : Done) → Worked setting w n log done → IsPrefix (w.servers n).log.applied log.applied × IsPlainLog setting.servers log.applied
-  worked_grows _ _ (By_job log done same did) = (
+  worked_grows _ _ (By_job log done same did seat) = (
     front_same (w.servers n).log.applied log.applied same,
     subst (IsPlainLog setting.servers) (sym same) (own_plain setting w scene.firm n),
   )
   worked_grows _ _ (By_entry log entry more front) =
       (record { later = entry ∷ []; is = more }, front_plain setting.servers log.applied _ scene.firm.plain front)
 
-  pub serves_asking : (acted : Acted) → Serving setting w n what acted → Asking setting state (acts w n what stamp acted).world
-  serves_asking _ (Goes log done queue runs worked queued works) =
+  -- what is used stands where the server is In as itself
+  crossed_used : (entry : Command) → IsUsed (crossed (server_state setting w n) entry (w.servers n).own) → IsUsed (w.servers n).own
+  crossed_used entry (Has_pending cell op is) = Has_pending cell op is
+  crossed_used entry (Has_finished c le) = Has_finished c le
+
+  worked_used : (w.servers n).life.running ≡ true → (log : Log) (done : Done) → Worked setting w n log done → IsUsed done.own
+      → is_in (state_in setting.servers log) n (lives.ran n) ≡ true
+  worked_used runs _ _ (By_job log done same did seat) u =
+      let now : is_in (server_state setting w n) n (lives.ran n) ≡ true = elim seat [
+        | inl so ↦ subst (λ i. is_in (server_state setting w n) n i ≡ true) (sym (asking.lived.ran n runs)) so
+        | inr kept ↦ asking.used n (subst IsUsed kept u)
+      ] in
+      subst (λ applied. is_in (state_after setting.servers applied) n (lives.ran n) ≡ true) (sym same) now
+  worked_used runs _ _ (By_entry log entry more front) u =
+      let ran = asking.lived.ran n runs in
+      let was : is_in (server_state setting w n) n (w.servers n).life.inc ≡ true =
+      subst (λ i. is_in (server_state setting w n) n i ≡ true) ran (asking.used n (crossed_used entry u)) in
+      subst (λ i. is_in (state_in setting.servers log) n i ≡ true) (sym ran)
+      (runs_at setting w scene.firm (w.servers n).log.applied log.applied (record { later = entry ∷ []; is = more }) front n runs was)
+
+  -- a server that does its work
+  worked_stepped : (runs : (w.servers n).life.running ≡ true) (log : Log) (done : Done) → Worked setting w n log done → (new : Server)
+      → new.log ≡ log → new.own ≡ done.own → new.life.inc ≡ (w.servers n).life.inc → IsStepped scene n new
+  worked_stepped runs log done worked new logs owns incs =
+      let shows = worked_shows runs log done worked in
+      let grows = worked_grows log done worked in
+      let ran = incs ∙ sym (asking.lived.ran n runs) in
+      record {
+        life = Goes_on (λ on. ran) (omega arith)
+            (λ c. subst (λ (o : Own). done_by (w.servers n).own c ≤ done_by o c) (sym owns) (rises scene n done.own shows.tells c));
+        more = subst (λ (l : Log). IsPrefix (w.servers n).log.applied l.applied) (sym logs) grows.0;
+        plain = subst (λ (l : Log). IsPlainLog setting.servers l.applied) (sym logs) grows.1;
+        bound = λ c. subst (λ (o : Own). done_by o c ≤ (w.clients c).seq + 1) (sym owns) (bound_now scene n done.own shows.tells c);
+        used = λ u. record {
+          same = λ on. ran;
+          seated = subst (λ (l : Log). is_in (state_in setting.servers l) n (lives.ran n) ≡ true) (sym logs)
+              (worked_used runs log done worked (subst IsUsed owns u));
+        };
+        pending = λ cell op is.
+            let p = pending_new scene n done.own shows.tells cell op (sym (ap (λ (o : Own). at cell_cmp o.pairs.pending cell) owns) ∙ is) in
+            (p.0, subst (λ (o : Own). done_by o op.client ≤ op.seq) (sym owns) p.1);
+      }
+
+  -- a server whose own part and entries stay as they are
+  still_stepped : (new : Server) → new.log.applied ≡ (w.servers n).log.applied → new.own ≡ (w.servers n).own
+      → (new.life.running ≡ true → new.life.inc ≡ lives.ran n) → (w.servers n).life.inc ≤ new.life.inc → IsStepped scene n new
+  still_stepped new logs owns same later = record {
+    life = Goes_on same later (λ c. subst (λ (o : Own). done_by (w.servers n).own c ≤ done_by o c) (sym owns) (omega arith));
+    more = subst (IsPrefix (w.servers n).log.applied) (sym logs) (front_itself (w.servers n).log.applied);
+    plain = subst (IsPlainLog setting.servers) (sym logs) (own_plain setting w scene.firm n);
+    bound = λ c. subst (λ (o : Own). done_by o c ≤ (w.clients c).seq + 1) (sym owns) (asking.finished n c);
+    used = λ u. record {
+      same = same;
+      seated = subst (λ applied. is_in (state_after setting.servers applied) n (lives.ran n) ≡ true) (sym logs) (asking.used n (subst IsUsed owns u));
+    };
+    pending = λ cell op is.
+        let p = asking.pending n cell op (sym (ap (λ (o : Own). at cell_cmp o.pairs.pending cell) owns) ∙ is) in
+        let tied = asking.lived.tied n op.client in
+        let un = p.unfinished in
+        (p, subst (λ (o : Own). done_by o op.client ≤ op.seq) (sym owns) (omega arith));
+  }
+
+  -- a server that boots has nothing pending, and has finished nothing
+  none_done : (new : Server) → new.own.pairs ≡ no_pairs → (c : ℕ) → done_by new.own c ≡ 0
+  none_done new empty c = ap (λ (p : Pairs). done_to (at nat_cmp p.finished c)) empty ∙ ap done_to (at-empty nat_cmp c)
+
+  none_pending : {A : Type 0} (new : Server) → new.own.pairs ≡ no_pairs → (cell : Cell) (op : Pending) → at cell_cmp new.own.pairs.pending cell ≡ Some op → A
+  none_pending new empty cell op is =
+      none_some (ap (λ (p : Pairs). at cell_cmp p.pending cell) empty ∙ at-empty cell_cmp cell) is
+
+  boot_stepped : (new : Server) → new.own.pairs ≡ no_pairs → new.life.running ≡ true → (w.servers n).life.inc < new.life.inc
+      → IsPrefix (w.servers n).log.applied new.log.applied → IsPlainLog setting.servers new.log.applied → IsStepped scene n new
+  boot_stepped new empty on later more plain = record {
+    life = Begins on later (none_done new empty);
+    more = more;
+    plain = plain;
+    bound = λ c. let e = none_done new empty c in omega arith;
+    used = unused;
+    pending = λ cell op is. none_pending new empty cell op is;
+  }
+    where
+      unused : IsUsed new.own → IsSettled scene n new
+      unused (Has_pending cell op is) = none_pending new empty cell op is
+      unused (Has_finished c le) = let e = none_done new empty c in absurd (omega arith)
+
+  pub serves_step : AllMayWake setting w → (acted : Acted) → Serving setting w n what acted → IsStepped scene n acted.server
+  serves_step wake _ (Goes log done queue runs worked queued works) =
+      worked_stepped runs log done worked (served_so setting w n log done queue).server refl refl refl
+  serves_step wake _ (Ends log done runs worked) = worked_stepped runs log done worked (stopped_so setting w n log done).server refl refl refl
+  serves_step wake _ (Stays who posts from shown) = still_stepped (w.servers n) refl refl (λ on. sym (asking.lived.ran n on)) (omega arith)
+  serves_step wake _ (Wakes booted asleep) =
+      boot_stepped (awake (raised (w.servers n))) refl refl (omega arith) (wake n).onward
+      (front_plain setting.servers _ _ scene.firm.plain (wake n).chosen)
+  serves_step wake _ (Fails booted asleep) = still_stepped (raised (w.servers n)) refl refl (λ on. true_false on asleep) (omega arith)
+
+  pub serves_asking : AllMayWake setting w → (acted : Acted) → Serving setting w n what acted
+      → AskingBy setting state (after acted) (lives_after lives (after acted))
+  unfolding In
+  serves_asking wake _ (Goes log done queue runs worked queued works) =
       let acted = served_so setting w n log done queue in
       let shows = worked_shows runs log done worked in
-      let grows = worked_grows log done worked in
-      let later = (acts w n what stamp acted).world in
+      let step = worked_stepped runs log done worked acted.server refl refl refl in
+      let later = seen (lives_after lives (after acted)) (after acted) in
       let rev : length (w.servers n).log.applied ≡ (server_state setting w n).rev = sym (log_rev setting.servers (w.servers n).log.applied) in
-      job_asking scene n stamp what acted shows.tells grows.0 grows.1 (λ letter i.
+      step_asking scene n stamp what acted step (λ letter i.
       let s = said (sender (own_place setting w n)) stamp 0 done.posts letter i in
-      let k = says_known scene n stamp what acted shows.tells grows.0 grows.1 (server_state setting w n).rev rev s.post.to s.post.body (shows.says s.post s.there) in
-      subst (λ (b : Body). Known setting state (seen later) letter.from letter.to letter.rev b) (sym s.body)
-      (subst (λ (r : ℕ). Known setting state (seen later) letter.from letter.to r s.post.body) (sym s.rev)
-      (subst (λ (a : Actor). Known setting state (seen later) letter.from a (server_state setting w n).rev s.post.body) (sym s.to)
-      (subst (λ (a : Actor). Known setting state (seen later) a s.post.to (server_state setting w n).rev s.post.body) (sym s.from) k))))
-  serves_asking _ (Ends log done runs worked) =
+      let k = says_known scene n stamp what acted step runs refl (server_state setting w n).rev rev s.post.to s.post.body (shows.says s.post s.there) in
+      subst (λ (b : Body). Known setting state later letter.from letter.to letter.rev b) (sym s.body)
+      (subst (λ (r : ℕ). Known setting state later letter.from letter.to r s.post.body) (sym s.rev)
+      (subst (λ (a : Actor). Known setting state later letter.from a (server_state setting w n).rev s.post.body) (sym s.to)
+      (subst (λ (a : Actor). Known setting state later a s.post.to (server_state setting w n).rev s.post.body) (sym s.from) k))))
+  serves_asking wake _ (Ends log done runs worked) =
       let acted = stopped_so setting w n log done in
-      let shows = worked_shows runs log done worked in
-      let grows = worked_grows log done worked in
-      let down = body.Down n (w.servers n).life.inc in
-      job_asking scene n stamp what acted shows.tells grows.0 grows.1
-      (all_untold setting state (acts w n what stamp acted).world (without_rev (own_place setting w n)) stamp
+      step_asking scene n stamp what acted (serves_step wake _ (Ends log done runs worked))
+      (all_untold setting state (seen (lives_after lives (after acted)) (after acted)) (without_rev (own_place setting w n)) stamp
       (down_posts n (w.servers n).life.inc (servers_of (server_state setting w n)))
-      (λ post i. ap (λ (b : Body). tells_request (subject_of b))
-      (said_to_all down (filter (λ k. not (k == n)) (range_with_len 0 (servers_of (server_state setting w n)))) post i)))
-  serves_asking _ (Stays who posts from shown) =
+      (downs_untold n (w.servers n).life.inc (servers_of (server_state setting w n))))
+  serves_asking wake _ (Stays who posts from shown) =
       let acted = shown_so w n who posts in
-      let tells : JobTells setting state w n (w.servers n).own =
-      record { finished = λ c. inl refl; pending = λ cell op is. inl (was_same (w.servers n).own cell op is) } in
-      job_asking scene n stamp what acted tells (front_itself (w.servers n).log.applied) (own_plain setting w scene.firm n)
-      (all_untold setting state (acts w n what stamp acted).world who stamp posts (λ post i. ap tells_request (shown post i)))
+      step_asking scene n stamp what acted (serves_step wake _ (Stays who posts from shown))
+      (all_untold setting state (seen (lives_after lives (after acted)) (after acted)) who stamp posts (λ post i. ap tells_request (shown post i)))
+  serves_asking wake _ (Wakes booted asleep) =
+      let server = awake (raised (w.servers n)) in
+      let acted = wakes (own_place setting w n) server in
+      step_asking scene n stamp what acted (serves_step wake _ (Wakes booted asleep))
+      (all_untold setting state (seen (lives_after lives (after acted)) (after acted))
+      (record { from = actor.Server n; inc = server.life.inc; rev = rev_of server.log }) stamp
+      (down_posts n (w.servers n).life.inc (servers_of (server_state setting w n)))
+      (downs_untold n (w.servers n).life.inc (servers_of (server_state setting w n))))
+  serves_asking wake _ (Fails booted asleep) =
+      step_asking scene n stamp what (stays (raised (w.servers n))) (serves_step wake _ (Fails booted asleep)) (λ letter i. absurd i)
 
-pub happens_asking : (setting : Setting) (state : State) → IsSteady state → (w v : World) → Ready setting state w → Asking setting state w
-    → Happens setting state w v → Asking setting state v
-happens_asking setting state steady w _ ready asking (Serves n stamp what acted lt member serving) =
-    serves_asking (record { setting = setting; state = state; w = w; firm = ready.firm; asking = asking }) ready n stamp what acted serving
-happens_asking setting state steady w _ ready asking (Turns c stamp in_call reacted lt within turned onward) =
-    let scene : Scene = record { setting = setting; state = state; w = w; firm = ready.firm; asking = asking } in
-    turn_asking scene c stamp reacted (turn_ok setting state w ready.firm asking c within in_call reacted onward turned) onward
+  -- what was known of incarnations is known later
+  pub serves_later : AllMayWake setting w → (acted : Acted) → Serving setting w n what acted
+      → GoesOn setting state w (after acted) lives
+  serves_later wake acted serving =
+      let step = serves_step wake acted serving in
+      record { later = goes_on scene n stamp what acted step; steps = steps scene n stamp what acted step }
+
+pub happens_asking : (setting : Setting) (state : State) → IsSteady state → (w v : World) (lives : Lives) → Ready setting state w → AllMayWake setting w
+    → AskingBy setting state w lives → Happens setting state w v → AskingBy setting state v (lives_after lives v)
+happens_asking setting state steady w _ lives ready wake asking (Serves n stamp what acted lt member serving) =
+    serves_asking (record { setting = setting; state = state; w = w; lives = lives; firm = ready.firm; asking = asking }) ready n stamp what wake acted serving
+happens_asking setting state steady w _ lives ready wake asking (Turns c stamp in_call reacted lt within turned onward) =
+    let scene : Scene = record { setting = setting; state = state; w = w; lives = lives; firm = ready.firm; asking = asking } in
+    turn_asking scene c stamp reacted (turn_ok setting state w lives ready.firm asking c within in_call reacted onward turned) onward
+
+pub happens_later : (setting : Setting) (state : State) → IsSteady state → (w v : World) (lives : Lives) → Ready setting state w → AllMayWake setting w
+    → AskingBy setting state w lives → Happens setting state w v → GoesOn setting state w v lives
+happens_later setting state steady w _ lives ready wake asking (Serves n stamp what acted lt member serving) =
+    serves_later (record { setting = setting; state = state; w = w; lives = lives; firm = ready.firm; asking = asking }) ready n stamp what wake acted serving
+happens_later setting state steady w _ lives ready wake asking (Turns c stamp in_call reacted lt within turned onward) =
+    let scene : Scene = record { setting = setting; state = state; w = w; lives = lives; firm = ready.firm; asking = asking } in
+    record {
+      later = turn_later scene c stamp reacted (turn_ok setting state w lives ready.firm asking c within in_call reacted onward turned) onward;
+      steps = lives_still lives w asking.lived;
+    }

@@ -18,26 +18,28 @@ use Rattle.petal_state.specs.Command.{state_after}
 use Rattle.petal_state.specs.declared.answer.DiskView.{DiskView}
 use Rattle.petal_history.specs.Claims.{IsPrefix}
 use Rattle.petal_rules.specs.Lists.{In}
-use Rattle.petal_rules.specs.State.{State, find, lead, is_lead}
+use Rattle.petal_command.specs.declared.command.Command.{Command}
+use Rattle.petal_rules.specs.State.{State, find, lead, is_in, is_lead}
 use Rattle.petal_rules.specs.Server.{Post}
 use Rattle.petal_rules.specs.Writes.{ended}
-use Rattle.petal_rules.specs.Clients.{Client, Asked, Reaction, epoch_for, cell_on, is_read, is_stop, command_of, refusal, write_refusal}
+use Rattle.petal_rules.specs.Clients.{Client, Asked, Reaction, epoch_for, cell_on, is_read, seen_answer, command_of, refusal, write_refusal}
 use Rattle.petal_rules.specs.World.{Setting, World, lines_of, chosen_log}
 use Rattle.petal_rules.proofs.ListLemmas.{put_same}
-use Rattle.petal_rules.proofs.Tests.{same_or_apart, same_some, some_or_none, none_some, true_false}
+use Rattle.petal_rules.proofs.Tests.{by_bool, same_or_apart, same_some, some_or_none, none_some, true_false}
 use Rattle.law_state.specs.Firm.{Firm}
 use Rattle.law_state.specs.Steady.{IsSteady}
+use Rattle.law_state.proofs.Ages.{in_once}
 use Rattle.law_state.proofs.Steady.{log_below, log_rev, log_steady, front_plain}
 use Rattle.law_steps.specs.Happens.{Heard, IsOnward}
 use Rattle.law_steps.specs.Turned.{Turned, Says, Of_the_log, A_write, A_read, OnlySays, IsSame, StaysOpen, IsCalled, IsReason, By_verdict, By_witness, IsJudged, Goes_on, Begins, Reads, Shown, Judges, line_by}
 use Rattle.law_steps.specs.Turned as turns
-use Rattle.law_steps.proofs.Fronts.{front_itself, front_more, front_on}
+use Rattle.law_steps.proofs.Fronts.{front_itself, front_long, front_more, front_on, front_within}
 use Rattle.law_steps.proofs.Histories.{own_plain}
 use Rattle.law_requests.specs.Asked.{IsWrite, IsAsked, IsOpenFrom}
-use Rattle.law_requests.specs.Known.{Seen, seen, Is_past, Has_no_lead, Has_another, IsSent, EndKnown, EndKnownAt, Known, Asking}
-use Rattle.law_requests.proofs.Fronts.{front_long, front_within}
+use Rattle.law_requests.specs.Known.{Lives, Seen, seen, Is_past, Had_no_lead, Has_left, Has_another, IsSent, EndKnown, EndKnownAt, Known, AskingBy}
 use Rattle.law_requests.proofs.Later.{one_cell, write_up, logged_untold, untold}
-use Rattle.law_requests.proofs.Leads.{alone_stays, left_to, none_on, row_on}
+use Rattle.law_requests.proofs.Leads.{alone_stays, came_back, left_to}
+use Rattle.law_requests.proofs.Lives.{dones_rise, lives_still}
 use Rattle.law_requests.proofs.Running.{chosen_front}
 use Rattle.law_requests.proofs.Turns.{Closed, TurnOk, seen_with}
 
@@ -60,7 +62,7 @@ refused_unled state name block pattern disk given found refused = elim (some_or_
 counted : (n : ℕ) → (n + 1) - 1 ≡ n
 counted n = omega arith
 
-module _ (setting : Setting) (state : State) (w : World) (firm : Firm setting w) (asking : Asking setting state w) (c : ℕ) (within : c < 9) where
+module _ (setting : Setting) (state : State) (w : World) (lives : Lives) (firm : Firm setting w) (asking : AskingBy setting state w lives) (c : ℕ) (within : c < 9) where
   abbrev lines : List Line
   lines = setting.lines
 
@@ -68,7 +70,7 @@ module _ (setting : Setting) (state : State) (w : World) (firm : Firm setting w)
   client = w.clients c
 
   abbrev T : Client → List Post → Type 0
-  T to posts = TurnOk setting state w (seen_with w c to) c to posts
+  T to posts = TurnOk setting state w lives (seen_with lives w c to) c to posts
 
   -- ### What a client sends for its open request
 
@@ -77,7 +79,7 @@ module _ (setting : Setting) (state : State) (w : World) (firm : Firm setting w)
     own = state_after setting.servers to.applied
 
     abbrev after : Seen
-    after = seen_with w c to
+    after = seen_with lives w c to
 
     now : after.clients c ≡ to
     now = put_same w.clients c to
@@ -200,7 +202,7 @@ module _ (setting : Setting) (state : State) (w : World) (firm : Firm setting w)
   -- ### The open request is answered
 
   abbrev Closes : Client → Asked → Type 0
-  Closes to asked = (rev : ℕ) → rev ≤ asked.rev → Closed setting state w (seen_with w c to) c asked.seq rev
+  Closes to asked = (rev : ℕ) → rev ≤ asked.rev → Closed setting state w lives (seen_with lives w c to) c asked.seq rev
 
   answers_ok : (asked : Asked) → client.asked ≡ Some asked → (to : Client) → Closes to asked → to.seq ≡ client.seq → to.asked ≡ None → T to []
   unfolding In
@@ -210,7 +212,7 @@ module _ (setting : Setting) (state : State) (w : World) (firm : Firm setting w)
     closes = λ s rev le h. inr (
         let same : h.now.asked ≡ asked = same_some (sym h.now.is ∙ is) in
         let before : rev ≤ asked.rev = subst (λ (x : Asked). rev ≤ x.rev) same h.sent in
-        subst (λ (i : ℕ). Closed setting state w (seen_with w c to) c i rev) (ap (λ (x : Asked). x.seq) (sym same) ∙ h.now.same) (closed rev before));
+        subst (λ (i : ℕ). Closed setting state w lives (seen_with lives w c to) c i rev) (ap (λ (x : Asked). x.seq) (sym same) ∙ h.now.same) (closed rev before));
     says = λ post h. absurd h;
   }
 
@@ -225,20 +227,27 @@ module _ (setting : Setting) (state : State) (w : World) (firm : Firm setting w)
   read_closed to asked is reads rev le cell epoch bytes sent =
       true_false reads (ap is_read (write_asked asked is state cell epoch bytes sent.write))
 
-  stop_closed : (to : Client) (asked : Asked) → client.asked ≡ Some asked → is_stop asked.request ≡ true → Closes to asked
-  stop_closed to asked is stops rev le cell epoch bytes sent =
-      true_false stops (ap is_stop (write_asked asked is state cell epoch bytes sent.write))
+  seen_closed : (to : Client) (asked : Asked) → client.asked ≡ Some asked → (running : Bool) (given : Answer)
+      → seen_answer asked.request running ≡ Some given → Closes to asked
+  seen_closed to asked is running given shown rev le cell epoch bytes sent =
+      none_some (ap (λ r. seen_answer r running) (write_asked asked is state cell epoch bytes sent.write)) shown
 
   -- an entry that answers a write finds its cell without a lead
+  record HadNoLead (front applied : List Command) (cell : Cell) : Type 0 where
+    log : List Command
+    more : IsPrefix front log
+    lies : IsPrefix log applied
+    unled : lead (state_after setting.servers log) cell ≡ None
+
   judged_unled : (to : Client) → IsOnward setting.servers state client.applied to.applied → (asked : Asked) (given : Answer)
       → client.asked ≡ Some asked → IsJudged setting.servers c client.applied to.applied asked given
       → (rev : ℕ) (cell : Cell) (epoch : ℕ) (bytes : List ℕ)
-      → (sent : IsSent setting state (seen w) (record { client = c; seq = asked.seq; cell = cell; epoch = epoch; bytes = bytes }) rev)
-      → (n : ℕ) → is_lead (state_after setting.servers sent.at.front) n cell ≡ true → lead (state_after setting.servers to.applied) cell ≡ None
-  judged_unled to onward asked given is judged rev cell epoch bytes sent n leads = by judged.reason
+      → (sent : IsSent setting state (seen lives w) (record { client = c; seq = asked.seq; cell = cell; epoch = epoch; bytes = bytes }) rev)
+      → HadNoLead sent.at.front to.applied cell
+  judged_unled to onward asked given is judged rev cell epoch bytes sent = by judged.reason
     where
       by : IsReason c asked given (state_after setting.servers (judged.front ++ judged.entry ∷ [])) judged.entry
-          → lead (state_after setting.servers to.applied) cell ≡ None
+          → HadNoLead sent.at.front to.applied cell
       by (By_verdict command its so) =
           none_some (ap (command_of c asked.seq) (write_asked asked is (state_after setting.servers sent.at.front) cell epoch bytes sent.served)) its
       by (By_witness none witness so) =
@@ -251,52 +260,67 @@ module _ (setting : Setting) (state : State) (w : World) (firm : Firm setting w)
           let before : IsPrefix sent.at.front log =
           front_on sent.at.front client.applied log sent.at.lies (front_on client.applied judged.front log judged.new (front_more judged.front judged.entry)) in
           let found = (log_below setting.servers sent.at.front log plain before).finds served.name served.disk served.found in
-          let row = row_on setting.servers sent.at.front log plain before n cell leads in
-          let unled : lead (state_after setting.servers log) cell ≡ None =
-          ap (lead (state_after setting.servers log)) served.cell_is
-          ∙ refused_unled (state_after setting.servers log) served.name served.block served.pattern served.disk given found
-          (ap (refusal (state_after setting.servers log)) (sym asks) ∙ so) in
-          none_on setting.servers log to.applied onward.plain lies cell row.0 row.1 unled
+          record {
+            log = log;
+            more = before;
+            lies = lies;
+            unled = ap (lead (state_after setting.servers log)) served.cell_is
+                ∙ refused_unled (state_after setting.servers log) served.name served.block served.pattern served.disk given found
+                (ap (refusal (state_after setting.servers log)) (sym asks) ∙ so);
+          }
 
   judged_closed : (to : Client) → IsOnward setting.servers state client.applied to.applied → (asked : Asked) (given : Answer)
       → client.asked ≡ Some asked → IsJudged setting.servers c client.applied to.applied asked given → Closes to asked
-  judged_closed to onward asked given is judged rev le cell epoch bytes sent n leads =
-      Has_no_lead (subst (λ (x : Client). lead (state_after setting.servers x.applied) cell ≡ None) (sym (put_same w.clients c to))
-      (judged_unled to onward asked given is judged rev cell epoch bytes sent n leads))
+  judged_closed to onward asked given is judged rev le cell epoch bytes sent n inc led =
+      let h = judged_unled to onward asked given is judged rev cell epoch bytes sent in
+      Had_no_lead h.log h.more (subst (λ (x : Client). IsPrefix h.log x.applied) (sym (put_same w.clients c to)) h.lies) h.unled
 
-  end_closed : (to : Client) (asked : Asked) (server : ℕ) → EndKnown setting state (seen w) c asked.seq server asked.rev → Closes to asked
-  end_closed to asked server end rev le cell epoch bytes sent n leads =
+  -- by a reply: its sender is past the write as the incarnation that it was then; or it has left since, or another server leads
+  end_closed : (to : Client) (asked : Asked) (server : ℕ) → EndKnown setting state (seen lives w) c asked.seq server asked.rev → Closes to asked
+  end_closed to asked server end rev le cell epoch bytes sent n inc led =
       let same : end.cell ≡ cell = one_cell state lines c asked.seq end.cell cell end.epoch epoch end.bytes bytes end.write sent.write in
       let own = (w.servers server).log.applied in
       let plain = own_plain setting w firm server in
-      let then_plain = front_plain setting.servers end.at.front own plain end.at.lies in
-      let then_leads : is_lead (state_after setting.servers end.at.front) server cell ≡ true =
-      subst (λ (q : Cell). is_lead (state_after setting.servers end.at.front) server q ≡ true) same end.leads in
+      let end_plain = front_plain setting.servers end.at.front own plain end.at.lies in
+      let end_leads : is_lead (state_after setting.servers end.at.front) server cell ≡ true =
+      subst (λ (q : Cell). is_lead (state_after setting.servers end.at.front) server q ≡ true) same end.led.leads in
       let one = sent.at.long in
       let two = end.at.long in
       let before : IsPrefix sent.at.front end.at.front =
       front_within sent.at.front end.at.front (chosen_log setting w) (chosen_front setting w firm c rev sent.at)
       (front_on end.at.front own (chosen_log setting w) end.at.lies (firm.servers server)) (omega arith) in
       elim (same_or_apart server n) [
-        | inl e ↦ Is_past (subst (λ (i : ℕ). asked.seq < (seen w).done i c) e end.past)
+        | inl e ↦ by_bool (is_in (state_after setting.servers end.at.front) n inc)
+            (λ still.
+            let seat : is_in (state_after setting.servers end.at.front) n end.inc ≡ true =
+            subst (λ i. is_in (state_after setting.servers end.at.front) i end.inc ≡ true) e end.led.seated in
+            let one_inc : end.inc ≡ inc = in_once (state_after setting.servers end.at.front) n end.inc inc seat still in
+            let past : asked.seq < lives.done n inc c =
+            subst (λ i. asked.seq < lives.done n i c) one_inc (subst (λ i. asked.seq < lives.done i end.inc c) e end.past) in
+            let more = dones_rise lives w w asking.lived (lives_still lives w asking.lived) n inc c in
+            Is_past (omega arith))
+            (λ gone.
+            Has_left end.at.front before (subst (λ i. IsPrefix end.at.front (w.servers i).log.applied) e end.at.lies) gone
+            (came_back setting.servers sent.at.front end.at.front end_plain before n inc cell led.seated led.leads
+            (subst (λ i. is_lead (state_after setting.servers end.at.front) i cell ≡ true) e end_leads) gone))
         | inr ne ↦ Has_another server ne
             (alone_stays setting.servers end.at.front own plain end.at.lies server cell
-            (left_to setting.servers sent.at.front end.at.front then_plain before n server cell leads then_leads ne))
+            (left_to setting.servers sent.at.front end.at.front end_plain before n server cell led.leads end_leads ne))
       ]
 
-  known_end : (seq rev : ℕ) (from : Actor) → EndKnownAt setting state (seen w) seq rev from (actor.Client c)
-      → (server : ℕ) × EndKnown setting state (seen w) c seq server rev
+  known_end : (seq rev : ℕ) (from : Actor) → EndKnownAt setting state (seen lives w) seq rev from (actor.Client c)
+      → (server : ℕ) × EndKnown setting state (seen lives w) c seq server rev
   known_end seq rev (actor.Server n) k = (n, k)
   known_end seq rev (actor.Client d) k = absurd k
 
-  ended_known : (seq rev : ℕ) (how : Ending) → Heard w (actor.Client c) rev (ended seq how) → (server : ℕ) × EndKnown setting state (seen w) c seq server rev
+  ended_known : (seq rev : ℕ) (how : Ending) → Heard w (actor.Client c) rev (ended seq how) → (server : ℕ) × EndKnown setting state (seen lives w) c seq server rev
   ended_known seq rev how h =
-      by how (subst (λ (b : Body). Known setting state (seen w) h.letter.from (actor.Client c) rev b) h.is
-      (subst (λ (r : ℕ). Known setting state (seen w) h.letter.from (actor.Client c) r h.letter.body) h.at
-      (subst (λ (a : Actor). Known setting state (seen w) h.letter.from a h.letter.rev h.letter.body) h.own (asking.letters h.letter h.sent))))
+      by how (subst (λ (b : Body). Known setting state (seen lives w) h.letter.from (actor.Client c) rev b) h.is
+      (subst (λ (r : ℕ). Known setting state (seen lives w) h.letter.from (actor.Client c) r h.letter.body) h.at
+      (subst (λ (a : Actor). Known setting state (seen lives w) h.letter.from a h.letter.rev h.letter.body) h.own (asking.letters h.letter h.sent))))
     where
-      by : (how : Ending) → Known setting state (seen w) h.letter.from (actor.Client c) rev (ended seq how)
-          → (server : ℕ) × EndKnown setting state (seen w) c seq server rev
+      by : (how : Ending) → Known setting state (seen lives w) h.letter.from (actor.Client c) rev (ended seq how)
+          → (server : ℕ) × EndKnown setting state (seen lives w) c seq server rev
       by ending.Written k = known_end seq rev h.letter.from k
       by ending.Full k = known_end seq rev h.letter.from k
 
@@ -308,6 +332,7 @@ module _ (setting : Setting) (state : State) (w : World) (firm : Firm setting w)
   turn_ok _ _ onward (Reads asked bytes h is reads) = answers_ok asked is _ (read_closed _ asked is reads) refl refl
   turn_ok _ _ onward (turns.Ends asked how h is writes) =
       let end = ended_known asked.seq asked.rev how h in answers_ok asked is _ (end_closed _ asked end.0 end.1) refl refl
-  turn_ok _ _ onward (Shown asked rev round inc running full h is stops) = answers_ok asked is _ (stop_closed _ asked is stops) refl refl
+  turn_ok _ _ onward (Shown asked rev round inc running full h is given shown) =
+      answers_ok asked is _ (seen_closed _ asked is running given shown) refl refl
   turn_ok _ _ onward (Judges after asked given is gone seq judged) =
       answers_ok asked is after (judged_closed after onward asked given is judged) seq gone

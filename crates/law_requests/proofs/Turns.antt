@@ -1,49 +1,47 @@
 -- A step of a client keeps what is known of requests.
-use Rattle.std.proofs.Common.{◌≡◌, ◌≤◌, ℕ, List, Some, length, sym, subst, ◌⊎◌, inl, inr, arith}
+use Rattle.std.proofs.Common.{◌≡◌, ◌≤◌, ℕ, true, List, Some, length, sym, ap, ◌∙◌, subst, ◌⊎◌, inl, inr, arith}
 use Rattle.petal_base.specs.declared.cell.Cell.{Cell}
 use Rattle.petal_msg.specs.declared.body.Body.{Body}
 use Rattle.petal_msg.specs.declared.letter.Actor.{Actor}
 use Rattle.petal_history.specs.Claims.{IsPrefix}
 use Rattle.petal_rules.specs.Lists.{In, put_at}
-use Rattle.petal_rules.specs.State.{State}
+use Rattle.petal_rules.specs.State.{State, is_in}
 use Rattle.petal_rules.specs.Server.{Post}
 use Rattle.petal_rules.specs.Writes.{Wanted}
 use Rattle.petal_rules.specs.Clients.{Client, Asked, Reaction, client_sender}
-use Rattle.petal_rules.specs.World.{Setting, World, reacts}
+use Rattle.petal_rules.specs.World.{Setting, World, reacts, server_state}
 use Rattle.petal_rules.proofs.ListLemmas.{in-append}
 use Rattle.petal_rules.proofs.Tests.{all_put}
-use Rattle.law_state.specs.Plain.{IsPlainLog}
 use Rattle.law_steps.specs.Happens.{IsOnward}
-use Rattle.law_steps.proofs.Fronts.{front_itself}
+use Rattle.law_steps.proofs.Fronts.{front_itself, front_long}
 use Rattle.law_steps.proofs.Histories.{own_plain}
 use Rattle.law_steps.proofs.Letters.{said}
 use Rattle.law_requests.specs.Asked.{IsAsked, IsOpenFrom}
-use Rattle.law_requests.specs.Known.{Seen, seen, AreLate, IsSent, Known, asked_for, Asking}
-use Rattle.law_requests.proofs.Fronts.{front_long}
+use Rattle.law_requests.specs.Known.{Lives, Seen, lives_after, seen, done_by, AreLate, IsSent, Known, PendingFor, asked_for, AskingBy}
 use Rattle.law_requests.proofs.Frames.{Scene}
 use Rattle.law_requests.proofs.Later.{Later, known_later, pending_later}
-use Rattle.law_requests.proofs.Running.{client_plain}
+use Rattle.law_requests.proofs.Lives.{Lived, done_now, dones_rise, lived_on, lives_still, ran_same}
 
 -- a write that the client has sent under this number comes too late
-abbrev pub Closed : Setting → State → World → (after : Seen) → (c seq rev : ℕ) → Type 0
-Closed setting state w after c seq rev =
+abbrev pub Closed : Setting → State → World → Lives → (after : Seen) → (c seq rev : ℕ) → Type 0
+Closed setting state w lives after c seq rev =
     (cell : Cell) (epoch : ℕ) (bytes : List ℕ)
-    → (sent : IsSent setting state (seen w) (record { client = c; seq = seq; cell = cell; epoch = epoch; bytes = bytes }) rev)
+    → (sent : IsSent setting state (seen lives w) (record { client = c; seq = seq; cell = cell; epoch = epoch; bytes = bytes }) rev)
     → AreLate setting.servers after (record { client = c; seq = seq; cell = cell; epoch = epoch; bytes = bytes }) sent.at.front
 
-pub record TurnOk (setting : Setting) (state : State) (w : World) (after : Seen) (c : ℕ) (client : Client) (posts : List Post) : Type 0 where
+pub record TurnOk (setting : Setting) (state : State) (w : World) (lives : Lives) (after : Seen) (c : ℕ) (client : Client) (posts : List Post) : Type 0 where
   pub seqs : (w.clients c).seq ≤ client.seq
   pub asked : (asked : Asked) → client.asked ≡ Some asked → IsAsked setting.lines c client asked
   pub closes : (seq rev : ℕ) → rev ≤ length (w.clients c).applied → IsOpenFrom (w.clients c) seq rev
-      → IsOpenFrom client seq rev ⊎ Closed setting state w after c seq rev
+      → IsOpenFrom client seq rev ⊎ Closed setting state w lives after c seq rev
   pub says : (post : Post) → In post posts → (from : Actor) → Known setting state after from post.to (length client.applied) post.body
 
 -- what is seen after a client's step
-abbrev pub seen_with : World → (c : ℕ) → Client → Seen
-seen_with w c client = seen (record w { clients = put_at w.clients c client })
+abbrev pub seen_with : Lives → World → (c : ℕ) → Client → Seen
+seen_with lives w c client = seen (lives_after lives w) (record w { clients = put_at w.clients c client })
 
 module _ (scene : Scene) (c stamp : ℕ) (reacted : Reaction)
-    (turn : TurnOk scene.setting scene.state scene.w (seen_with scene.w c reacted.client) c reacted.client reacted.posts)
+    (turn : TurnOk scene.setting scene.state scene.w scene.lives (seen_with scene.lives scene.w c reacted.client) c reacted.client reacted.posts)
     (onward : IsOnward scene.setting.servers scene.state (scene.w.clients c).applied reacted.client.applied) where
   abbrev setting : Setting
   setting = scene.setting
@@ -54,53 +52,74 @@ module _ (scene : Scene) (c stamp : ℕ) (reacted : Reaction)
   abbrev w : World
   w = scene.w
 
-  abbrev asking : Asking setting state w
+  abbrev lives : Lives
+  lives = scene.lives
+
+  abbrev asking : AskingBy setting state w lives
   asking = scene.asking
 
-  abbrev after : World
-  after = (reacts w c stamp reacted).world
+  abbrev later : World
+  later = (reacts w c stamp reacted).world
 
-  turn_later : Later setting state (seen w) (seen after)
+  abbrev after : Lives
+  after = lives_after lives later
+
+  -- no server does anything
+  steps : (n : ℕ) → Lived lives n (w.servers n) (later.servers n)
+  steps = lives_still lives w asking.lived
+
+  ran_still : (n : ℕ) → after.ran n ≡ lives.ran n
+  ran_still n = ran_same lives w later asking.lived steps n (λ on. sym (asking.lived.ran n on))
+
+  pub turn_later : Later setting state (seen lives w) (seen after later)
   turn_later = record {
     seqs = all_put w.clients c reacted.client (λ j client. (w.clients j).seq ≤ client.seq) (λ j. omega arith) turn.seqs;
     clients = all_put w.clients c reacted.client (λ j (x : Client). IsPrefix (w.clients j).applied x.applied) (λ j. front_itself (w.clients j).applied) onward.grows;
-    clients_plain = all_put w.clients c reacted.client (λ j (x : Client). IsPlainLog setting.servers x.applied) (client_plain setting w scene.firm) onward.plain;
     logs = λ n. front_itself (w.servers n).log.applied;
     logs_plain = own_plain setting w scene.firm;
-    dones = λ n j. omega arith;
+    dones = dones_rise lives w later asking.lived steps;
     closes = λ want rev sent is. closed want.client want.seq rev (front_at want rev sent) is want.cell want.epoch want.bytes sent;
   }
     where
-      front_at : (want : Wanted) (rev : ℕ) → IsSent setting state (seen w) want rev → rev ≤ length (w.clients want.client).applied
+      front_at : (want : Wanted) (rev : ℕ) → IsSent setting state (seen lives w) want rev → rev ≤ length (w.clients want.client).applied
       front_at want rev sent = let le = front_long sent.at.front _ sent.at.lies in let e = sent.at.long in omega arith
 
       closed : (j seq rev : ℕ) → rev ≤ length (w.clients j).applied → IsOpenFrom (w.clients j) seq rev → (cell : Cell) (epoch : ℕ) (bytes : List ℕ)
-          → (sent : IsSent setting state (seen w) (record { client = j; seq = seq; cell = cell; epoch = epoch; bytes = bytes }) rev)
-          → IsOpenFrom (after.clients j) seq rev
-          ⊎ AreLate setting.servers (seen after) (record { client = j; seq = seq; cell = cell; epoch = epoch; bytes = bytes }) sent.at.front
+          → (sent : IsSent setting state (seen lives w) (record { client = j; seq = seq; cell = cell; epoch = epoch; bytes = bytes }) rev)
+          → IsOpenFrom (later.clients j) seq rev
+          ⊎ AreLate setting.servers (seen after later) (record { client = j; seq = seq; cell = cell; epoch = epoch; bytes = bytes }) sent.at.front
       closed j seq rev le is cell epoch bytes sent = elim (by j seq rev le is) [ inl still ↦ inl still | inr late ↦ inr (late cell epoch bytes sent) ]
         where
           by : (i : ℕ) (seq rev : ℕ) → rev ≤ length (w.clients i).applied → IsOpenFrom (w.clients i) seq rev
-              → IsOpenFrom (after.clients i) seq rev ⊎ Closed setting state w (seen after) i seq rev
+              → IsOpenFrom (later.clients i) seq rev ⊎ Closed setting state w lives (seen after later) i seq rev
           by = all_put w.clients c reacted.client
               (λ i client. (seq rev : ℕ) → rev ≤ length (w.clients i).applied → IsOpenFrom (w.clients i) seq rev
-              → IsOpenFrom client seq rev ⊎ Closed setting state w (seen after) i seq rev) (λ i seq rev le is. inl is) turn.closes
+              → IsOpenFrom client seq rev ⊎ Closed setting state w lives (seen after later) i seq rev) (λ i seq rev le is. inl is) turn.closes
 
-  pub turn_asking : Asking setting state after
+  pub turn_asking : AskingBy setting state later after
   turn_asking = record {
+    lived = lived_on lives w later asking.lived steps;
     asked = all_put w.clients c reacted.client (λ j client. (asked : Asked) → client.asked ≡ Some asked → IsAsked setting.lines j client asked)
         asking.asked turn.asked;
     letters = λ letter h. elim (in-append letter _ w.sent h) [
       | inl new ↦
           let s = said (client_sender c reacted.client) stamp 0 reacted.posts letter new in
           let k = turn.says s.post s.there letter.from in
-          subst (λ (b : Body). Known setting state (seen after) letter.from letter.to letter.rev b) (sym s.body)
-          (subst (λ (r : ℕ). Known setting state (seen after) letter.from letter.to r s.post.body) (sym s.rev)
-          (subst (λ (a : Actor). Known setting state (seen after) letter.from a (length reacted.client.applied) s.post.body) (sym s.to) k))
-      | inr sent ↦ known_later setting state (seen w) (seen after) turn_later letter.from letter.to letter.rev letter.body (asking.letters letter sent)
+          subst (λ (b : Body). Known setting state (seen after later) letter.from letter.to letter.rev b) (sym s.body)
+          (subst (λ (r : ℕ). Known setting state (seen after later) letter.from letter.to r s.post.body) (sym s.rev)
+          (subst (λ (a : Actor). Known setting state (seen after later) letter.from a (length reacted.client.applied) s.post.body) (sym s.to) k))
+      | inr sent ↦
+          known_later setting state (seen lives w) (seen after later) turn_later letter.from letter.to letter.rev letter.body (asking.letters letter sent)
     ];
     pending = λ n cell op is.
         let p = asking.pending n cell op is in
-        pending_later setting state (seen w) (seen after) turn_later n (asked_for cell op) op.rev p p.unfinished;
+        let e = ran_still n in
+        let now : after.done n (lives.ran n) op.client ≡ done_by (w.servers n).own op.client =
+        ap (λ i. after.done n i op.client) (sym e) ∙ done_now lives w later asking.lived steps n op.client in
+        let tied = asking.lived.tied n op.client in
+        let un = p.unfinished in
+        subst (λ i. PendingFor setting state (seen after later) n i (asked_for cell op) op.rev) (sym e)
+        (pending_later setting state (seen lives w) (seen after later) turn_later n (lives.ran n) (asked_for cell op) op.rev p (omega arith));
     finished = λ n j. let b = asking.finished n j in let up = turn_later.seqs j in omega arith;
+    used = λ n u. subst (λ i. is_in (server_state setting w n) n i ≡ true) (sym (ran_still n)) (asking.used n u);
   }

@@ -1,5 +1,5 @@
 -- What is kept of requests: of those that are open, pending or finished, and of the letters that speak of them.
-use Rattle.std.specs.Prelude.{◌≡◌, ◌≢◌, ◌≤◌, ◌<◌, ◌⊎◌, ◌+◌, ℕ, true, List, Some, None, length}
+use Rattle.std.specs.Prelude.{◌≡◌, ◌≢◌, ◌≤◌, ◌<◌, ◌⊎◌, ◌+◌, ◌==◌, ℕ, true, false, if◌then◌else◌, List, Some, None, length}
 use Rattle.std.specs.Ordering.{nat_cmp}
 use Rattle.petal_base.specs.declared.cell.Cell.{Cell}
 use Rattle.petal_command.specs.declared.command.Command.{Command}
@@ -13,28 +13,54 @@ use Rattle.petal_msg.specs.declared.operation.Pending.{Pending}
 use Rattle.petal_history.specs.Claims.{IsPrefix}
 use Rattle.petal_state.specs.Command.{state_after}
 use Rattle.petal_rules.specs.Lists.{In}
-use Rattle.petal_rules.specs.State.{State, lead, is_lead, is_alone_on}
+use Rattle.petal_rules.specs.State.{State, lead, is_in, is_lead, is_alone_on}
 use Rattle.petal_rules.specs.Store.{cell_cmp}
 use Rattle.petal_rules.specs.Server.{Own}
 use Rattle.petal_rules.specs.Writes.{Wanted}
 use Rattle.petal_rules.specs.Clients.{Client, Asked}
-use Rattle.petal_rules.specs.World.{Setting, World}
+use Rattle.petal_rules.specs.World.{Setting, World, server_state}
 use Rattle.law_steps.specs.Operations.{done_to}
 use Rattle.law_requests.specs.Asked.{IsWrite, IsRead, IsAsked, IsOpenFrom}
 
--- what is known of clients, which entries each server has applied, also before it stopped, and above which number each has
--- finished each client's requests
+-- what is known of clients, which entries each server has applied, also before it stopped, and above which number each of its
+-- incarnations has finished each client's requests
 pub record Seen : Type 0 where
   pub clients : ℕ → Client
   pub logs : ℕ → List Command
-  pub done : (server client : ℕ) → ℕ
+  pub done : (server inc client : ℕ) → ℕ
 
 -- above the last request that this own has finished for the client
 abbrev pub done_by : Own → ℕ → ℕ
 done_by own c = done_to (at nat_cmp own.pairs.finished c)
 
-abbrev pub seen : World → Seen
-seen w = record { clients = w.clients; logs = λ n. (w.servers n).log.applied; done = λ n c. done_by (w.servers n).own c }
+-- ### Incarnations
+
+-- as which incarnation each server ran last, and above which number each incarnation has finished each client's requests: what
+-- a server forgets at a boot stays known of the incarnation that it was
+pub record Lives : Type 0 where
+  pub ran : ℕ → ℕ
+  pub done : (server inc client : ℕ) → ℕ
+
+-- after a step that leads to this world
+abbrev pub lives_after : Lives → World → Lives
+lives_after lives w =
+    let ran : ℕ → ℕ = λ n. if (w.servers n).life.running then (w.servers n).life.inc else lives.ran n in
+    record { ran = ran; done = λ n inc c. if inc == ran n then done_by (w.servers n).own c else lives.done n inc c }
+
+-- who runs does so as the incarnation that it ran as last, and has that one's memory; a later one has none yet
+pub record AreLives (w : World) (lives : Lives) : Type 0 where
+  pub ran : (n : ℕ) → (w.servers n).life.running ≡ true → lives.ran n ≡ (w.servers n).life.inc
+  pub begun : (n : ℕ) → lives.ran n ≤ (w.servers n).life.inc
+  pub tied : (n c : ℕ) → lives.done n (lives.ran n) c ≡ done_by (w.servers n).own c
+  pub unborn : (n inc c : ℕ) → lives.ran n < inc → lives.done n inc c ≡ 0
+
+abbrev pub seen : Lives → World → Seen
+seen lives w = record { clients = w.clients; logs = λ n. (w.servers n).log.applied; done = lives.done }
+
+-- the server is In as this incarnation, and leads the cell
+pub record LedBy (state : State) (n inc : ℕ) (cell : Cell) : Type 0 where
+  pub seated : is_in state n inc ≡ true
+  pub leads : is_lead state n cell ≡ true
 
 -- the front of a log that has so many entries as the revision says
 pub record IsAt (log : List Command) (rev : ℕ) : Type 0 where
@@ -44,16 +70,22 @@ pub record IsAt (log : List Command) (rev : ℕ) : Type 0 where
 
 -- ### Writes
 
--- why a server can't take a client's write any more: it is past it; or the cell has no lead by the client's own state; or
--- another server holds the cell's link alone, by that one's own state
-pub data IsLate (servers : ℕ) (v : Seen) (client seq : ℕ) (cell : Cell) (n : ℕ) : Type 0 where
-  Is_past : seq < v.done n client → IsLate servers v client seq cell n
-  Has_no_lead : lead (state_after servers (v.clients client).applied) cell ≡ None → IsLate servers v client seq cell n
-  Has_another : (other : ℕ) → other ≢ n → is_alone_on (state_after servers (v.logs other)) other cell ≡ true → IsLate servers v client seq cell n
+-- why an incarnation that led the cell by these entries can't take a client's write any more: it is past it; or the cell had
+-- no lead by a later state of the client; or the server has left, and holds the cell's link alone as another incarnation; or
+-- another server holds it alone, by that one's own state
+pub data IsLate (servers : ℕ) (v : Seen) (front : List Command) (client seq : ℕ) (cell : Cell) (n inc : ℕ) : Type 0 where
+  Is_past : seq < v.done n inc client → IsLate servers v front client seq cell n inc
+  Had_no_lead : (log : List Command) → IsPrefix front log → IsPrefix log (v.clients client).applied → lead (state_after servers log) cell ≡ None
+      → IsLate servers v front client seq cell n inc
+  Has_left : (log : List Command) → IsPrefix front log → IsPrefix log (v.logs n) → is_in (state_after servers log) n inc ≡ false
+      → is_alone_on (state_after servers log) n cell ≡ true → IsLate servers v front client seq cell n inc
+  Has_another : (other : ℕ) → other ≢ n → is_alone_on (state_after servers (v.logs other)) other cell ≡ true
+      → IsLate servers v front client seq cell n inc
 
 -- whoever leads the cell by the state that these entries make can't take the write any more
 abbrev pub AreLate : (servers : ℕ) → Seen → Wanted → List Command → Type 0
-AreLate servers v want front = (n : ℕ) → is_lead (state_after servers front) n want.cell ≡ true → IsLate servers v want.client want.seq want.cell n
+AreLate servers v want front =
+    (n inc : ℕ) → LedBy (state_after servers front) n inc want.cell → IsLate servers v front want.client want.seq want.cell n inc
 
 -- a write that its client has sent at this revision: its request is a write of this cell, by the state of that revision too
 pub record IsSent (setting : Setting) (state : State) (v : Seen) (want : Wanted) (rev : ℕ) : Type 0 where
@@ -69,14 +101,15 @@ pub record WriteKnown (setting : Setting) (state : State) (v : Seen) (want : Wan
 
 -- of a reply that ends a write: its sender led the cell at its revision, and is past the write
 pub record EndKnown (setting : Setting) (state : State) (v : Seen) (client seq server rev : ℕ) : Type 0 where
+  pub inc : ℕ
   pub cell : Cell
   pub epoch : ℕ
   pub bytes : List ℕ
   pub write : IsWrite state setting.lines client seq cell epoch bytes
   pub old : seq ≤ (v.clients client).seq
   pub at : IsAt (v.logs server) rev
-  pub leads : is_lead (state_after setting.servers at.front) server cell ≡ true
-  pub past : seq < v.done server client
+  pub led : LedBy (state_after setting.servers at.front) server inc cell
+  pub past : seq < v.done server inc client
 
 -- ### Letters
 
@@ -102,16 +135,28 @@ KnownLetter setting state v letter = Known setting state v letter.from letter.to
 abbrev pub asked_for : Cell → Pending → Wanted
 asked_for cell op = record { client = op.client; seq = op.seq; cell = cell; epoch = op.key.epoch; bytes = op.bytes }
 
--- a write that is pending at this server was sent at the revision at which it was opened, when the server led the cell, and
--- the server is not past it
-pub record PendingFor (setting : Setting) (state : State) (v : Seen) (n : ℕ) (want : Wanted) (rev : ℕ) : Type 0 where
+-- a write that is pending at this incarnation was sent at the revision at which it was opened, when that one led the cell, and
+-- it is not past it
+pub record PendingFor (setting : Setting) (state : State) (v : Seen) (n inc : ℕ) (want : Wanted) (rev : ℕ) : Type 0 where
   pub known : WriteKnown setting state v want rev
-  pub leads : is_lead (state_after setting.servers known.sent.at.front) n want.cell ≡ true
-  pub unfinished : v.done n want.client ≤ want.seq
+  pub led : LedBy (state_after setting.servers known.sent.at.front) n inc want.cell
+  pub unfinished : v.done n inc want.client ≤ want.seq
 
-pub record Asking (setting : Setting) (state : State) (w : World) : Type 0 where
+-- something is pending or was finished
+pub data IsUsed (own : Own) : Type 0 where
+  Has_pending : (cell : Cell) (op : Pending) → at cell_cmp own.pairs.pending cell ≡ Some op → IsUsed own
+  Has_finished : (c : ℕ) → 1 ≤ done_by own c → IsUsed own
+
+pub record AskingBy (setting : Setting) (state : State) (w : World) (lives : Lives) : Type 0 where
+  pub lived : AreLives w lives
   pub asked : (c : ℕ) (asked : Asked) → (w.clients c).asked ≡ Some asked → IsAsked setting.lines c (w.clients c) asked
-  pub letters : (letter : Letter) → In letter w.sent → KnownLetter setting state (seen w) letter
+  pub letters : (letter : Letter) → In letter w.sent → KnownLetter setting state (seen lives w) letter
   pub pending : (n : ℕ) (cell : Cell) (op : Pending) → at cell_cmp (w.servers n).own.pairs.pending cell ≡ Some op
-      → PendingFor setting state (seen w) n (asked_for cell op) op.rev
+      → PendingFor setting state (seen lives w) n (lives.ran n) (asked_for cell op) op.rev
   pub finished : (n c : ℕ) → done_by (w.servers n).own c ≤ (w.clients c).seq + 1
+  pub used : (n : ℕ) → IsUsed (w.servers n).own → is_in (server_state setting w n) n (lives.ran n) ≡ true
+
+-- the same, of the incarnations that there were
+pub record Asking (setting : Setting) (state : State) (w : World) : Type 0 where
+  pub lives : Lives
+  pub known : AskingBy setting state w lives

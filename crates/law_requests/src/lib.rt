@@ -29,7 +29,7 @@ pub fn letters_of_clients_and_replies()
 {}
 
 /// The request of a pending operation is open while its server runs; and, also after it stopped, while the cell has a lead by
-/// what is chosen and no other server knows that it holds the cell alone.
+/// what is chosen, which has not joined again since its own state, and no other server knows that it holds the cell alone.
 pub fn pending_writes_are_open()
     ensures { (script : Script) (records : List Record) → IsSound script → IsLegal script records → AreOpen (setting_of script) (world_after (setting_of script) (start (setting_of script)) records) }
 {}

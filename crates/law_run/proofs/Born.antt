@@ -14,7 +14,7 @@ use Rattle.law_state.specs.Firm.{Firm}
 use Rattle.law_state.specs.Steady.{IsSteady}
 use Rattle.law_state.proofs.Alone.{led_row}
 use Rattle.law_state.proofs.Cells.{second_by}
-use Rattle.law_steps.specs.Happens.{Handled, Worked, By_job, By_entry, Serving, Goes, Ends, Stays, own_place}
+use Rattle.law_steps.specs.Happens.{Handled, Worked, By_job, By_entry, Serving, Goes, Ends, Stays, Wakes, Fails, own_place}
 use Rattle.law_steps.specs.Ready.{Rests}
 use Rattle.law_steps.proofs.Histories.{own_steady}
 use Rattle.petal_rules.specs.Jobs.{Acted}
@@ -53,7 +53,7 @@ module _ (setting : Setting) (w : World) (firm : Firm setting w) (rests : Rests 
 
   worked_born : (log : Log) (done : Done) → Worked setting w n log done → (cell : Cell) → cell_link state cell ≡ None
       → chain_in done.own.store.chains cell ≡ chain_in own.store.chains cell
-  worked_born _ _ (By_job log done same did) cell none = stored_born done.own (did_stores (Handled w n) (own_place setting w n) own done did) cell none
+  worked_born _ _ (By_job log done same did seat) cell none = stored_born done.own (did_stores (Handled w n) (own_place setting w n) own done did) cell none
   worked_born _ _ (By_entry log entry more front) cell none = refl
 
   -- the chain of a cell that is of no disk that the server knows stays
@@ -62,3 +62,5 @@ module _ (setting : Setting) (w : World) (firm : Firm setting w) (rests : Rests 
   serves_born what _ (Goes log done queue runs worked queued works) cell none = worked_born log done worked cell none
   serves_born what _ (Ends log done runs worked) cell none = worked_born log done worked cell none
   serves_born what _ (Stays who posts from shown) cell none = refl
+  serves_born what _ (Wakes booted asleep) cell none = refl
+  serves_born what _ (Fails booted asleep) cell none = refl

@@ -17,7 +17,7 @@ use Rattle.petal_msg.specs.declared.operation.Pending.{Pending}
 use Rattle.script_lines.specs.declared.request.Line.{Line}
 use Rattle.petal_rules.specs.Lists.{In}
 use Rattle.petal_rules.specs.State.{State}
-use Rattle.petal_rules.specs.Store.{cell_cmp}
+use Rattle.petal_rules.specs.Store.{Chain, cell_cmp, chain_in}
 use Rattle.petal_rules.specs.Server.{Post, letters_of}
 use Rattle.petal_rules.specs.Clients.{Client, Reaction, client_sender}
 use Rattle.petal_rules.specs.World.{Setting, World, reacts, stamped, chosen_state}
@@ -121,7 +121,7 @@ module _ (this : ClientStep) where
   -- ### The frame
 
   -- a reply was to a request of a number that the client had reached
-  reply_old : (letter : Letter) (from to : Actor) (seq : ℕ) → EndKnownAt this.setting this.state (seen this.w) seq letter.rev from to
+  reply_old : (letter : Letter) (from to : Actor) (seq : ℕ) → EndKnownAt this.setting this.state (seen this.ground.lives this.w) seq letter.rev from to
       → to ≡ actor.Client this.c → seq ≤ client.seq
   reply_old letter (actor.Server n) (actor.Client c) seq known e = subst (λ i. seq ≤ (this.w.clients i).seq) (one_client e) known.old
   reply_old letter (actor.Server n) (actor.Server k) seq known e = absurd known
@@ -130,7 +130,8 @@ module _ (this : ClientStep) where
   written_old : (letter : Letter) (seq : ℕ) → In letter this.w.sent → letter.to ≡ actor.Client this.c → letter.body ≡ body.Written seq → seq ≤ client.seq
   written_old letter seq h to says =
       reply_old letter letter.from letter.to seq
-      (subst (λ (b : Body). Known this.setting this.state (seen this.w) letter.from letter.to letter.rev b) says (this.ground.asking.letters letter h)) to
+      (subst (λ (b : Body). Known this.setting this.state (seen this.ground.lives this.w) letter.from letter.to letter.rev b) says
+      (this.ground.asking.letters letter h)) to
 
   finished_old : (n : ℕ) (last : Finished) → at nat_cmp (owns_of this.w n).pairs.finished this.c ≡ Some last → last.seq ≤ client.seq
   finished_old n last is =
@@ -149,33 +150,35 @@ module _ (this : ClientStep) where
         (λ i ne to still. ap held_in (turn.others i ne) ∙ this.follow.letters letter i seq h to says still)
         (λ to still. held_still seq (written_old letter seq h to says) still (this.follow.letters letter this.c seq h to says)) j to
 
-    finished : (n j : ℕ) (last : Finished) → at nat_cmp (owns_of this.w n).pairs.finished j ≡ Some last → last.ending ≡ ending.Written
-        → IsOpen ((after_turn reacted).clients j) last.seq → is_held k j ≡ true
-    finished n j last is how =
+    finished : (n j : ℕ) (last : Finished) → (this.w.servers n).life.running ≡ true → at nat_cmp (owns_of this.w n).pairs.finished j ≡ Some last
+        → last.ending ≡ ending.Written → IsOpen ((after_turn reacted).clients j) last.seq → is_held k j ≡ true
+    finished n j last on is how =
         all_put_apart this.w.clients this.c reacted.client
         (λ i x. at nat_cmp (owns_of this.w n).pairs.finished i ≡ Some last → IsOpen x last.seq → is_held k i ≡ true)
-        (λ i ne is still. ap held_in (turn.others i ne) ∙ this.follow.finished n i last is how still)
-        (λ is still. held_still last.seq (finished_old n last is) still (this.follow.finished n this.c last is how)) j is
+        (λ i ne is still. ap held_in (turn.others i ne) ∙ this.follow.finished n i last on is how still)
+        (λ is still. held_still last.seq (finished_old n last is) still (this.follow.finished n this.c last on is how)) j is
 
-    pending : (n : ℕ) (cell : Cell) (op : Pending) → at cell_cmp (owns_of this.w n).pairs.pending cell ≡ Some op
-        → HasCounted this.setting this.state this.w n cell op → IsOpen ((after_turn reacted).clients op.client) op.seq → is_held k op.client ≡ true
-    pending n cell op is counted still =
+    pending : (n : ℕ) (cell : Cell) (op : Pending) → (this.w.servers n).life.running ≡ true → at cell_cmp (owns_of this.w n).pairs.pending cell ≡ Some op
+        → HasCounted this.setting this.state this.w n cell op (chain_in (owns_of this.w n).store.chains cell)
+        → IsOpen ((after_turn reacted).clients op.client) op.seq → is_held k op.client ≡ true
+    pending n cell op on is counted still =
         all_put_apart this.w.clients this.c reacted.client
         (λ i x. op.client ≡ i → IsOpen x op.seq → is_held k i ≡ true)
         (λ i ne e open_now. ap held_in (turn.others i ne)
-        ∙ subst (λ j. is_held this.m j ≡ true) e (this.follow.pending n cell op is counted (subst (λ j. IsOpen (this.w.clients j) op.seq) (sym e) open_now)))
+        ∙ subst (λ j. is_held this.m j ≡ true) e (this.follow.pending n cell op on is counted (subst (λ j. IsOpen (this.w.clients j) op.seq) (sym e) open_now)))
         (λ e open_now.
         let old : op.seq ≤ client.seq = subst (λ j. op.seq ≤ (this.w.clients j).seq) e (this.ground.asking.pending n cell op is).known.sent.old in
         held_still op.seq old open_now (λ was. subst (λ j. is_held this.m j ≡ true) e
-        (this.follow.pending n cell op is counted (subst (λ j. IsOpen (this.w.clients j) op.seq) (sym e) was))))
+        (this.follow.pending n cell op on is counted (subst (λ j. IsOpen (this.w.clients j) op.seq) (sym e) was))))
         op.client refl still
 
     -- the servers' part is as before, and so is what is chosen
-    counted_back : (n : ℕ) (cell : Cell) (op : Pending) → HasCounted this.setting this.state (after_turn reacted) n cell op
-        → HasCounted this.setting this.state this.w n cell op
-    counted_back n cell op (Is_told off paired) = Is_told off paired
-    counted_back n cell op (Is_followed q pair together past) = Is_followed q pair (record { one = together.one; other = together.other }) past
-    counted_back n cell op (Is_counted put here) = Is_counted put here
+    counted_back : (n : ℕ) (cell : Cell) (op : Pending) (chain : Chain) → HasCounted this.setting this.state (after_turn reacted) n cell op chain
+        → HasCounted this.setting this.state this.w n cell op chain
+    counted_back n cell op chain (Is_told off paired) = Is_told off paired
+    counted_back n cell op chain (Is_followed q pair together put same) =
+        Is_followed q pair (record { one = together.one; other = together.other }) put same
+    counted_back n cell op chain (Is_counted put here) = Is_counted put here
 
     pub turn_follow : ((post : Post) → In post reacted.posts → (seq : ℕ) → post.body ≢ body.Written seq)
         → Follow this.setting this.state rows (after_turn reacted) k
@@ -194,6 +197,6 @@ module _ (this : ClientStep) where
             said (client_sender this.c reacted.client) this.stamp 0 reacted.posts letter new in absurd (unwritten s.post s.there seq (sym s.body ∙ says))
         | inr old ↦ letters letter j seq old to says still
       ];
-      pending = λ n cell op is counted still. pending n cell op is (counted_back n cell op counted) still;
+      pending = λ n cell op on is counted still. pending n cell op on is (counted_back n cell op _ counted) still;
       finished = finished;
     }

@@ -20,7 +20,7 @@ use Rattle.script_lines.specs.declared.request.Request.{Request}
 use Rattle.script_lines.specs.declared.request.Request.TheVariants as request
 use Rattle.petal_rules.specs.State.{State, find, lead}
 use Rattle.petal_rules.specs.Writes.{ended}
-use Rattle.petal_rules.specs.Clients.{Client, Asked, Reaction, answers, is_read, is_stop, is_write, cell_on, command_of, refusal, write_refusal}
+use Rattle.petal_rules.specs.Clients.{Client, Asked, Reaction, answers, is_read, seen_answer, is_write, cell_on, command_of, refusal, write_refusal}
 use Rattle.petal_rules.specs.World.{World, reacts, next_line}
 use Rattle.petal_rules.proofs.ListLemmas.{put_same}
 use Rattle.petal_history.specs.Events as events
@@ -41,9 +41,9 @@ not_write : (c seq : ℕ) (asked : Request) → is_read asked ≡ true → write
 not_write c seq (request.Write name block pattern) e = let f : false ≡ true = e in absurd cc
 not_write c seq _ e = refl
 
-stop_no_write : (c seq : ℕ) (asked : Request) → is_stop asked ≡ true → write_by c seq asked ≡ None
-stop_no_write c seq (request.Write name block pattern) e = let f : false ≡ true = e in absurd cc
-stop_no_write c seq _ e = refl
+seen_no_write : (c seq : ℕ) (asked : Request) (running : Bool) (given : Answer) → seen_answer asked running ≡ Some given → write_by c seq asked ≡ None
+seen_no_write c seq (request.Write name block pattern) running given e = none_some refl e
+seen_no_write c seq _ running given e = refl
 
 a_write : (c seq : ℕ) (asked : Request) → is_write asked ≡ true → (write : Write) × (write_by c seq asked ≡ Some write)
 a_write c seq (request.Write name block pattern) e = (_, refl)
@@ -199,12 +199,12 @@ module _ (this : ClientStep) where
   -- a line of the operator is no write
   shown_told : (asked : Asked) (rev round inc : ℕ) (running full : Bool)
       (h : Heard this.w (actor.Client this.c) rev (body.Seen asked.line round running inc full)) (is : client.asked ≡ Some asked)
-      (stops : is_stop asked.request ≡ true) → ClientTold false (answers client asked answer.Ok)
-  shown_told asked rev round inc running full h is stops =
-      let none : open_write this.w this.c ≡ None = ap (write_asked this.c) is ∙ stop_no_write this.c asked.seq asked.request stops in
-      silent false (answers client asked answer.Ok) (Shown asked rev round inc running full h is stops) refl
-      (ap (λ o. events.ended o (Some (asked.line, answer.Ok))) none)
-      (quiet_turn (answers client asked answer.Ok).client (empty_seat none) (λ seq o. none_some refl o.is))
+      (given : Answer) (shown : seen_answer asked.request running ≡ Some given) → ClientTold false (answers client asked given)
+  shown_told asked rev round inc running full h is given shown =
+      let none : open_write this.w this.c ≡ None = ap (write_asked this.c) is ∙ seen_no_write this.c asked.seq asked.request running given shown in
+      silent false (answers client asked given) (Shown asked rev round inc running full h is given shown) refl
+      (ap (λ o. events.ended o (Some (asked.line, given))) none)
+      (quiet_turn (answers client asked given).client (empty_seat none) (λ seq o. none_some refl o.is))
 
   -- a write ends as its reply says
   may_end : (write : Write) (how : Ending) (asked : Asked) → write.client ≡ this.c → open_write this.w this.c ≡ Some write → client.asked ≡ Some asked
@@ -296,5 +296,5 @@ module _ (this : ClientStep) where
   turn_told _ _ (Begins reacted line asked is free seq there called only) = begins_told reacted line asked is free seq there called only
   turn_told _ _ (Reads asked bytes h is reads) = reads_told asked bytes h is reads
   turn_told _ _ (Ends asked how h is writes) = ends_told asked how h is writes
-  turn_told _ _ (Shown asked rev round inc running full h is stops) = shown_told asked rev round inc running full h is stops
+  turn_told _ _ (Shown asked rev round inc running full h is given shown) = shown_told asked rev round inc running full h is given shown
   turn_told _ _ (Judges later asked given is gone seq judged) = judges_told later asked given is gone seq judged

@@ -1,8 +1,9 @@
 -- What a server's step has to show so that servers and clients stay tied to the plain machine.
-use Rattle.std.proofs.Common.{◌≡◌, ◌≢◌, ◌≤◌, ◌+◌, ℕ, true, Some, sym, ap, ◌∙◌, subst, ◌⊎◌, inl, inr, arith}
+use Rattle.std.proofs.Common.{◌≡◌, ◌≢◌, ℕ, true, Some, refl, sym, ap, ◌∙◌, subst, ◌⊎◌, inl, inr}
 use Rattle.std.specs.Ordering.{nat_cmp}
 use Rattle.petal_base.specs.declared.cell.Cell.{Cell}
 use Rattle.petal_table.specs.Table.{at}
+use Rattle.petal_table.proofs.Rows.{at-empty}
 use Rattle.petal_machine.specs.Machine.{Plain}
 use Rattle.petal_msg.specs.declared.body.Body.TheVariants as body
 use Rattle.petal_msg.specs.declared.letter.Actor.TheVariants as actor
@@ -12,13 +13,12 @@ use Rattle.petal_msg.specs.declared.operation.Finished.{Finished}
 use Rattle.petal_msg.specs.declared.operation.Pending.{Pending}
 use Rattle.petal_rules.specs.Lists.{In}
 use Rattle.petal_rules.specs.State.{authority}
-use Rattle.petal_rules.specs.Store.{cell_cmp}
-use Rattle.petal_rules.specs.Server.{Own}
+use Rattle.petal_rules.specs.Store.{Chain, cell_cmp, chain_in}
+use Rattle.petal_rules.specs.Server.{Own, Pairs, Server, no_pairs}
 use Rattle.petal_rules.specs.World.{World, chosen_state}
-use Rattle.petal_rules.proofs.ListLemmas.{in-append}
-use Rattle.petal_rules.proofs.Tests.{same_or_apart}
+use Rattle.petal_rules.proofs.ListLemmas.{in-append, put_same, put_apart}
+use Rattle.petal_rules.proofs.Tests.{none_some, same_or_apart}
 use Rattle.petal_history.specs.Events.{open_write}
-use Rattle.law_steps.specs.Operations.{progress}
 use Rattle.law_copies.specs.Pair.{IsPair, AreTogether, alone_in, owns_of}
 use Rattle.law_copies.proofs.Frames.{apart}
 use Rattle.law_requests.specs.Asked.{IsOpen}
@@ -27,6 +27,16 @@ use Rattle.law_run.specs.Follow.{HasCounted, Is_told, Is_followed, Is_counted, F
 use Rattle.law_run.proofs.Along.{rows_in}
 use Rattle.law_run.proofs.Machine.{seat_onward, held_onward}
 use Rattle.law_run.proofs.Steps.{ServerStep, new, later_world, letters, own_now, own_other, alone_before}
+
+-- the server runs after the step
+abbrev pub Runs : ServerStep → Type 0
+Runs this = this.acted.server.life.running ≡ true
+
+-- a step that leaves the server's operations as they are, while it runs, or one by which it runs with nothing in memory
+pub data AreKept (this : ServerStep) : Type 0 where
+  As_before : (this.w.servers this.n).life.running ≡ true → (new this).pairs.finished ≡ (owns_of this.w this.n).pairs.finished
+      → (new this).pairs.pending ≡ (owns_of this.w this.n).pairs.pending → AreKept this
+  Anew : (new this).pairs ≡ no_pairs → AreKept this
 
 module _ (this : ServerStep) (k : Plain) where
   abbrev v : World
@@ -37,14 +47,15 @@ module _ (this : ServerStep) (k : Plain) where
 
   -- what a server's own part shows after the step, where the machine goes on to k
   pub record OwnFollow (after : Own) : Type 0 where
-    pub finished : (c : ℕ) (last : Finished) → at nat_cmp after.pairs.finished c ≡ Some last → last.ending ≡ ending.Written
+    pub finished : (c : ℕ) (last : Finished) → Runs this → at nat_cmp after.pairs.finished c ≡ Some last → last.ending ≡ ending.Written
         → IsOpen (this.w.clients c) last.seq → is_held k c ≡ true
-    pub as_lead : (cell : Cell) (op : Pending) → at cell_cmp after.pairs.pending cell ≡ Some op
-        → HasCounted this.setting this.state this.w this.n cell op → IsOpen (this.w.clients op.client) op.seq → is_held k op.client ≡ true
-    pub as_second : (cell : Cell) (p : ℕ) (op : Pending) → IsPair this.state cell p this.n → AreTogether (alone_in this.setting this.w) cell p this.n
-        → at cell_cmp (owns_of this.w p).pairs.pending cell ≡ Some op → IsOpen (this.w.clients op.client) op.seq
-        → op.op + op.op + 1 ≤ progress (at cell_cmp after.pairs.last cell)
-        → (op.op + op.op + 1 ≤ progress (at cell_cmp own.pairs.last cell)) ⊎ (is_held k op.client ≡ true)
+    pub as_lead : (cell : Cell) (op : Pending) → Runs this → at cell_cmp after.pairs.pending cell ≡ Some op
+        → HasCounted this.setting this.state this.w this.n cell op (chain_in after.store.chains cell) → IsOpen (this.w.clients op.client) op.seq
+        → is_held k op.client ≡ true
+    pub as_second : (cell : Cell) (p : ℕ) (op : Pending) → (this.w.servers p).life.running ≡ true → IsPair this.state cell p this.n
+        → AreTogether (alone_in this.setting this.w) cell p this.n → at cell_cmp (owns_of this.w p).pairs.pending cell ≡ Some op → op.stage.put ≡ true
+        → IsOpen (this.w.clients op.client) op.seq → chain_in (owns_of this.w p).store.chains cell ≡ chain_in after.store.chains cell
+        → (chain_in (owns_of this.w p).store.chains cell ≡ chain_in own.store.chains cell) ⊎ (is_held k op.client ≡ true)
 
   -- what it sends ends a write as written only where that has had its bytes
   abbrev pub SaysOk : Type 0
@@ -53,71 +64,107 @@ module _ (this : ServerStep) (k : Plain) where
 
   -- an operation that is put where the copy counts after the step was put where it counted before, or has had its bytes
   abbrev pub CountsOk : Type 0
-  CountsOk = (i : ℕ) (cell : Cell) (op : Pending) → at cell_cmp (owns_of v i).pairs.pending cell ≡ Some op → op.stage.put ≡ true
+  CountsOk = (i : ℕ) (cell : Cell) (op : Pending) → (v.servers i).life.running ≡ true → at cell_cmp (owns_of v i).pairs.pending cell ≡ Some op → op.stage.put ≡ true
       → authority (chosen_state this.setting v) cell ≡ Some i → IsOpen (this.w.clients op.client) op.seq
       → (authority (chosen_state this.setting this.w) cell ≡ Some i) ⊎ (is_held k op.client ≡ true)
 
   module _ (onward : Onward this.m k) (job : OwnFollow (new this)) (counts : CountsOk) where
-    finished : (i c : ℕ) (last : Finished) → at nat_cmp (owns_of v i).pairs.finished c ≡ Some last → last.ending ≡ ending.Written
-        → IsOpen (this.w.clients c) last.seq → is_held k c ≡ true
-    finished i c last is how still = elim (same_or_apart i this.n) [
-      | inl e ↦ job.finished c last (sym (ap (λ (h : Own). at nat_cmp h.pairs.finished c) (ap (owns_of v) e ∙ own_now this)) ∙ is) how still
+    server_now : v.servers this.n ≡ this.acted.server
+    server_now = put_same this.w.servers this.n this.acted.server
+
+    -- another server runs as before
+    ran_other : (i : ℕ) → i ≢ this.n → (v.servers i).life.running ≡ true → (this.w.servers i).life.running ≡ true
+    ran_other i ne on = ap (λ (x : Server). x.life.running) (sym (put_apart this.w.servers this.n this.acted.server i ne)) ∙ on
+
+    runs_here : (i : ℕ) → i ≡ this.n → (v.servers i).life.running ≡ true → Runs this
+    runs_here i e on = ap (λ (x : Server). x.life.running) (sym (ap v.servers e ∙ server_now)) ∙ on
+
+    finished : (i c : ℕ) (last : Finished) → (v.servers i).life.running ≡ true → at nat_cmp (owns_of v i).pairs.finished c ≡ Some last
+        → last.ending ≡ ending.Written → IsOpen (this.w.clients c) last.seq → is_held k c ≡ true
+    finished i c last on is how still = elim (same_or_apart i this.n) [
+      | inl e ↦ job.finished c last (runs_here i e on) (sym (ap (λ (h : Own). at nat_cmp h.pairs.finished c) (ap (owns_of v) e ∙ own_now this)) ∙ is) how still
       | inr ne ↦
           held_onward this.m k c onward
-          (this.follow.finished i c last (sym (ap (λ (h : Own). at nat_cmp h.pairs.finished c) (own_other this i ne)) ∙ is) how still)
+          (this.follow.finished i c last (ran_other i ne on) (sym (ap (λ (h : Own). at nat_cmp h.pairs.finished c) (own_other this i ne)) ∙ is) how still)
     ]
 
     together_before : (cell : Cell) (i j : ℕ) → AreTogether (alone_in this.setting v) cell i j → AreTogether (alone_in this.setting this.w) cell i j
     together_before cell i j t = record { one = alone_before this i cell t.one; other = alone_before this j cell t.other }
 
+    abbrev chain_now : ℕ → Cell → Chain
+    chain_now i cell = chain_in (owns_of v i).store.chains cell
+
+    abbrev chain_then : ℕ → Cell → Chain
+    chain_then i cell = chain_in (owns_of this.w i).store.chains cell
+
+    same_chain : (i : ℕ) (cell : Cell) → i ≢ this.n → chain_now i cell ≡ chain_then i cell
+    same_chain i cell ne = ap (λ (h : Own). chain_in h.store.chains cell) (own_other this i ne)
+
+    new_chain : (cell : Cell) → chain_now this.n cell ≡ chain_in (new this).store.chains cell
+    new_chain cell = ap (λ (h : Own). chain_in h.store.chains cell) (own_now this)
+
     -- the operations of this server
-    mine : (cell : Cell) (op : Pending) → at cell_cmp (new this).pairs.pending cell ≡ Some op → HasCounted this.setting this.state v this.n cell op
-        → at cell_cmp (owns_of v this.n).pairs.pending cell ≡ Some op → IsOpen (this.w.clients op.client) op.seq → is_held k op.client ≡ true
-    mine cell op is (Is_told off paired) there still = job.as_lead cell op is (Is_told (alone_before this this.n cell off) paired) still
-    mine cell op is (Is_followed q pair together past) there still =
-        let ne : q ≢ this.n = λ e. apart this.state this.along.steady cell this.n q pair (sym e) in
-        job.as_lead cell op is (Is_followed q pair (together_before cell this.n q together)
-        (subst (λ (h : Own). op.op + op.op + 1 ≤ progress (at cell_cmp h.pairs.last cell)) (own_other this q ne) past)) still
-    mine cell op is (Is_counted put here) there still = elim (counts this.n cell op there put here still) [
-      | inl before ↦ job.as_lead cell op is (Is_counted put before) still
-      | inr held ↦ held
-    ]
+    mine : (cell : Cell) (op : Pending) → (v.servers this.n).life.running ≡ true → at cell_cmp (owns_of v this.n).pairs.pending cell ≡ Some op
+        → HasCounted this.setting this.state v this.n cell op (chain_now this.n cell) → IsOpen (this.w.clients op.client) op.seq → is_held k op.client ≡ true
+    mine cell op on there counted still = by counted
+      where
+        runs : Runs this
+        runs = runs_here this.n refl on
+
+        is : at cell_cmp (new this).pairs.pending cell ≡ Some op
+        is = sym (ap (λ (h : Own). at cell_cmp h.pairs.pending cell) (own_now this)) ∙ there
+
+        by : HasCounted this.setting this.state v this.n cell op (chain_now this.n cell) → is_held k op.client ≡ true
+        by (Is_told off paired) = job.as_lead cell op runs is (Is_told (alone_before this this.n cell off) paired) still
+        by (Is_followed q pair together put same) =
+            let ne : q ≢ this.n = λ e. apart this.state this.along.steady cell this.n q pair (sym e) in
+            job.as_lead cell op runs is (Is_followed q pair (together_before cell this.n q together) put (sym (new_chain cell) ∙ same ∙ same_chain q cell ne)) still
+        by (Is_counted put here) = elim (counts this.n cell op on there put here still) [
+          | inl before ↦ job.as_lead cell op runs is (Is_counted put before) still
+          | inr held ↦ held
+        ]
 
     -- those of another server
-    theirs : (i : ℕ) → i ≢ this.n → (cell : Cell) (op : Pending) → at cell_cmp (owns_of this.w i).pairs.pending cell ≡ Some op
-        → HasCounted this.setting this.state v i cell op → at cell_cmp (owns_of v i).pairs.pending cell ≡ Some op
-        → IsOpen (this.w.clients op.client) op.seq → is_held k op.client ≡ true
-    theirs i ne cell op is (Is_told off paired) there still =
-        held_onward this.m k op.client onward (this.follow.pending i cell op is (Is_told (alone_before this i cell off) paired) still)
-    theirs i ne cell op is (Is_followed q pair together past) there still = elim (same_or_apart q this.n) [
-      | inl e ↦
-          let pair' : IsPair this.state cell i this.n = subst (IsPair this.state cell i) e pair in
-          let together' : AreTogether (alone_in this.setting this.w) cell i this.n =
-          subst (AreTogether (alone_in this.setting this.w) cell i) e (together_before cell i q together) in
-          let past' : op.op + op.op + 1 ≤ progress (at cell_cmp (new this).pairs.last cell) =
-          subst (λ (h : Own). op.op + op.op + 1 ≤ progress (at cell_cmp h.pairs.last cell)) (ap (owns_of v) e ∙ own_now this) past in
-          elim (job.as_second cell i op pair' together' is still past') [
-            | inl was ↦ held_onward this.m k op.client onward (this.follow.pending i cell op is (Is_followed this.n pair' together' was) still)
-            | inr held ↦ held
-          ]
-      | inr ne' ↦ held_onward this.m k op.client onward
-          (this.follow.pending i cell op is (Is_followed q pair (together_before cell i q together)
-          (subst (λ (h : Own). op.op + op.op + 1 ≤ progress (at cell_cmp h.pairs.last cell)) (own_other this q ne') past)) still)
-    ]
-    theirs i ne cell op is (Is_counted put here) there still = elim (counts i cell op there put here still) [
-      | inl before ↦ held_onward this.m k op.client onward (this.follow.pending i cell op is (Is_counted put before) still)
-      | inr held ↦ held
-    ]
+    theirs : (i : ℕ) → i ≢ this.n → (cell : Cell) (op : Pending) → (v.servers i).life.running ≡ true → at cell_cmp (owns_of v i).pairs.pending cell ≡ Some op
+        → HasCounted this.setting this.state v i cell op (chain_now i cell) → IsOpen (this.w.clients op.client) op.seq → is_held k op.client ≡ true
+    theirs i ne cell op on there counted still = by counted
+      where
+        runs : (this.w.servers i).life.running ≡ true
+        runs = ran_other i ne on
 
-    pending : (i : ℕ) (cell : Cell) (op : Pending) → at cell_cmp (owns_of v i).pairs.pending cell ≡ Some op
-        → HasCounted this.setting this.state v i cell op → IsOpen (this.w.clients op.client) op.seq → is_held k op.client ≡ true
-    pending i cell op is counted still = elim (same_or_apart i this.n) [
-      | inl e ↦
-          let there : at cell_cmp (owns_of v this.n).pairs.pending cell ≡ Some op = subst (λ j. at cell_cmp (owns_of v j).pairs.pending cell ≡ Some op) e is in
-          mine cell op (sym (ap (λ (h : Own). at cell_cmp h.pairs.pending cell) (own_now this)) ∙ there)
-          (subst (λ j. HasCounted this.setting this.state v j cell op) e counted) there still
-      | inr ne ↦
-          theirs i ne cell op (sym (ap (λ (h : Own). at cell_cmp h.pairs.pending cell) (own_other this i ne)) ∙ is) counted is still
+        is : at cell_cmp (owns_of this.w i).pairs.pending cell ≡ Some op
+        is = sym (ap (λ (h : Own). at cell_cmp h.pairs.pending cell) (own_other this i ne)) ∙ there
+
+        was : HasCounted this.setting this.state this.w i cell op (chain_then i cell) → is_held k op.client ≡ true
+        was h = held_onward this.m k op.client onward (this.follow.pending i cell op runs is h still)
+
+        by : HasCounted this.setting this.state v i cell op (chain_now i cell) → is_held k op.client ≡ true
+        by (Is_told off paired) = was (Is_told (alone_before this i cell off) paired)
+        by (Is_followed q pair together put same) = elim (same_or_apart q this.n) [
+          | inl e ↦
+              let pair' : IsPair this.state cell i this.n = subst (IsPair this.state cell i) e pair in
+              let together' : AreTogether (alone_in this.setting this.w) cell i this.n =
+              subst (AreTogether (alone_in this.setting this.w) cell i) e (together_before cell i q together) in
+              let same' : chain_then i cell ≡ chain_in (new this).store.chains cell =
+              sym (same_chain i cell ne) ∙ same ∙ ap (λ j. chain_now j cell) e ∙ new_chain cell in
+              elim (job.as_second cell i op runs pair' together' is put still same') [
+                | inl before ↦ was (Is_followed this.n pair' together' put before)
+                | inr held ↦ held
+              ]
+          | inr ne' ↦ was (Is_followed q pair (together_before cell i q together) put (sym (same_chain i cell ne) ∙ same ∙ same_chain q cell ne'))
+        ]
+        by (Is_counted put here) = elim (counts i cell op on there put here still) [
+          | inl before ↦ was (Is_counted put before)
+          | inr held ↦ held
+        ]
+
+    pending : (i : ℕ) (cell : Cell) (op : Pending) → (v.servers i).life.running ≡ true → at cell_cmp (owns_of v i).pairs.pending cell ≡ Some op
+        → HasCounted this.setting this.state v i cell op (chain_now i cell) → IsOpen (this.w.clients op.client) op.seq → is_held k op.client ≡ true
+    pending i cell op on is counted still = elim (same_or_apart i this.n) [
+      | inl e ↦ subst (λ j. (v.servers j).life.running ≡ true → at cell_cmp (owns_of v j).pairs.pending cell ≡ Some op
+          → HasCounted this.setting this.state v j cell op (chain_now j cell) → is_held k op.client ≡ true) (sym e)
+          (λ on is counted. mine cell op on is counted still) on is counted
+      | inr ne ↦ theirs i ne cell op on is counted still
     ]
 
     pub own_follow : SaysOk → Stores (chosen_state this.setting v) (rows_in this.setting this.w) v k
@@ -133,22 +180,44 @@ module _ (this : ServerStep) (k : Plain) where
       finished = finished;
     }
 
-  -- a step that leaves the server's operations as they are
-  module _ (onward : Onward this.m k) (after : Own) (finished : after.pairs.finished ≡ own.pairs.finished) where
-    pub kept_finished : (c : ℕ) (last : Finished) → at nat_cmp after.pairs.finished c ≡ Some last → last.ending ≡ ending.Written
+  module _ (onward : Onward this.m k) where
+    pub kept_finished : (this.w.servers this.n).life.running ≡ true → (after : Own) → after.pairs.finished ≡ own.pairs.finished
+        → (c : ℕ) (last : Finished) → at nat_cmp after.pairs.finished c ≡ Some last → last.ending ≡ ending.Written
         → IsOpen (this.w.clients c) last.seq → is_held k c ≡ true
-    kept_finished c last is how still =
-        held_onward this.m k c onward (this.follow.finished this.n c last (ap (λ t. at nat_cmp t c) (sym finished) ∙ is) how still)
+    kept_finished runs after finished c last is how still =
+        held_onward this.m k c onward (this.follow.finished this.n c last runs (ap (λ t. at nat_cmp t c) (sym finished) ∙ is) how still)
 
-    module _ (pending : after.pairs.pending ≡ own.pairs.pending) where
-      pub kept_pending : (cell : Cell) (op : Pending) → at cell_cmp after.pairs.pending cell ≡ Some op
-          → HasCounted this.setting this.state this.w this.n cell op → IsOpen (this.w.clients op.client) op.seq → is_held k op.client ≡ true
-      kept_pending cell op is counted still =
-          held_onward this.m k op.client onward (this.follow.pending this.n cell op (ap (λ t. at cell_cmp t cell) (sym pending) ∙ is) counted still)
+    pub kept_pending : (this.w.servers this.n).life.running ≡ true → (after : Own) → after.pairs.pending ≡ own.pairs.pending
+        → (cell : Cell) → chain_in after.store.chains cell ≡ chain_in own.store.chains cell → (op : Pending)
+        → at cell_cmp after.pairs.pending cell ≡ Some op → HasCounted this.setting this.state this.w this.n cell op (chain_in after.store.chains cell)
+        → IsOpen (this.w.clients op.client) op.seq → is_held k op.client ≡ true
+    kept_pending runs after pending cell chain op is counted still =
+        held_onward this.m k op.client onward (this.follow.pending this.n cell op runs (ap (λ t. at cell_cmp t cell) (sym pending) ∙ is)
+        (subst (HasCounted this.setting this.state this.w this.n cell op) chain counted) still)
 
-      pub kept_own : ((cell : Cell) → progress (at cell_cmp after.pairs.last cell) ≤ progress (at cell_cmp own.pairs.last cell)) → OwnFollow after
-      kept_own last = record {
-        finished = kept_finished;
-        as_lead = kept_pending;
-        as_second = λ cell p op pair together is still past. let le = last cell in inl (omega arith);
-      }
+    pub kept_own : (new this).store.chains ≡ own.store.chains → (Runs this → AreKept this) → OwnFollow (new this)
+    kept_own chains kept = record {
+      finished = λ c last on is how still. fin c last is how still (kept on);
+      as_lead = λ cell op on is counted still. lead cell op is counted still (kept on);
+      as_second = λ cell p op runs pair together is put still same. inl (same ∙ ap (λ c. chain_in c cell) chains);
+    }
+      where
+        fin : (c : ℕ) (last : Finished) → at nat_cmp (new this).pairs.finished c ≡ Some last → last.ending ≡ ending.Written
+            → IsOpen (this.w.clients c) last.seq → AreKept this → is_held k c ≡ true
+        fin c last is how still (As_before runs finished pending) = kept_finished runs (new this) finished c last is how still
+        fin c last is how still (Anew none) =
+            none_some (ap (λ (p : Pairs). at nat_cmp p.finished c) none ∙ at-empty nat_cmp c) is
+
+        lead : (cell : Cell) (op : Pending) → at cell_cmp (new this).pairs.pending cell ≡ Some op
+            → HasCounted this.setting this.state this.w this.n cell op (chain_in (new this).store.chains cell) → IsOpen (this.w.clients op.client) op.seq
+            → AreKept this → is_held k op.client ≡ true
+        lead cell op is counted still (As_before runs finished pending) =
+            kept_pending runs (new this) pending cell (ap (λ c. chain_in c cell) chains) op is counted still
+        lead cell op is counted still (Anew none) =
+            none_some (ap (λ (p : Pairs). at cell_cmp p.pending cell) none ∙ at-empty cell_cmp cell) is
+
+-- an operation that is pending after such a step was pending before
+pub kept_before : (this : ServerStep) → AreKept this → (cell : Cell) (op : Pending) → at cell_cmp (new this).pairs.pending cell ≡ Some op
+    → ((this.w.servers this.n).life.running ≡ true) × (at cell_cmp (owns_of this.w this.n).pairs.pending cell ≡ Some op)
+kept_before this (As_before runs finished pending) cell op is = (runs, ap (λ t. at cell_cmp t cell) (sym pending) ∙ is)
+kept_before this (Anew none) cell op is = none_some (ap (λ (p : Pairs). at cell_cmp p.pending cell) none ∙ at-empty cell_cmp cell) is

@@ -19,9 +19,9 @@ pub mod Placed
 pub mod Contents
 pub mod Puts
 pub mod Shows
-pub mod Entries
 pub mod Votes
 pub mod ServerSteps
 pub mod ClientFrames
 pub mod ClientSteps
+pub mod Recalled
 pub mod Running

@@ -1,21 +1,25 @@
--- A server's step is of the agreed log, and leaves its part in the pairs and speaks of no request; or it leaves what its state
--- device has, so that nothing more is chosen.
-use Rattle.std.proofs.Common.{◌≡◌, ℕ, List, [], ◌∷◌, false, Option, Some, None, refl, ap, ◌∙◌}
+-- A server's step is of the agreed log, and leaves its part in the pairs and speaks of no request, or it is a boot; or it leaves
+-- what its state device has, so that nothing more is chosen.
+use Rattle.std.proofs.Common.{◌≡◌, ◌+◌, ℕ, List, [], ◌∷◌, false, Option, Some, None, refl, ap, ◌∙◌}
 use Rattle.petal_command.specs.declared.command.Command.{Command}
 use Rattle.petal_msg.specs.Kinds.{is_ending, subject_of}
+use Rattle.petal_msg.specs.declared.letter.Actor.TheVariants as actor
 use Rattle.petal_msg.specs.declared.letter.Letter.{Letter}
+use Rattle.petal_rules.specs.Ballots.{starts}
+use Rattle.petal_rules.specs.Boots.{awake, boots, raised, stays, wakes}
 use Rattle.petal_rules.specs.Entries.{applies}
 use Rattle.petal_rules.specs.Lists.{In}
-use Rattle.petal_rules.specs.Log.{LogDone, known, next_place}
-use Rattle.petal_rules.specs.Server.{Server, Here, sender}
+use Rattle.petal_rules.specs.Log.{LogDone, known, next_place, rev_of}
+use Rattle.petal_rules.specs.Server.{Server, Here, Sender, letters_of, no_pairs, sender}
 use Rattle.petal_rules.specs.State.{State, servers_of}
-use Rattle.petal_rules.specs.Jobs.{Acted, here_of, works, job_done, crossing, entered, worked, stops, is_overfull, is_log_job, voter_of, does, log_does, down_posts}
+use Rattle.petal_rules.specs.Jobs.{Acted, here_of, works, job_done, crossing, entered, worked, stops, is_overfull, is_log_job, voter_of, wanted_by, does, log_does, down_posts}
 use Rattle.petal_rules.specs.World.{server_step, stamped}
 use Rattle.petal_rules.specs.declared.job.Job.{Job}
 use Rattle.petal_rules.specs.declared.job.Job.TheVariants as job
 use Rattle.petal_rules.specs.declared.step.CommitEnd.TheVariants.{Before, After}
 use Rattle.petal_rules.specs.declared.step.Step.{Step}
-use Rattle.petal_rules.specs.declared.step.Step.TheVariants.{Call, Deliver, Tick, Work, Stop, Glance}
+use Rattle.petal_rules.specs.declared.step.Step.TheVariants.{Call, Deliver, Tick, Work, Stop, Boot, Glance}
+use Rattle.petal_rules.specs.declared.step.WorkEnd.{WorkEnd}
 use Rattle.petal_rules.specs.declared.step.WorkEnd.TheVariants as work_end
 use Rattle.petal_rules.proofs.Tests.{by_test}
 use Rattle.law_steps.specs.Happens.{without_rev}
@@ -26,6 +30,9 @@ use Rattle.law_steps.proofs.Letters.{said}
 -- what the step has done
 pub data IsOfKind (server : Server) (acted : Acted) : Type 0 where
   Of_the_log : acted.server.own ≡ server.own
+      → ((stamp : ℕ) (letter : Letter) → In letter (stamped stamp acted.letters) → is_ending (subject_of letter.body) ≡ false)
+      → IsOfKind server acted
+  Of_a_boot : acted.server.own.store.chains ≡ server.own.store.chains → acted.server.own.pairs ≡ no_pairs
       → ((stamp : ℕ) (letter : Letter) → In letter (stamped stamp acted.letters) → is_ending (subject_of letter.body) ≡ false)
       → IsOfKind server acted
   Of_the_rest : acted.server.log.records ≡ server.log.records → IsOfKind server acted
@@ -54,7 +61,8 @@ module _ (state : State) (me : ℕ) (server : Server) where
       (λ t. Of_the_rest refl)
   job_kind (job.Stage cell) rest = Of_the_rest refl
   job_kind job.Apply rest = applied_kind rest (known server.log (next_place server.log)) refl
-  job_kind job.Start rest = entered_kind job.Start rest (log_does (voter_of here) server.log job.Start) (start_frame_of (voter_of here) server.log)
+  job_kind job.Start rest =
+      entered_kind job.Start rest (starts (voter_of here) server.log (wanted_by here server)) (start_frame_of (voter_of here) server.log (wanted_by here server))
 
   works_kind : (queue : List Job) → K (works here server queue)
   works_kind [] = Of_the_rest refl
@@ -62,14 +70,25 @@ module _ (state : State) (me : ℕ) (server : Server) where
       let acted = job_done here server what rest in
       by_test K (is_overfull acted.server) (stops here server) acted (λ t. Of_the_rest refl) (λ t. job_kind what rest)
 
-  -- a server that stops tells the others, whatever it has done
+  -- a server that stops tells the others, whatever it has done, and so does one that boots
+  downs_quiet : (who : Sender) (stamp : ℕ) (letter : Letter) → In letter (stamped stamp (letters_of who 0 (down_posts me server.life.inc (servers_of state))))
+      → is_ending (subject_of letter.body) ≡ false
+  downs_quiet who stamp letter h =
+      let s = said who stamp 0 (down_posts me server.life.inc (servers_of state)) letter h in
+      ap (λ b. is_ending (subject_of b)) s.body ∙ downs_unended me server.life.inc (servers_of state) s.post s.there
+
   stopped_kind : (acted : Acted) → K acted → K (stops here acted.server)
   stopped_kind acted (Of_the_rest same) = Of_the_rest same
-  stopped_kind acted (Of_the_log same quiet) =
-      Of_the_log same (λ stamp letter h.
-      let posts = down_posts me server.life.inc (servers_of state) in
-      let s = said (without_rev here) stamp 0 posts letter h in
-      ap (λ b. is_ending (subject_of b)) s.body ∙ downs_unended me server.life.inc (servers_of state) s.post s.there)
+  stopped_kind acted (Of_a_boot chains none quiet) = Of_a_boot chains none (downs_quiet (without_rev here))
+  stopped_kind acted (Of_the_log same quiet) = Of_the_log same (downs_quiet (without_rev here))
+
+  boots_kind : (end : WorkEnd) → K (boots here server end)
+  unfolding In
+  boots_kind work_end.Done = by_test K (is_overfull (raised server)) (stays server) (wakes here (awake (raised server))) (λ t. Of_the_rest refl)
+      (λ t. Of_a_boot refl refl (downs_quiet (record { from = actor.Server me; inc = server.life.inc + 1; rev = rev_of (awake (raised server)).log })))
+  boots_kind (work_end.Fault Before) = Of_the_rest refl
+  boots_kind (work_end.Fault After) = by_test (λ (x : Server). K (stays x)) (is_overfull (raised server)) server (raised server) (λ t. Of_the_rest refl)
+      (λ t. Of_the_log refl (λ stamp letter h. absurd h))
 
   pub step_kind : (what : Step) → K (server_step what state me server)
   step_kind (Call line) = Of_the_rest refl
@@ -79,4 +98,5 @@ module _ (state : State) (me : ℕ) (server : Server) where
   step_kind (Work (work_end.Fault Before)) = Of_the_rest refl
   step_kind (Work (work_end.Fault After)) = stopped_kind (works here server server.queue) (works_kind server.queue)
   step_kind Stop = Of_the_rest refl
+  step_kind (Boot end) = boots_kind end
   step_kind (Glance line round) = Of_the_rest refl

@@ -4,6 +4,8 @@ use Rattle.petal_msg.specs.declared.letter.Actor.{Actor}
 use Rattle.petal_msg.specs.declared.letter.Actor.TheVariants as actor
 use Rattle.petal_msg.specs.declared.letter.Letter.{Letter}
 use Rattle.script_lines.specs.declared.script.Script.{Script}
+use Rattle.petal_rules.specs.Boots.{awake, raised, stays, wakes}
+use Rattle.petal_rules.specs.Log.{rev_of}
 use Rattle.petal_rules.specs.Lists.{In}
 use Rattle.petal_rules.specs.State.{State}
 use Rattle.petal_rules.specs.Server.{Post, Sender, letters_of, sender}
@@ -13,7 +15,7 @@ use Rattle.petal_rules.specs.World.{Setting, World, stamped, clock_of, start, se
 use Rattle.petal_rules.specs.declared.step.Step.{Step}
 use Rattle.petal_rules.proofs.ListLemmas.{in-append, put_same}
 use Rattle.petal_history.specs.Events.{same_actor, same_name}
-use Rattle.law_steps.specs.Happens.{Happens, Serves, Turns, Serving, Goes, Ends, Stays, served_so, stopped_so, shown_so, without_rev, own_place}
+use Rattle.law_steps.specs.Happens.{Happens, Serves, Turns, Serving, Goes, Ends, Stays, Wakes, Fails, served_so, stopped_so, shown_so, without_rev, own_place}
 use Rattle.law_steps.proofs.Letters.{said}
 use Rattle.petal_rules.proofs.Tests.{both_true, same_numbers, all_put}
 use Rattle.law_run.specs.Follow.{Named}
@@ -108,6 +110,12 @@ module _ (setting : Setting) (state : State) (w : World) (named : Named w) where
   serves_named n stamp what _ lt (Ends log done runs worked) =
       server_named n stamp what (stopped_so setting w n log done) (without_rev (own_place setting w n)) _ lt refl refl
   serves_named n stamp what _ lt (Stays who posts from shown) = server_named n stamp what (shown_so w n who posts) who posts lt from refl
+  serves_named n stamp what _ lt (Wakes booted asleep) =
+      let server = awake (raised (w.servers n)) in
+      server_named n stamp what (wakes (own_place setting w n) server)
+      (record { from = actor.Server n; inc = server.life.inc; rev = rev_of server.log }) _ lt refl refl
+  serves_named n stamp what _ lt (Fails booted asleep) =
+      server_named n stamp what (stays (raised (w.servers n))) (without_rev (own_place setting w n)) [] lt refl refl
 
   pub happens_named : (v : World) → Happens setting state w v → Named v
   happens_named _ (Serves n stamp what acted lt within serving) = serves_named n stamp what acted lt serving

@@ -16,6 +16,6 @@ follow_onward setting state old new v from to follows goes_on stores = record {
   stores = stores;
   seats = λ c. seat_onward from to c (open_write v c) goes_on (follows.seats c);
   letters = λ letter c seq h at says still. held_onward from to c goes_on (follows.letters letter c seq h at says still);
-  pending = λ n cell op is counted still. held_onward from to op.client goes_on (follows.pending n cell op is counted still);
-  finished = λ n c newest is how still. held_onward from to c goes_on (follows.finished n c newest is how still);
+  pending = λ n cell op on is counted still. held_onward from to op.client goes_on (follows.pending n cell op on is counted still);
+  finished = λ n c newest on is how still. held_onward from to c goes_on (follows.finished n c newest on is how still);
 }

@@ -1,6 +1,5 @@
 -- A server's put of the copy that counts gives a block the bytes of a write under way; one of another copy changes no content.
-use Rattle.std.proofs.Common.{◌≡◌, ◌≢◌, ◌<◌, ℕ, true, false, Some, sym, ap, ◌∙◌, subst, inl, inr}
-use Rattle.std.specs.Prelude.{option_map}
+use Rattle.std.proofs.Common.{◌≡◌, ◌≢◌, ◌<◌, ℕ, true, false, Some, sym, ap, ◌∙◌, subst, ◌⊎◌, inl, inr}
 use Rattle.std.specs.Ordering.{nat_cmp}
 use Rattle.petal_base.specs.declared.cell.Cell.{Cell}
 use Rattle.petal_base.specs.declared.cell.Key.{Key}
@@ -12,8 +11,9 @@ use Rattle.petal_machine.specs.Machine.{Plain}
 use Rattle.petal_machine.specs.Run.{replay}
 use Rattle.petal_msg.specs.declared.body.Body.{Body}
 use Rattle.petal_msg.specs.declared.operation.Pending.{Pending}
+use Rattle.petal_state.specs.CellState.{cell_link}
 use Rattle.petal_state.specs.Command.{state_after}
-use Rattle.petal_rules.specs.State.{State, authority, lead, primary, is_second}
+use Rattle.petal_rules.specs.State.{State, authority, is_second}
 use Rattle.petal_rules.specs.Store.{Chain, Stored, cell_cmp, chain_in, chains_with, entry_at, bytes_of}
 use Rattle.petal_rules.specs.Server.{Own, Here}
 use Rattle.petal_rules.specs.World.{World, chosen_log, chosen_state}
@@ -21,32 +21,29 @@ use Rattle.petal_rules.proofs.CellTables.{cell_same}
 use Rattle.petal_rules.proofs.Tests.{same_or_apart, same_some, some_or_none, none_some, is_the_one}
 use Rattle.petal_history.specs.Contents.{cell_of_block, content_by}
 use Rattle.petal_history.specs.Events.{change_by, open_write}
-use Rattle.law_state.proofs.Alone.{both_not_alone, second_both, second_secondary, secondary_on, primary_on}
-use Rattle.law_state.proofs.Cells.{both_authority, both_lead, alone_authority, alone_lead, second_by}
+use Rattle.law_state.specs.Below.{HoldsAlone}
+use Rattle.law_state.proofs.Alone.{led_row, second_both, so_alone}
+use Rattle.law_state.proofs.Cells.{both_authority, alone_authority, second_by}
 use Rattle.law_state.proofs.Roles.{log_roles}
 use Rattle.law_steps.specs.Happens.{Handled, own_place}
-use Rattle.law_steps.proofs.Histories.{own_below, own_steady, chosen_steady}
+use Rattle.law_steps.proofs.Histories.{chosen_steady, own_steady, runs_now}
 use Rattle.law_copies.specs.Pair.{owns_of}
+use Rattle.law_copies.proofs.Frames.{apart}
 use Rattle.law_copies.proofs.Jobs.{chain_put, chain_apart}
 use Rattle.law_requests.specs.Asked.{IsOpen}
-use Rattle.law_requests.specs.Known.{asked_for}
-use Rattle.law_requests.proofs.Running.{open_running, open_beside}
+use Rattle.law_requests.specs.Known.{PendingFor, asked_for, seen}
+use Rattle.law_requests.proofs.Running.{open_beside, open_in_both, open_running}
 use Rattle.law_run.specs.Onward.{is_held, Onward}
-use Rattle.law_run.specs.Follow.{IsShort, kept_at}
-use Rattle.law_run.proofs.Along.{same_row}
+use Rattle.law_run.specs.Follow.{Is_pending, kept_at}
+use Rattle.law_run.proofs.Along.{own_link, same_row}
 use Rattle.law_run.proofs.Chains.{StoresSo, Nothing_new, An_own, An_asked, PutsAsked}
 use Rattle.law_run.proofs.Contents.{IsGiven, AreGiven, Taken, all_given, given_held, takes_of, was_kept, now_kept}
 use Rattle.law_run.proofs.Frames.{OwnFollow, SaysOk, CountsOk}
-use Rattle.law_run.proofs.Grounds.{Followed, followed, followed_epoch, pending_epoch}
+use Rattle.law_run.proofs.Grounds.{Followed, followed, followed_epoch, followed_recalled, pending_epoch, put_first, remembered, second_shares, write_of}
 use Rattle.law_run.proofs.Placed.{Placed, placed}
 use Rattle.law_run.proofs.ServerJobs.{PutHeld}
 use Rattle.law_run.proofs.Steps.{ServerStep, TakesTold, new, later_world, own_now, same_content}
 use Rattle.law_run.proofs.Takes.{block_there}
-
-pub put_first : (chain : Chain) (epoch : ℕ) (entry : Stored) → epoch ≡ 0 → IsShort chain → entry_at (put nat_cmp chain epoch entry) 0 ≡ Some entry
-unfolding put
-put_first chain epoch entry zero (inl e) = λ i. entry_at (put nat_cmp (e i) (zero i) entry) 0
-put_first chain epoch entry zero (inr h) = λ i. entry_at (put nat_cmp (h.1 i) (zero i) entry) 0
 
 module _ (this : ServerStep) (same : chosen_log this.setting (later_world this) ≡ chosen_log this.setting this.w) where
   abbrev v : World
@@ -76,7 +73,7 @@ module _ (this : ServerStep) (same : chosen_log this.setting (later_world this) 
 
   -- nothing counts elsewhere than before
   counts : (k : Plain) → CountsOk this k
-  counts k i cell op is put now still = inl (ap (λ s. authority s cell) (sym chosen_is) ∙ now)
+  counts k i cell op on is put now still = inl (ap (λ s. authority s cell) (sym chosen_is) ∙ now)
 
   -- no content changes
   calm_given : ((row : DiskRow) (b : ℕ) → was_kept this row b ≡ now_kept this row b) → AreGiven this
@@ -93,12 +90,7 @@ module _ (this : ServerStep) (same : chosen_log this.setting (later_world this) 
   -- ### A put of the copy that counts
 
   module _ (key : Key) (entry : Stored) (epoch : key.epoch ≡ 0) (chains : (new this).store.chains ≡ chains_with own.store.chains key entry)
-      (mine : authority chosen (cell_of key) ≡ Some this.n) (p : ℕ) (op : Pending)
-      (is : at cell_cmp (owns_of this.w p).pairs.pending (cell_of key) ≡ Some op) (bytes : entry.bytes ≡ op.bytes)
-      (still : IsOpen (this.w.clients op.client) op.seq) where
-    place : Placed this op (cell_of key)
-    place = placed this p (cell_of key) op is still
-
+      (mine : authority chosen (cell_of key) ≡ Some this.n) (op : Pending) (bytes : entry.bytes ≡ op.bytes) (place : Placed this op (cell_of key)) where
     abbrev chain : Chain
     chain = put nat_cmp (chain_in own.store.chains (cell_of key)) key.epoch entry
 
@@ -150,55 +142,60 @@ module _ (this : ServerStep) (same : chosen_log this.setting (later_world this) 
 
   -- ### The second server that runs
 
-  -- by what is chosen the second server that runs has the copy that counts, and somebody leads
+  -- by what is chosen it still is the second, or holds the cell alone
+  after_second : (runs : (this.w.servers this.n).life.running ≡ true) (a : PutsAsked hears here own (new this))
+      → (is_second chosen this.n (cell_of a.key) ≡ true) ⊎ HoldsAlone chosen this.n (cell_of a.key)
+  after_second runs a =
+      let firm = this.along.firm in
+      let on = second_shares this.setting this.state this.along.steady this.w this.ground this.n runs (cell_of a.key) _ a.last a.seconds in
+      let roles = log_roles this.setting.servers (this.w.servers this.n).log.applied (chosen_log this.setting this.w) firm.plain (firm.servers this.n) in
+      roles.seconds this.n (this.w.servers this.n).life.inc (cell_of a.key) on.0 (runs_now this.setting this.w firm this.n runs on.0) a.seconds
+
+  -- its copy is the one that counts, of a cell that has a link
   pub record IsServing (cell : Cell) : Type 0 where
     pub counts : authority chosen cell ≡ Some this.n
-    pub leader : ℕ
-    pub leads : lead chosen cell ≡ Some leader
+    pub link : LinkRow
+    pub linked : cell_link chosen cell ≡ Some link
 
-  serving : (this.w.servers this.n).life.running ≡ true → (cell : Cell) → is_second here.state this.n cell ≡ true → IsServing cell
-  serving runs cell second =
-      let firm = this.along.firm in
-      let steady = chosen_steady this.setting this.w firm in
-      let up = firm.runs this.n runs in
-      let roles = log_roles this.setting.servers (this.w.servers this.n).log.applied (chosen_log this.setting this.w) firm.plain (firm.servers this.n) in
-      elim (roles.seconds this.n cell up second) [
+  serving : (cell : Cell) → (is_second chosen this.n cell ≡ true) ⊎ HoldsAlone chosen this.n cell → IsServing cell
+  serving cell role =
+      let steady = chosen_steady this.setting this.w this.along.firm in
+      elim role [
         | inl still ↦
             let b = second_by chosen steady cell this.n (is_the_one _ this.n still) in
             record {
               counts = both_authority chosen cell b.0.row b.0.is b.0.linked b.0.so ∙ ap Some b.1;
-              leader = b.0.row.primary;
-              leads = both_lead chosen cell b.0.row b.0.is b.0.linked b.0.so;
+              link = b.0.row;
+              linked = b.0.is;
             }
-        | inr alone ↦
-            let linked = steady.linked cell alone.row alone.is in
-            record {
-              counts = alone_authority chosen cell alone.row alone.is linked this.n false alone.alone;
-              leader = this.n;
-              leads = alone_lead chosen cell alone.row alone.is linked this.n false alone.alone up;
-            }
+        | inr alone ↦ record {
+          counts = alone_authority chosen cell alone.row alone.is (steady.linked cell alone.row alone.is) this.n false alone.alone;
+          link = alone.row;
+          linked = alone.is;
+        }
       ]
 
-  asked_open : (runs : (this.w.servers this.n).life.running ≡ true) (after : Own) (a : PutsAsked hears here own after)
-      (f : Followed this.setting this.state this.w this.n a.number a.key a.bytes) → IsOpen (this.w.clients f.putting.op.client) f.putting.op.seq
-  asked_open runs after a f =
+  asked_open : (runs : (this.w.servers this.n).life.running ≡ true) (a : PutsAsked hears here own (new this))
+      (f : Followed this.setting this.state this.w this.ground.good.memory this.n a.number a.key a.bytes)
+      → IsOpen (this.w.clients f.putting.op.client) f.putting.op.seq
+  asked_open runs a f =
       let cell = cell_of a.key in
       let firm = this.along.firm in
-      let old = own_steady this.setting this.w firm this.n in
-      let below = own_below this.setting this.w firm this.n in
-      let second = is_the_one _ this.n a.seconds in
-      let s = serving runs cell a.seconds in
-      let b = second_by here.state old cell this.n second in
-      let one : primary chosen cell ≡ Some b.0.row.primary =
-      primary_on here.state chosen below cell b.0.row.primary
-      (ap (option_map (λ (r : LinkRow). r.primary)) b.0.is) in
-      let first : b.0.row.primary ≡ f.p =
-      same_some (sym (primary_on chosen this.state this.along.below cell b.0.row.primary one) ∙ f.pair.leads) in
-      let two = secondary_on here.state chosen below cell this.n (second_secondary here.state old cell this.n second) in
-      let off = both_not_alone here.state this.n cell (second_both here.state old cell this.n second) in
-      let known = this.ground.asking.pending f.p cell f.putting.op f.putting.is in
-      open_beside this.setting this.w firm this.state f.p (asked_for cell f.putting.op) f.putting.op.rev known this.n s.leader (one ∙ ap Some first) two
-      s.leads off
+      let steady = chosen_steady this.setting this.w firm in
+      let on = second_shares this.setting this.state this.along.steady this.w this.ground this.n runs cell _ a.last a.seconds in
+      let known = remembered this.setting this.state this.w this.ground.lives this.ground.asking f.p cell f.putting.op
+      (followed_recalled this.setting this.state this.along.steady this.w this.ground this.n a.number a.key a.bytes f) in
+      let want = asked_for cell f.putting.op in
+      elim (after_second runs a) [
+        | inl still ↦
+            open_in_both this.setting this.w firm this.ground.lives this.state f.p known.0 want f.putting.op.rev known.1
+            (second_both chosen steady cell this.n (is_the_one _ this.n still))
+        | inr alone ↦
+            open_beside this.setting this.w firm this.ground.lives this.state f.p known.0 want f.putting.op.rev known.1 this.n
+            (apart this.state this.along.steady cell f.p this.n f.pair)
+            (so_alone chosen this.n cell alone.row false alone.is alone.alone)
+            (record { inc = (this.w.servers this.n).life.inc; own = on.0; now = runs_now this.setting this.w firm this.n runs on.0 }) on.1
+      ]
 
   -- ### What is told
 
@@ -234,30 +231,41 @@ module _ (this : ServerStep) (same : chosen_log this.setting (later_world this) 
 
         mine : authority chosen op.cell ≡ Some this.n → TakesTold this
         mine counted =
-            let there : at cell_cmp own.pairs.pending (cell_of op.key) ≡ Some op = ap (at cell_cmp own.pairs.pending) keyed ∙ is in
-            let epoch = pending_epoch this.setting this.state this.along.steady this.w this.ground.ready this.ground.asking this.n this.n op.cell op is in
-            let still =
-            open_running this.setting this.w this.along.firm this.state this.n (asked_for op.cell op) op.rev (this.ground.asking.pending this.n op.cell op is)
+            let lives = this.ground.lives in
+            let staged = (this.ground.ready.rests.pending this.n).staged op.cell op is in
+            let firm = this.along.firm in
+            let row = led_row here.state (own_steady this.setting this.w firm this.n) this.n op.cell staged.lead in
+            let link = own_link this.setting this.w firm this.n op.cell row.0 row.1 in
+            let epoch = pending_epoch this.setting this.state this.along.steady this.w this.ground this.n this.n op.cell op (Is_pending is) in
+            let known = this.ground.asking.pending this.n op.cell op is in
+            let still = open_running this.setting this.w firm lives this.state this.n (asked_for op.cell op) op.rev
+            (subst (λ i. PendingFor this.setting this.state (seen lives this.w) this.n i (asked_for op.cell op) op.rev)
+            (this.ground.asking.lived.ran this.n runs) known)
             runs in
+            let place : Placed this op (cell_of op.key) =
+            subst (Placed this op) (sym keyed) (placed this op.cell op link.0 link.1 known.known.sent.write still) in
             let here_mine : authority chosen (cell_of op.key) ≡ Some this.n = ap (authority chosen) keyed ∙ counted in
-            let taken = all_given this (given_put op.key entry epoch chains here_mine this.n op there bytes still) in
+            let taken = all_given this (given_put op.key entry epoch chains here_mine op bytes place) in
             told_of taken (An_own (record { op = op; is = is; entry = entry; bytes = bytes; chains = chains })) job
-            (λ e. put_held op.key entry epoch chains here_mine this.n op there bytes still taken)
+            (λ e. put_held op.key entry epoch chains here_mine op bytes place taken)
 
     asked_told : (a : PutsAsked hears here own (new this)) → Jobs (An_asked a) → TakesTold this
     asked_told a job =
-        let f = followed this.setting this.state this.along.steady this.w this.ground.ready this.ground.asking this.n this.ground.good runs (new this) a in
-        let epoch = followed_epoch this.setting this.state this.along.steady this.w this.ground.ready this.ground.asking this.n a.number a.key a.bytes f in
-        let mine = (serving runs (cell_of a.key) a.seconds).counts in
+        let f = followed this.setting this.state this.along.steady this.w this.ground this.n runs (new this) a in
+        let recalled = followed_recalled this.setting this.state this.along.steady this.w this.ground this.n a.number a.key a.bytes f in
+        let epoch = followed_epoch this.setting this.state this.along.steady this.w this.ground this.n a.number a.key a.bytes f in
+        let serves = serving (cell_of a.key) (after_second runs a) in
         let bytes : a.entry.bytes ≡ f.putting.op.bytes = a.put ∙ sym f.putting.bytes_is in
-        let still = asked_open runs (new this) a f in
-        let taken = all_given this (given_put a.key a.entry epoch a.chains mine f.p f.putting.op f.putting.is bytes still) in
+        let still = asked_open runs a f in
+        let place = placed this (cell_of a.key) f.putting.op serves.link serves.linked
+        (write_of this.setting this.state this.along.steady this.w this.ground this.n f.p (cell_of a.key) f.putting.op recalled) still in
+        let taken = all_given this (given_put a.key a.entry epoch a.chains serves.counts f.putting.op bytes place) in
         told_of taken (An_asked a) job (λ g.
         let one : f.p ≡ g.p = same_some (sym f.pair.leads ∙ g.pair.leads) in
         let op : f.putting.op ≡ g.putting.op =
-        same_some (sym f.putting.is ∙ ap (λ i. at cell_cmp (owns_of this.w i).pairs.pending (cell_of a.key)) one ∙ g.putting.is) in
+        same_some (sym f.putting.is ∙ ap (λ i. at cell_cmp (this.ground.good.memory i (cell_of a.key)).pending (cell_of a.key)) one ∙ g.putting.is) in
         ap (λ (o : Pending). is_held (replay this.m taken.es) o.client) (sym op)
-        ∙ put_held a.key a.entry epoch a.chains mine f.p f.putting.op f.putting.is bytes still taken)
+        ∙ put_held a.key a.entry epoch a.chains serves.counts f.putting.op bytes place taken)
 
     -- a job that changes at most one chain
     pub stored_told : (s : StoresSo hears here own (new this)) → Jobs s → TakesTold this

@@ -41,9 +41,13 @@ use Rattle.law_steps.proofs.Fronts.{front_itself, front_on}
 use Rattle.law_steps.proofs.Histories.{own_steady, rests_next, happens, firm_now, firm_after, firm_way, start_rests}
 use Rattle.law_steps.proofs.Serving.{server_serves}
 use Rattle.law_steps.proofs.Turning.{is_call, client_turns}
+use Rattle.law_steps.specs.Waking.{AllMayWake}
 use Rattle.law_copies.specs.Pair.{owns_of}
 use Rattle.law_copies.proofs.Copying.{copies_after, covered_after, happens_good}
 use Rattle.law_copies.proofs.First.{marks_first}
+use Rattle.law_steps.specs.Waking.{WakeAlong}
+use Rattle.law_steps.proofs.Waking.{wake_along}
+use Rattle.law_requests.specs.Known.{lives_after}
 use Rattle.law_requests.proofs.Histories.{requests_after}
 use Rattle.law_requests.proofs.Stepping.{happens_asking}
 use Rattle.law_log.proofs.Histories.{history_agrees, history_is_firm, history_grows}
@@ -56,6 +60,7 @@ use Rattle.law_run.proofs.LogSteps.{step_kind}
 use Rattle.law_run.proofs.Looks.{AreGrounded, who_accepts}
 use Rattle.law_run.proofs.Machine.{Obeys-append, replay-append}
 use Rattle.law_run.proofs.Names.{happens_named}
+use Rattle.law_run.proofs.Recalled.{happens_recalled}
 use Rattle.law_run.proofs.ServerSteps.{ServesAt, step_told}
 use Rattle.law_run.proofs.Steps.{born_kept}
 
@@ -90,20 +95,24 @@ module _ (setting : Setting) (whole : List Command) (all : IsPlainLog setting.se
   born_at w along ground (actor.Server n) what stamp may next grown =
       let acted = server_step what (server_state setting w n) n (w.servers n) in
       let serving = server_serves setting w ground.ready.rests n (own_steady setting w along.firm n) stamp what may.1 next.firm in
-      born_kept setting w along.firm ground.ready.rests ground.born n stamp what acted serving next.firm
+      born_kept setting w ground.wake along.firm ground.ready.rests ground.born n stamp what acted serving next.firm
   born_at w along ground (actor.Client c) what stamp may next grown = ground.born
 
   -- the ground is kept
   ground_next : (w : World) (own : Record) → Ground setting state w → Along setting state w → Along setting state (stepped setting w own).world
-      → IsGrown (chosen_state setting w) (chosen_state setting (stepped setting w own).world) → Follows setting w own
-      → Ground setting state (stepped setting w own).world
-  ground_next w own ground along next grown follows =
+      → IsGrown (chosen_state setting w) (chosen_state setting (stepped setting w own).world) → AllMayWake setting (stepped setting w own).world
+      → Follows setting w own → Ground setting state (stepped setting w own).world
+  ground_next w own ground along next grown wake follows =
       let v = (stepped setting w own).world in
       let h : Happens setting state w v = happens setting w own ground.ready.rests along.firm follows next.firm state next.below in
+      let asking = happens_asking setting state steady w v ground.lives ground.ready ground.wake ground.asking h in
       record {
         ready = record { rests = rests_next setting w own ground.ready.rests along.firm follows next.firm; firm = next.firm; below = next.below };
-        good = happens_good setting state steady w v ground.ready ground.good h;
-        asking = happens_asking setting state steady w v ground.ready ground.asking h;
+        wake = wake;
+        good = happens_good setting state steady w v ground.wake ground.ready ground.good h;
+        lives = lives_after ground.lives v;
+        asking = asking;
+        recalled = happens_recalled setting state steady w v along.firm ground h;
         named = happens_named setting state w ground.named v h;
         short = short_later setting state steady w v ground h;
         born = born_at w along ground own.actor own.step own.stamp follows.may.may next grown;
@@ -115,15 +124,22 @@ module _ (setting : Setting) (whole : List Command) (all : IsPlainLog setting.se
   reaches w [] firm end = end
   reaches w (own ∷ later) firm end = front_on _ _ _ firm.1 (reaches (stepped setting w own).world later firm.2 end)
 
-  grounded : (w : World) (records : List Record) → AreFirm setting w records → IsPrefix (chosen_log setting (world_after setting w records)) whole
-      → Ground setting state w → IsLegalFrom setting w records → AreGrounded setting state w records
-  grounded w [] firm end ground legal = ground
-  grounded w (own ∷ later) firm end ground legal =
+  -- the world at the beginning of these may wake
+  wake_now : (w : World) (records : List Record) → WakeAlong setting w records → AllMayWake setting w
+  wake_now w [] wakes = wakes
+  wake_now w (own ∷ later) wakes = wakes.0
+
+  grounded : (w : World) (records : List Record) → AreFirm setting w records → WakeAlong setting w records
+      → IsPrefix (chosen_log setting (world_after setting w records)) whole → Ground setting state w → IsLegalFrom setting w records
+      → AreGrounded setting state w records
+  grounded w [] firm wakes end ground legal = ground
+  grounded w (own ∷ later) firm wakes end ground legal =
       let v = (stepped setting w own).world in
       let then = firm_now setting v later firm.2 in
       let front = reaches v later firm.2 end in
-      let next = ground_next w own ground (along_at w firm.0 (front_on _ _ _ firm.1 front)) (along_at v then front) (grown_at w v then firm.1) legal.0 in
-      (ground, grounded v later firm.2 end next legal.1)
+      let next = ground_next w own ground (along_at w firm.0 (front_on _ _ _ firm.1 front)) (along_at v then front) (grown_at w v then firm.1)
+      (wake_now v later wakes.1) legal.0 in
+      (ground, grounded v later firm.2 wakes.1 end next legal.1)
 
   -- what is told is allowed, and keeps the machine tied to the world
   pub record Tells (m : Plain) (next : World) (told_now : Option (List Event)) : Type 0 where
@@ -213,20 +229,20 @@ module _ (setting : Setting) (whole : List Command) (all : IsPlainLog setting.se
         follows = t.follows;
       }
 
-  pub history_tells : (w : World) (m : Plain) (records : List Record) → AreFirm setting w records
+  pub history_tells : (w : World) (m : Plain) (records : List Record) → AreFirm setting w records → WakeAlong setting w records
       → IsPrefix (chosen_log setting (world_after setting w records)) whole → Ground setting state w → Follow setting state (rows_in setting w) w m
       → IsLegalFrom setting w records → Tells m (world_after setting w records) (told_from setting w records)
-  history_tells w m [] firm end ground follow legal = record { es = []; is = refl; may = tt; follows = follow }
-  history_tells w m (own ∷ later) firm end ground follow legal =
+  history_tells w m [] firm wakes end ground follow legal = record { es = []; is = refl; may = tt; follows = follow }
+  history_tells w m (own ∷ later) firm wakes end ground follow legal =
       let v = (stepped setting w own).world in
       let then = firm_now setting v later firm.2 in
       let front = reaches v later firm.2 end in
       let along = along_at w firm.0 (front_on _ _ _ firm.1 front) in
       let grown = grown_at w v then firm.1 in
-      let next = ground_next w own ground along (along_at v then front) grown legal.0 in
+      let next = ground_next w own ground along (along_at v then front) grown (wake_now v later wakes.1) legal.0 in
       let now = record_tells w m along ground follow own later legal.0 (along_at v then front)
-      grown (grounded v later firm.2 end next legal.1) legal.1 in
-      let rest = history_tells v (replay m now.es) later firm.2 end next now.follows legal.1 in
+      grown (grounded v later firm.2 wakes.1 end next legal.1) legal.1 in
+      let rest = history_tells v (replay m now.es) later firm.2 wakes.1 end next now.follows legal.1 in
       record {
         es = now.es ++ rest.es;
         is = (λ i. joined (now.is i) (rest.is i));
@@ -254,8 +270,8 @@ start_follow script state =
       stores = record { known = λ row h. absurd h; unknown = λ name none. refl; mindful = λ c o is. none_some refl is };
       seats = λ c. refl;
       letters = λ letter c seq h to says still. absurd h;
-      pending = λ n cell op is counted still. none_some (at-empty cell_cmp cell) is;
-      finished = λ n c last is how still. none_some (at-empty nat_cmp c) is;
+      pending = λ n cell op on is counted still. none_some (at-empty cell_cmp cell) is;
+      finished = λ n c last on is how still. none_some (at-empty nat_cmp c) is;
     })
 
 -- ### The law
@@ -274,6 +290,9 @@ module _ (script : Script) (records : List Record) (sound : IsSound script) (leg
   firm : AreFirm of_script begun records
   firm = firm_way script (λ done. history_is_firm script done sound) (λ done. history_grows script done sound) records legal
 
+  wakes : WakeAlong of_script begun records
+  wakes = wake_along script records sound legal
+
   last_firm : Firm of_script last_world
   last_firm = firm_after of_script begun records firm
 
@@ -290,7 +309,8 @@ module _ (script : Script) (records : List Record) (sound : IsSound script) (leg
       let first_along = along_at of_script whole last_firm.plain sound.numbered begun (firm_now of_script begun records firm) front in
       let ready : Ready of_script (state_after script.servers whole) begun =
       record { rests = start_rests script; firm = first_along.firm; below = first_along.below } in
-      history_tells of_script whole last_firm.plain sound.numbered begun blank records firm end (start_ground (state_after script.servers whole) script ready)
+      history_tells of_script whole last_firm.plain sound.numbered begun blank records firm wakes end
+      (start_ground (state_after script.servers whole) script ready (wake_now of_script whole last_firm.plain sound.numbered begun records wakes))
       (start_follow script (state_after script.servers whole)) legal
 
   pub run_after : IsRunOf (events_of script records)
@@ -316,12 +336,12 @@ law script records sound legal =
     record {
       world = record {
         agrees = history_agrees script records sound legal;
-        copies = copies_after script records firm legal;
-        covered = covered_after script records firm legal;
-        requests = requests_after script records firm legal;
+        copies = copies_after script records sound firm legal;
+        covered = covered_after script records sound firm legal;
+        requests = requests_after script records sound firm legal;
       };
       grows = history_grows script records sound legal;
-      marks = marks_first script records firm legal;
+      marks = marks_first script records sound firm legal;
       run = run_after script records sound legal;
       holds = held_after script records sound legal;
     }

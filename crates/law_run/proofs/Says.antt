@@ -186,7 +186,7 @@ module _ (this : ServerStep) (k : Plain) (runs : (this.w.servers this.n).life.ru
       let how = ended_written want.seq last.ending seq what in
       let number : seq ≡ last.seq = sym (ended_seq want.seq last.ending seq what) ∙ e in
       held_onward this.m k c onward
-      (this.follow.finished this.n c last (ap (at nat_cmp own.pairs.finished) (sym same_client) ∙ is) how (subst (IsOpen (this.w.clients c)) number still))
+      (this.follow.finished this.n c last runs (ap (at nat_cmp own.pairs.finished) (sym same_client) ∙ is) how (subst (IsOpen (this.w.clients c)) number still))
   lead_says _ (Is_full want new no_room) = one_unwritten (actor.Client want.client) (ended want.seq ending.Full) refl
   lead_says _ (Gives_up op h is reserved put) = one_unwritten (actor.Client op.client) (ended op.seq ending.Full) refl
   lead_says _ (Opens want new both) =

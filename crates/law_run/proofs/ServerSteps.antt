@@ -1,14 +1,15 @@
 -- What the machine is told of a server's step is allowed, and keeps it tied to the world.
-use Rattle.std.proofs.Common.{◌≡◌, ◌<◌, ℕ, List, [], true, Some, refl, sym, ap, ◌∙◌, subst, inl, arith}
+use Rattle.std.proofs.Common.{◌≡◌, ◌<◌, ◌+◌, ℕ, List, [], true, Some, refl, sym, ap, ◌∙◌, subst, inl}
 use Rattle.petal_machine.specs.Machine.{Plain}
 use Rattle.petal_msg.specs.declared.body.Body.{Body}
 use Rattle.petal_msg.specs.declared.body.Body.TheVariants as body
 use Rattle.petal_msg.specs.declared.letter.Actor.TheVariants as actor
 use Rattle.petal_msg.specs.declared.letter.Letter.{Letter}
 use Rattle.script_lines.specs.declared.request.Line.{Line}
+use Rattle.petal_rules.specs.Boots.{awake, raised}
 use Rattle.petal_rules.specs.Jobs.{Acted, down_posts}
 use Rattle.petal_rules.specs.Lists.{In}
-use Rattle.petal_rules.specs.Log.{Log}
+use Rattle.petal_rules.specs.Log.{Log, rev_of}
 use Rattle.petal_rules.specs.Server.{Own, Here, Post, Sender, Done, sender, letters_of}
 use Rattle.petal_rules.specs.State.{State, servers_of}
 use Rattle.petal_rules.specs.World.{Setting, World, acts, stamped, chosen_log, chosen_state, server_state}
@@ -20,7 +21,7 @@ use Rattle.petal_history.specs.declared.record.Record.{Record}
 use Rattle.law_state.specs.Tables.{IsGrown}
 use Rattle.law_steps.specs.DidRead.{Shows}
 use Rattle.law_steps.specs.Did.{Did, By_read}
-use Rattle.law_steps.specs.Happens.{Handled, Worked, By_job, By_entry, Serving, Goes, Ends, Stays, own_place, without_rev, served_so, stopped_so}
+use Rattle.law_steps.specs.Happens.{Handled, Worked, By_job, By_entry, Serving, Goes, Ends, Stays, Wakes, Fails, own_place, without_rev, served_so, stopped_so}
 use Rattle.law_steps.proofs.Letters.{said}
 use Rattle.law_steps.proofs.Serving.{chosen_same}
 use Rattle.law_copies.specs.Pair.{owns_of}
@@ -28,9 +29,8 @@ use Rattle.law_run.specs.Follow.{Ground, Follow}
 use Rattle.law_run.specs.Onward.{Onward}
 use Rattle.law_run.proofs.Along.{Along, rows_in}
 use Rattle.law_run.proofs.Chains.{did_stores}
-use Rattle.law_run.proofs.Entries.{entry_job}
-use Rattle.law_run.proofs.Frames.{OwnFollow, SaysOk, kept_own}
-use Rattle.law_run.proofs.LogSteps.{IsOfKind, Of_the_log, Of_the_rest}
+use Rattle.law_run.proofs.Frames.{AreKept, As_before, Anew, OwnFollow, Runs, SaysOk, kept_own}
+use Rattle.law_run.proofs.LogSteps.{IsOfKind, Of_the_log, Of_a_boot, Of_the_rest}
 use Rattle.law_run.proofs.Looks.{Accepts, is_data}
 use Rattle.law_run.proofs.Puts.{calm_told, stored_told, unchanged}
 use Rattle.law_run.proofs.Says.{IsUnended, is_written, did_says, downs_unended, glances_unended, quiet_data, unended_no_data, unended_no_end}
@@ -126,7 +126,7 @@ module _ (at : ServesAt) where
           → AreAccepted (after_step (served_so at.setting at.w at.n log done queue))
           → LooksTold (step_of (served_so at.setting at.w at.n log done queue) serving next)
       unfolding In
-      job_looks _ (By_read _ (Shows client seq cell epoch h r none)) queue serving next same accepts =
+      job_looks _ (By_read _ (Shows client seq cell epoch h seat r none)) queue serving next same accepts =
           let this = step_of _ serving next in
           let letter : Letter =
           record {
@@ -138,7 +138,7 @@ module _ (at : ServesAt) where
             nth = 0;
             body = body.Data seq (data_of this cell epoch);
           } in
-          show_told this numbered runs client seq cell epoch h r none letter refl refl refl (λ row b. unchanged this same row b (λ mine. refl))
+          show_told this numbered runs client seq cell epoch h seat r none letter refl refl refl (λ row b. unchanged this same row b (λ mine. refl))
           (λ number e. accepts letter seq _ number (inl refl) refl e)
       job_looks done d queue serving next same accepts =
           let this = step_of _ serving next in
@@ -190,18 +190,18 @@ module _ (at : ServesAt) where
         (next : Next (served_so at.setting at.w at.n log done queue)) → IsSame (served_so at.setting at.w at.n log done queue)
         → AreAccepted (after_step (served_so at.setting at.w at.n log done queue))
         → ServerTold (step_of (served_so at.setting at.w at.n log done queue) serving next)
-    goes_told _ _ queue runs (By_job log done applied did) serving next same accepts = job_told log runs done did queue serving next same accepts
+    goes_told _ _ queue runs (By_job log done applied did seat) serving next same accepts = job_told log runs done did queue serving next same accepts
     goes_told _ _ queue runs (By_entry log entry more front) serving next same accepts =
-        calm_step _ serving next same refl (λ k onward. entry_job (step_of _ serving next) k onward (server_state at.setting at.w at.n) entry)
+        calm_step _ serving next same refl (λ k onward. kept_own (step_of _ serving next) k onward refl (λ on. As_before runs refl refl))
         (sender here) [] refl no_posts
 
     ends_told : (log : Log) (done : Done) (runs : (at.w.servers at.n).life.running ≡ true) → Worked at.setting at.w at.n log done
         → (serving : Serving at.setting at.w at.n at.what (stopped_so at.setting at.w at.n log done))
         (next : Next (stopped_so at.setting at.w at.n log done)) → IsSame (stopped_so at.setting at.w at.n log done)
         → ServerTold (step_of (stopped_so at.setting at.w at.n log done) serving next)
-    ends_told _ _ runs (By_job log done applied did) serving next same = job_stopped log runs done did serving next same
+    ends_told _ _ runs (By_job log done applied did seat) serving next same = job_stopped log runs done did serving next same
     ends_told _ _ runs (By_entry log entry more front) serving next same =
-        calm_step _ serving next same refl (λ k onward. entry_job (step_of _ serving next) k onward (server_state at.setting at.w at.n) entry)
+        calm_step _ serving next same refl (λ k onward. kept_own (step_of _ serving next) k onward refl (λ on. As_before runs refl refl))
         (without_rev here) downs refl downs_end
 
     rest_told : (acted : Acted) (serving of_it : Serving at.setting at.w at.n at.what acted) (next : Next acted) → IsSame acted → AreAccepted (after_step acted)
@@ -209,12 +209,32 @@ module _ (at : ServesAt) where
     rest_told _ (Goes log done queue runs worked queued works) of_it next same accepts = goes_told log done queue runs worked of_it next same accepts
     rest_told _ (Ends log done runs worked) of_it next same accepts = ends_told log done runs worked of_it next same
     rest_told _ (Stays who posts from shown) of_it next same accepts =
-        calm_step _ of_it next same refl (λ k onward. kept_own (step_of _ of_it next) k onward own refl refl (λ cell. omega arith))
+        calm_step _ of_it next same refl (λ k onward. kept_own (step_of _ of_it next) k onward refl (λ on. As_before on refl refl))
         who posts refl (λ post i. glances_unended post (shown post i))
+    rest_told _ (Wakes booted asleep) of_it next same accepts =
+        calm_step _ of_it next same refl (λ k onward. kept_own (step_of _ of_it next) k onward refl (λ on. Anew refl))
+        (record { from = actor.Server at.n; inc = (at.w.servers at.n).life.inc + 1; rev = rev_of (awake (raised (at.w.servers at.n))).log }) downs refl downs_end
+    rest_told _ (Fails booted asleep) of_it next same accepts =
+        calm_step _ of_it next same refl (λ k onward. kept_own (step_of _ of_it next) k onward refl (λ on. true_false on asleep))
+        (without_rev here) [] refl no_posts
+
+    -- a server that runs after the step ran before, or has nothing in memory
+    serves_kept : (acted : Acted) (serving of_it : Serving at.setting at.w at.n at.what acted) (next : Next acted) → acted.server.own ≡ own
+        → Runs (step_of acted of_it next) → AreKept (step_of acted of_it next)
+    serves_kept _ (Goes log done queue runs worked queued works) of_it next same on =
+        As_before runs (ap (λ (o : Own). o.pairs.finished) same) (ap (λ (o : Own). o.pairs.pending) same)
+    serves_kept _ (Ends log done runs worked) of_it next same on =
+        As_before runs (ap (λ (o : Own). o.pairs.finished) same) (ap (λ (o : Own). o.pairs.pending) same)
+    serves_kept _ (Stays who posts from shown) of_it next same on = As_before on refl refl
+    serves_kept _ (Wakes booted asleep) of_it next same on = Anew refl
+    serves_kept _ (Fails booted asleep) of_it next same on = true_false on asleep
 
     -- each kind of step
     pub step_told : (acted : Acted) (serving : Serving at.setting at.w at.n at.what acted) (next : Next acted) → IsOfKind (at.w.servers at.n) acted
         → AreAccepted (after_step acted) → ServerTold (step_of acted serving next)
-    step_told acted serving next (Of_the_log own_same quiet) accepts = votes_told (step_of acted serving next) own_same (quiet at.stamp)
+    step_told acted serving next (Of_the_log own_same quiet) accepts =
+        votes_told (step_of acted serving next) (ap (λ (o : Own). o.store.chains) own_same) (serves_kept acted serving serving next own_same) (quiet at.stamp)
+    step_told acted serving next (Of_a_boot chains none quiet) accepts =
+        votes_told (step_of acted serving next) chains (λ on. Anew none) (quiet at.stamp)
     step_told acted serving next (Of_the_rest records) accepts =
         rest_told acted serving serving next (chosen_same at.setting at.w at.n at.stamp at.what acted records) accepts

@@ -15,7 +15,7 @@ use Rattle.petal_state.specs.CellState.{cell_link}
 use Rattle.script_lines.specs.declared.request.Line.{Line}
 use Rattle.script_lines.specs.declared.request.Request.TheVariants as request
 use Rattle.petal_rules.specs.Lists.{In}
-use Rattle.petal_rules.specs.State.{State, authority, in_both, is_lead, readable}
+use Rattle.petal_rules.specs.State.{State, authority, in_both, is_in, is_lead, readable}
 use Rattle.petal_rules.specs.Store.{Chain, cell_cmp, chain_in, entry_at, bytes_of}
 use Rattle.petal_rules.specs.Server.{Own}
 use Rattle.petal_rules.specs.Clients.{epoch_for}
@@ -30,9 +30,11 @@ use Rattle.law_state.proofs.Leaves.{either_true}
 use Rattle.law_state.proofs.Roles.{log_roles}
 use Rattle.law_state.proofs.Rows.{HasRow}
 use Rattle.law_steps.specs.Happens.{Handled}
-use Rattle.law_steps.proofs.Histories.{chosen_steady, own_below, own_steady}
+use Rattle.law_steps.proofs.Histories.{chosen_steady, own_below, own_steady, runs_now}
 use Rattle.law_copies.specs.Pair.{IsPair, AreCopies, owns_of}
 use Rattle.law_copies.proofs.Copying.{together_in_both}
+use Rattle.law_copies.proofs.Jobs.{ok_first}
+use Rattle.law_copies.proofs.Sharing.{shared_by}
 use Rattle.law_requests.specs.Asked.{IsRead}
 use Rattle.law_requests.specs.Known.{Known, seen}
 use Rattle.law_run.proofs.Along.{rows_in, row_here, own_link, later_row}
@@ -62,10 +64,11 @@ module _ (this : ServerStep) where
   equal one two at (Some op) e h = none_some e refl
 
   -- the first server of a cell in Both that may read it has what counts
-  first_is : (cell : Cell) → readable own_state this.n cell ≡ true → (is_lead own_state this.n cell ≡ true → at cell_cmp own.pairs.pending cell ≡ None)
+  first_is : (this.w.servers this.n).life.running ≡ true → is_in own_state this.n (this.w.servers this.n).life.inc ≡ true → (cell : Cell)
+      → readable own_state this.n cell ≡ true → (is_lead own_state this.n cell ≡ true → at cell_cmp own.pairs.pending cell ≡ None)
       → (b : IsInBoth chosen cell) → b.row.primary ≡ this.n
       → content_by this.w cell 0 (authority chosen cell) ≡ bytes_of (entry_at (chain_in own.store.chains cell) 0)
-  first_is cell may none b mine =
+  first_is runs seat cell may none b mine =
       let firm = this.along.firm in
       let old = own_steady this.setting this.w firm this.n in
       let below = own_below this.setting this.w firm this.n in
@@ -77,34 +80,38 @@ module _ (this : ServerStep) where
         leads = primary_on chosen this.state up cell this.n (ap (option_map (λ (r : LinkRow). r.primary)) b.is ∙ ap Some mine);
         follows = secondary_on chosen this.state up cell q (ap (option_map (λ (r : LinkRow). r.secondary)) b.is);
       } in
-      let leads : is_lead own_state this.n cell ≡ true = elim (read_by own_state old cell this.n may).1 [
+      let leads : (is_lead own_state this.n cell ≡ true) × (in_both own_state cell ≡ true) = elim (read_by own_state old cell this.n may).1 [
         | inl was ↦
             let now = below.rows cell was.0.row was.0.is in
             let row : now.now ≡ b.row = same_some (sym now.is ∙ b.is) in
-            let first : was.0.row.primary ≡ this.n = sym now.so.primary ∙ ap (λ (r : LinkRow). r.primary) row ∙ mine in
-            is_the_so _ this.n (both_lead own_state cell was.0.row was.0.is was.0.linked was.0.so ∙ ap Some first)
+            let first : was.0.row.primary ≡ this.n = sym now.so.primary ∙ ap (λ (r : LinkRow). r.primary) row ∙ mine in (
+              is_the_so _ this.n (both_lead own_state cell was.0.row was.0.is was.0.linked was.0.so ∙ ap Some first),
+              so_both own_state cell was.0.row was.0.is was.0.so,
+            )
         | inr held ↦ true_false (both_before own_state chosen below cell held.row held.is both)
             (alone_not_both own_state this.n cell (so_alone own_state this.n cell held.row false held.is held.so))
       ] in
-      let ok = this.ground.good.pairs cell this.n q pair (together_in_both this.setting this.w firm cell this.n q both) in
+      let ok = ok_first this.setting this.state this.along.steady this.w this.ground.ready this.ground.good this.n runs cell q
+      (shared_by own_state this.n (this.w.servers this.n).life.inc cell seat leads.1) pair (together_in_both this.setting this.w firm cell this.n q both) in
       ap (content_by this.w cell 0) (both_authority chosen cell b.row b.is b.linked b.so)
-      ∙ ap (λ c. bytes_of (entry_at c 0)) (sym (equal _ _ _ _ (none leads) ok.copies))
+      ∙ ap (λ c. bytes_of (entry_at c 0)) (sym (equal _ _ _ _ (none leads.0) ok.copies))
 
   -- what a server that may read a cell has is what counts
-  read_is : (this.w.servers this.n).life.running ≡ true → (cell : Cell) → readable own_state this.n cell ≡ true
+  read_is : (this.w.servers this.n).life.running ≡ true → is_in own_state this.n (this.w.servers this.n).life.inc ≡ true → (cell : Cell)
+      → readable own_state this.n cell ≡ true
       → (is_lead own_state this.n cell ≡ true → at cell_cmp own.pairs.pending cell ≡ None)
       → content_by this.w cell 0 (authority chosen cell) ≡ bytes_of (entry_at (chain_in own.store.chains cell) 0)
-  read_is runs cell may none =
+  read_is runs seat cell may none =
       let firm = this.along.firm in
       let steady = chosen_steady this.setting this.w firm in
       let roles = log_roles this.setting.servers (this.w.servers this.n).log.applied (chosen_log this.setting this.w) firm.plain (firm.servers this.n) in
-      let now = roles.reads this.n cell (firm.runs this.n runs) may in
+      let now = roles.reads this.n (this.w.servers this.n).life.inc cell seat (runs_now this.setting this.w firm this.n runs seat) may in
       elim (read_by chosen steady cell this.n now).1 [
         | inr held ↦ ap (content_by this.w cell 0) (alone_authority chosen cell held.row held.is held.linked this.n false held.so)
         | inl both ↦
             let b = both.0 in
             by_bool (b.row.primary == this.n)
-            (λ t. first_is cell may none b (same_numbers b.row.primary this.n t))
+            (λ t. first_is runs seat cell may none b (same_numbers b.row.primary this.n t))
             (λ f.
             let mine = same_numbers b.row.secondary this.n (either_true (b.row.primary == this.n) (b.row.secondary == this.n) both.1 f) in
             ap (content_by this.w cell 0) (both_authority chosen cell b.row b.is b.linked b.so ∙ ap Some mine))
@@ -154,18 +161,18 @@ module _ (this : ServerStep) where
   -- a server's answer to a read, which is all that the step sends
   pub show_told : (numbered : (one other : Line) → In one lines → In other lines → one.number ≡ other.number → one ≡ other)
       → (this.w.servers this.n).life.running ≡ true → (client seq : ℕ) (cell : Cell) (epoch : ℕ)
-      → Handled this.w this.n (body.Read client seq cell epoch) → readable own_state this.n cell ≡ true
-      → (is_lead own_state this.n cell ≡ true → at cell_cmp own.pairs.pending cell ≡ None)
+      → Handled this.w this.n (body.Read client seq cell epoch) → is_in own_state this.n (this.w.servers this.n).life.inc ≡ true
+      → readable own_state this.n cell ≡ true → (is_lead own_state this.n cell ≡ true → at cell_cmp own.pairs.pending cell ≡ None)
       → (letter : Letter) → letters this ≡ letter ∷ [] → letter.to ≡ actor.Client client → letter.body ≡ body.Data seq (data_of cell epoch)
       → ((row : DiskRow) (b : ℕ) → was_kept this row b ≡ now_kept this row b)
       → ((number : ℕ) → accepted this.later letter ≡ Some number → Accepts lines letter seq number)
       → LooksTold this
   unfolding In
-  show_told numbered runs client seq cell epoch h r none letter all to says calm accepts k following =
+  show_told numbered runs client seq cell epoch h seat r none letter all to says calm accepts k following =
       let bytes = data_of cell epoch in
       let v = later_world this in
       let read : IsRead this.state lines client seq cell epoch =
-      subst (λ (b : Body). Known this.setting this.state (seen this.w) h.letter.from h.letter.to h.letter.rev b) h.is
+      subst (λ (b : Body). Known this.setting this.state (seen this.ground.lives this.w) h.letter.from h.letter.to h.letter.rev b) h.is
       (this.ground.asking.letters h.letter h.sent) in
       let link = linked cell r in
       let shown = show_looks numbered client seq cell epoch letter bytes read link.0 link.1 to accepts in
@@ -173,7 +180,7 @@ module _ (this : ServerStep) where
       (later_row this.setting this.w v this.along.firm this.next.firm this.grown shown.row shown.there) in
       let has : content kn.disk.now shown.block ≡ bytes =
       kn.same shown.block ∙ sym (calm shown.row shown.block) ∙ ap (λ (c : Cell). content_by this.w c 0 (authority chosen c)) (sym shown.at_block)
-      ∙ read_is runs cell r none ∙ ap (λ i. bytes_of (entry_at (chain_in own.store.chains cell) i)) (sym shown.newest) in
+      ∙ read_is runs seat cell r none ∙ ap (λ i. bytes_of (entry_at (chain_in own.store.chains cell) i)) (sym shown.newest) in
       subst (λ ls. Looked k (looks lines this.later ls)) (sym all)
       (subst (λ (b : Body). Looked k (look_of lines this.later letter b ++ [])) (sym says)
       (looked k shown.row.name kn.disk shown.block bytes kn.is following.stores.mindful has (look_for lines (accepted this.later letter) bytes ++ [])

@@ -30,9 +30,10 @@ use Rattle.law_state.proofs.Alone.{not_alone_before}
 use Rattle.law_state.proofs.Rows.{fresh_rows, none_before}
 use Rattle.law_state.proofs.Steady.{front_plain, log_below}
 use Rattle.law_steps.specs.Ready.{Rests}
-use Rattle.law_steps.specs.Happens.{Worked, By_job, By_entry, Serving, Goes, Ends, Stays}
+use Rattle.law_steps.specs.Happens.{Worked, By_job, By_entry, Serving, Goes, Ends, Stays, Wakes, Fails}
 use Rattle.law_steps.proofs.Fronts.{front_itself, front_same}
 use Rattle.law_steps.proofs.Histories.{own_below}
+use Rattle.law_steps.specs.Waking.{AllMayWake}
 use Rattle.law_copies.specs.Pair.{alone_in, owns_of}
 use Rattle.law_run.specs.Follow.{Ground, Follow, Stores}
 use Rattle.law_run.proofs.Along.{Along, rows_in, plain_now}
@@ -81,27 +82,29 @@ none_below one other cell below none = elim (some_or_none (cell_link one cell)) 
 
 -- the entries that a server has applied stay
 worked_grows : (setting : Setting) (w : World) (n : ℕ) (log : Log) (done : Done) → Worked setting w n log done → IsPrefix (w.servers n).log.applied log.applied
-worked_grows setting w n _ _ (By_job log done same did) = front_same _ _ same
+worked_grows setting w n _ _ (By_job log done same did seat) = front_same _ _ same
 worked_grows setting w n _ _ (By_entry log entry more front) = record { later = entry ∷ []; is = more }
 
-serves_grow : (setting : Setting) (w : World) (n : ℕ) (what : Step) (acted : Acted) → Serving setting w n what acted
+serves_grow : (setting : Setting) (w : World) → AllMayWake setting w → (n : ℕ) (what : Step) (acted : Acted) → Serving setting w n what acted
     → IsPrefix (w.servers n).log.applied acted.server.log.applied
-serves_grow setting w n what _ (Goes log done queue runs worked queued works) = worked_grows setting w n log done worked
-serves_grow setting w n what _ (Ends log done runs worked) = worked_grows setting w n log done worked
-serves_grow setting w n what _ (Stays who posts from shown) = front_itself _
+serves_grow setting w wake n what _ (Goes log done queue runs worked queued works) = worked_grows setting w n log done worked
+serves_grow setting w wake n what _ (Ends log done runs worked) = worked_grows setting w n log done worked
+serves_grow setting w wake n what _ (Stays who posts from shown) = front_itself _
+serves_grow setting w wake n what _ (Wakes booted asleep) = (wake n).onward
+serves_grow setting w wake n what _ (Fails booted asleep) = front_itself _
 
 -- what a server stores is of disks that it knows
-pub born_kept : (setting : Setting) (w : World) → Firm setting w → Rests setting w
+pub born_kept : (setting : Setting) (w : World) → AllMayWake setting w → Firm setting w → Rests setting w
     → ((i : ℕ) (cell : Cell) → cell_link (server_state setting w i) cell ≡ None → chain_in (owns_of w i).store.chains cell ≡ [])
     → (n stamp : ℕ) (what : Step) (acted : Acted) → Serving setting w n what acted → Firm setting (acts w n what stamp acted).world
     → (i : ℕ) (cell : Cell) → cell_link (server_state setting (acts w n what stamp acted).world i) cell ≡ None
     → chain_in (owns_of (acts w n what stamp acted).world i).store.chains cell ≡ []
-born_kept setting w firm rests born n stamp what acted serving later =
+born_kept setting w wake firm rests born n stamp what acted serving later =
     let v = (acts w n what stamp acted).world in
     let front : IsPrefix acted.server.log.applied (chosen_log setting v) =
     subst (λ (x : Server). IsPrefix x.log.applied (chosen_log setting v)) (put_same w.servers n acted.server) (later.servers n) in
     let below : IsBelow (server_state setting w n) (state_in setting.servers acted.server.log) =
-    log_below setting.servers _ _ (front_plain setting.servers _ _ later.plain front) (serves_grow setting w n what acted serving) in
+    log_below setting.servers _ _ (front_plain setting.servers _ _ later.plain front) (serves_grow setting w wake n what acted serving) in
     all_put w.servers n acted.server
     (λ k (x : Server). (cell : Cell) → cell_link (state_in setting.servers x.log) cell ≡ None → chain_in x.own.store.chains cell ≡ []) born
     (λ cell none.
@@ -141,7 +144,7 @@ module _ (this : ServerStep) where
 
   logs_grow : (i : ℕ) → IsPrefix (this.w.servers i).log.applied (v.servers i).log.applied
   logs_grow = all_put this.w.servers this.n this.acted.server (λ i (x : Server). IsPrefix (this.w.servers i).log.applied x.log.applied)
-      (λ i. front_itself _) (serves_grow this.setting this.w this.n this.what this.acted this.serving)
+      (λ i. front_itself _) (serves_grow this.setting this.w this.ground.wake this.n this.what this.acted this.serving)
 
   -- a server's own state
   pub own_later : (i : ℕ) → IsBelow (server_state this.setting this.w i) (server_state this.setting v i)

@@ -1,5 +1,5 @@
 -- What ties servers and clients to the plain machine.
-use Rattle.std.specs.Prelude.{◌≡◌, ◌≤◌, ◌+◌, ◌⊎◌, ℕ, true, false, List, [], ◌∷◌, Some, None}
+use Rattle.std.specs.Prelude.{◌≡◌, ◌≤◌, ◌<◌, ◌⊎◌, ℕ, true, false, List, [], ◌∷◌, Some, None}
 use Rattle.std.specs.Ordering.{nat_cmp}
 use Rattle.petal_base.specs.declared.cell.Cell.{Cell}
 use Rattle.petal_table.specs.Table.{at}
@@ -20,11 +20,11 @@ use Rattle.petal_rules.specs.World.{Setting, World, clock_of, server_state, chos
 use Rattle.petal_history.specs.Claims.{Holds}
 use Rattle.petal_history.specs.Contents.{content_in}
 use Rattle.petal_history.specs.Events.{open_write, same_name}
-use Rattle.law_steps.specs.Operations.{progress}
 use Rattle.law_steps.specs.Ready.{Ready}
+use Rattle.law_steps.specs.Waking.{AllMayWake}
 use Rattle.law_copies.specs.Pair.{IsPair, AreTogether, alone_in, owns_of, Good}
 use Rattle.law_requests.specs.Asked.{IsOpen}
-use Rattle.law_requests.specs.Known.{Asking}
+use Rattle.law_requests.specs.Known.{Lives, PendingFor, seen, asked_for, AskingBy}
 use Rattle.law_run.specs.Onward.{IsMindful, is_held, Seat}
 
 -- ### The ground
@@ -38,11 +38,22 @@ pub record Named (w : World) : Type 0 where
 abbrev pub IsShort : Chain → Type 0
 IsShort chain = (chain ≡ []) ⊎ ((entry : Stored) × (chain ≡ (0, entry) ∷ []))
 
--- the ground on which the run stands, at a state from what is chosen on. What a server has put is of a disk that it knows
+-- an operation that a server remembers of a cell is pending there, or was so at an incarnation that has ended
+pub data IsRemembered (setting : Setting) (state : State) (w : World) (lives : Lives) (n : ℕ) (cell : Cell) (op : Pending) : Type 0 where
+  Is_pending : at cell_cmp (owns_of w n).pairs.pending cell ≡ Some op → IsRemembered setting state w lives n cell op
+  Was_pending : (inc : ℕ) → inc < lives.ran n → PendingFor setting state (seen lives w) n inc (asked_for cell op) op.rev
+      → IsRemembered setting state w lives n cell op
+
+-- the ground on which the run stands, at a state from what is chosen on: the laws below it; what a server remembers of a cell that
+-- it doesn't hold alone is of a write that is known of; and what it has put is of a disk that it knows
 pub record Ground (setting : Setting) (state : State) (w : World) : Type 0 where
   pub ready : Ready setting state w
+  pub wake : AllMayWake setting w
   pub good : Good setting state w
-  pub asking : Asking setting state w
+  pub lives : Lives
+  pub asking : AskingBy setting state w lives
+  pub recalled : (n : ℕ) (cell : Cell) (op : Pending) → alone_in setting w n cell ≡ false → at cell_cmp (good.memory n cell).pending cell ≡ Some op
+      → IsRemembered setting state w lives n cell op
   pub named : Named w
   pub short : (n : ℕ) (cell : Cell) → IsShort (chain_in (owns_of w n).store.chains cell)
   pub born : (n : ℕ) (cell : Cell) → cell_link (server_state setting w n) cell ≡ None → chain_in (owns_of w n).store.chains cell ≡ []
@@ -59,23 +70,23 @@ pub record Stores (chosen : State) (rows : List DiskRow) (w : World) (m : Plain)
   pub unknown : (name : List ℕ) → named rows name ≡ None → disk_of m.disks name ≡ None
   pub mindful : IsMindful m
 
--- why the write of an operation that is pending at this server has had its bytes: before the server held the cell alone, it
--- heard that the second one has put; or the second one has put, while neither holds the cell alone; or the server has put
--- itself, and its copy counts by what is chosen
-pub data HasCounted (setting : Setting) (state : State) (w : World) (n : ℕ) (cell : Cell) (op : Pending) : Type 0 where
-  Is_told : alone_in setting w n cell ≡ false → op.stage.paired ≡ true → HasCounted setting state w n cell op
-  Is_followed : (q : ℕ) → IsPair state cell n q → AreTogether (alone_in setting w) cell n q
-      → op.op + op.op + 1 ≤ progress (at cell_cmp (owns_of w q).pairs.last cell) → HasCounted setting state w n cell op
-  Is_counted : op.stage.put ≡ true → authority (chosen_state setting w) cell ≡ Some n → HasCounted setting state w n cell op
+-- why the write of an operation that is pending at this server, which has this chain, has had its bytes: before the server held
+-- the cell alone, it heard that the second one has put; or the second one has put, while neither holds the cell alone; or the
+-- server has put itself, and its copy counts by what is chosen
+pub data HasCounted (setting : Setting) (state : State) (w : World) (n : ℕ) (cell : Cell) (op : Pending) (chain : Chain) : Type 0 where
+  Is_told : alone_in setting w n cell ≡ false → op.stage.paired ≡ true → HasCounted setting state w n cell op chain
+  Is_followed : (q : ℕ) → IsPair state cell n q → AreTogether (alone_in setting w) cell n q → op.stage.put ≡ true
+      → chain ≡ chain_in (owns_of w q).store.chains cell → HasCounted setting state w n cell op chain
+  Is_counted : op.stage.put ≡ true → authority (chosen_state setting w) cell ≡ Some n → HasCounted setting state w n cell op chain
 
--- its disks are these; the writes under way are those that clients have open; and one whose operation was put where it counts,
--- or that ended as written, has had its bytes
+-- its disks are these; the writes under way are those that clients have open; and one whose operation was put where it counts, at
+-- a server that runs, or that ended as written, has had its bytes
 pub record Follow (setting : Setting) (state : State) (rows : List DiskRow) (w : World) (m : Plain) : Type 0 where
   pub stores : Stores (chosen_state setting w) rows w m
   pub seats : (c : ℕ) → Seat (open_write w c) (open_of m.opened c)
   pub letters : (letter : Letter) (c seq : ℕ) → In letter w.sent → letter.to ≡ actor.Client c → letter.body ≡ body.Written seq
       → IsOpen (w.clients c) seq → is_held m c ≡ true
-  pub pending : (n : ℕ) (cell : Cell) (op : Pending) → at cell_cmp (owns_of w n).pairs.pending cell ≡ Some op → HasCounted setting state w n cell op
-      → IsOpen (w.clients op.client) op.seq → is_held m op.client ≡ true
-  pub finished : (n c : ℕ) (last : Finished) → at nat_cmp (owns_of w n).pairs.finished c ≡ Some last → last.ending ≡ ending.Written
-      → IsOpen (w.clients c) last.seq → is_held m c ≡ true
+  pub pending : (n : ℕ) (cell : Cell) (op : Pending) → (w.servers n).life.running ≡ true → at cell_cmp (owns_of w n).pairs.pending cell ≡ Some op
+      → HasCounted setting state w n cell op (chain_in (owns_of w n).store.chains cell) → IsOpen (w.clients op.client) op.seq → is_held m op.client ≡ true
+  pub finished : (n c : ℕ) (last : Finished) → (w.servers n).life.running ≡ true → at nat_cmp (owns_of w n).pairs.finished c ≡ Some last
+      → last.ending ≡ ending.Written → IsOpen (w.clients c) last.seq → is_held m c ≡ true

@@ -1,5 +1,5 @@
 -- What a state says of a cell's two servers and of a holder that is alone, and what a later one says of them.
-use Rattle.std.proofs.Common.{◌≡◌, ◌≢◌, ◌==◌, ℕ, if◌then◌else◌, Bool, true, false, Option, Some, None, refl, sym, ap, ◌∙◌, ◌⊎◌, inl, inr}
+use Rattle.std.proofs.Common.{◌≡◌, ◌≢◌, ℕ, if◌then◌else◌, Bool, true, false, Option, Some, None, refl, sym, ap, ◌∙◌, ◌⊎◌, inl, inr}
 use Rattle.std.specs.Prelude.{is_some, option_map, option_and_then}
 use Rattle.std.specs.Option.{option_map_or}
 use Rattle.petal_base.specs.declared.cell.Cell.{Cell}
@@ -8,24 +8,26 @@ use Rattle.global_tables.specs.Link.{has_server}
 use Rattle.global_tables.specs.declared.link.LinkState.{LinkState}
 use Rattle.global_tables.specs.declared.link.LinkState.TheVariants.{Both, Only, Lost}
 use Rattle.petal_command.specs.declared.command.Command.{Command}
-use Rattle.petal_command.specs.declared.command.Command.TheVariants.{Leave, MakeDisk, Witness}
 use Rattle.petal_state.specs.CellState.{cell_link}
-use Rattle.petal_state.specs.Command.{after, is_alone}
+use Rattle.petal_state.specs.Command.{act, after, is_alone}
 use Rattle.petal_state.specs.Place.{touches}
 use Rattle.petal_state.specs.State.{is_up, is_up_as}
 use Rattle.petal_rules.specs.Crossing.{touches_cell}
 use Rattle.petal_rules.specs.State.{State, lead, is_lead, row_in_both, in_both, first, second, primary, secondary, is_alone_on}
-use Rattle.petal_rules.proofs.Tests.{by_bool, both_true, true_false, none_some, same_some, same_numbers, number_itself, some_or_none, is_the_one}
-use Rattle.law_state.specs.Rows.{IsServedBy, ByBoth, ByOne}
+use Rattle.petal_rules.proofs.Tests.{by_bool, true_false, none_some, same_some, same_numbers, number_itself, some_or_none, is_the_one}
+use Rattle.law_state.specs.Rows.{IsServed, IsServedBy, ByBoth, ByOne}
 use Rattle.law_state.specs.Steady.{IsSteady}
 use Rattle.law_state.specs.Below.{IsBelow}
 use Rattle.law_state.specs.Plain.{IsPlain}
 use Rattle.law_state.specs.Tables.{IsPlainState}
 use Rattle.law_state.proofs.Cells.{led_by, first_by, second_by, both_first, both_second}
 use Rattle.law_state.proofs.Entries.{settled_act}
-use Rattle.law_state.proofs.Leaves.{left_by, out_now, either_true}
+use Rattle.law_state.proofs.Joins.{was_out}
+use Rattle.law_state.proofs.Leaves.{both_up, left_by, out_now}
 use Rattle.law_state.proofs.Grown.{one_before}
-use Rattle.law_state.proofs.Roles.{holds_it, primary_is_one, secondary_is_one}
+use Rattle.law_state.proofs.Grown.{alone_not_both as alone_row_not_both}
+use Rattle.law_state.proofs.Roles.{primary_is_one, secondary_is_one}
+use Rattle.law_state.proofs.Touching.{touched_by_entry}
 
 -- ### One state, by its definitions alone
 
@@ -144,11 +146,12 @@ module _ (state : State) (steady : IsSteady state) where
     | inr none ↦ none_some (ap (option_map (λ (r : LinkRow). r.secondary)) none) e
   ]
 
-  -- a holder that is alone is one of the cell's two servers, and the other one is Out
+  -- a holder that is alone is one of the cell's two servers, and the other one is not In with its first
+  -- incarnation
   pub record IsLeft (n : ℕ) (cell : Cell) (i j : ℕ) : Type 0 where
     pub one_of : (n ≡ i) ⊎ (n ≡ j)
-    pub first_out : n ≢ i → is_up state i ≡ false
-    pub second_out : n ≢ j → is_up state j ≡ false
+    pub first_out : n ≢ i → is_up_as state i 1 ≡ false
+    pub second_out : n ≢ j → is_up_as state j 1 ≡ false
 
   pub alone_left : (n : ℕ) (cell : Cell) (i j : ℕ) → is_alone_on state n cell ≡ true → primary state cell ≡ Some i → secondary state cell ≡ Some j
       → IsLeft n cell i j
@@ -161,17 +164,17 @@ module _ (state : State) (steady : IsSteady state) where
       holder_is : (h : ℕ) (whole : Bool) → Only n whole ≡ Only h false → n ≡ h
       holder_is h whole f = cc
 
-      by : (s : LinkState) {row : LinkRow} {whole : Bool} → row.state ≡ Only n whole → row.primary ≡ i → row.secondary ≡ j → IsServedBy (is_up state) row
+      by : (s : LinkState) {row : LinkRow} {whole : Bool} → row.state ≡ Only n whole → row.primary ≡ i → row.secondary ≡ j → IsServedBy (is_up state) (λ k. is_up_as state k 1) row
           → IsLeft n cell i j
       by s alone first second (ByBoth both up up') = let f : Both ≡ Only n _ = sym both ∙ alone in absurd cc
       by s {whole = whole} alone first second (ByOne holder other only (inl pair) out) =
           let same : n ≡ holder = holder_is holder whole (sym alone ∙ only) in
           let one : n ≡ i = same ∙ sym pair.0 ∙ first in
-          record { one_of = inl one; first_out = λ ne. absurd (ne one); second_out = λ ne. sym (ap (is_up state) (sym pair.1 ∙ second)) ∙ out }
+          record { one_of = inl one; first_out = λ ne. absurd (ne one); second_out = λ ne. sym (ap (λ k. is_up_as state k 1) (sym pair.1 ∙ second)) ∙ out }
       by s {whole = whole} alone first second (ByOne holder other only (inr pair) out) =
           let same : n ≡ holder = holder_is holder whole (sym alone ∙ only) in
           let one : n ≡ j = same ∙ sym pair.1 ∙ second in
-          record { one_of = inr one; first_out = λ ne. sym (ap (is_up state) (sym pair.0 ∙ first)) ∙ out; second_out = λ ne. absurd (ne one) }
+          record { one_of = inr one; first_out = λ ne. sym (ap (λ k. is_up_as state k 1) (sym pair.0 ∙ first)) ∙ out; second_out = λ ne. absurd (ne one) }
 
 -- ### A later state
 
@@ -220,26 +223,6 @@ module _ (earlier later : State) (below : IsBelow earlier later) where
 
 -- ### An entry that touches a link
 
--- one of the link's two servers is Out after the entry
-pub record IsLeftOut (after_it : State) (row : LinkRow) : Type 0 where
-  pub server : ℕ
-  pub one_of : has_server server row ≡ true
-  pub out : is_up after_it server ≡ false
-
-pub touched_out : (servers : ℕ) (s : State) → IsPlainState servers s → (entry : Command) → IsPlain servers entry → (row : LinkRow)
-    → touches s entry row ≡ true → IsLeftOut (after s entry) row
-touched_out servers s p (Leave server inc) plain row e =
-    let tests = both_true (is_up_as s server inc) (has_server server row) e in
-    record {
-      server = server;
-      one_of = tests.1;
-      out = ap (λ t. is_up t server) (settled_act servers s (Leave server inc) p plain)
-          ∙ ap (λ b. is_up (if b then left_by s server else s) server) tests.0 ∙ out_now servers s p server inc tests.0;
-    }
-touched_out servers s p (MakeDisk client seq name tuple) plain row e = true_false e refl
-touched_out servers s p (Witness client seq turn) plain row e = true_false e refl
-touched_out servers s p _ plain row e = absurd plain
-
 -- a cell that an entry touches has a link
 pub touched_row : (s : State) (entry : Command) (cell : Cell) → touches_cell s entry cell ≡ true → (row : LinkRow) × (cell_link s cell ≡ Some row)
 touched_row s entry cell e = elim (some_or_none (cell_link s cell)) [
@@ -247,28 +230,47 @@ touched_row s entry cell e = elim (some_or_none (cell_link s cell)) [
   | inr none ↦ true_false e (ap (λ o. option_map_or (touches s entry) o false) none)
 ]
 
--- a server of the link that is In after it holds the link alone
-pub touched_alone : (servers : ℕ) (s : State) → IsPlainState servers s → (entry : Command) → IsPlain servers entry → IsSteady (after s entry)
-    → IsBelow s (after s entry) → (cell : Cell) (n : ℕ) → touches_cell s entry cell ≡ true → (primary s cell ≡ Some n) ⊎ (secondary s cell ≡ Some n)
-    → is_up (after s entry) n ≡ true → is_alone_on (after s entry) n cell ≡ true
-touched_alone servers s p entry plain steady below cell n e one up =
-    let there = touched_row s entry cell e in
-    let row = there.0 in
+-- of a link in Both one server is Out after an entry that touches it
+pub record IsLeftOut (after_it : State) (row : LinkRow) : Type 0 where
+  pub server : ℕ
+  pub one_of : has_server server row ≡ true
+  pub out : is_up after_it server ≡ false
+
+pub touched_out : (servers : ℕ) (s : State) → IsPlainState servers s → (entry : Command) → IsPlain servers entry → (row : LinkRow)
+    → touches s entry row ≡ true → IsServed s row → row.state ≡ Both → IsLeftOut (after s entry) row
+touched_out servers s p entry plain row e served both = elim (touched_by_entry servers s entry row plain e) [
+  | inl left ↦ record {
+    server = left.server;
+    one_of = left.one_of;
+    out = ap (λ t. is_up t left.server) (settled_act servers s entry p plain) ∙ ap (λ c. is_up (act c s) left.server) left.is
+        ∙ ap (λ b. is_up (if b then left_by s left.server else s) left.server) left.up ∙ out_now servers s p left.server left.inc left.up;
+  }
+  | inr joined ↦ elim served [
+    | ByBoth so one two ↦ true_false (both_up (is_up s) row joined.server one two joined.one_of) (was_out servers s p joined.server joined.inc joined.may)
+    | ByOne holder other so pair out ↦ alone_row_not_both row holder so both
+  ]
+]
+
+-- a server that serves the cell before the entry, and is In as the same incarnation after it, holds the link alone then
+pub touched_alone : (servers : ℕ) (s : State) → IsPlainState servers s → (entry : Command) → IsPlain servers entry → IsSteady s → IsSteady (after s entry)
+    → IsBelow s (after s entry) → (cell : Cell) (n inc : ℕ) → touches_cell s entry cell ≡ true → (primary s cell ≡ Some n) ⊎ (secondary s cell ≡ Some n)
+    → (in_both s cell ≡ true) ⊎ (is_alone_on s n cell ≡ true) → is_up_as s n inc ≡ true → is_up_as (after s entry) n inc ≡ true
+    → is_alone_on (after s entry) n cell ≡ true
+touched_alone servers s p entry plain was steady below cell n inc e one (inr alone) before still = alone_on s (after s entry) below n cell alone
+touched_alone servers s p entry plain was steady below cell n inc e one (inl together) before still =
+    let b = both_row s cell together in
+    let row = b.row in
     let t = after s entry in
-    let gone = touched_out servers s p entry plain row (sym (ap (λ o. option_map_or (touches s entry) o false) there.1) ∙ e) in
-    let now = below.rows cell row there.1 in
+    let gone = touched_out servers s p entry plain row (sym (ap (λ o. option_map_or (touches s entry) o false) b.is) ∙ e) (was.linked cell row b.is).served b.both in
+    let now = below.rows cell row b.is in
     let mine : has_server n row ≡ true = elim one [
-      | inl first ↦ primary_is_one row n (same_some (sym (ap (option_map (λ (r : LinkRow). r.primary)) there.1) ∙ first))
-      | inr second ↦ secondary_is_one row n (same_some (sym (ap (option_map (λ (r : LinkRow). r.secondary)) there.1) ∙ second))
+      | inl first ↦ primary_is_one row n (same_some (sym (ap (option_map (λ (r : LinkRow). r.primary)) b.is) ∙ first))
+      | inr second ↦ secondary_is_one row n (same_some (sym (ap (option_map (λ (r : LinkRow). r.secondary)) b.is) ∙ second))
     ] in
-    elim (steady.linked cell now.now now.is).served [
-      | ByBoth both one two ↦ true_false (both_up t now.now gone.server one two (one_before row now.now gone.server now.so ∙ gone.one_of)) gone.out
-      | ByOne holder other alone pair out ↦
-          let same = holds_it t now.now holder n (ByOne holder other alone pair out) alone (one_before row now.now n now.so ∙ mine) up in
-          so_alone t n cell now.now false now.is (alone ∙ ap (λ k. Only k false) same)
+    elim (now.on n inc b.both mine before still) [
+      | inr alone ↦ so_alone t n cell now.now false now.is alone
+      | inl both ↦ elim (steady.linked cell now.now now.is).served [
+        | ByBoth so up up' ↦ true_false (both_up (is_up t) now.now gone.server up up' (one_before row now.now gone.server now.so ∙ gone.one_of)) gone.out
+        | ByOne holder other alone pair out ↦ alone_row_not_both now.now holder alone both
+      ]
     ]
-  where
-    both_up : (t : State) (row : LinkRow) (k : ℕ) → is_up t row.primary ≡ true → is_up t row.secondary ≡ true → has_server k row ≡ true → is_up t k ≡ true
-    both_up t row k one two has = by_bool (row.primary == k)
-        (λ f. ap (is_up t) (sym (same_numbers row.primary k f)) ∙ one)
-        (λ f. ap (is_up t) (sym (same_numbers row.secondary k (either_true (row.primary == k) (row.secondary == k) has f))) ∙ two)

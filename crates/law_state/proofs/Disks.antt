@@ -1,28 +1,35 @@
 -- In a plain state disks, maps and cells belong together, and each server is In, or has left.
-use Rattle.std.proofs.Common.{◌≡◌, ◌≢◌, ◌<◌, ℕ, List, [], ◌∷◌, true, false, not, Some, None, is_some, refl, sym, ap, ◌∙◌, inl, inr}
-use Rattle.std.specs.Prelude.{fold, slice_get}
+use Rattle.std.proofs.Common.{◌≡◌, ◌≢◌, ◌<◌, ◌==◌, ◌⊎◌, ℕ, List, [], ◌∷◌, true, false, not, Option, Some, None, is_some, refl, sym, ap, ◌∙◌, subst, inl, inr}
+use Rattle.std.specs.Prelude.{fold, slice_get, option_and_then}
 use Rattle.std.specs.Option.{option_map_or}
+use Rattle.std.proofs.lemmas.Grind.{fold-append}
 use Rattle.petal_base.specs.declared.cell.Cell.{Cell}
 use Rattle.global_tables.specs.Disk.{disk_at, named, is_disk, same_name}
-use Rattle.global_tables.specs.View.{is_in as stands_in}
+use Rattle.global_tables.specs.View.{inc_in}
 use Rattle.global_tables.specs.declared.disk.DiskRow.{DiskRow}
+use Rattle.global_tables.specs.declared.fence.Member.{Member}
 use Rattle.global_tables.specs.declared.fence.Member.TheVariants as member
 use Rattle.petal_command.specs.declared.command.Command.{Command}
-use Rattle.petal_command.specs.declared.command.Command.TheVariants.{Leave, MakeDisk, Witness}
+use Rattle.petal_command.specs.declared.command.Command.TheVariants.{Join, Leave, MakeDisk, Witness}
 use Rattle.global_tables.specs.declared.disk.Verdict.TheVariants as Verdict
-use Rattle.petal_state.specs.Command.{act, after, is_new, state_after, with_disk}
+use Rattle.petal_state.specs.Command.{act, after, is_new, may_join, state_after, with_disk}
 use Rattle.petal_state.specs.State.{is_up, is_up_as, latest, start, told}
 use Rattle.petal_rules.specs.Lists.{In}
 use Rattle.petal_rules.specs.State.{State}
 use Rattle.petal_rules.proofs.Tests.{by_bool, by_test, same_some, same_numbers, same_or_apart, number_itself, some_or_none, nat_lists_same, true_false}
-use Rattle.law_state.specs.Disks.{AreDisks, AreInOrOut}
+use Rattle.petal_history.specs.Claims.{IsPrefix}
+use Rattle.petal_rules.proofs.ListLemmas.{in_later}
+use Rattle.law_state.specs.Disks.{AreDisks, AreInOrOut, HasJoined}
 use Rattle.law_state.specs.Plain.{IsPlain, IsPlainLog}
 use Rattle.law_state.specs.Steady.{HasLink}
 use Rattle.law_state.specs.Tables.{IsPlainState}
+use Rattle.law_state.proofs.Ages.{in_once, in_up, up_some}
+use Rattle.law_state.proofs.Joins.{joined_by, in_now, was_out}
+use Rattle.law_state.proofs.Joins.{in_beside as joined_beside}
 use Rattle.law_state.proofs.Places.{find_here, get_in, in_get, get_replicate, text_itself}
-use Rattle.law_state.proofs.Leaves.{left_by, up_beside}
-use Rattle.law_state.proofs.Steady.{in_first, linked, unlinked, up_in}
-use Rattle.law_state.proofs.Entries.{entering, log_plain, settled_act, start_plain}
+use Rattle.law_state.proofs.Leaves.{left_by, in_before, in_beside}
+use Rattle.law_state.proofs.Steady.{front_plain, in_first, linked, unlinked}
+use Rattle.law_state.proofs.Entries.{entering, in_at_start, log_plain, settled_act, start_plain}
 
 module _ (servers : ℕ) (s : State) (p : IsPlainState servers s) where
   at : (row : DiskRow) → In row s.disks.rows → disk_at s.disks.rows row.id ≡ Some row
@@ -75,10 +82,10 @@ module _ (servers : ℕ) (s : State) (p : IsPlainState servers s) where
   pub plain_in : AreInOrOut servers s
   plain_in = record {
     many = p.many;
-    each = λ n lt. by_bool (is_up s n) (λ up. inl (up_in servers s p n up)) (λ out. inr out);
-    first = λ n inc e. (in_first servers s p n inc e).0;
-    up = up_in servers s p;
-    seated = λ n e. (in_first servers s p n 1 e).1;
+    each = λ n lt. by_bool (is_up s n) (λ up. inl (up_some s n up)) (λ out. inr out);
+    first = in_first servers s p;
+    up = up_some s;
+    seated = in_up s;
   }
 
 pub log_disks : (servers : ℕ) (log : List Command) → IsPlainLog servers log → AreDisks (state_after servers log)
@@ -89,38 +96,111 @@ log_in servers log all = plain_in servers (state_after servers log) (log_plain s
 
 -- ### Who is Out has left
 
--- a server that an entry makes Out has this very Leave
-made_out : (servers : ℕ) (s : State) → IsPlainState servers s → (entry : Command) → IsPlain servers entry → (n : ℕ) → is_up s n ≡ true
-    → is_up (act entry s) n ≡ false → Leave n 1 ≡ entry
-made_out servers s p (Leave server inc) plain n up = by_test (λ (t : State). is_up t n ≡ false → Leave n 1 ≡ Leave server inc) (is_up_as s server inc) (left_by s server) s
-    (λ is out. elim (same_or_apart n server) [
-      | inl e ↦ λ i. Leave (e i) (sym (in_first servers s p server inc is).0 i)
-      | inr ne ↦ true_false (up_beside servers s p server inc is n ne ∙ up) out
+-- an incarnation that an entry makes Out has this very Leave
+made_out : (servers : ℕ) (s : State) → IsPlainState servers s → (entry : Command) → IsPlain servers entry → (n inc : ℕ) → is_up_as s n inc ≡ true
+    → is_up_as (act entry s) n inc ≡ false → Leave n inc ≡ entry
+made_out servers s p (Join server later true) plain n inc is = true_false refl plain
+made_out servers s p (Join server later false) plain n inc is =
+    by_test (λ (t : State). is_up_as t n inc ≡ false → Leave n inc ≡ Join server later false) (may_join (slice_get s.view.members server) later)
+    (joined_by s server later) s
+    (λ may out. elim (same_or_apart n server) [
+      | inl e ↦ true_false (sym (ap (is_up s) e) ∙ in_up s n inc is) (was_out servers s p server later may)
+      | inr ne ↦ true_false (joined_beside servers s p server later may n inc ne ∙ is) out
     ])
-    (λ no out. true_false up out)
-made_out servers s p (MakeDisk client seq name tuple) plain n up =
-    by_test (λ (t : State). is_up t n ≡ false → Leave n 1 ≡ MakeDisk client seq name tuple) (not (is_new seq (latest s client))) s _
-    (λ old out. true_false up out)
-    (λ new. by_test (λ (t : State). is_up t n ≡ false → Leave n 1 ≡ MakeDisk client seq name tuple) (is_some (named s.disks.rows name))
+    (λ no out. true_false is out)
+made_out servers s p (Leave server last) plain n inc is =
+    by_test (λ (t : State). is_up_as t n inc ≡ false → Leave n inc ≡ Leave server last) (is_up_as s server last) (left_by s server) s
+    (λ now out. elim (same_or_apart n server) [
+      | inl e ↦ let same : inc ≡ last = in_once s n inc last is (ap (λ k. is_up_as s k last) e ∙ now) in λ i. Leave (e i) (same i)
+      | inr ne ↦ true_false (in_beside servers s p server last now n inc ne ∙ is) out
+    ])
+    (λ no out. true_false is out)
+made_out servers s p (MakeDisk client seq name tuple) plain n inc is =
+    by_test (λ (t : State). is_up_as t n inc ≡ false → Leave n inc ≡ MakeDisk client seq name tuple) (not (is_new seq (latest s client))) s _
+    (λ old out. true_false is out)
+    (λ new. by_test (λ (t : State). is_up_as t n inc ≡ false → Leave n inc ≡ MakeDisk client seq name tuple) (is_some (named s.disks.rows name))
     (told s client seq Verdict.Exists) (told (with_disk s name tuple) client seq Verdict.Ok)
-    (λ there out. true_false up out) (λ none out. true_false up out))
-made_out servers s p (Witness client seq turn) plain n up = λ out. true_false up out
-made_out servers s p _ plain n up = absurd plain
+    (λ there out. true_false is out) (λ none out. true_false is out))
+made_out servers s p (Witness client seq turn) plain n inc is = λ out. true_false is out
+made_out servers s p _ plain n inc is = absurd plain
 
-out_left : (servers : ℕ) (log : List Command) (s : State) → IsPlainState servers s → IsPlainLog servers log → (n : ℕ) → is_up s n ≡ true
-    → is_up (fold after s log) n ≡ false → In (Leave n 1) log
+out_left : (servers : ℕ) (log : List Command) (s : State) → IsPlainState servers s → IsPlainLog servers log → (n inc : ℕ) → is_up_as s n inc ≡ true
+    → is_up_as (fold after s log) n inc ≡ false → In (Leave n inc) log
 unfolding In
-out_left servers [] s p all n up out = true_false up out
-out_left servers (entry ∷ log) s p all n up out =
+out_left servers [] s p all n inc is out = true_false is out
+out_left servers (entry ∷ log) s p all n inc is out =
     let plain = all entry (inl refl) in
     let next = (entering servers s entry p plain).plain in
-    by_bool (is_up (after s entry) n)
-    (λ stays. inr (out_left servers log (after s entry) next (λ other h. all other (inr h)) n stays out))
-    (λ gone. inl (made_out servers s p entry plain n up (sym (ap (λ (t : State). is_up t n) (settled_act servers s entry p plain)) ∙ gone)))
+    by_bool (is_up_as (after s entry) n inc)
+    (λ stays. inr (out_left servers log (after s entry) next (λ other h. all other (inr h)) n inc stays out))
+    (λ gone. inl (made_out servers s p entry plain n inc is (sym (ap (λ (t : State). is_up_as t n inc) (settled_act servers s entry p plain)) ∙ gone)))
 
-up_at_start : (servers n : ℕ) → n < servers → is_up (start servers) n ≡ true
-up_at_start servers n lt = ap (λ o. option_map_or stands_in o false) (get_replicate servers n (member.In 1) lt)
+pub first_at_start : (servers n : ℕ) → n < servers → is_up_as (start servers) n 1 ≡ true
+first_at_start servers n lt =
+    ap (λ o. option_map_or (λ present. present == 1) (option_and_then inc_in o) false) (get_replicate servers n (member.In 1) lt) ∙ number_itself 1
 
-pub who_is_out : (servers : ℕ) (log : List Command) (n : ℕ) → IsPlainLog servers log → n < servers → is_up (state_after servers log) n ≡ false
-    → In (Leave n 1) log
-who_is_out servers log n all lt out = out_left servers log (start servers) (start_plain servers) all n (up_at_start servers n lt) out
+-- the part of the log in which it was In at first and is not In at last has its Leave
+pub who_is_out : (servers : ℕ) (front whole : List Command) (n inc : ℕ) → IsPlainLog servers whole → IsPrefix front whole
+    → is_up_as (state_after servers front) n inc ≡ true → is_up_as (state_after servers whole) n inc ≡ false → In (Leave n inc) whole
+who_is_out servers front whole n inc all prefix is out =
+    let rest = λ (c : Command) (h : In c prefix.later). subst (In c) (sym prefix.is) (in_later c front prefix.later h) in
+    rest (Leave n inc)
+    (out_left servers prefix.later (state_after servers front) (log_plain servers front (front_plain servers front whole all prefix))
+    (λ c h. all c (rest c h)) n inc is
+    (sym (ap (λ t. is_up_as t n inc) (ap (state_after servers) prefix.is ∙ fold-append after (start servers) front prefix.later)) ∙ out))
+
+-- ### Who is In has joined
+
+-- an incarnation that an entry makes In has this very Join
+made_in : (servers : ℕ) (s : State) → IsPlainState servers s → (entry : Command) → IsPlain servers entry → (n inc : ℕ) → is_up_as s n inc ≡ false
+    → is_up_as (act entry s) n inc ≡ true → Join n inc false ≡ entry
+made_in servers s p (Join server later true) plain n inc out = true_false refl plain
+made_in servers s p (Join server later false) plain n inc out =
+    by_test (λ (t : State). is_up_as t n inc ≡ true → Join n inc false ≡ Join server later false) (may_join (slice_get s.view.members server) later)
+    (joined_by s server later) s
+    (λ may is. elim (same_or_apart n server) [
+      | inl e ↦
+          let same : later ≡ inc = same_numbers later inc (sym (in_now servers s p server later may inc) ∙ sym (ap (λ k. is_up_as (joined_by s server later) k inc) e) ∙ is) in
+          λ i. Join (e i) (sym same i) false
+      | inr ne ↦ true_false (sym (joined_beside servers s p server later may n inc ne) ∙ is) out
+    ])
+    (λ no is. true_false is out)
+made_in servers s p (Leave server last) plain n inc out =
+    by_test (λ (t : State). is_up_as t n inc ≡ true → Join n inc false ≡ Leave server last) (is_up_as s server last) (left_by s server) s
+    (λ now is. true_false (in_before servers s p server last now n inc is) out)
+    (λ no is. true_false is out)
+made_in servers s p (MakeDisk client seq name tuple) plain n inc out =
+    by_test (λ (t : State). is_up_as t n inc ≡ true → Join n inc false ≡ MakeDisk client seq name tuple) (not (is_new seq (latest s client))) s _
+    (λ old is. true_false is out)
+    (λ new. by_test (λ (t : State). is_up_as t n inc ≡ true → Join n inc false ≡ MakeDisk client seq name tuple) (is_some (named s.disks.rows name))
+    (told s client seq Verdict.Exists) (told (with_disk s name tuple) client seq Verdict.Ok)
+    (λ there is. true_false is out) (λ none is. true_false is out))
+made_in servers s p (Witness client seq turn) plain n inc out = λ is. true_false is out
+made_in servers s p _ plain n inc out = absurd plain
+
+in_joined : (servers : ℕ) (log : List Command) (s : State) → IsPlainState servers s → IsPlainLog servers log → (n inc : ℕ) → is_up_as s n inc ≡ false
+    → is_up_as (fold after s log) n inc ≡ true → In (Join n inc false) log
+unfolding In
+in_joined servers [] s p all n inc out is = true_false is out
+in_joined servers (entry ∷ log) s p all n inc out is =
+    let plain = all entry (inl refl) in
+    let next = (entering servers s entry p plain).plain in
+    by_bool (is_up_as (after s entry) n inc)
+    (λ now. inl (made_in servers s p entry plain n inc out (sym (ap (λ (t : State). is_up_as t n inc) (settled_act servers s entry p plain)) ∙ now)))
+    (λ stays. inr (in_joined servers log (after s entry) next (λ other h. all other (inr h)) n inc stays is))
+
+-- who is In at the start is so with the first incarnation
+one_at_start : (servers n inc : ℕ) → is_up_as (start servers) n inc ≡ true → inc ≡ 1
+one_at_start servers n inc e = by (slice_get (start servers).view.members n) refl e
+  where
+    by : (o : Option Member) → slice_get (start servers).view.members n ≡ o → option_map_or (λ present. present == inc) (option_and_then inc_in o) false ≡ true
+        → inc ≡ 1
+    by None is f = true_false f refl
+    by (Some m) is f = sym (same_numbers 1 inc
+        (sym (ap (λ (o : Option Member). option_map_or (λ present. present == inc) (option_and_then inc_in o) false) (ap Some (in_at_start servers n m is))) ∙ f))
+
+pub who_is_in : (servers : ℕ) (log : List Command) (n inc : ℕ) → IsPlainLog servers log → is_up_as (state_after servers log) n inc ≡ true
+    → (inc ≡ 1) ⊎ HasJoined log n inc
+who_is_in servers log n inc all is = by_bool (is_up_as (start servers) n inc)
+    (λ first. inl (one_at_start servers n inc first))
+    (λ not_yet. inr (false, in_joined servers log (start servers) (start_plain servers) all n inc not_yet is))

@@ -1,5 +1,5 @@
--- Plain entries keep a state plain, and only add to its tables, but for servers that leave.
-use Rattle.std.proofs.Common.{◌≡◌, ◌+◌, ℕ, zero, suc, List, [], ◌∷◌, length, false, not, Option, Some, None, refl, sym, ap, subst, inl, inr, is_some}
+-- Plain entries keep a state plain, and only add to its tables, but for servers that leave and join.
+use Rattle.std.proofs.Common.{◌≡◌, ◌+◌, ℕ, zero, suc, List, [], ◌∷◌, length, true, false, not, Option, Some, None, refl, sym, ap, subst, inl, inr, is_some, arith}
 use Rattle.std.specs.Prelude.{fold, replicate, slice_get}
 use Rattle.std.proofs.lemmas.List.{length-replicate}
 use Rattle.global_tables.specs.declared.disk.Verdict.{Verdict}
@@ -8,10 +8,10 @@ use Rattle.global_tables.specs.declared.fence.Member.TheVariants as member
 use Rattle.global_tables.specs.Disk.{named}
 use Rattle.global_tables.specs.View.{last_inc}
 use Rattle.petal_command.specs.declared.command.Command.{Command}
-use Rattle.petal_command.specs.declared.command.Command.TheVariants.{Leave, MakeDisk, Witness}
+use Rattle.petal_command.specs.declared.command.Command.TheVariants.{Join, Leave, MakeDisk, Witness}
 use Rattle.petal_state.specs.State.{start, latest, told, is_up_as}
 use Rattle.petal_state.specs.Fence.{settled, let_through}
-use Rattle.petal_state.specs.Command.{act, after, is_new, with_disk, state_after}
+use Rattle.petal_state.specs.Command.{act, after, is_new, may_join, with_disk, state_after}
 use Rattle.petal_rules.specs.Lists.{In}
 use Rattle.petal_rules.specs.State.{State}
 use Rattle.petal_rules.proofs.Tests.{by_test, none_some, same_some, true_false}
@@ -19,6 +19,7 @@ use Rattle.law_state.specs.Plain.{IsPlain, IsPlainLog}
 use Rattle.law_state.specs.Tables.{IsPlainState}
 use Rattle.law_state.proofs.Grown.{Step, grown_on, stays, untabled}
 use Rattle.law_state.proofs.Leaves.{leaving}
+use Rattle.law_state.proofs.Joins.{joining}
 use Rattle.law_state.proofs.Making.{making}
 
 none_of : {A : Type 0} (o : Option A) → is_some o ≡ false → o ≡ None
@@ -26,6 +27,9 @@ none_of None e = refl
 none_of (Some x) e = true_false refl e
 
 acting : (servers : ℕ) (s : State) (command : Command) → IsPlainState servers s → IsPlain servers command → Step servers s (act command s)
+acting servers s (Join server inc true) p proper = true_false refl proper
+acting servers s (Join server inc false) p proper =
+    by_test (Step servers s) (may_join (slice_get s.view.members server) inc) _ s (λ may. joining servers s p server inc may) (λ no. stays servers s p)
 acting servers s (Leave server inc) p proper =
     by_test (Step servers s) (is_up_as s server inc) _ s (λ is. leaving servers s p server inc is) (λ no. stays servers s p)
 acting servers s (MakeDisk client seq name tuple) p proper =
@@ -59,15 +63,15 @@ folding servers (command ∷ log) s p all =
     record { plain = later.plain; grown = grown_on s (after s command) _ one.grown later.grown }
 
 -- at the start each server is In with incarnation 1
-in_at_start : (servers n : ℕ) (m : Member) → slice_get (replicate servers (member.In 1)) n ≡ Some m → last_inc m ≡ 1
+pub in_at_start : (servers n : ℕ) (m : Member) → slice_get (replicate servers (member.In 1)) n ≡ Some m → m ≡ member.In 1
 in_at_start zero n m e = none_some refl e
-in_at_start (suc servers) zero m e = ap last_inc (sym (same_some e))
+in_at_start (suc servers) zero m e = sym (same_some e)
 in_at_start (suc servers) (suc n) m e = in_at_start servers n m e
 
 pub start_plain : (servers : ℕ) → IsPlainState servers (start servers)
 start_plain servers = record {
   many = length-replicate servers (member.In 1);
-  members = in_at_start servers;
+  members = λ n m e. let one : last_inc m ≡ 1 = ap last_inc (in_at_start servers n m e) in omega arith;
   queue = refl;
   made = refl;
   count = refl;

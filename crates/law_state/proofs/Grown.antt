@@ -1,13 +1,15 @@
 -- States that have grown from one another, and rows of links that are later than others.
-use Rattle.std.proofs.Common.{◌≡◌, ◌++◌, ℕ, List, [], false, Option, refl, sym, ap, ◌∙◌, ◌⊎◌, inl, inr, append_assoc}
+use Rattle.std.proofs.Common.{◌≡◌, ◌≤◌, ◌++◌, ℕ, List, [], false, Option, refl, sym, ap, ◌∙◌, ◌⊎◌, inl, inr, append_assoc, arith}
 use Rattle.std.proofs.lemmas.List.{append-nil}
 use Rattle.global_tables.specs.Link.{has_server}
 use Rattle.global_tables.specs.declared.disk.Latest.{Latest}
 use Rattle.global_tables.specs.declared.link.LinkRow.{LinkRow}
 use Rattle.global_tables.specs.declared.link.LinkState.TheVariants.{Both, Only}
 use Rattle.petal_rules.specs.State.{State}
-use Rattle.law_state.specs.Rows.{IsLater, IsLeftAlone}
+use Rattle.law_state.specs.Ages.{age_of}
+use Rattle.law_state.specs.Rows.{IsLater, IsLeftAlone, IsServedOn}
 use Rattle.law_state.specs.Tables.{IsGrown, IsPlainState}
+use Rattle.law_state.proofs.Ages.{between, no_less}
 
 pub later_itself : (row : LinkRow) → IsLater row row
 later_itself row = record { map = refl; link = refl; primary = refl; secondary = refl; state = inl refl }
@@ -43,14 +45,30 @@ later_on one two three a b = record {
     by (inr left) (inl f) = inr (record { before = left.before; holder = left.holder; one_of = left.one_of; after = f ∙ left.after })
     by (inr left) (inr again) = alone_not_both two left.holder left.after again.before
 
+-- a link that a server holds alone it goes on to hold alone
+alone_on : (row later : LinkRow) (n : ℕ) → IsLater row later → row.state ≡ Only n false → later.state ≡ Only n false
+alone_on row later n so alone = elim so.state [ inl same ↦ same ∙ alone | inr left ↦ alone_not_both row n alone left.before ]
+
+pub served_on_on : (s t u : State) → ((n : ℕ) → age_of s n ≤ age_of t n) → ((n : ℕ) → age_of t n ≤ age_of u n) → (one two three : LinkRow)
+    → IsLater one two → IsLater two three → IsServedOn s t one two → IsServedOn t u two three → IsServedOn s u one three
+served_on_on s t u old new one two three so after_so on after_on n inc both has e f =
+    let g = between s t u n inc (old n) (new n) e f in
+    elim (on n inc both has e g) [
+      | inl still ↦ after_on n inc still (one_before one two n so ∙ has) g f
+      | inr alone ↦ inr (alone_on two three n after_so alone)
+    ]
+
 pub grown_itself : (s : State) → IsGrown s s
 grown_itself s = record {
   more = [];
   rows = sym (append-nil s.disks.rows);
   maps = λ of tuple e. e;
-  links = λ of link row e. record { now = row; is = e; so = later_itself row };
-  ups = λ n e. e;
+  links = λ of link row e. record { now = row; is = e; so = later_itself row; on = λ n inc both has a b. inl both };
+  ages = λ n. no_less (age_of s n);
 }
+
+at_most : (a b c : ℕ) → a ≤ b → b ≤ c → a ≤ c
+at_most a b c one two = omega arith
 
 pub grown_on : (s t u : State) → IsGrown s t → IsGrown t u → IsGrown s u
 grown_on s t u one two = record {
@@ -60,8 +78,13 @@ grown_on s t u one two = record {
   links = λ of link row e.
       let middle = one.links of link row e in
       let last = two.links of link middle.now middle.is in
-      record { now = last.now; is = last.is; so = later_on row middle.now last.now middle.so last.so };
-  ups = λ n e. one.ups n (two.ups n e);
+      record {
+        now = last.now;
+        is = last.is;
+        so = later_on row middle.now last.now middle.so last.so;
+        on = served_on_on s t u one.ages two.ages row middle.now last.now middle.so last.so middle.on last.on;
+      };
+  ages = λ n. let a = one.ages n in let b = two.ages n in at_most _ _ _ a b;
 }
 
 -- the state is plain, and has grown from this one
@@ -96,7 +119,7 @@ untabled servers rev verdicts s t h = record {
     more = h.grown.more;
     rows = h.grown.rows;
     maps = h.grown.maps;
-    links = λ of link row e. let old = h.grown.links of link row e in record { now = old.now; is = old.is; so = old.so };
-    ups = h.grown.ups;
+    links = λ of link row e. let old = h.grown.links of link row e in record { now = old.now; is = old.is; so = old.so; on = old.on };
+    ages = h.grown.ages;
   };
 }

@@ -1,5 +1,5 @@
 -- A Leave: its server is Out, and of the links that it served with another one the other one is left.
-use Rattle.std.proofs.Common.{◌≡◌, ◌≢◌, ◌==◌, ℕ, [], Bool, true, false, Option, Some, None, refl, sym, ap, ◌∙◌, ◌⊎◌, inl, inr}
+use Rattle.std.proofs.Common.{◌≡◌, ◌≢◌, ◌≤◌, ◌+◌, ◌==◌, ℕ, [], Bool, true, false, Option, Some, None, refl, sym, ap, ◌∙◌, ◌⊎◌, inl, inr, arith}
 use Rattle.std.specs.Prelude.{◌||◌, if◌then◌else◌, slice_get, option_map, option_and_then}
 use Rattle.std.specs.Option.{option_map_or}
 use Rattle.std.proofs.lemmas.List.{append-nil, length-set}
@@ -13,10 +13,12 @@ use Rattle.global_tables.specs.Link.{is_link, has_server, other_of, left_state, 
 use Rattle.global_tables.specs.Link as links
 use Rattle.global_tables.specs.View.{is_in, inc_in, last_inc, out_of, servers_in, awaiting}
 use Rattle.global_tables.specs.View as view
-use Rattle.petal_state.specs.State.{State, is_up, is_up_as}
+use Rattle.petal_state.specs.State.{State, inc_of, is_up, is_up_as}
 use Rattle.petal_rules.proofs.Tests.{by_bool, by_test, same_some, same_or_apart, same_numbers, number_itself, true_false}
-use Rattle.law_state.specs.Rows.{IsServed, IsBetween, IsLater, IsLeftAlone, ByBoth, ByOne}
+use Rattle.law_state.specs.Ages.{age, age_of}
+use Rattle.law_state.specs.Rows.{IsServed, IsServedOn, IsBetween, IsLater, IsLeftAlone, ByBoth, ByOne}
 use Rattle.law_state.specs.Tables.{IsPlainState}
+use Rattle.law_state.proofs.Ages.{in_up, out_not}
 use Rattle.law_state.proofs.Grown.{Step, later_itself}
 use Rattle.law_state.proofs.Links.{either_false}
 use Rattle.law_state.proofs.Places.{find_map, get_set_here, get_set_beside}
@@ -61,6 +63,29 @@ later_left row server = by_test (IsLater row) (has_server server row) _ _
 pub row_stays : (row : LinkRow) (server : ℕ) → has_server server row ≡ false → row_left server row ≡ row
 row_stays row server away = ap (λ b. if b then record row { state = left_state (other_of server row) row.state } else row) away
 
+-- ### The two servers of a link
+
+-- of two servers, one of which is Out, one that is In is the other
+pub one_of_two : (up : ℕ → Bool) (row : LinkRow) (holder other n : ℕ) → IsBetween row holder other → up other ≡ false → has_server n row ≡ true → up n ≡ true
+    → holder ≡ n
+one_of_two up row holder other n pair out has is_in = by_bool (row.primary == n)
+    (λ t. first pair (same_numbers row.primary n t))
+    (λ f. later pair (same_numbers row.secondary n (either_true (row.primary == n) (row.secondary == n) has f)))
+  where
+    first : IsBetween row holder other → row.primary ≡ n → holder ≡ n
+    first (inl p) e = sym p.0 ∙ e
+    first (inr p) e = true_false (ap up (sym p.0 ∙ e) ∙ is_in) out
+
+    later : IsBetween row holder other → row.secondary ≡ n → holder ≡ n
+    later (inl p) e = true_false (ap up (sym p.1 ∙ e) ∙ is_in) out
+    later (inr p) e = sym p.1 ∙ e
+
+-- where both are In, each of the two is
+pub both_up : (up : ℕ → Bool) (row : LinkRow) (k : ℕ) → up row.primary ≡ true → up row.secondary ≡ true → has_server k row ≡ true → up k ≡ true
+both_up up row k one two has = by_bool (row.primary == k)
+    (λ f. ap up (sym (same_numbers row.primary k f)) ∙ one)
+    (λ f. ap up (sym (same_numbers row.secondary k (either_true (row.primary == k) (row.secondary == k) has f))) ∙ two)
+
 -- ### Who is In
 
 -- the state after the server left
@@ -94,20 +119,45 @@ module _ (servers : ℕ) (s : State) (p : IsPlainState servers s) (server inc : 
   pub up_beside : (n : ℕ) → n ≢ server → is_up t n ≡ is_up s n
   up_beside n ne = ap (λ o. option_map_or is_in o false) (beside n ne)
 
-  up_before : (n : ℕ) → is_up t n ≡ true → is_up s n ≡ true
-  up_before n up = elim (same_or_apart n server) [
-    | inl e ↦ true_false (sym (ap (is_up t) e) ∙ up) out_now
-    | inr ne ↦ sym (up_beside n ne) ∙ up
+  pub inc_beside : (n : ℕ) → n ≢ server → inc_of t n ≡ inc_of s n
+  inc_beside n ne = ap (option_and_then inc_in) (beside n ne)
+
+  pub in_beside : (n k : ℕ) → n ≢ server → is_up_as t n k ≡ is_up_as s n k
+  in_beside n k ne = ap (λ o. option_map_or (λ present. present == k) o false) (inc_beside n ne)
+
+  -- who is In after a Leave was In before
+  pub in_before : (n k : ℕ) → is_up_as t n k ≡ true → is_up_as s n k ≡ true
+  in_before n k e = elim (same_or_apart n server) [
+    | inl same ↦ true_false (sym (ap (is_up t) same) ∙ in_up t n k e) out_now
+    | inr ne ↦ sym (in_beside n k ne) ∙ e
   ]
 
-  stays_out : (n : ℕ) → is_up s n ≡ false → is_up t n ≡ false
-  stays_out n out = by_bool (is_up t n) (λ up. true_false (up_before n up) out) (λ e. e)
+  not_first : (n : ℕ) → is_up_as s n 1 ≡ false → is_up_as t n 1 ≡ false
+  not_first n out = by_bool (is_up_as t n 1) (λ is. true_false (in_before n 1 is) out) (λ e. e)
 
-  first_inc : (n : ℕ) (m : Member) → slice_get t.view.members n ≡ Some m → last_inc m ≡ 1
-  first_inc n m e = elim (same_or_apart n server) [
-    | inl same ↦ ap last_inc (sym (same_some (sym here ∙ sym (ap (slice_get t.view.members) same) ∙ e))) ∙ ap out_of was.1 ∙ p.members server was.0 was.1
+  members_now : (n : ℕ) (m : Member) → slice_get t.view.members n ≡ Some m → 1 ≤ last_inc m
+  members_now n m e = elim (same_or_apart n server) [
+    | inl same ↦
+        let so : last_inc m ≡ last_inc was.0 =
+        ap last_inc (sym (same_some (sym here ∙ sym (ap (slice_get t.view.members) same) ∙ e))) ∙ ap out_of was.1 in
+        let low = p.members server was.0 was.1 in
+        omega arith
     | inr ne ↦ p.members n m (sym (beside n ne) ∙ e)
   ]
+
+  ages : (n : ℕ) → age_of s n ≤ age_of t n
+  ages n = elim (same_or_apart n server) [
+    | inl e ↦
+        let a : age_of s n ≡ age (Some was.0) = ap (age_of s) e ∙ ap age was.1 in
+        let b : age_of t n ≡ last_inc was.0 + last_inc was.0 + 2 = ap (age_of t) e ∙ ap age here ∙ ap (λ k. k + k + 2) (ap out_of was.1) in
+        let c = young was.0 in
+        omega arith
+    | inr ne ↦ let a : age_of t n ≡ age_of s n = ap age (beside n ne) in omega arith
+  ]
+    where
+      young : (m : Member) → age (Some m) ≤ last_inc m + last_inc m + 2
+      young (member.In i) = omega arith
+      young (member.Out i) = omega arith
 
   -- ### Links
 
@@ -117,21 +167,28 @@ module _ (servers : ℕ) (s : State) (p : IsPlainState servers s) (server inc : 
 
   served_left : (row : LinkRow) → IsServed s row → IsServed t (row_left server row)
   served_left row (ByBoth state one two) = by_test (IsServed t) (has_server server row) _ _
-      (λ has. ByOne (other_of server row) server (ap (left_state (other_of server row)) state) (other_between row server has) out_now)
+      (λ has. ByOne (other_of server row) server (ap (left_state (other_of server row)) state) (other_between row server has) (out_not t server out_now 1))
       (λ no. let apart = either_false (row.primary == server) (row.secondary == server) no in
       ByBoth state (up_beside row.primary (differ row.primary apart.0) ∙ one) (up_beside row.secondary (differ row.secondary apart.1) ∙ two))
     where
       differ : (n : ℕ) → (n == server) ≡ false → n ≢ server
       differ n away e = true_false (ap (λ k. k == server) e ∙ number_itself server) away
   served_left row (ByOne holder other state pair out) = by_test (IsServed t) (has_server server row) _ _
-      (λ has. ByOne holder other (ap (left_state (other_of server row)) state) pair (stays_out other out))
-      (λ no. ByOne holder other state pair (stays_out other out))
+      (λ has. ByOne holder other (ap (left_state (other_of server row)) state) pair (not_first other out))
+      (λ no. ByOne holder other state pair (not_first other out))
+
+  -- of a link in Both, one that is In before and after still serves it
+  on_left : (row : LinkRow) → IsServedOn s t row (row_left server row)
+  on_left row n k both has before later = by_test (λ (now : LinkRow). (now.state ≡ Both) ⊎ (now.state ≡ Only n false)) (has_server server row) _ _
+      (λ gone. inr (ap (left_state (other_of server row)) both
+      ∙ ap (λ h. Only h false) (one_of_two (is_up t) row (other_of server row) server n (other_between row server gone) out_now has (in_up t n k later))))
+      (λ no. inl both)
 
   pub leaving : Step servers s t
   leaving = record {
     plain = record {
       many = length-set s.view.members server gone ∙ p.many;
-      members = first_inc;
+      members = members_now;
       queue = ap (awaiting (servers_in t.view.members)) p.queue;
       made = p.made;
       count = p.count;
@@ -161,7 +218,8 @@ module _ (servers : ℕ) (s : State) (p : IsPlainState servers s) (server inc : 
         now = row_left server row;
         is = link_left of link ∙ ap (option_map (row_left server)) e;
         so = later_left row server;
+        on = on_left row;
       };
-      ups = up_before;
+      ages = ages;
     };
   }

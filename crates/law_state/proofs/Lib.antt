@@ -1,7 +1,9 @@
 pub mod Places
+pub mod Ages
 pub mod Links
 pub mod Grown
 pub mod Leaves
+pub mod Joins
 pub mod Making
 pub mod Entries
 pub mod Cells
@@ -11,3 +13,4 @@ pub mod Rows
 pub mod Roles
 pub mod Touching
 pub mod Alone
+pub mod Both

@@ -16,6 +16,7 @@ use Rattle.petal_state.specs.State.{State, is_up, ups}
 use Rattle.petal_rules.specs.Lists.{In}
 use Rattle.petal_rules.proofs.Tests.{by_bool, both_true, same_or_apart, not_true, true_false, same_numbers, number_itself}
 use Rattle.law_state.specs.Rows.{IsServed, ByBoth, ByOne}
+use Rattle.law_state.proofs.Ages.{out_not}
 use Rattle.law_state.proofs.Places.{find_none, in_get}
 
 in_map : {A B : Type 0} (f : A → B) (xs : List A) (y : B) → In y (map f xs) → (x : A) × In x xs × (y ≡ f x)
@@ -108,9 +109,9 @@ served_between s of i primary secondary = by (is_up s primary) (is_up s secondar
 
     by : (a b : Bool) → is_up s primary ≡ a → is_up s secondary ≡ b → IsServed s (row_between of (ups s) i primary secondary)
     by true true e f = ByBoth (so true true e f) e f
-    by true false e f = ByOne primary secondary (so true false e f) (inl (refl, refl)) f
-    by false true e f = ByOne secondary primary (so false true e f) (inr (refl, refl)) e
-    by false false e f = ByOne primary secondary (so false false e f) (inl (refl, refl)) f
+    by true false e f = ByOne primary secondary (so true false e f) (inl (refl, refl)) (out_not s secondary f 1)
+    by false true e f = ByOne secondary primary (so false true e f) (inr (refl, refl)) (out_not s primary e 1)
+    by false false e f = ByOne primary secondary (so false false e f) (inl (refl, refl)) (out_not s secondary f 1)
 
 pub new_served : (s : State) (of : ℕ) (tuple : List ℕ) (i : ℕ) → IsServed s (new_row of tuple (ups s) i)
 new_served s of tuple i = served_between s of i (slice_index tuple i) (slice_index tuple ((i + 1) % length tuple))

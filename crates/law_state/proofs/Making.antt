@@ -14,6 +14,8 @@ use Rattle.petal_state.specs.Command.{with_disk}
 use Rattle.petal_rules.specs.State.{State}
 use Rattle.petal_rules.proofs.Tests.{none_some, same_some, some_or_none, true_false}
 use Rattle.law_state.specs.Tables.{IsNewRow, IsPlainState, HasLinkOf}
+use Rattle.law_state.specs.Ages.{age_of}
+use Rattle.law_state.proofs.Ages.{no_less}
 use Rattle.law_state.proofs.Grown.{Step, later_itself}
 use Rattle.law_state.proofs.Places.{get_front, get_last, none_find, find_front, find_behind, text_itself}
 use Rattle.law_state.proofs.Links.{link_new, link_other, new_served}
@@ -138,7 +140,7 @@ module _ (servers : ℕ) (s : State) (p : IsPlainState servers s) (name tuple : 
       more = made_row ∷ [];
       rows = refl;
       maps = λ of ids e. map_front s.maps ids tuple s.disks.made of e;
-      links = λ of link row e. record { now = row; is = find_front (is_link of link) s.links late row e; so = later_itself row };
-      ups = λ n e. e;
+      links = λ of link row e. record { now = row; is = find_front (is_link of link) s.links late row e; so = later_itself row; on = λ n inc both has a b. inl both };
+      ages = λ n. no_less (age_of s n);
     };
   }

@@ -1,57 +1,23 @@
--- What a server is to a cell stays so while the server is In.
-use Rattle.std.proofs.Common.{◌≡◌, ◌==◌, ◌&&◌, ℕ, List, Bool, true, false, Some, refl, sym, ap, ◌∙◌, ◌⊎◌, inl, inr}
+-- What a server is to a cell stays so while the server is In as the same incarnation.
+use Rattle.std.proofs.Common.{◌≡◌, ◌==◌, ◌&&◌, ℕ, List, Bool, true, false, Some, refl, sym, ap, ◌∙◌, subst, ◌⊎◌, inl, inr}
 use Rattle.std.specs.Prelude.{◌||◌}
 use Rattle.petal_base.specs.declared.cell.Cell.{Cell}
 use Rattle.global_tables.specs.declared.link.LinkRow.{LinkRow}
-use Rattle.global_tables.specs.declared.link.LinkState.{LinkState}
-use Rattle.global_tables.specs.declared.link.LinkState.TheVariants.{Both, Only, Lost}
 use Rattle.global_tables.specs.Link.{has_server}
 use Rattle.petal_command.specs.declared.command.Command.{Command}
 use Rattle.petal_state.specs.Command.{state_after}
 use Rattle.petal_state.specs.State.{is_up}
-use Rattle.petal_rules.specs.State.{State, lead, is_lead, readable}
-use Rattle.petal_rules.proofs.Tests.{by_bool, is_the_one, is_the_so, none_some, same_numbers, number_itself, true_false}
+use Rattle.petal_rules.specs.State.{State, lead, is_in, is_lead, readable}
+use Rattle.petal_rules.proofs.Tests.{by_bool, is_the_one, is_the_so, none_some, same_some, number_itself}
 use Rattle.petal_history.specs.Claims.{IsPrefix}
 use Rattle.law_state.specs.Plain.{IsPlainLog}
-use Rattle.law_state.specs.Rows.{IsServed, IsBetween, IsLater, ByBoth, ByOne}
+use Rattle.law_state.specs.Rows.{IsLater, ByBoth, ByOne}
 use Rattle.law_state.specs.Steady.{IsSteady}
-use Rattle.law_state.specs.Below.{IsBelow, KeepsRoles}
+use Rattle.law_state.specs.Below.{IsBelow, HasJoinedAlone, KeepsRoles}
 use Rattle.law_state.proofs.Cells.{IsInBoth, IsHeldBy, both_lead, both_second, both_reader, alone_lead, alone_leads_not, alone_reader, led_by, second_by, read_by}
 use Rattle.law_state.proofs.Grown.{alone_not_both, one_before}
-use Rattle.law_state.proofs.Leaves.{either_true}
+use Rattle.law_state.proofs.Ages.{in_up}
 use Rattle.law_state.proofs.Steady.{front_plain, log_below, log_steady}
-
--- who holds a link alone
-pub holder_of : LinkState → ℕ
-holder_of Both = 0
-holder_of (Only holder whole) = holder
-holder_of Lost = 0
-
-pub same_holder : (row : LinkRow) (one other : ℕ) → row.state ≡ Only one false → row.state ≡ Only other false → one ≡ other
-unfolding holder_of
-same_holder row one other e f = ap holder_of (sym e ∙ f)
-
--- of two servers, one of which is Out, one that is In is the other
-pub one_of_two : (up : ℕ → Bool) (row : LinkRow) (holder other n : ℕ) → IsBetween row holder other → up other ≡ false → has_server n row ≡ true → up n ≡ true
-    → holder ≡ n
-one_of_two up row holder other n pair out has is_in = by_bool (row.primary == n)
-    (λ t. first pair (same_numbers row.primary n t))
-    (λ f. later pair (same_numbers row.secondary n (either_true (row.primary == n) (row.secondary == n) has f)))
-  where
-    first : IsBetween row holder other → row.primary ≡ n → holder ≡ n
-    first (inl p) e = sym p.0 ∙ e
-    first (inr p) e = true_false (ap up (sym p.0 ∙ e) ∙ is_in) out
-
-    later : IsBetween row holder other → row.secondary ≡ n → holder ≡ n
-    later (inl p) e = true_false (ap up (sym p.1 ∙ e) ∙ is_in) out
-    later (inr p) e = sym p.1 ∙ e
-
--- a server that is In, of a link that one holds alone, holds it
-pub holds_it : (state : State) (row : LinkRow) (holder n : ℕ) → IsServed state row → row.state ≡ Only holder false → has_server n row ≡ true → is_up state n ≡ true
-    → holder ≡ n
-holds_it state row holder n (ByBoth so one other) alone has up = alone_not_both row holder alone so
-holds_it state row holder n (ByOne there other so pair out) alone has up =
-    same_holder row holder there alone so ∙ one_of_two (is_up state) row there other n pair out has up
 
 pub primary_is_one : (row : LinkRow) (n : ℕ) → row.primary ≡ n → has_server n row ≡ true
 primary_is_one row n e = ap (λ b. b || row.secondary == n) (ap (λ k. k == n) e ∙ number_itself n)
@@ -64,17 +30,15 @@ secondary_is_one row n e = or_so (row.primary == n) (row.secondary == n) (ap (λ
     or_so false b e = e
 
 module _ (earlier later : State) (was : IsSteady earlier) (now : IsSteady later) (below : IsBelow earlier later) where
-  -- the later row of a cell in Both: in Both again, or a server of it that is In holds it alone
-  in_both_later : (cell : Cell) (b : IsInBoth earlier cell) (n : ℕ) → has_server n b.row ≡ true → is_up later n ≡ true
+  -- the later row of a cell in Both: in Both again, or a server of it that is still In holds it alone
+  in_both_later : (cell : Cell) (b : IsInBoth earlier cell) (n inc : ℕ) → has_server n b.row ≡ true → is_in earlier n inc ≡ true → is_in later n inc ≡ true
       → ((c : IsInBoth later cell) × IsLater b.row c.row) ⊎ IsHeldBy later cell n
-  in_both_later cell b n has up =
+  in_both_later cell b n inc has before still =
       let h = below.rows cell b.row b.is in
       let linked = now.linked cell h.now h.is in
-      elim h.so.state [
-        | inl same ↦ inl (record { row = h.now; is = h.is; linked = linked; so = same ∙ b.so }, h.so)
-        | inr left ↦ (
-            let one : left.holder ≡ n = holds_it later h.now left.holder n linked.served left.after (one_before b.row h.now n h.so ∙ has) up in
-            inr (record { row = h.now; is = h.is; linked = linked; so = left.after ∙ ap (λ k. Only k false) one; up = up }))
+      elim (h.on n inc b.so has before still) [
+        | inl both ↦ inl (record { row = h.now; is = h.is; linked = linked; so = both }, h.so)
+        | inr alone ↦ inr (record { row = h.now; is = h.is; linked = linked; so = alone; up = in_up later n inc still })
       ]
 
   -- who holds a cell alone goes on to
@@ -97,37 +61,41 @@ module _ (earlier later : State) (was : IsSteady earlier) (now : IsSteady later)
 
   pub roles_kept : KeepsRoles earlier later
   roles_kept = record {
-    leads = λ n cell up e. elim (led_by earlier was cell n (is_the_one (lead earlier cell) n e)) [
-      | inl b ↦ elim (in_both_later cell b.0 n (primary_is_one b.0.row n b.1) up) [
+    leads = λ n inc cell before still e. elim (led_by earlier was cell n (is_the_one (lead earlier cell) n e)) [
+      | inl b ↦ elim (in_both_later cell b.0 n inc (primary_is_one b.0.row n b.1) before still) [
         | inl c ↦ is_the_so (lead later cell) n (both_lead later cell c.0.row c.0.is c.0.linked c.0.so ∙ ap Some (c.1.primary ∙ b.1))
         | inr held ↦ held_leads cell n held
       ]
-      | inr held ↦ held_leads cell n (held_later cell n held up)
+      | inr held ↦ held_leads cell n (held_later cell n held (in_up later n inc still))
     ];
-    seconds = λ n cell up e.
+    seconds = λ n inc cell before still e.
         let b = second_by earlier was cell n (is_the_one _ n e) in
-        elim (in_both_later cell b.0 n (secondary_is_one b.0.row n b.1) up) [
+        elim (in_both_later cell b.0 n inc (secondary_is_one b.0.row n b.1) before still) [
           | inl c ↦ inl (is_the_so _ n (both_second later cell c.0.row c.0.is c.0.linked c.0.so ∙ ap Some (c.1.secondary ∙ b.1)))
           | inr held ↦ inr (record { row = held.row; is = held.is; alone = held.so })
         ];
-    reads = λ n cell up e. elim (read_by earlier was cell n e).1 [
-      | inl b ↦ elim (in_both_later cell b.0 n b.1 up) [
+    reads = λ n inc cell before still e. elim (read_by earlier was cell n e).1 [
+      | inl b ↦ elim (in_both_later cell b.0 n inc b.1 before still) [
         | inl c ↦ both_reader later cell c.0.row c.0.is c.0.linked c.0.so n
-            ∙ both_and (is_up later n) (has_server n c.0.row) up (one_before b.0.row c.0.row n c.1 ∙ b.1)
+            ∙ both_and (is_up later n) (has_server n c.0.row) (in_up later n inc still) (one_before b.0.row c.0.row n c.1 ∙ b.1)
         | inr held ↦ held_reads cell n held
       ]
-      | inr held ↦ held_reads cell n (held_later cell n held up)
+      | inr held ↦ held_reads cell n (held_later cell n held (in_up later n inc still))
     ];
     led = λ cell row n is e.
         let linked = was.linked cell row is in
         let h = below.rows cell row is in
         elim linked.served [
-          | ByBoth so one other ↦ (row.primary, both_lead earlier cell row is linked so)
+          | ByBoth so one other ↦ inl (row.primary, both_lead earlier cell row is linked so)
           | ByOne holder other so pair out ↦ elim h.so.state [
             | inr left ↦ alone_not_both row holder so left.before
-            | inl same ↦ by_bool (is_up later holder)
-                (λ up. (holder, alone_lead earlier cell row is linked holder false so (below.ups holder up)))
-                (λ gone. none_some (alone_leads_not later cell h.now h.is (now.linked cell h.now h.is) holder false (same ∙ so) gone) e)
+            | inl same ↦ by_bool (is_up earlier holder)
+                (λ up. inl (holder, alone_lead earlier cell row is linked holder false so up))
+                (λ gone. by_bool (is_up later holder)
+                (λ up. inr (subst (λ k. HasJoinedAlone earlier later k cell)
+                (same_some (sym (alone_lead later cell h.now h.is (now.linked cell h.now h.is) holder false (same ∙ so) up) ∙ e))
+                (record { alone = record { row = row; is = is; alone = so }; out = gone; up = up })))
+                (λ still. none_some (alone_leads_not later cell h.now h.is (now.linked cell h.now h.is) holder false (same ∙ so) still) e))
           ]
         ];
   }

@@ -14,11 +14,10 @@ use Rattle.global_tables.specs.Link.{link_at}
 use Rattle.global_tables.specs.Map.{tuple_of}
 use Rattle.global_tables.specs.Region.{link_of, region_of}
 use Rattle.global_tables.specs.View.{head, inc_in}
-use Rattle.global_tables.specs.View.{is_in as stands_in}
 use Rattle.petal_command.specs.declared.command.Command.{Command}
 use Rattle.petal_state.specs.declared.answer.DiskView.{DiskView}
 use Rattle.petal_state.specs.declared.answer.Hold.TheVariants.{No}
-use Rattle.petal_state.specs.State.{is_up, leaves, mover, start}
+use Rattle.petal_state.specs.State.{leaves, mover, start}
 use Rattle.petal_state.specs.CellState.{owner, has_map, live_under, leaving, cell_link, view_of, holds, move_region, live_new, live_old, is_fenced}
 use Rattle.petal_state.specs.Command.{after, state_after}
 use Rattle.petal_rules.specs.Lists.{In}
@@ -139,23 +138,13 @@ module _ (servers : ℕ) (s : State) (p : IsPlainState servers s) where
 
   -- ### Who is In
 
-  pub in_first : (n inc : ℕ) → is_in s n inc ≡ true → (inc ≡ 1) × (is_up s n ≡ true)
+  -- no incarnation is below the first
+  pub in_first : (n inc : ℕ) → is_in s n inc ≡ true → 1 ≤ inc
   in_first n inc e = by (slice_get s.view.members n) refl e
     where
-      by : (o : Option Member) → slice_get s.view.members n ≡ o → option_map_or (λ present. present == inc) (option_and_then inc_in o) false ≡ true
-          → (inc ≡ 1) × (option_map_or stands_in (slice_get s.view.members n) false ≡ true)
+      by : (o : Option Member) → slice_get s.view.members n ≡ o → option_map_or (λ present. present == inc) (option_and_then inc_in o) false ≡ true → 1 ≤ inc
       by None is e = let f : false ≡ true = e in absurd cc
-      by (Some (member.In i)) is e = (sym (same_numbers i inc e) ∙ p.members n (member.In i) is, ap (λ o. option_map_or stands_in o false) is)
-      by (Some (member.Out i)) is e = let f : false ≡ true = e in absurd cc
-
-  pub up_in : (n : ℕ) → is_up s n ≡ true → is_in s n 1 ≡ true
-  up_in n e = by (slice_get s.view.members n) refl e
-    where
-      by : (o : Option Member) → slice_get s.view.members n ≡ o → option_map_or stands_in o false ≡ true
-          → option_map_or (λ present. present == 1) (option_and_then inc_in (slice_get s.view.members n)) false ≡ true
-      by None is e = let f : false ≡ true = e in absurd cc
-      by (Some (member.In i)) is e = ap (λ o. option_map_or (λ present. present == 1) (option_and_then inc_in o) false) is
-          ∙ ap (λ k. k == 1) (p.members n (member.In i) is)
+      by (Some (member.In i)) is e = subst (λ k. 1 ≤ k) (same_numbers i inc e) (p.members n (member.In i) is)
       by (Some (member.Out i)) is e = let f : false ≡ true = e in absurd cc
 
   -- ### The whole
@@ -199,13 +188,10 @@ module _ (servers : ℕ) (s t : State) (p : IsPlainState servers s) (q : IsPlain
   grown_below = record {
     rows = λ cell row e. elim (some_or_none (tuple_of s.maps cell.map)) [
       | inl h ↦ (let later = g.links cell.map (link_of (length h.0) cell.block) row (sym (link_by servers s p cell h.0 h.1) ∙ e) in
-          record { now = later.now; is = link_by servers t q cell h.0 (g.maps cell.map h.0 h.1) ∙ later.is; so = later.so })
+          record { now = later.now; is = link_by servers t q cell h.0 (g.maps cell.map h.0 h.1) ∙ later.is; so = later.so; on = later.on })
       | inr none ↦ none_some (ap (option_and_then (λ ids. link_at s.links cell.map (link_of (length ids) cell.block))) none) e
     ];
-    ups = g.ups;
-    seated = λ n inc e.
-        let h = in_first servers t q n inc e in
-        subst (λ k. is_in s n k ≡ true) (sym h.0) (up_in servers s p n (g.ups n h.1));
+    ages = g.ages;
     finds = λ name disk e.
         let v = viewed servers s p name disk e in
         ap (option_map view_of) (ap (λ rows. named rows name) g.rows ∙ find_front (λ row. same_name row.name name) s.disks.rows g.more v.0 v.1) ∙ ap Some v.2;

@@ -1,6 +1,6 @@
 -- An entry that does not touch a link leaves its row and its two servers as they are, and a longer log has no fewer places.
-use Rattle.std.proofs.Common.{◌≡◌, ◌≢◌, ◌≤◌, ◌+◌, ◌++◌, ◌==◌, ◌&&◌, ℕ, List, [], ◌∷◌, length, Bool, true, false, not, if◌then◌else◌, Some, is_some, refl, sym, ap, ◌∙◌, subst, inl, inr, arith}
-use Rattle.std.specs.Prelude.{fold, option_map, option_and_then}
+use Rattle.std.proofs.Common.{◌≡◌, ◌≢◌, ◌≤◌, ◌+◌, ◌++◌, ◌==◌, ◌&&◌, ℕ, List, [], ◌∷◌, length, Bool, true, false, not, if◌then◌else◌, Some, is_some, refl, sym, ap, ◌∙◌, subst, ◌⊎◌, inl, inr, arith}
+use Rattle.std.specs.Prelude.{fold, slice_get, option_map, option_and_then}
 use Rattle.std.proofs.lemmas.Grind.{fold-append}
 use Rattle.petal_base.specs.declared.cell.Cell.{Cell}
 use Rattle.global_tables.specs.declared.link.LinkRow.{LinkRow}
@@ -9,25 +9,29 @@ use Rattle.global_tables.specs.Link.{has_server, is_link, link_at, row_left, new
 use Rattle.global_tables.specs.Map.{tuple_of}
 use Rattle.global_tables.specs.Region.{link_of}
 use Rattle.petal_command.specs.declared.command.Command.{Command}
-use Rattle.petal_command.specs.declared.command.Command.TheVariants.{Leave, MakeDisk, Witness}
+use Rattle.petal_command.specs.declared.command.Command.TheVariants.{Join, Leave, MakeDisk, Witness}
 use Rattle.petal_state.specs.CellState.{cell_link}
-use Rattle.petal_state.specs.Command.{act, after, is_new, with_disk, state_after}
+use Rattle.petal_state.specs.Command.{act, after, is_new, may_join, with_disk, state_after}
 use Rattle.petal_state.specs.Place.{touches, places_from}
-use Rattle.petal_state.specs.State.{is_up_as, latest, start, ups}
+use Rattle.petal_state.specs.State.{is_up, is_up_as, latest, start, ups}
 use Rattle.petal_rules.specs.Lists.{In}
 use Rattle.petal_rules.specs.State.{State}
 use Rattle.petal_rules.proofs.ListLemmas.{in_later}
 use Rattle.petal_rules.proofs.Tests.{both_true, by_bool, by_test, none_some, number_itself, some_or_none, true_false}
 use Rattle.petal_history.specs.Claims.{IsPrefix}
-use Rattle.law_state.specs.Places.{IsLeftBy, StaysSo}
+use Rattle.law_state.specs.Places.{IsJoinedBy, IsLeftBy, StaysAlone, StaysSo}
 use Rattle.law_state.specs.Plain.{IsPlain, IsPlainLog}
 use Rattle.law_state.specs.Tables.{IsPlainState}
 use Rattle.law_state.proofs.Entries.{entering, log_plain, settled_act}
-use Rattle.law_state.proofs.Leaves.{left_by, link_left, row_stays, up_beside}
+use Rattle.law_state.specs.Rows.{IsServed, ByBoth, ByOne}
+use Rattle.law_state.proofs.Grown.{alone_not_both}
+use Rattle.law_state.proofs.Joins.{joined_by, was_out}
+use Rattle.law_state.proofs.Joins.{inc_beside as joined_beside}
+use Rattle.law_state.proofs.Leaves.{both_up, inc_beside, left_by, link_left, row_stays}
 use Rattle.law_state.proofs.Links.{either_false}
 use Rattle.law_state.proofs.Making.{map_front}
 use Rattle.law_state.proofs.Places.{find_front}
-use Rattle.law_state.proofs.Steady.{front_plain}
+use Rattle.law_state.proofs.Steady.{front_plain, log_steady}
 
 differ : (a b : ℕ) → (a == b) ≡ false → a ≢ b
 differ a b away e = true_false (ap (λ k. k == b) e ∙ number_itself b) away
@@ -47,6 +51,18 @@ module _ (servers : ℕ) (s : State) (p : IsPlainState servers s) (cell : Cell) 
   ]
 
   act_stays : (entry : Command) → IsPlain servers entry → touches s entry row ≡ false → StaysSo cell row s (act entry s)
+  act_stays (Join server inc true) plain off = true_false refl plain
+  act_stays (Join server inc false) plain off =
+      by_test (StaysSo cell row s) (may_join (slice_get s.view.members server) inc) (joined_by s server inc) s
+      (λ may.
+      let away : has_server server row ≡ false = sym (ap (λ b. b && has_server server row) may) ∙ off in
+      let apart = either_false (row.primary == server) (row.secondary == server) away in
+      record {
+        same = is;
+        primary = joined_beside servers s p server inc may row.primary (differ row.primary server apart.0);
+        secondary = joined_beside servers s p server inc may row.secondary (differ row.secondary server apart.1);
+      })
+      (λ no. itself)
   act_stays (Leave server inc) plain off = by_test (StaysSo cell row s) (is_up_as s server inc) (left_by s server) s
       (λ now.
       let away : has_server server row ≡ false = sym (ap (λ b. b && has_server server row) now) ∙ off in
@@ -55,8 +71,8 @@ module _ (servers : ℕ) (s : State) (p : IsPlainState servers s) (cell : Cell) 
         same = kept_link (left_by s server) (λ ids e. e) (λ link e.
             link_left servers s p server inc now cell.map link ∙ ap (option_map (row_left server)) e
             ∙ ap Some (row_stays row server away));
-        primary = up_beside servers s p server inc now row.primary (differ row.primary server apart.0);
-        secondary = up_beside servers s p server inc now row.secondary (differ row.secondary server apart.1);
+        primary = inc_beside servers s p server inc now row.primary (differ row.primary server apart.0);
+        secondary = inc_beside servers s p server inc now row.secondary (differ row.secondary server apart.1);
       })
       (λ no. itself)
   act_stays (MakeDisk client seq name tuple) plain off =
@@ -71,6 +87,17 @@ module _ (servers : ℕ) (s : State) (p : IsPlainState servers s) (cell : Cell) 
   act_stays (Witness client seq turn) plain off = itself
   act_stays _ plain off = absurd plain
 
+  -- a Join of one of its servers leaves the row as it is, and finds it held by one alone
+  pub join_stays : IsServed s row → (entry : Command) → IsPlain servers entry → IsJoinedBy s entry row → StaysAlone cell row (after s entry)
+  join_stays served entry plain by_it = record {
+    same = ap (λ (t : State). cell_link t cell) (settled_act servers s entry p plain) ∙ ap (λ c. cell_link (act c s) cell) by_it.is
+        ∙ ap (λ b. cell_link (if b then joined_by s by_it.server by_it.inc else s) cell) by_it.may ∙ is;
+    apart = λ both. elim served [
+      | ByBoth so one two ↦ true_false (both_up (is_up s) row by_it.server one two by_it.one_of) (was_out servers s p by_it.server by_it.inc by_it.may)
+      | ByOne holder other so pair out ↦ alone_not_both row holder so both
+    ];
+  }
+
   pub entry_stays : (entry : Command) → IsPlain servers entry → touches s entry row ≡ false → StaysSo cell row s (after s entry)
   entry_stays entry plain off =
       let h = subst (StaysSo cell row s) (sym (settled_act servers s entry p plain)) (act_stays entry plain off) in
@@ -81,14 +108,24 @@ pub log_entry_stays : (servers : ℕ) (log : List Command) (entry : Command) (ce
     → StaysSo cell row (state_after servers log) (after (state_after servers log) entry)
 log_entry_stays servers log entry cell row all plain is off = entry_stays servers (state_after servers log) (log_plain servers log all) cell row is entry plain off
 
-pub left_by_entry : (servers : ℕ) (state : State) (entry : Command) (row : LinkRow) → IsPlain servers entry → touches state entry row ≡ true
-    → IsLeftBy state entry row
-left_by_entry servers state (Leave server inc) row plain on =
+pub touched_by_entry : (servers : ℕ) (state : State) (entry : Command) (row : LinkRow) → IsPlain servers entry → touches state entry row ≡ true
+    → IsLeftBy state entry row ⊎ IsJoinedBy state entry row
+touched_by_entry servers state (Join server inc true) row plain on = true_false refl plain
+touched_by_entry servers state (Join server inc false) row plain on =
+    let h = both_true (may_join (slice_get state.view.members server) inc) (has_server server row) on in
+    inr (record { server = server; inc = inc; is = refl; may = h.0; one_of = h.1 })
+touched_by_entry servers state (Leave server inc) row plain on =
     let h = both_true (is_up_as state server inc) (has_server server row) on in
-    record { server = server; inc = inc; is = refl; up = h.0; one_of = h.1 }
-left_by_entry servers state (MakeDisk client seq name tuple) row plain on = let f : false ≡ true = on in absurd cc
-left_by_entry servers state (Witness client seq turn) row plain on = let f : false ≡ true = on in absurd cc
-left_by_entry servers state _ row plain on = absurd plain
+    inl (record { server = server; inc = inc; is = refl; up = h.0; one_of = h.1 })
+touched_by_entry servers state (MakeDisk client seq name tuple) row plain on = let f : false ≡ true = on in absurd cc
+touched_by_entry servers state (Witness client seq turn) row plain on = let f : false ≡ true = on in absurd cc
+touched_by_entry servers state _ row plain on = absurd plain
+
+pub log_join_stays : (servers : ℕ) (log : List Command) (entry : Command) (cell : Cell) (row : LinkRow) → IsPlainLog servers log → IsPlain servers entry
+    → cell_link (state_after servers log) cell ≡ Some row → IsJoinedBy (state_after servers log) entry row
+    → StaysAlone cell row (after (state_after servers log) entry)
+log_join_stays servers log entry cell row all plain is by_it =
+    join_stays servers (state_after servers log) (log_plain servers log all) cell row is ((log_steady servers log all).linked cell row is).served entry plain by_it
 
 -- ### Places
 

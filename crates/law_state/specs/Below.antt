@@ -1,6 +1,6 @@
 -- When a state is one that more plain entries left: what the earlier one says of a cell or a name, the later one says too, but
--- for servers that have left.
-use Rattle.std.specs.Prelude.{◌≡◌, ◌⊎◌, ℕ, List, Some, true, false}
+-- for servers that have left, or joined again.
+use Rattle.std.specs.Prelude.{◌≡◌, ◌≤◌, ◌⊎◌, ℕ, List, Some, true, false}
 use Rattle.petal_base.specs.declared.cell.Cell.{Cell}
 use Rattle.global_tables.specs.declared.link.LinkRow.{LinkRow}
 use Rattle.global_tables.specs.declared.link.LinkState.TheVariants.{Only}
@@ -8,19 +8,21 @@ use Rattle.petal_state.specs.declared.answer.DiskView.{DiskView}
 use Rattle.petal_state.specs.CellState.{cell_link}
 use Rattle.petal_state.specs.State.{is_up}
 use Rattle.petal_rules.specs.State.{State, find, lead, is_in, is_lead, is_second, readable}
-use Rattle.law_state.specs.Rows.{IsLater}
+use Rattle.law_state.specs.Ages.{age_of}
+use Rattle.law_state.specs.Rows.{IsLater, IsServedOn}
 
 -- the later row of a cell's link
-pub record HasLater (later : State) (cell : Cell) (row : LinkRow) : Type 0 where
+pub record HasLater (earlier later : State) (cell : Cell) (row : LinkRow) : Type 0 where
   pub now : LinkRow
   pub is : cell_link later cell ≡ Some now
   pub so : IsLater row now
+  pub on : IsServedOn earlier later row now
 
--- a link stays, but that of two servers one may be left; who was Out stays Out; and a disk is found as before
+-- a link stays, but that of two servers one may be left, which is one that has been In all the time; an incarnation that was Out
+-- stays Out; and a disk is found as before
 pub record IsBelow (earlier later : State) : Type 0 where
-  pub rows : (cell : Cell) (row : LinkRow) → cell_link earlier cell ≡ Some row → HasLater later cell row
-  pub ups : (n : ℕ) → is_up later n ≡ true → is_up earlier n ≡ true
-  pub seated : (n inc : ℕ) → is_in later n inc ≡ true → is_in earlier n inc ≡ true
+  pub rows : (cell : Cell) (row : LinkRow) → cell_link earlier cell ≡ Some row → HasLater earlier later cell row
+  pub ages : (n : ℕ) → age_of earlier n ≤ age_of later n
   pub finds : (name : List ℕ) (disk : DiskView) → find earlier name ≡ Some disk → find later name ≡ Some disk
 
 -- the server holds the cell's link alone
@@ -29,10 +31,19 @@ pub record HoldsAlone (state : State) (n : ℕ) (cell : Cell) : Type 0 where
   pub is : cell_link state cell ≡ Some row
   pub alone : row.state ≡ Only n false
 
--- what a server that is still In was to a cell, it is later: its lead; its second server, or now it holds the link alone; and
--- one that may read it. A cell that is led later was led before, where it was known
+-- the server held the cell's link alone while it was Out, and has joined since
+pub record HasJoinedAlone (earlier later : State) (n : ℕ) (cell : Cell) : Type 0 where
+  pub alone : HoldsAlone earlier n cell
+  pub out : is_up earlier n ≡ false
+  pub up : is_up later n ≡ true
+
+-- what a server that is still In as the same incarnation was to a cell, it is later: its lead; its second server, or now it
+-- holds the link alone; and one that may read it. A cell that is led later was led before, where it was known, or its holder has
+-- joined since
 pub record KeepsRoles (earlier later : State) : Type 0 where
-  pub leads : (n : ℕ) (cell : Cell) → is_up later n ≡ true → is_lead earlier n cell ≡ true → is_lead later n cell ≡ true
-  pub seconds : (n : ℕ) (cell : Cell) → is_up later n ≡ true → is_second earlier n cell ≡ true → (is_second later n cell ≡ true) ⊎ HoldsAlone later n cell
-  pub reads : (n : ℕ) (cell : Cell) → is_up later n ≡ true → readable earlier n cell ≡ true → readable later n cell ≡ true
-  pub led : (cell : Cell) (row : LinkRow) (n : ℕ) → cell_link earlier cell ≡ Some row → lead later cell ≡ Some n → (m : ℕ) × (lead earlier cell ≡ Some m)
+  pub leads : (n inc : ℕ) (cell : Cell) → is_in earlier n inc ≡ true → is_in later n inc ≡ true → is_lead earlier n cell ≡ true → is_lead later n cell ≡ true
+  pub seconds : (n inc : ℕ) (cell : Cell) → is_in earlier n inc ≡ true → is_in later n inc ≡ true → is_second earlier n cell ≡ true
+      → (is_second later n cell ≡ true) ⊎ HoldsAlone later n cell
+  pub reads : (n inc : ℕ) (cell : Cell) → is_in earlier n inc ≡ true → is_in later n inc ≡ true → readable earlier n cell ≡ true → readable later n cell ≡ true
+  pub led : (cell : Cell) (row : LinkRow) (n : ℕ) → cell_link earlier cell ≡ Some row → lead later cell ≡ Some n
+      → ((m : ℕ) × (lead earlier cell ≡ Some m)) ⊎ HasJoinedAlone earlier later n cell

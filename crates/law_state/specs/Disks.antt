@@ -1,10 +1,12 @@
 -- How disks and cells belong together in a state that plain entries made, and who is In.
-use Rattle.std.specs.Prelude.{◌≡◌, ◌≢◌, ◌<◌, ◌⊎◌, ℕ, Some, None, true, false}
+use Rattle.std.specs.Prelude.{◌≡◌, ◌≢◌, ◌<◌, ◌≤◌, ◌⊎◌, Bool, List, ℕ, Some, None, true, false}
 use Rattle.petal_base.specs.declared.cell.Cell.{Cell}
 use Rattle.global_tables.specs.Disk.{disk_at, named}
 use Rattle.global_tables.specs.declared.disk.DiskRow.{DiskRow}
 use Rattle.petal_state.specs.CellState.{cell_link}
 use Rattle.petal_state.specs.State.{is_up}
+use Rattle.petal_command.specs.declared.command.Command.{Command}
+use Rattle.petal_command.specs.declared.command.Command.TheVariants.{Join}
 use Rattle.petal_rules.specs.Lists.{In}
 use Rattle.petal_rules.specs.State.{State, is_in, servers_of}
 use Rattle.law_state.specs.Steady.{HasLink}
@@ -19,10 +21,14 @@ pub record AreDisks (state : State) : Type 0 where
   pub served : (row : DiskRow) (cell : Cell) → In row state.disks.rows → cell.map ≡ row.map → HasLink state cell
   pub empty : (cell : Cell) → ((row : DiskRow) → In row state.disks.rows → row.map ≢ cell.map) → cell_link state cell ≡ None
 
--- so many servers, each In with incarnation 1 or Out, and none In with another one
+-- so many servers, each In or Out, and no incarnation is below the first
 pub record AreInOrOut (servers : ℕ) (state : State) : Type 0 where
   pub many : servers_of state ≡ servers
-  pub each : (n : ℕ) → n < servers → (is_in state n 1 ≡ true) ⊎ (is_up state n ≡ false)
-  pub first : (n inc : ℕ) → is_in state n inc ≡ true → inc ≡ 1
-  pub up : (n : ℕ) → is_up state n ≡ true → is_in state n 1 ≡ true
-  pub seated : (n : ℕ) → is_in state n 1 ≡ true → is_up state n ≡ true
+  pub each : (n : ℕ) → n < servers → ((inc : ℕ) × (is_in state n inc ≡ true)) ⊎ (is_up state n ≡ false)
+  pub first : (n inc : ℕ) → is_in state n inc ≡ true → 1 ≤ inc
+  pub up : (n : ℕ) → is_up state n ≡ true → (inc : ℕ) × (is_in state n inc ≡ true)
+  pub seated : (n inc : ℕ) → is_in state n inc ≡ true → is_up state n ≡ true
+
+-- the log has this incarnation's Join
+abbrev pub HasJoined : List Command → (n inc : ℕ) → Type 0
+HasJoined log n inc = (blank : Bool) × In (Join n inc blank) log

@@ -1,3 +1,4 @@
+pub mod Ages
 pub mod Rows
 pub mod Steady
 pub mod Below

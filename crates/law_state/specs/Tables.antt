@@ -1,5 +1,5 @@
 -- The tables that plain entries make.
-use Rattle.std.specs.Prelude.{◌≡◌, ◌<◌, ◌+◌, ◌%◌, ◌++◌, ℕ, true, List, [], length, slice_get, slice_index, Some, None}
+use Rattle.std.specs.Prelude.{◌≡◌, ◌<◌, ◌≤◌, ◌+◌, ◌%◌, ◌++◌, ℕ, true, List, [], length, slice_get, slice_index, Some, None}
 use Rattle.petal_base.specs.Tuple.{is_tuple}
 use Rattle.global_tables.specs.declared.disk.DiskRow.{DiskRow}
 use Rattle.global_tables.specs.declared.fence.Member.{Member}
@@ -7,9 +7,9 @@ use Rattle.global_tables.specs.declared.link.LinkRow.{LinkRow}
 use Rattle.global_tables.specs.Link.{link_at}
 use Rattle.global_tables.specs.Map.{tuple_of}
 use Rattle.global_tables.specs.View.{last_inc}
-use Rattle.petal_state.specs.State.{is_up}
 use Rattle.petal_rules.specs.State.{State}
-use Rattle.law_state.specs.Rows.{IsServed, IsLater}
+use Rattle.law_state.specs.Ages.{age_of}
+use Rattle.law_state.specs.Rows.{IsServed, IsServedOn, IsLater}
 
 -- the row of the disk that was made at this place: its map has the disk's number; it has no snapshot, and never moved
 pub record IsNewRow (place : ℕ) (row : DiskRow) : Type 0 where
@@ -33,11 +33,11 @@ pub record HasLinkOf (state : State) (of : ℕ) (tuple : List ℕ) (link : ℕ) 
   pub is : link_at state.links of link ≡ Some row
   pub asked : IsLinkOf state of tuple link row
 
--- so many servers, each In or Out with incarnation 1; no fence waits; no two disks have one name; and each map is of one disk,
+-- so many servers, whose incarnations count from 1; no fence waits; no two disks have one name; and each map is of one disk,
 -- over a proper tuple, and has the links that its tuple asks for
 pub record IsPlainState (servers : ℕ) (state : State) : Type 0 where
   pub many : length state.view.members ≡ servers
-  pub members : (n : ℕ) (member : Member) → slice_get state.view.members n ≡ Some member → last_inc member ≡ 1
+  pub members : (n : ℕ) (member : Member) → slice_get state.view.members n ≡ Some member → 1 ≤ last_inc member
   pub queue : state.view.queue ≡ []
   pub made : state.disks.made ≡ length state.disks.rows
   pub count : length state.maps ≡ length state.disks.rows
@@ -49,15 +49,17 @@ pub record IsPlainState (servers : ℕ) (state : State) : Type 0 where
   pub unlinked : (of link : ℕ) → tuple_of state.maps of ≡ None → link_at state.links of link ≡ None
 
 -- the later row of a link
-pub record HasLaterRow (later : State) (of link : ℕ) (row : LinkRow) : Type 0 where
+pub record HasLaterRow (earlier later : State) (of link : ℕ) (row : LinkRow) : Type 0 where
   pub now : LinkRow
   pub is : link_at later.links of link ≡ Some now
   pub so : IsLater row now
+  pub on : IsServedOn earlier later row now
 
--- disks and maps were added, and those before stay as they were; of a link one server may be left; and who was Out stays Out
+-- disks and maps were added, and those before stay as they were; of a link one server may be left; and an incarnation that was Out
+-- stays Out
 pub record IsGrown (earlier later : State) : Type 0 where
   pub more : List DiskRow
   pub rows : later.disks.rows ≡ earlier.disks.rows ++ more
   pub maps : (of : ℕ) (tuple : List ℕ) → tuple_of earlier.maps of ≡ Some tuple → tuple_of later.maps of ≡ Some tuple
-  pub links : (of link : ℕ) (row : LinkRow) → link_at earlier.links of link ≡ Some row → HasLaterRow later of link row
-  pub ups : (n : ℕ) → is_up later n ≡ true → is_up earlier n ≡ true
+  pub links : (of link : ℕ) (row : LinkRow) → link_at earlier.links of link ≡ Some row → HasLaterRow earlier later of link row
+  pub ages : (n : ℕ) → age_of earlier n ≤ age_of later n

@@ -1,11 +1,15 @@
 -- Fronts of the log, and what stands below what.
-use Rattle.std.proofs.Common.{◌≡◌, ◌++◌, List, [], ◌∷◌, refl, sym, ap, ◌∙◌, append_assoc}
+use Rattle.std.proofs.Common.{◌≡◌, ◌≤◌, ◌++◌, List, [], ◌∷◌, length, length-append, refl, sym, ap, ◌∙◌, inl, arith, append_assoc}
+use Rattle.std.specs.Prelude.{slice_get, drop}
 use Rattle.std.proofs.lemmas.List.{append-nil}
 use Rattle.petal_command.specs.declared.command.Command.{Command}
 use Rattle.petal_history.specs.Claims.{IsPrefix}
 use Rattle.petal_rules.specs.State.{State}
+use Rattle.petal_rules.proofs.Tests.{same_some}
 use Rattle.law_state.specs.Below.{IsBelow}
-use Rattle.law_state.proofs.Grown.{later_itself, later_on}
+use Rattle.law_state.specs.Ages.{age_of}
+use Rattle.law_state.proofs.Ages.{no_less}
+use Rattle.law_state.proofs.Grown.{later_itself, later_on, served_on_on}
 
 pub front_itself : (log : List Command) → IsPrefix log log
 front_itself log = record { later = []; is = sym (append-nil log) }
@@ -20,21 +24,47 @@ pub front_on : (a b c : List Command) → IsPrefix a b → IsPrefix b c → IsPr
 front_on a b c one two =
     record { later = one.later ++ two.later; is = two.is ∙ ap (λ xs. xs ++ two.later) one.is ∙ append_assoc a one.later two.later }
 
+pub front_long : (front whole : List Command) → IsPrefix front whole → length front ≤ length whole
+front_long front whole p = omega (arith, ap length p.is, length-append front p.later)
+
+-- of two fronts of one log the shorter one stands at the front of the other
+both_fronts : (a b x y : List Command) → a ++ x ≡ b ++ y → length a ≤ length b → IsPrefix a b
+both_fronts [] b x y e le = record { later = b; is = refl }
+both_fronts (p ∷ a) [] x y e le = absurd (omega arith)
+both_fronts (p ∷ a) (q ∷ b) x y e le =
+    let first : p ≡ q = same_some (ap (λ (xs : List Command). slice_get xs 0) e) in
+    let rest = both_fronts a b x y (ap (λ (xs : List Command). drop 1 xs) e) (omega arith) in
+    record { later = rest.later; is = λ i. sym first i ∷ rest.is i }
+
+pub front_within : (a b whole : List Command) → IsPrefix a whole → IsPrefix b whole → length a ≤ length b → IsPrefix a b
+front_within a b whole one two le = both_fronts a b one.later two.later (sym one.is ∙ two.is) le
+
+-- two that are as long are one
+pub one_front : (a b whole : List Command) → IsPrefix a whole → IsPrefix b whole → length a ≡ length b → a ≡ b
+one_front a b whole one two e = let p = front_within a b whole one two (omega arith) in by p.later p.is
+  where
+    by : (later : List Command) → b ≡ a ++ later → a ≡ b
+    by [] is = sym (is ∙ append-nil a)
+    by (x ∷ xs) is = absurd (omega (arith, ap length is, length-append a (x ∷ xs)))
+
 pub below_on : (a b c : State) → IsBelow a b → IsBelow b c → IsBelow a c
 below_on a b c one two = record {
   rows = λ cell row e.
       let middle = one.rows cell row e in
       let last = two.rows cell middle.now middle.is in
-      record { now = last.now; is = last.is; so = later_on row middle.now last.now middle.so last.so };
-  ups = λ n e. one.ups n (two.ups n e);
-  seated = λ n inc e. one.seated n inc (two.seated n inc e);
+      record {
+        now = last.now;
+        is = last.is;
+        so = later_on row middle.now last.now middle.so last.so;
+        on = served_on_on a b c one.ages two.ages row middle.now last.now middle.so last.so middle.on last.on;
+      };
+  ages = λ n. let x = one.ages n in let y = two.ages n in omega arith;
   finds = λ name disk e. two.finds name disk (one.finds name disk e);
 }
 
 pub below_itself : (a : State) → IsBelow a a
 below_itself a = record {
-  rows = λ cell row e. record { now = row; is = e; so = later_itself row };
-  ups = λ n e. e;
-  seated = λ n inc e. e;
+  rows = λ cell row e. record { now = row; is = e; so = later_itself row; on = λ n inc both has x y. inl both };
+  ages = λ n. no_less (age_of a n);
   finds = λ name disk e. e;
 }

@@ -1,9 +1,9 @@
 -- Each step that is allowed is of one of the kinds that the relation names, and what each kind keeps holds after every history.
-use Rattle.std.proofs.Common.{◌≡◌, true, ◌<◌, ◌≤◌, ◌+◌, ℕ, List, [], ◌∷◌, ◌++◌, refl, sym, subst, arith, append_assoc}
+use Rattle.std.proofs.Common.{◌≡◌, true, Some, inl, inr, ap, ◌∙◌, ◌<◌, ◌≤◌, ◌+◌, ℕ, List, [], ◌∷◌, ◌++◌, refl, sym, subst, arith, append_assoc}
 use Rattle.std.specs.Prelude.{max}
 use Rattle.petal_base.specs.declared.cell.Cell.{Cell}
 use Rattle.petal_command.specs.declared.command.Command.{Command}
-use Rattle.petal_table.specs.Table.{Table}
+use Rattle.petal_table.specs.Table.{Table, at}
 use Rattle.petal_table.proofs.Rows.{at-empty}
 use Rattle.petal_msg.specs.declared.operation.Pending.{Pending}
 use Rattle.petal_msg.specs.declared.letter.Actor.{Actor}
@@ -11,32 +11,33 @@ use Rattle.petal_msg.specs.declared.letter.Actor.TheVariants as actor
 use Rattle.petal_msg.specs.declared.letter.Letter.{Letter}
 use Rattle.script_lines.specs.declared.script.Script.{Script}
 use Rattle.petal_state.specs.Command.{state_after}
-use Rattle.petal_state.specs.State.{is_up}
 use Rattle.petal_history.specs.Claims.{IsPrefix, Grows}
 use Rattle.petal_history.specs.Legal.{Follows, IsLegal, IsLegalFrom, stepped, world_after}
 use Rattle.petal_history.specs.declared.record.Record.{Record}
 use Rattle.petal_rules.specs.Lists.{In}
 use Rattle.petal_rules.specs.Clients.{Client}
 use Rattle.petal_rules.specs.Log.{Log, state_in}
-use Rattle.petal_rules.specs.Server.{Server, Done}
-use Rattle.petal_rules.specs.State.{State}
+use Rattle.petal_rules.specs.Server.{Own, Server, Done}
+use Rattle.petal_rules.specs.Boots.{awake, raised, stays, wakes}
+use Rattle.petal_rules.specs.State.{State, is_in}
 use Rattle.petal_rules.specs.Store.{cell_cmp}
 use Rattle.petal_rules.specs.Jobs.{Acted}
 use Rattle.petal_rules.specs.World.{Setting, World, acts, reacts, step, server_step, client_step, next_line, received, clock_of, server_state, client_state, chosen_log, chosen_state, setting_of, start, MayServer, MayActor}
 use Rattle.petal_rules.specs.declared.job.Job.{Job}
 use Rattle.petal_rules.specs.declared.step.Step.{Step}
 use Rattle.petal_rules.proofs.ListLemmas.{in_later, put_same}
-use Rattle.petal_rules.proofs.Tests.{all_put, none_some}
+use Rattle.petal_rules.proofs.Tests.{all_put, none_some, true_false}
 use Rattle.law_state.specs.Below.{IsBelow}
 use Rattle.law_state.specs.Firm.{Firm}
 use Rattle.law_state.specs.Plain.{IsPlainLog}
 use Rattle.law_state.specs.Steady.{IsSteady}
+use Rattle.law_state.proofs.Ages.{between}
 use Rattle.law_state.proofs.Alone.{led_row, both_before}
 use Rattle.law_state.proofs.Roles.{log_roles}
 use Rattle.law_state.proofs.Steady.{log_steady, log_below, front_plain}
-use Rattle.law_steps.specs.Happens.{Handled, AreQueued, Worked, By_job, By_entry, Serving, Goes, Ends, Stays, served_so, stopped_so, shown_so, own_place, Happens, Serves, Turns}
+use Rattle.law_steps.specs.Happens.{Handled, AreQueued, Worked, By_job, By_entry, Serving, Goes, Ends, Stays, Wakes, Fails, served_so, stopped_so, shown_so, own_place, Happens, Serves, Turns}
 use Rattle.law_steps.specs.Ready.{IsReady, Ready, Rests, AreFirm}
-use Rattle.law_steps.proofs.Fronts.{below_on}
+use Rattle.law_steps.proofs.Fronts.{below_on, front_on}
 use Rattle.law_steps.proofs.Serving.{server_serves}
 use Rattle.law_steps.proofs.Staged.{did_ready}
 use Rattle.law_steps.proofs.Turning.{is_call, client_turns}
@@ -48,18 +49,19 @@ queues_later : (w v : World) → ((letter : Letter) → In letter w.sent → In 
     → AreQueued v m queue
 queues_later w v later m queue h letter i = let known = h letter i in (later letter known.0, known.1)
 
--- what rests at an earlier state rests at a later one by which its server is In
-ready_on : (servers : ℕ) (front whole : List Command) → IsPlainLog servers whole → IsPrefix front whole → (n : ℕ)
-    → is_up (state_after servers whole) n ≡ true → (pending : Table Cell Pending) → IsReady (state_after servers front) n pending
-    → IsReady (state_after servers whole) n pending
-ready_on servers front whole plain prefix n up pending ready = record {
+-- what rests at an earlier state rests at a later one by which its server is In as the same incarnation
+ready_on : (servers : ℕ) (front whole : List Command) → IsPlainLog servers whole → IsPrefix front whole → (n inc : ℕ) (pending : Table Cell Pending)
+    → ((cell : Cell) (op : Pending) → at cell_cmp pending cell ≡ Some op → is_in (state_after servers front) n inc ≡ true)
+    → ((cell : Cell) (op : Pending) → at cell_cmp pending cell ≡ Some op → is_in (state_after servers whole) n inc ≡ true)
+    → IsReady (state_after servers front) n pending → IsReady (state_after servers whole) n pending
+ready_on servers front whole plain prefix n inc pending before still ready = record {
   staged = λ cell op is.
       let s = ready.staged cell op is in
       let row = led_row (state_after servers front) (log_steady servers front (front_plain servers front whole plain prefix)) n cell s.lead in
       record {
         own = s.own;
         keyed = s.keyed;
-        lead = (log_roles servers front whole plain prefix).leads n cell up s.lead;
+        lead = (log_roles servers front whole plain prefix).leads n inc cell (before cell op is) (still cell op is) s.lead;
         stage = λ both. s.stage (both_before _ _ (log_below servers front whole plain prefix) cell row.0 row.1 both);
       };
   rising = ready.rising;
@@ -83,19 +85,24 @@ module _ (setting : Setting) (w : World) (firm : Firm setting w) where
   pub client_below : (c : ℕ) → IsBelow (client_state setting w c) (chosen_state setting w)
   client_below c = log_below setting.servers _ _ firm.plain (firm.clients c)
 
-  -- a running server is In by the state of any entries that stand at the front of what is chosen
-  pub runs_at : (front : List Command) → IsPrefix front (chosen_log setting w) → (n : ℕ) → (w.servers n).life.running ≡ true
-      → is_up (state_after setting.servers front) n ≡ true
-  runs_at front prefix n runs = (log_below setting.servers _ _ firm.plain prefix).ups n (firm.runs n runs)
+  -- a running server that is In as itself by some entries is so by each front of what is chosen that goes on from them
+  pub runs_at : (front more : List Command) → IsPrefix front more → IsPrefix more (chosen_log setting w) → (n : ℕ) → (w.servers n).life.running ≡ true
+      → is_in (state_after setting.servers front) n (w.servers n).life.inc ≡ true → is_in (state_after setting.servers more) n (w.servers n).life.inc ≡ true
+  runs_at front more one two n runs is =
+      between (state_after setting.servers front) (state_after setting.servers more) (chosen_state setting w) n (w.servers n).life.inc
+      ((log_below setting.servers front more (front_plain setting.servers _ _ firm.plain two) one).ages n)
+      ((log_below setting.servers more _ firm.plain two).ages n) is (firm.runs n front runs (front_on front more _ one two) is)
 
-  -- by every server's own state
-  pub runs_by : (m n : ℕ) → (w.servers n).life.running ≡ true → is_up (server_state setting w m) n ≡ true
-  runs_by m n runs = runs_at (w.servers m).log.applied (firm.servers m) n runs
+  -- by what is chosen, where it is by its own state
+  pub runs_now : (n : ℕ) → (w.servers n).life.running ≡ true → is_in (server_state setting w n) n (w.servers n).life.inc ≡ true
+      → is_in (chosen_state setting w) n (w.servers n).life.inc ≡ true
+  runs_now n runs is = firm.runs n (w.servers n).log.applied runs (firm.servers n) is
 
-  -- what rests where a server is In, rests at what is chosen
+  -- what rests where a server runs, rests at what is chosen
   pub ready_chosen : Rests setting w → (n : ℕ) → (w.servers n).life.running ≡ true → IsReady (chosen_state setting w) n (w.servers n).own.pairs.pending
   ready_chosen rests n runs =
-      ready_on setting.servers _ _ firm.plain (firm.servers n) n (firm.runs n runs) (w.servers n).own.pairs.pending (rests.pending n)
+      ready_on setting.servers _ _ firm.plain (firm.servers n) n (w.servers n).life.inc (w.servers n).own.pairs.pending
+      (λ cell op is. rests.seated n cell op runs is) (λ cell op is. runs_now n runs (rests.seated n cell op runs is)) (rests.pending n)
 
 pub chosen_below : (setting : Setting) (w v : World) → Firm setting v → IsPrefix (chosen_log setting w) (chosen_log setting v)
     → IsBelow (chosen_state setting w) (chosen_state setting v)
@@ -107,32 +114,59 @@ module _ (setting : Setting) (w : World) (rests : Rests setting w) (firm : Firm 
   -- what a running server leaves rests at the state that it leaves
   worked_ready : (n : ℕ) → (w.servers n).life.running ≡ true → (log : Log) (done : Done) → Worked setting w n log done
       → IsReady (state_in setting.servers log) n done.own.pairs.pending
-  worked_ready n runs _ _ (By_job log done same did) =
+  worked_ready n runs _ _ (By_job log done same did seat) =
       subst (λ applied. IsReady (state_after setting.servers applied) n done.own.pairs.pending) (sym same)
       (did_ready (Handled w n) (own_place setting w n) (w.servers n).own (rests.pending n) done did)
   worked_ready n runs _ _ (By_entry log entry more front) =
       ready_on setting.servers (w.servers n).log.applied log.applied (front_plain setting.servers _ _ firm.plain front)
-      (record { later = entry ∷ []; is = more }) n (runs_at setting w firm log.applied front n runs) (w.servers n).own.pairs.pending (rests.pending n)
+      (record { later = entry ∷ []; is = more }) n (w.servers n).life.inc (w.servers n).own.pairs.pending
+      (λ cell op is. rests.seated n cell op runs is)
+      (λ cell op is. runs_at setting w firm (w.servers n).log.applied log.applied (record { later = entry ∷ []; is = more }) front n runs
+      (rests.seated n cell op runs is)) (rests.pending n)
+
+  -- it has operations only while it is In as itself
+  worked_seated : (n : ℕ) → (w.servers n).life.running ≡ true → (log : Log) (done : Done) → Worked setting w n log done → (cell : Cell) (op : Pending)
+      → at cell_cmp done.own.pairs.pending cell ≡ Some op → is_in (state_in setting.servers log) n (w.servers n).life.inc ≡ true
+  worked_seated n runs _ _ (By_job log done same did seat) cell op is =
+      let now : is_in (server_state setting w n) n (w.servers n).life.inc ≡ true = elim seat [
+        | inl so ↦ so
+        | inr kept ↦ rests.seated n cell op runs (sym (ap (λ (o : Own). at cell_cmp o.pairs.pending cell) kept) ∙ is)
+      ] in
+      subst (λ applied. is_in (state_after setting.servers applied) n (w.servers n).life.inc ≡ true) (sym same) now
+  worked_seated n runs _ _ (By_entry log entry more front) cell op is =
+      runs_at setting w firm (w.servers n).log.applied log.applied (record { later = entry ∷ []; is = more }) front n runs (rests.seated n cell op runs is)
 
   -- the worlds that a server's step leads to
   rests_put : (n stamp : ℕ) (what : Step) (acted : Acted) → AreQueued w n acted.server.queue
-      → IsReady (state_in setting.servers acted.server.log) n acted.server.own.pairs.pending → Rests setting (acts w n what stamp acted).world
-  rests_put n stamp what acted queued ready =
+      → IsReady (state_in setting.servers acted.server.log) n acted.server.own.pairs.pending
+      → ((cell : Cell) (op : Pending) → acted.server.life.running ≡ true → at cell_cmp acted.server.own.pairs.pending cell ≡ Some op
+      → is_in (state_in setting.servers acted.server.log) n acted.server.life.inc ≡ true) → Rests setting (acts w n what stamp acted).world
+  rests_put n stamp what acted queued ready seated =
       let v = (acts w n what stamp acted).world in
       record {
         queues = all_put w.servers n acted.server (λ m (x : Server). AreQueued v m x.queue)
             (λ m. queues_later w v (λ letter. in_later letter _ w.sent) m (w.servers m).queue (rests.queues m))
             (queues_later w v (λ letter. in_later letter _ w.sent) n acted.server.queue queued);
         pending = all_put w.servers n acted.server (λ m (x : Server). IsReady (state_in setting.servers x.log) m x.own.pairs.pending) rests.pending ready;
+        seated = all_put w.servers n acted.server (λ m (x : Server). (cell : Cell) (op : Pending) → x.life.running ≡ true
+            → at cell_cmp x.own.pairs.pending cell ≡ Some op → is_in (state_in setting.servers x.log) m x.life.inc ≡ true) rests.seated seated;
       }
 
   serves_rest : (n stamp : ℕ) (what : Step) (acted : Acted) → Serving setting w n what acted → Rests setting (acts w n what stamp acted).world
   unfolding In
   serves_rest n stamp what _ (Goes log done queue runs worked queued works) =
       rests_put n stamp what (served_so setting w n log done queue) queued (worked_ready n runs log done worked)
+      (λ cell op e is. worked_seated n runs log done worked cell op is)
   serves_rest n stamp what _ (Ends log done runs worked) =
       rests_put n stamp what (stopped_so setting w n log done) (λ letter i. absurd i) (worked_ready n runs log done worked)
+      (λ cell op e is. true_false e refl)
   serves_rest n stamp what _ (Stays who posts from shown) = rests_put n stamp what (shown_so w n who posts) (rests.queues n) (rests.pending n)
+      (rests.seated n)
+  serves_rest n stamp what _ (Wakes booted asleep) =
+      rests_put n stamp what (wakes (own_place setting w n) (awake (raised (w.servers n)))) (λ letter i. absurd i)
+      (record { staged = λ cell op is. none_some (at-empty cell_cmp cell) is; rising = tt }) (λ cell op e is. none_some (at-empty cell_cmp cell) is)
+  serves_rest n stamp what _ (Fails booted asleep) =
+      rests_put n stamp what (stays (raised (w.servers n))) (rests.queues n) (rests.pending n) (λ cell op e is. true_false e asleep)
 
   serves_by : (n stamp : ℕ) (what : Step) → MayServer what w n
       → Firm setting (acts w n what stamp (server_step what (server_state setting w n) n (w.servers n))).world
@@ -146,6 +180,7 @@ module _ (setting : Setting) (w : World) (rests : Rests setting w) (firm : Firm 
   rests_by (actor.Client c) what stamp may later = record {
     queues = λ m letter i. let known = rests.queues m letter i in (in_later letter _ w.sent known.0, known.1);
     pending = rests.pending;
+    seated = rests.seated;
   }
 
   happens_by : (who : Actor) (what : Step) (stamp : ℕ) → MayActor who what setting w → clock_of w who < stamp
@@ -236,6 +271,7 @@ unfolding In
 start_rests script = record {
   queues = λ n letter h. absurd h;
   pending = λ n. record { staged = λ cell op is. none_some (at-empty cell_cmp cell) is; rising = tt };
+  seated = λ n cell op e is. none_some (at-empty cell_cmp cell) is;
 }
 
 -- where each legal history is firm and its log only grows, each world on its way is

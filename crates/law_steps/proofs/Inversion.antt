@@ -1,5 +1,5 @@
 -- What a server does with a job is one of the kinds that the relation names.
-use Rattle.std.proofs.Common.{◌≡◌, ℕ, ◌==◌, not, Option, Some, None, refl}
+use Rattle.std.proofs.Common.{◌≡◌, ℕ, ◌==◌, not, true, Option, Some, None, refl}
 use Rattle.petal_base.specs.declared.cell.Cell.{Cell}
 use Rattle.petal_base.specs.Cells.{cell_of}
 use Rattle.petal_msg.specs.declared.body.Body.{Body}
@@ -28,19 +28,19 @@ module _ (heard : Body → Type 0) (here : Here) (own : Own) (steady : IsSteady 
   abbrev D : Done → Type 0
   D done = Did heard here own done
 
-  did_handle : (said : Body) → heard said → D (handles here own said)
+  did_handle : is_in here.state here.me here.inc ≡ true → (said : Body) → heard said → D (handles here own said)
   unfolding handles on_reserve on_reserved on_pair_full on_replicate on_replicated
-  did_handle (body.Read client seq cell epoch) h = did_read heard here own client seq cell epoch h
-  did_handle (body.Write client seq cell epoch bytes) h =
+  did_handle seated (body.Read client seq cell epoch) h = did_read heard here own seated client seq cell epoch h
+  did_handle seated (body.Write client seq cell epoch bytes) h =
       did_write heard here own steady staged (record { client = client; seq = seq; cell = cell; epoch = epoch; bytes = bytes }) h
-  did_handle (body.Reserve number cell) h =
+  did_handle seated (body.Reserve number cell) h =
       by_test D (is_second here.state here.me cell) _ _ (λ s. did_reserve heard here own number cell _ h s refl) (λ t. Ignores)
-  did_handle (body.Reserved number cell) h = did_reserved heard here own steady staged number cell _ h refl
-  did_handle (body.PairFull number cell) h = did_pair_full heard here own steady staged number cell _ h refl
-  did_handle (body.Replicate number key version bytes) h =
+  did_handle seated (body.Reserved number cell) h = did_reserved heard here own steady staged number cell _ h refl
+  did_handle seated (body.PairFull number cell) h = did_pair_full heard here own steady staged number cell _ h refl
+  did_handle seated (body.Replicate number key version bytes) h =
       by_test D (is_second here.state here.me (cell_of key)) _ _ (λ s. did_replicate heard here own number key version bytes _ h s refl) (λ t. Ignores)
-  did_handle (body.Replicated number cell) h = did_replicated heard here own steady staged number cell _ h refl
-  did_handle _ h = Ignores
+  did_handle seated (body.Replicated number cell) h = did_replicated heard here own steady staged number cell _ h refl
+  did_handle seated _ h = Ignores
 
   told_rev : (client : ℕ) (o : Option ℕ) → D (wrong_rev own client o)
   told_rev client None = Ignores
@@ -58,10 +58,11 @@ module _ (heard : Body → Type 0) (here : Here) (own : Own) (steady : IsSteady 
   pub did : (what : Job) → IsHeard what → D (does here own what)
   unfolding does goes_on
   did (job.Letter letter) h =
-      by_test D (not (is_in here.state here.me here.inc)) _ _ (λ t. Ignores) (λ t.
+      by_test D (not (is_in here.state here.me here.inc)) _ _ (λ t. Ignores) (λ seat.
       by_test D (not (letter.rev == here.state.rev)) _ _ (λ t. other_rev letter letter.from) (λ same.
       by_test D (not (is_from_in here.state letter.inc letter.from)) _ _ (λ t. Ignores)
-      (λ t. did_handle letter.body (h (same_numbers letter.rev here.state.rev (not_false (letter.rev == here.state.rev) same))))))
+      (λ t. did_handle (not_false (is_in here.state here.me here.inc) seat) letter.body
+      (h (same_numbers letter.rev here.state.rev (not_false (letter.rev == here.state.rev) same))))))
   did (job.Stage cell) h = by_test D (is_in here.state here.me here.inc) _ _ (λ t. did_next heard here own steady staged cell _ refl) (λ t. Ignores)
   did job.Apply h = Ignores
   did job.Start h = Ignores

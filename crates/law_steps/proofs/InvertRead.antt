@@ -7,7 +7,7 @@ use Rattle.petal_msg.specs.declared.body.Body.TheVariants as body
 use Rattle.petal_msg.specs.declared.letter.Actor.TheVariants as actor
 use Rattle.petal_msg.specs.declared.operation.Pending.{Pending}
 use Rattle.petal_msg.specs.declared.operation.Reply.TheVariants as reply
-use Rattle.petal_rules.specs.State.{is_lead, readable}
+use Rattle.petal_rules.specs.State.{is_in, is_lead, readable}
 use Rattle.petal_rules.specs.Store.{chain_in, entry_at, bytes_of}
 use Rattle.petal_rules.specs.Server.{Own, Here, Done, says}
 use Rattle.petal_rules.specs.Writes.{pending_on}
@@ -21,7 +21,7 @@ is_there : {A : Type 0} (o : Option A) → is_some o ≡ true → (x : A) × (o 
 is_there None e = let f : false ≡ true = e in absurd cc
 is_there (Some x) e = (x, refl)
 
-module _ (heard : Body → Type 0) (here : Here) (own : Own) where
+module _ (heard : Body → Type 0) (here : Here) (own : Own) (seated : is_in here.state here.me here.inc ≡ true) where
   abbrev D : Done → Type 0
   D done = Did heard here own done
 
@@ -32,12 +32,12 @@ module _ (heard : Body → Type 0) (here : Here) (own : Own) where
   shown client seq cell epoch h r true lead some e f = Refuses (actor.Client client) (body.Held seq) refl (λ k g. not_busy (body.Held seq) k g refl)
   shown client seq cell epoch h r false true true e f = let there = is_there (pending_on own cell) f in Refuses (actor.Client client) (body.BlockBusy seq) refl
       (λ k g. For_a_read client cell epoch there.0 (subst (λ i. heard (body.Read client i cell epoch)) (busy_seq g) h) e there.1)
-  shown client seq cell epoch h r false true false e f = By_read _ (Shows client seq cell epoch h r (λ t. is_none _ f))
+  shown client seq cell epoch h r false true false e f = By_read _ (Shows client seq cell epoch h seated r (λ t. is_none _ f))
     where
       is_none : (o : Option Pending) → is_some o ≡ false → o ≡ None
       is_none None e = refl
       is_none (Some op) e = let g : true ≡ false = e in absurd cc
-  shown client seq cell epoch h r false false some e f = By_read _ (Shows client seq cell epoch h r (λ t. true_false t e))
+  shown client seq cell epoch h r false false some e f = By_read _ (Shows client seq cell epoch h seated r (λ t. true_false t e))
 
   pub did_read : (client seq : ℕ) (cell : Cell) (epoch : ℕ) → heard (body.Read client seq cell epoch) → D (on_read here own client seq cell epoch)
   unfolding on_read

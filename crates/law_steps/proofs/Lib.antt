@@ -16,3 +16,4 @@ pub mod Turning
 pub mod Serving
 pub mod Histories
 pub mod Firms
+pub mod Waking

@@ -1,7 +1,7 @@
 -- What a job of the agreed log leaves as it is: it speaks of the log alone, applies an entry only where it is the next one that is
 -- known, and its own letter alone follows it up.
 use Rattle.std.proofs.Common.{◌≡◌, ℕ, List, [], ◌∷◌, ◌++◌, Bool, true, false, Option, Some, None, refl, sym, ap, ◌∙◌, subst, inl, inr}
-use Rattle.std.specs.Prelude.{map, if◌then◌else◌, ◌==◌, ◌||◌, nat_lt, ◌+◌}
+use Rattle.std.specs.Prelude.{map, if◌then◌else◌, ◌==◌, ◌||◌, ◌+◌}
 use Rattle.petal_command.specs.Same.{has_command}
 use Rattle.petal_command.specs.declared.command.Command.{Command}
 use Rattle.petal_command.specs.declared.pax.Pax.{Pax}
@@ -19,7 +19,7 @@ use Rattle.petal_paxos.specs.declared.phase.Heard.TheVariants.{Nothing, Send, Re
 use Rattle.petal_paxos.specs.declared.phase.Heard.TheVariants.{Chosen as Decided}
 use Rattle.petal_paxos.specs.declared.phase.Phase.{Phase}
 use Rattle.petal_paxos.specs.declared.phase.Phase.TheVariants.{Idle, Collecting, Voting}
-use Rattle.petal_rules.specs.Ballots.{on_down, on_propose, on_pax, hears_of_ballot, comes_out, proposes, to_all, to_unheard, post_of, starts, starts_for, ballot_posts, ask_posts, wanted, greatest_place}
+use Rattle.petal_rules.specs.Ballots.{on_down, on_propose, on_pax, hears_of_ballot, comes_out, proposes, to_all, to_unheard, post_of, first_wanted, starts, starts_for, ballot_posts, ask_posts}
 use Rattle.petal_rules.specs.Entries.{on_ask, on_news, learns, learns_first, applies, applies_known, applies_then, unknown_from}
 use Rattle.petal_rules.specs.Jobs.{log_does, hears_log}
 use Rattle.petal_rules.specs.Lists.{In}
@@ -149,25 +149,21 @@ module _ (voter : Voter) (log : Log) (what : Job) where
   letter_frame letter is (body.News after commands) = learns_first_frame letter is (unknown_from log (after + 1) commands)
   letter_frame letter is _ = quiet log refl
 
-  starts_frame : F (starts voter log)
+  starts_frame : (wants : List Command) → F (starts voter log wants)
   unfolding starts
-  starts_frame = by log.phase (wanted voter log)
+  starts_frame wants = by (first_wanted log.phase (rev_of log) wants)
     where
-      by : (phase : Phase) (wants : List Command) → F (starts_for voter log phase wants)
-      by Idle [] = quiet log refl
-      by Idle (want ∷ wants) =
-          by_test F (nat_lt (rev_of log) greatest_place) _ _ (λ t. speaks _ _ refl (all_logged voter _)) (λ t. quiet log refl)
-      by (Collecting place ballot want heard best) wants = quiet log refl
-      by (Voting place ballot command heard) wants = quiet log refl
+      by : (o : Option Command) → F (starts_for voter log o)
+      by None = quiet log refl
+      by (Some want) = speaks _ _ refl (all_logged voter _)
 
 -- each job of the log but the one that applies an entry
 pub letter_frame_of : (voter : Voter) (log : Log) (letter : Letter) → LogFrame log (job.Letter letter) (log_does voter log (job.Letter letter))
 unfolding log_does
 letter_frame_of voter log letter = letter_frame voter log (job.Letter letter) letter refl letter.body
 
-pub start_frame_of : (voter : Voter) (log : Log) → LogFrame log job.Start (log_does voter log job.Start)
-unfolding log_does
-start_frame_of voter log = starts_frame voter log job.Start
+pub start_frame_of : (voter : Voter) (log : Log) (wants : List Command) → LogFrame log job.Start (starts voter log wants)
+start_frame_of voter log wants = starts_frame voter log job.Start wants
 
 -- ### Applying
 

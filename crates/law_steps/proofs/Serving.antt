@@ -1,5 +1,5 @@
 -- Each step of a server is a job that the relation names, or idle; it ends in the server's stop, or leaves the server as it was.
-use Rattle.std.proofs.Common.{◌≡◌, ℕ, true, List, [], ◌∷◌, ◌++◌, Option, Some, None, refl, ◌∙◌, sym, ap, subst, inl, inr}
+use Rattle.std.proofs.Common.{◌≡◌, ℕ, true, false, List, [], ◌∷◌, ◌++◌, Option, Some, None, refl, ◌∙◌, sym, ap, subst, inl, inr}
 use Rattle.std.specs.Prelude.{map, not}
 use Rattle.std.specs.List.{flat_map}
 use Rattle.petal_base.specs.declared.cell.Cell.{Cell}
@@ -13,33 +13,35 @@ use Rattle.petal_msg.specs.declared.operation.Stage.{Stage}
 use Rattle.petal_paxos.specs.declared.phase.Phase.{Phase}
 use Rattle.petal_paxos.specs.declared.phase.Phase.TheVariants.{Idle, Collecting, Voting}
 use Rattle.petal_history.specs.Claims.{IsPrefix}
-use Rattle.petal_rules.specs.Ballots.{ballot_posts, ask_posts, asks_next, start_jobs, wanted}
+use Rattle.petal_rules.specs.Ballots.{ballot_posts, ask_posts, asks_next, start_jobs, starts}
+use Rattle.petal_rules.specs.Boots.{boots, raised, stays}
 use Rattle.petal_rules.specs.Crossing.{crossed, stage_jobs}
 use Rattle.petal_rules.specs.Entries.{applies}
 use Rattle.petal_rules.specs.Lists.{In, put_at}
 use Rattle.petal_rules.specs.Log.{Log, LogDone, known, next_place}
 use Rattle.petal_rules.specs.Server.{Own, Server, Here, Post, Sender, Done, silent, sender, letters_of}
-use Rattle.petal_rules.specs.State.{in_both, is_lead}
+use Rattle.petal_rules.specs.State.{in_both, is_in, is_lead}
 use Rattle.petal_rules.specs.Writes.{pending_on, both_action, alone_action}
-use Rattle.petal_rules.specs.Jobs.{Acted, works, job_done, crossing, entered, worked, is_overfull, stops, glances, glance_sender, is_log_job, voter_of, tick_posts, sent_anew, awaited, does, log_does}
+use Rattle.petal_rules.specs.Jobs.{Acted, works, job_done, crossing, entered, worked, is_overfull, stops, glances, glance_sender, is_log_job, voter_of, tick_posts, sent_anew, awaited, does, log_does, wanted_by}
 use Rattle.petal_rules.specs.World.{Setting, World, acts, server_state, server_step, chosen_log, MayServer}
 use Rattle.petal_rules.specs.declared.job.Job.{Job}
 use Rattle.petal_rules.specs.declared.job.Job.TheVariants as job
 use Rattle.petal_rules.specs.declared.step.CommitEnd.TheVariants.{Before, After}
 use Rattle.petal_rules.specs.declared.step.Step.{Step}
-use Rattle.petal_rules.specs.declared.step.Step.TheVariants.{Call, Deliver, Tick, Work, Stop, Glance}
+use Rattle.petal_rules.specs.declared.step.Step.TheVariants.{Call, Deliver, Tick, Work, Stop, Boot, Glance}
+use Rattle.petal_rules.specs.declared.step.WorkEnd.{WorkEnd}
 use Rattle.petal_rules.specs.declared.step.WorkEnd.TheVariants as work_end
 use Rattle.petal_paxos.specs.Chosen.{chosen_log as chosen_by}
 use Rattle.petal_rules.proofs.ListLemmas.{in-append, put_same}
 use Rattle.petal_rules.proofs.CellTables.{cell_cmp_total}
-use Rattle.petal_rules.proofs.Tests.{by_test, by_bool, all_put, only}
+use Rattle.petal_rules.proofs.Tests.{by_test, by_bool, all_put, only, true_false}
 use Rattle.law_state.specs.Firm.{Firm}
 use Rattle.law_state.specs.Steady.{IsSteady}
 use Rattle.law_state.proofs.Steady.{log_rev}
 use Rattle.law_steps.specs.Operations.{IsStaged, Waiting, Putting, Copying, Answering, waiting, putting, copying, answering}
 use Rattle.law_steps.specs.DidLead.{Asks, Asks_for, Of_the_log}
 use Rattle.law_steps.specs.Did.{Did, Ignores, By_lead}
-use Rattle.law_steps.specs.Happens.{IsIdle, Handled, AreQueued, By_job, By_entry, Serving, Goes, Ends, Stays, served_so, stopped_so, own_place}
+use Rattle.law_steps.specs.Happens.{IsIdle, IsSeated, Handled, AreQueued, By_job, By_entry, Serving, Goes, Ends, Stays, Wakes, Fails, served_so, stopped_so, own_place}
 use Rattle.law_steps.specs.Ready.{Rests}
 use Rattle.law_steps.proofs.Tables.{at_row}
 use Rattle.law_steps.proofs.Inversion.{IsHeard, did}
@@ -71,6 +73,18 @@ unfolding In
 no_stage [] letter h = h
 no_stage (row ∷ rows) letter (inl e) = cc
 no_stage (row ∷ rows) letter (inr h) = no_stage rows letter h
+
+-- a job of the pairs changes nothing where the server is not In as itself
+asleep : (here : Here) (own : Own) (what : Job) → is_in here.state here.me here.inc ≡ false → (does here own what).own ≡ own
+unfolding does
+asleep here own (job.Letter letter) out = by_test (λ (d : Done). d.own ≡ own) (not (is_in here.state here.me here.inc)) _ _ (λ t. refl)
+    (λ t. true_false (ap not out) t)
+asleep here own (job.Stage cell) out = by_test (λ (d : Done). d.own ≡ own) (is_in here.state here.me here.inc) _ _ (λ t. true_false t out) (λ t. refl)
+asleep here own job.Apply out = refl
+asleep here own job.Start out = refl
+
+seated_does : (here : Here) (own : Own) (what : Job) → IsSeated here own (does here own what)
+seated_does here own what = by_bool (is_in here.state here.me here.inc) (λ t. inl t) (λ out. inr (asleep here own what out))
 
 -- where a server's records stay, what is chosen does
 pub chosen_same : (setting : Setting) (w : World) (n stamp : ℕ) (what : Step) (acted : Acted) → acted.server.log.records ≡ (w.servers n).log.records
@@ -185,7 +199,7 @@ module _ (setting : Setting) (w : World) (rests : Rests setting w) (n : ℕ) (st
   -- where there is room: what the relation names, or an entry is applied
   data IsWorked : Acted → Type 0 where
     A_job : (after : Log) (done : Done) (queue : List Job) → after.applied ≡ log.applied → Did hears_server here own done
-        → AreQueued w n queue
+        → IsSeated here own done → AreQueued w n queue
         → IsWorked (served_so setting w n after done queue)
     An_entry : (after : Log) (entry : Command) (queue : List Job) → after.applied ≡ log.applied ++ entry ∷ [] → after.records ≡ log.records
         → AreQueued w n queue
@@ -196,13 +210,13 @@ module _ (setting : Setting) (w : World) (rests : Rests setting w) (n : ℕ) (st
       → IsWorked (entered here server rest done)
   entered_worked what rest e done f =
       A_job done.log (record { own = own; posts = done.posts; jobs = [] }) (rest ++ done.jobs) f.same
-      (By_lead _ (Asks_for done.posts (λ post i. Of_the_log post (f.says post i)))) (queue_left what rest done.jobs e f.jobs)
+      (By_lead _ (Asks_for done.posts (λ post i. Of_the_log post (f.says post i)))) (inr refl) (queue_left what rest done.jobs e f.jobs)
 
   -- a job of the pairs
   worked_worked : (what : Job) (rest : List Job) → server.queue ≡ what ∷ rest → IsWorked (worked here server rest (does here own what))
   worked_worked what rest e =
       let d = did hears_server here own steady staged what (heard_job what rest e what refl) in
-      A_job log (does here own what) (rest ++ (does here own what).jobs) refl d
+      A_job log (does here own what) (rest ++ (does here own what).jobs) refl d (seated_does here own what)
       (queue_left what rest (does here own what).jobs e (λ letter i. absurd (no_letters hears_server here own (does here own what) d letter i)))
 
   queue_more : (queue jobs : List Job) → AreQueued w n queue → ((letter : Letter) → In (job.Letter letter) jobs → ⊥) → AreQueued w n (queue ++ jobs)
@@ -214,7 +228,7 @@ module _ (setting : Setting) (w : World) (rests : Rests setting w) (n : ℕ) (st
   unfolding In
   applied_worked rest e None none =
       subst (λ done. IsWorked (crossing here server rest None done)) (sym (applied_none log none))
-      (A_job log (silent own) (rest ++ [] ++ []) refl Ignores
+      (A_job log (silent own) (rest ++ [] ++ []) refl Ignores (inr refl)
       (queue_more (rest ++ []) [] (queue_left job.Apply rest [] e (λ letter i. absurd i)) (λ letter i. i)))
   applied_worked rest e (Some entry) is =
       let a = applied_entry log entry is in
@@ -232,7 +246,7 @@ module _ (setting : Setting) (w : World) (rests : Rests setting w) (n : ℕ) (st
   job_worked (job.Stage cell) rest e = worked_worked (job.Stage cell) rest e
   job_worked job.Apply rest e = applied_worked rest e (known log (next_place log)) refl
   job_worked job.Start rest e =
-      entered_worked job.Start rest e (log_does (voter_of here) log job.Start) (start_frame_of (voter_of here) log)
+      entered_worked job.Start rest e (starts (voter_of here) log (wanted_by here server)) (start_frame_of (voter_of here) log (wanted_by here server))
 
   -- ### The step
 
@@ -252,11 +266,11 @@ module _ (setting : Setting) (w : World) (rests : Rests setting w) (n : ℕ) (st
       (later.servers n))
 
   stops_serve : (what : Step) → server.life.running ≡ true → S what (stops here server)
-  stops_serve what runs = Ends log (silent own) runs (By_job log (silent own) refl Ignores)
+  stops_serve what runs = Ends log (silent own) runs (By_job log (silent own) refl Ignores (inr refl))
 
   -- the job is done, and its letters go
   goes_on : (acted : Acted) → server.life.running ≡ true → IsWorked acted → F (Work work_end.Done) acted → S (Work work_end.Done) acted
-  goes_on _ runs (A_job after done queue same d queued) later = Goes after done queue runs (By_job after done same d) queued (inl refl)
+  goes_on _ runs (A_job after done queue same d seat queued) later = Goes after done queue runs (By_job after done same d seat) queued (inl refl)
   goes_on _ runs (An_entry after entry queue more same queued) later =
       Goes after (silent (crossed here.state entry own)) queue runs
       (By_entry after entry more (front_known (Work work_end.Done) (served_so setting w n after (silent (crossed here.state entry own)) queue) later same))
@@ -264,7 +278,7 @@ module _ (setting : Setting) (w : World) (rests : Rests setting w) (n : ℕ) (st
 
   -- its commit is made, and the server stops
   ends_so : (what : Step) (acted : Acted) → server.life.running ≡ true → IsWorked acted → F what (stops here acted.server) → S what (stops here acted.server)
-  ends_so what _ runs (A_job after done queue same d queued) later = Ends after done runs (By_job after done same d)
+  ends_so what _ runs (A_job after done queue same d seat queued) later = Ends after done runs (By_job after done same d seat)
   ends_so what _ runs (An_entry after entry queue more same queued) later =
       Ends after (silent (crossed here.state entry own)) runs
       (By_entry after entry more (front_known what (stopped_so setting w n after (silent (crossed here.state entry own))) later same))
@@ -292,10 +306,10 @@ module _ (setting : Setting) (w : World) (rests : Rests setting w) (n : ℕ) (st
   unfolding In
   rests_idle = record { same = refl; asks = λ post i. absurd i }
 
-  queue_started : AreQueued w n (server.queue ++ start_jobs log.phase (wanted (voter_of here) log))
-  queue_started letter i = elim (in-append (job.Letter letter) server.queue (start_jobs log.phase (wanted (voter_of here) log)) i) [
+  queue_started : AreQueued w n (server.queue ++ start_jobs log.phase (wanted_by here server))
+  queue_started letter i = elim (in-append (job.Letter letter) server.queue (start_jobs log.phase (wanted_by here server)) i) [
     | inl old ↦ rests.queues n letter old
-    | inr new ↦ absurd (no_start log.phase (wanted (voter_of here) log) letter new)
+    | inr new ↦ absurd (no_start log.phase (wanted_by here server) letter new)
   ]
 
   glances_serve : (line round : ℕ) → S (Glance line round) (glances here line round server)
@@ -304,21 +318,35 @@ module _ (setting : Setting) (w : World) (rests : Rests setting w) (n : ℕ) (st
       (λ post i. only (λ (p : Post). subject_of p.body ≡ Glanced) _ post i
       (by_test (λ (said : Body). subject_of said ≡ Glanced) server.life.running _ _ (λ t. refl) (λ t. refl)))
 
+  stays_serve : (what : Step) → S what (stays server)
+  unfolding In
+  stays_serve what = Stays (glance_sender here server) []
+      (by_test (λ (who : Sender). who.from ≡ actor.Server n) server.life.running _ _ (λ t. refl) (λ t. refl)) (λ post i. absurd i)
+
+  boots_serve : (end : WorkEnd) → server.life.running ≡ false → S (Boot end) (boots here server end)
+  boots_serve work_end.Done rests = by_test (S (Boot work_end.Done)) (is_overfull (raised server)) _ _
+      (λ full. stays_serve (Boot work_end.Done)) (λ room. Wakes refl rests)
+  boots_serve (work_end.Fault Before) rests = stays_serve (Boot (work_end.Fault Before))
+  boots_serve (work_end.Fault After) rests =
+      by_test (λ (x : Server). S (Boot (work_end.Fault After)) (stays x)) (is_overfull (raised server)) _ _
+      (λ full. stays_serve (Boot (work_end.Fault After))) (λ room. Fails refl rests)
+
   pub server_serves : (what : Step) → MayServer what w n → F what (server_step what (server_state setting w n) n server)
       → S what (server_step what (server_state setting w n) n server)
   unfolding In
   server_serves (Call line) may later = absurd may
   server_serves (Deliver letter) may later =
       by_test (λ (x : Server). S (Deliver letter) (record { server = x; letters = [] })) server.life.running _ _
-      (λ runs. Goes log (silent own) _ runs (By_job log (silent own) refl Ignores) (queue_delivered letter may.comes.sent may.comes.own) (inr rests_idle))
+      (λ runs. Goes log (silent own) _ runs (By_job log (silent own) refl Ignores (inr refl)) (queue_delivered letter may.comes.sent may.comes.own) (inr rests_idle))
       (λ rests. Stays (glance_sender here server) []
       (by_test (λ (who : Sender). who.from ≡ actor.Server n) server.life.running _ _ (λ t. refl) (λ t. refl)) (λ post i. absurd i))
   server_serves Tick may later =
       let done : Done = record { own = own; posts = tick_posts here server; jobs = [] } in
-      Goes (asks_next (voter_of here) log) done _ may (By_job (asks_next (voter_of here) log) done refl (By_lead _ (Asks_for _ tick_asks))) queue_started
+      Goes (asks_next (voter_of here) log) done _ may.runs (By_job (asks_next (voter_of here) log) done refl (By_lead _ (Asks_for _ tick_asks)) (inr refl)) queue_started
       (inr (record { same = refl; asks = tick_asks }))
-  server_serves (Work work_end.Done) may later = works_serve server.queue refl may.1 may.0 later
-  server_serves (Work (work_end.Fault Before)) may later = stops_serve (Work (work_end.Fault Before)) may.0
-  server_serves (Work (work_end.Fault After)) may later = faults_serve server.queue refl may.1 may.0 later
+  server_serves (Work work_end.Done) may later = works_serve server.queue refl may.busy may.acts.runs later
+  server_serves (Work (work_end.Fault Before)) may later = stops_serve (Work (work_end.Fault Before)) may.acts.runs
+  server_serves (Work (work_end.Fault After)) may later = faults_serve server.queue refl may.busy may.acts.runs later
   server_serves Stop may later = stops_serve Stop may.runs
+  server_serves (Boot end) may later = boots_serve end may.rests
   server_serves (Glance line round) may later = glances_serve line round

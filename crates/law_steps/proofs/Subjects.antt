@@ -51,7 +51,7 @@ told_own here new cell number far.Replicated = refl
 
 module _ (heard : Body → Type 0) (here : Here) (own : Own) where
   pub of_read : (done : Done) → DidRead heard here own done → ReadFrame own done
-  of_read _ (Shows client seq cell epoch h r none) = record {
+  of_read _ (Shows client seq cell epoch h seated r none) = record {
     same = refl;
     no_jobs = refl;
     says = λ post i. record { seq = seq; bytes = _; is = (one_post _ _ post i).1 };

@@ -23,10 +23,10 @@ use Rattle.petal_history.specs.Claims.{IsPrefix}
 use Rattle.petal_rules.specs.Lists.{In}
 use Rattle.petal_rules.specs.State.{State, find}
 use Rattle.petal_rules.specs.Server.{Post, post_to}
-use Rattle.petal_rules.specs.Clients.{Client, Asked, Reaction, Learning, rests, posts_for, write_posts, read_posts, read_posts_at, epoch_for, cell_on, to_propose, sends_or_proposes, goes_out, goes_out_where, post_in_turn, asking, asks_and_sends, called, replies, is_read, is_write, is_stop, hears, hears_of, heard, hears_any, command_of, refusal, verdict_for, answered_where, witnessed, is_witness, judged, judged_by, takes_entry, takes_all, then_goes_out, takes_entries, next_entries, ticked}
+use Rattle.petal_rules.specs.Clients.{Client, Asked, Reaction, Learning, rests, posts_for, write_posts, read_posts, read_posts_at, epoch_for, cell_on, to_propose, sends_or_proposes, goes_out, goes_out_where, post_in_turn, asking, asks_and_sends, called, replies, is_read, is_write, seen_answer, answers_where, hears, hears_of, heard, hears_any, command_of, refusal, verdict_for, answered_where, witnessed, is_witness, judged, judged_by, takes_entry, takes_all, then_goes_out, takes_entries, next_entries, ticked}
 use Rattle.petal_rules.specs.World.{Setting, World, MayClient, client_state, client_step, calls, line_in, next_line}
 use Rattle.petal_rules.specs.declared.step.Step.{Step}
-use Rattle.petal_rules.specs.declared.step.Step.TheVariants.{Call, Deliver, Tick, Work, Stop, Glance}
+use Rattle.petal_rules.specs.declared.step.Step.TheVariants.{Call, Deliver, Tick, Work, Stop, Boot, Glance}
 use Rattle.petal_rules.proofs.ListLemmas.{in-append}
 use Rattle.petal_rules.proofs.Tests.{by_test, both_true, same_numbers, only}
 use Rattle.law_state.proofs.Steady.{log_rev}
@@ -236,6 +236,12 @@ module _ (servers : ℕ) (lines : List Line) (w : World) (c : ℕ) where
       → Turned (Heard w (actor.Client c)) servers lines c client false reacted → T reacted
   ends_turn {reacted} e t = record { turned = t; grows = front_same client.applied reacted.client.applied e }
 
+  seen_turns : (asked : Asked) (rev : ℕ) → client.asked ≡ Some asked → (round : ℕ) (running : Bool) (inc : ℕ) (full : Bool)
+      → Heard w (actor.Client c) rev (body.Seen asked.line round running inc full) → (o : Option Answer) → seen_answer asked.request running ≡ o
+      → T (answers_where client asked o)
+  seen_turns asked rev is round running inc full h None e = rests_turns
+  seen_turns asked rev is round running inc full h (Some given) e = ends_turn refl (Shown asked rev round inc running full h is given e)
+
   hears_turns : (asked : Asked) (rev : ℕ) → client.asked ≡ Some asked → (said : Body) → Heard w (actor.Client c) rev said → T (hears state c client asked rev said)
   hears_turns asked rev is (body.Data seq bytes) h = by_test T (replies asked rev (about (body.Data seq bytes)) && is_read asked.request) _ _
       (λ t. let tests = both_true (replies asked rev (about (body.Data seq bytes))) (is_read asked.request) t in
@@ -249,10 +255,10 @@ module _ (servers : ℕ) (lines : List Line) (w : World) (c : ℕ) where
       (λ t. let tests = both_true (replies asked rev (about (body.Full seq))) (is_write asked.request) t in
       let same = both_true (seq == asked.seq) (rev == asked.rev) tests.0 in
       ends_turn refl (Ends asked ending.Full (heard_as (ap body.Full (same_numbers seq asked.seq same.0)) (same_numbers rev asked.rev same.1) h) is tests.1)) (λ t. rests_turns)
-  hears_turns asked rev is (body.Seen line round running inc full) h = by_test T ((line == asked.line) && is_stop asked.request) _ _
-      (λ t. let tests = both_true (line == asked.line) (is_stop asked.request) t in
-      ends_turn refl (Shown asked rev round inc running full
-      (heard_as (ap (λ k. body.Seen k round running inc full) (same_numbers line asked.line tests.0)) refl h) is tests.1)) (λ t. rests_turns)
+  hears_turns asked rev is (body.Seen line round running inc full) h = by_test T (line == asked.line) _ _
+      (λ t. seen_turns asked rev is round running inc full
+      (heard_as (ap (λ k. body.Seen k round running inc full) (same_numbers line asked.line t)) refl h) (seen_answer asked.request running) refl)
+      (λ t. rests_turns)
   hears_turns asked rev is (body.BlockBusy seq) h = by_test T (replies asked rev (about (body.BlockBusy seq))) _ _ (λ t. again asked is) (λ t. rests_turns)
   hears_turns asked rev is (body.Held seq) h = by_test T (replies asked rev (about (body.Held seq))) _ _ (λ t. again asked is) (λ t. rests_turns)
   hears_turns asked rev is (body.WrongRev seq) h = by_test T (replies asked rev (about (body.WrongRev seq))) _ _ (λ t. again asked is) (λ t. rests_turns)
@@ -437,4 +443,5 @@ client_turns setting w c Tick may =
     goes_on setting.servers setting.lines w c _ (asking_quiet state c client client.asked _ (where_quiet state c client client.asked refl))
 client_turns setting w c (Work end) may = absurd may
 client_turns setting w c Stop may = absurd may
+client_turns setting w c (Boot end) may = absurd may
 client_turns setting w c (Glance line round) may = absurd may

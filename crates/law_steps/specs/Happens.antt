@@ -1,5 +1,5 @@
 -- What a step of the world may have done: a relation above the step, with what the laws need to know of it.
-use Rattle.std.specs.Prelude.{◌≡◌, ◌⊎◌, ◌<◌, ℕ, Bool, true, List, [], ◌∷◌, ◌++◌}
+use Rattle.std.specs.Prelude.{◌≡◌, ◌⊎◌, ◌<◌, ℕ, Bool, true, false, List, [], ◌∷◌, ◌++◌}
 use Rattle.petal_command.specs.declared.command.Command.{Command}
 use Rattle.petal_msg.specs.Kinds.{Glanced, subject_of}
 use Rattle.petal_msg.specs.declared.body.Body.{Body}
@@ -8,10 +8,11 @@ use Rattle.petal_msg.specs.declared.letter.Actor.TheVariants as actor
 use Rattle.petal_msg.specs.declared.letter.Letter.{Letter}
 use Rattle.petal_state.specs.Command.{state_after}
 use Rattle.petal_history.specs.Claims.{IsPrefix}
+use Rattle.petal_rules.specs.Boots.{awake, raised, stays, wakes}
 use Rattle.petal_rules.specs.Crossing.{crossed}
 use Rattle.petal_rules.specs.Lists.{In}
 use Rattle.petal_rules.specs.Log.{Log, rev_of}
-use Rattle.petal_rules.specs.State.{State, servers_of}
+use Rattle.petal_rules.specs.State.{State, is_in, servers_of}
 use Rattle.petal_rules.specs.Server.{Server, Own, Here, Post, Sender, Done, silent, sender, stopped, letters_of}
 use Rattle.petal_rules.specs.Jobs.{Acted, here_of, down_posts}
 use Rattle.petal_rules.specs.Clients.{Reaction}
@@ -19,7 +20,8 @@ use Rattle.petal_rules.specs.World.{Setting, World, acts, reacts, server_state, 
 use Rattle.petal_rules.specs.declared.job.Job.{Job}
 use Rattle.petal_rules.specs.declared.job.Job.TheVariants as job
 use Rattle.petal_rules.specs.declared.step.Step.{Step}
-use Rattle.petal_rules.specs.declared.step.Step.TheVariants.{Work}
+use Rattle.petal_rules.specs.declared.step.Step.TheVariants.{Boot, Work}
+use Rattle.petal_rules.specs.declared.step.CommitEnd.TheVariants.{After}
 use Rattle.petal_rules.specs.declared.step.WorkEnd.TheVariants as work_end
 use Rattle.law_state.specs.Below.{IsBelow}
 use Rattle.law_state.specs.Plain.{IsPlainLog}
@@ -64,10 +66,15 @@ pub record IsIdle (here : Here) (own : Own) (done : Done) : Type 0 where
   pub same : done.own ≡ own
   pub asks : (post : Post) → In post done.posts → Asks here own post
 
+-- a server that is not In as itself leaves its own part as it is
+abbrev pub IsSeated : Here → Own → Done → Type 0
+IsSeated here own done = (is_in here.state here.me here.inc ≡ true) ⊎ (done.own ≡ own)
+
 -- what a running server does in a step, before its letters go: a job that applies no entry, or one that applies one and drops
 -- what others asked of it on the links that the entry touches
 pub data Worked (setting : Setting) (w : World) (n : ℕ) : Log → Done → Type 0 where
   By_job : (log : Log) (done : Done) → log.applied ≡ (w.servers n).log.applied → Did (Handled w n) (own_place setting w n) (w.servers n).own done
+      → IsSeated (own_place setting w n) (w.servers n).own done
       → Worked setting w n log done
   By_entry : (log : Log) (entry : Command) → log.applied ≡ (w.servers n).log.applied ++ entry ∷ [] → IsPrefix log.applied (chosen_log setting w)
       → Worked setting w n log (silent (crossed (server_state setting w n) entry (w.servers n).own))
@@ -95,7 +102,8 @@ abbrev pub shown_so : World → (n : ℕ) → Sender → List Post → Acted
 shown_so w n who posts = record { server = w.servers n; letters = letters_of who 0 posts }
 
 -- a server's step: it does its work, or asks; it does it and stops, or stops with nothing done; or it is as it was, where it
--- is glanced at or takes no letter
+-- is glanced at or takes no letter. A stopped server runs as its next incarnation, with nothing in memory; or it only raises its
+-- incarnation, or does nothing
 pub data Serving (setting : Setting) (w : World) (n : ℕ) (what : Step) : Acted → Type 0 where
   Goes : (log : Log) (done : Done) (queue : List Job) → (w.servers n).life.running ≡ true → Worked setting w n log done → AreQueued w n queue
       → (what ≡ Work work_end.Done) ⊎ IsIdle (own_place setting w n) (w.servers n).own done
@@ -104,6 +112,8 @@ pub data Serving (setting : Setting) (w : World) (n : ℕ) (what : Step) : Acted
       → Serving setting w n what (stopped_so setting w n log done)
   Stays : (who : Sender) (posts : List Post) → who.from ≡ actor.Server n → ((post : Post) → In post posts → subject_of post.body ≡ Glanced)
       → Serving setting w n what (shown_so w n who posts)
+  Wakes : what ≡ Boot work_end.Done → (w.servers n).life.running ≡ false → Serving setting w n what (wakes (own_place setting w n) (awake (raised (w.servers n))))
+  Fails : what ≡ Boot (work_end.Fault After) → (w.servers n).life.running ≡ false → Serving setting w n what (stays (raised (w.servers n)))
 
 -- ### Clients
 

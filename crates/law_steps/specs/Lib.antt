@@ -6,3 +6,4 @@ pub mod Did
 pub mod Turned
 pub mod Happens
 pub mod Ready
+pub mod Waking

@@ -1,12 +1,12 @@
 -- What holds of queues and pending operations in every world: the ground on which each step is one of the kinds named.
-use Rattle.std.specs.Prelude.{◌≡◌, ℕ, List, [], ◌∷◌, Some}
+use Rattle.std.specs.Prelude.{◌≡◌, ℕ, true, List, [], ◌∷◌, Some}
 use Rattle.std.specs.declared.cmp.Ordering.{Ordering}
 use Rattle.std.specs.declared.cmp.Ordering.TheVariants.{Less}
 use Rattle.petal_base.specs.declared.cell.Cell.{Cell}
 use Rattle.petal_table.specs.Table.{Table, at}
 use Rattle.petal_msg.specs.declared.operation.Pending.{Pending}
 use Rattle.petal_rules.specs.Lists.{In}
-use Rattle.petal_rules.specs.State.{State}
+use Rattle.petal_rules.specs.State.{State, is_in}
 use Rattle.petal_rules.specs.Store.{cell_cmp}
 use Rattle.petal_rules.specs.World.{Setting, World, server_state, chosen_log, chosen_state}
 use Rattle.petal_history.specs.Claims.{IsPrefix}
@@ -27,10 +27,13 @@ pub record IsReady (state : State) (me : ℕ) (pending : Table Cell Pending) : T
   pub staged : (cell : Cell) (op : Pending) → at cell_cmp pending cell ≡ Some op → IsStaged state me cell op
   pub rising : IsRising cell_cmp pending
 
--- and what waits in a queue was sent: at each server's own state, also that in which it stopped
+-- and what waits in a queue was sent: at each server's own state, also that in which it stopped. A server that runs has operations
+-- only while it is In as itself
 pub record Rests (setting : Setting) (w : World) : Type 0 where
   pub queues : (n : ℕ) → AreQueued w n (w.servers n).queue
   pub pending : (n : ℕ) → IsReady (server_state setting w n) n (w.servers n).own.pairs.pending
+  pub seated : (n : ℕ) (cell : Cell) (op : Pending) → (w.servers n).life.running ≡ true → at cell_cmp (w.servers n).own.pairs.pending cell ≡ Some op
+      → is_in (server_state setting w n) n (w.servers n).life.inc ≡ true
 
 -- the same, with what is known of the log, and this state stands at least as far as what is chosen
 pub record Ready (setting : Setting) (state : State) (w : World) : Type 0 where

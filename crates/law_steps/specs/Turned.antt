@@ -21,7 +21,7 @@ use Rattle.petal_rules.specs.Lists.{In}
 use Rattle.petal_rules.specs.State.{State, find}
 use Rattle.petal_rules.specs.Server.{Post}
 use Rattle.petal_rules.specs.Writes.{ended}
-use Rattle.petal_rules.specs.Clients.{Client, Asked, Reaction, answers, is_read, is_write, is_stop, cell_on, epoch_for, command_of, refusal, verdict_for, is_witness}
+use Rattle.petal_rules.specs.Clients.{Client, Asked, Reaction, answers, is_read, is_write, seen_answer, cell_on, epoch_for, command_of, refusal, verdict_for, is_witness}
 use Rattle.petal_rules.specs.World.{lines_of, next_line}
 
 -- the line of a client's request of this number. The first has number 1
@@ -106,8 +106,8 @@ pub data Turned (heard : ℕ → Body → Type 0) (servers : ℕ) (lines : List 
   Ends : (asked : Asked) (how : Ending) → heard asked.rev (ended asked.seq how) → client.asked ≡ Some asked → is_write asked.request ≡ true
       → Turned heard servers lines c client false (answers client asked (answer_of how))
   Shown : (asked : Asked) (rev round inc : ℕ) (running full : Bool) → heard rev (body.Seen asked.line round running inc full) → client.asked ≡ Some asked
-      → is_stop asked.request ≡ true
-      → Turned heard servers lines c client false (answers client asked answer.Ok)
+      → (given : Answer) → seen_answer asked.request running ≡ Some given
+      → Turned heard servers lines c client false (answers client asked given)
   Judges : (after : Client) (asked : Asked) (given : Answer) → client.asked ≡ Some asked → after.asked ≡ None → after.seq ≡ client.seq
       → IsJudged servers c client.applied after.applied asked given
       → Turned heard servers lines c client false (record { client = after; posts = []; answer = Some (asked.line, given) })

@@ -6,7 +6,7 @@ use Rattle.petal_paxos.specs.declared.phase.Phase.{Phase}
 use Rattle.petal_paxos.specs.declared.phase.Phase.TheVariants.{Idle}
 use Rattle.petal_paxos.specs.declared.record.StateRecord.{StateRecord}
 use Rattle.petal_rules.specs.Log.{Log, LogDone, Voter, next_place}
-use Rattle.petal_rules.specs.Ballots.{starts_ballot, next_round}
+use Rattle.petal_rules.specs.Ballots.{starts, starts_ballot, next_round, wanted}
 use Rattle.petal_rules.specs.Server.{Sender}
 use Rattle.petal_state.specs.Command.{state_after}
 use Rattle.petal_state.specs.State.{State}
@@ -47,6 +47,10 @@ state_of part = state_after part.voter.servers part.applied
 -- its letters carry its incarnation and its revision
 abbrev pub sender_of : Part → Sender
 sender_of part = record { from = actor.Server part.voter.me; inc = part.voter.inc; rev = (state_of part).rev }
+
+-- a ballot is started for the first command that is wanted, where these are wanted after the Leaves
+abbrev pub starts_one : Log → Voter → (returning : List Command) → LogDone
+starts_one log voter returning = starts voter log (wanted voter log returning)
 
 -- an idle proposer starts a ballot for this command, at the next place
 abbrev pub starts_want : Voter → Log → Command → LogDone

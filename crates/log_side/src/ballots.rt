@@ -9,7 +9,7 @@ ghost use Rattle.petal_rules.specs.Ballots as rules;
 ghost use Rattle.petal_rules.specs.Jobs.{hears_log};
 ghost use Rattle.petal_rules.specs.Log.{keeps};
 ghost use Rattle.log_side.specs.Done.{IsLogDone, IsLogSaid};
-ghost use Rattle.log_side.specs.Part.{log_of, starts_want};
+ghost use Rattle.log_side.specs.Part.{log_of, starts_one, starts_want};
 
 use crate::done::{LogDone, only};
 use crate::envelope::room_for;
@@ -172,16 +172,17 @@ impl LogSide {
         }
     }
 
-    /// What the next ballot is for, where the proposer is idle and the log has a place left.
+    /// What the next ballot is for, where the proposer is idle and the log has a place left. These commands are wanted after the
+    /// Leaves, so that the server returns.
     ///
     /// # Errors
     /// Out of memory.
     #[tactic(auto, unfolding(petal_rules::specs::Ballots::starts))]
-    fn next_want(&self, alloc: Global) -> Result<Option<Command>, NoMemory>
+    fn next_want(&self, alloc: Global, returning: &[Command]) -> Result<Option<Command>, NoMemory>
         ensures none { IfOk result (λ found. IfNone found ((records : List StateRecord)
-            → rules.starts self.now.voter (log_of self.now records) ≡ keeps (log_of self.now records))) }
+            → starts_one (log_of self.now records) self.now.voter returning.now ≡ keeps (log_of self.now records))) }
         ensures some { IfOk result (λ found. IfSome found (λ want. (records : List StateRecord)
-            → rules.starts self.now.voter (log_of self.now records) ≡ starts_want self.now.voter (log_of self.now records) want)) }
+            → starts_one (log_of self.now records) self.now.voter returning.now ≡ starts_want self.now.voter (log_of self.now records) want)) }
     {
         match &self.proposer.phase {
             Phase::Collecting { .. } => return Ok(None),
@@ -191,7 +192,7 @@ impl LogSide {
         if self.rev() >= GREATEST_PLACE {
             return Ok(None);
         }
-        self.first_wanted(alloc)
+        self.most_urgent(alloc, returning)
     }
 
     /// One above each round that its acceptor promised at the place, or that it was refused with.
@@ -210,8 +211,8 @@ impl LogSide {
         self.proposer.start(place, round, want)
     }
 
-    /// An idle proposer starts a ballot for the first command that is wanted, at the next place. Its own acceptor commits the
-    /// promise first.
+    /// An idle proposer starts a ballot for the first command that is wanted, at the next place; these are wanted after the
+    /// Leaves, so that the server returns. Its own acceptor commits the promise first.
     ///
     /// # Errors
     /// As at `on_letter`.
@@ -220,10 +221,12 @@ impl LogSide {
         &mut self,
         alloc: Global,
         state: &mut StateStore<D>,
+        returning: &[Command],
     ) -> Result<LogDone, StateError>
-        ensures { IsLogDone D.Disk self.old self.new state.old state.new result (rules.starts self.old.voter (log_of self.old state.old.records)) }
+        ensures { IsLogDone D.Disk self.old self.new state.old state.new result
+            (starts_one (log_of self.old state.old.records) self.old.voter returning.now) }
     {
-        let found = self.next_want(alloc)?;
+        let found = self.next_want(alloc, returning)?;
         let Some(want) = found else {
             return self.quiet(alloc, state);
         };

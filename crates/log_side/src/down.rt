@@ -1,4 +1,4 @@
-//! The letters by which a server tells the others that it has stopped.
+//! The letters that tell the other servers that an incarnation has stopped.
 
 ghost use Rattle.std.specs.Prelude.{◌≡◌, ◌==◌, ◌++◌, ◌∷◌, ℕ, List, not, map, filter, IfOk};
 ghost use Rattle.petal_msg.specs.declared.body.Body.TheVariants as body;
@@ -34,6 +34,27 @@ impl Envelope {
         letters.push(self.letter(Actor::Server(server), nth, down))?;
         nth.checked_add(1).ok_or(NoMemory)
     }
+
+    /// To each of the other servers that an incarnation has stopped.
+    ///
+    /// # Errors
+    /// Out of memory.
+    pub fn down_letters(
+        &self,
+        alloc: Global,
+        me: ServerNumber,
+        inc: Inc,
+        servers: u8,
+    ) -> Result<Sequence<Letter>, NoMemory>
+        ensures { IfOk result (λ letters. letters ≡ letters_of self.now 0 (down_posts me inc servers)) }
+    {
+        let mut letters = Sequence::new(alloc);
+        let mut nth: u32 = 0;
+        for server in 0..servers {
+            nth = self.add_down(&mut letters, nth, server, me, inc)?;
+        }
+        Ok(letters)
+    }
 }
 
 /// To each of the other servers that this incarnation has stopped. They tell no revision.
@@ -48,11 +69,5 @@ pub fn farewell(
 ) -> Result<Sequence<Letter>, NoMemory>
     ensures { IfOk result (λ letters. letters ≡ letters_of (record { from = actor.Server me; inc = inc; rev = 0 }) 0 (down_posts me inc servers)) }
 {
-    let envelope = Envelope::new(me.get(), inc, 0);
-    let mut letters = Sequence::new(alloc);
-    let mut nth: u32 = 0;
-    for server in 0..servers {
-        nth = envelope.add_down(&mut letters, nth, server, me, inc)?;
-    }
-    Ok(letters)
+    Envelope::new(me.get(), inc, 0).down_letters(alloc, me, inc, servers)
 }

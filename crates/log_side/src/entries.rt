@@ -53,7 +53,7 @@ fn enter(
 }
 
 /// The commands known for this place and those after it, up to the first that is not known, and so many at most.
-fn known_run<D: Disk>(
+pub(crate) fn known_run<D: Disk>(
     alloc: Global,
     state: &StateStore<D>,
     from: u32,

@@ -111,7 +111,8 @@ impl LogSide {
         self.apply_alone(alloc, state)
     }
 
-    /// One job of the agreed log, with at most one commit. A job of the pairs changes nothing here.
+    /// One job of the agreed log, with at most one commit. A job of the pairs changes nothing here, and a ballot is started by
+    /// `start_ballot`.
     ///
     /// # Errors
     /// As at `on_letter`.
@@ -126,9 +127,8 @@ impl LogSide {
     {
         match job {
             Job::Letter(letter) => self.on_letter(alloc, state, letter),
-            Job::Stage(_) => self.quiet(alloc, state),
+            Job::Stage(_) | Job::Start => self.quiet(alloc, state),
             Job::Apply => self.applied(alloc, state),
-            Job::Start => self.start_ballot(alloc, state),
         }
     }
 }

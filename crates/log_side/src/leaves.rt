@@ -148,6 +148,18 @@ fn with_leaves(
     }
 }
 
+/// The first command of three lists, one after the other.
+fn first_of(leaves: &[Command], returning: &[Command], wants: &[Command]) -> Option<Command>
+    ensures { result ≡ slice_get (leaves.now ++ returning.now ++ wants.now) 0 }
+{
+    match (leaves.first(), returning.first(), wants.first()) {
+        (Some(first), _, _) => Some(first.again()),
+        (None, Some(first), _) => Some(first.again()),
+        (None, None, Some(first)) => Some(first.again()),
+        (None, None, None) => None,
+    }
+}
+
 impl LogSide {
     /// An incarnation has stopped.
     #[tactic(auto, unfolding(petal_rules::specs::Ballots::on_down))]
@@ -178,21 +190,20 @@ impl LogSide {
         with_leaves(alloc, Sequence::of(due), own.as_slice())
     }
 
-    /// The most urgent of what is wanted: a Leave, or the first command of a client.
+    /// The most urgent of what is wanted: a Leave, or the first of what the server wants so that it returns, or the first command
+    /// of a client.
     ///
     /// # Errors
     /// Out of memory.
-    pub(crate) fn first_wanted(&self, alloc: Global) -> Result<Option<Command>, NoMemory>
+    pub(crate) fn most_urgent(
+        &self,
+        alloc: Global,
+        returning: &[Command],
+    ) -> Result<Option<Command>, NoMemory>
         ensures { IfOk result (λ first. (records : List StateRecord)
-            → first ≡ slice_get (rules.wanted self.now.voter (log_of self.now records)) 0) }
+            → first ≡ slice_get (rules.wanted self.now.voter (log_of self.now records) returning.now) 0) }
     {
         let leaves = self.wanted_leaves(alloc)?;
-        match leaves.as_slice().first() {
-            Some(leave) => Ok(Some(leave.again())),
-            None => match self.wants.as_slice().first() {
-                Some(want) => Ok(Some(want.again())),
-                None => Ok(None),
-            },
-        }
+        Ok(first_of(leaves.as_slice(), returning, self.wants.as_slice()))
     }
 }

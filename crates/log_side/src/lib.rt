@@ -6,6 +6,7 @@
 #![tactic(auto)]
 
 mod ballots;
+mod boot;
 mod done;
 mod down;
 mod entries;
@@ -13,6 +14,7 @@ mod envelope;
 mod jobs;
 mod leaves;
 mod news;
+mod returns;
 mod side;
 mod tick;
 mod wants;

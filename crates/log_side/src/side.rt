@@ -1,6 +1,7 @@
 //! What a server has in memory of the agreed log.
 
 ghost use Rattle.std.specs.Prelude.{◌≡◌, ◌<◌, ◌+◌, IfOk, length};
+ghost use Rattle.petal_rules.specs.World.{greatest_u32};
 ghost use Rattle.log_side.specs.Part.{new_part, sender_of, state_of};
 
 use crate::envelope::Envelope;
@@ -107,6 +108,14 @@ impl LogSide {
         ensures { result ≡ sender_of self.now }
     {
         Envelope::new(self.proposer.me, self.inc, self.state.rev())
+    }
+
+    /// Its incarnation is the next one.
+    pub fn raise(&mut self)
+        requires { self.old.voter.inc < greatest_u32 }
+        ensures { self.new ≡ record self.old { voter = record self.old.voter { inc = self.old.voter.inc + 1 } } }
+    {
+        self.inc += 1;
     }
 
     /// The place after the last applied entry.

@@ -11,7 +11,7 @@ use crate::envelope::room_for;
 use crate::side::LogSide;
 use paxos_core::has_majority;
 use petal_base::{NoMemory, Sequence};
-use petal_command::Pax;
+use petal_command::{Command, Pax};
 use petal_msg::{Actor, Body, Letter};
 use petal_paxos::Phase;
 use std::alloc::Global;
@@ -64,25 +64,26 @@ impl LogSide {
         }
     }
 
-    /// Whether a tick is to start a ballot.
+    /// Whether a tick is to start a ballot. These commands are wanted after the Leaves, so that the server returns.
     ///
     /// # Errors
     /// Out of memory.
-    pub fn may_start(&self, alloc: Global) -> Result<bool, NoMemory>
+    pub fn may_start(&self, alloc: Global, returning: &[Command]) -> Result<bool, NoMemory>
         ensures { IfOk result (λ may. (records : List StateRecord) → (if may then job.Start ∷ [] else [])
-            ≡ rules.start_jobs self.now.phase (rules.wanted self.now.voter (log_of self.now records))) }
+            ≡ rules.start_jobs self.now.phase (rules.wanted self.now.voter (log_of self.now records) returning.now)) }
     {
         match &self.proposer.phase {
-            Phase::Idle => self.has_wanted(alloc),
+            Phase::Idle => self.has_wanted(alloc, returning),
             Phase::Collecting { .. } | Phase::Voting { .. } => Ok(false),
         }
     }
 
     /// Whether something is wanted.
-    fn has_wanted(&self, alloc: Global) -> Result<bool, NoMemory>
-        ensures { IfOk result (λ has. (records : List StateRecord) → has ≡ is_some (slice_get (rules.wanted self.now.voter (log_of self.now records)) 0)) }
+    fn has_wanted(&self, alloc: Global, returning: &[Command]) -> Result<bool, NoMemory>
+        ensures { IfOk result (λ has. (records : List StateRecord)
+            → has ≡ is_some (slice_get (rules.wanted self.now.voter (log_of self.now records) returning.now) 0)) }
     {
-        Ok(self.first_wanted(alloc)?.is_some())
+        Ok(self.most_urgent(alloc, returning)?.is_some())
     }
 
     /// Which of the other servers it asks after the next tick.

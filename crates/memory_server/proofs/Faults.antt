@@ -1,7 +1,6 @@
 -- A job in which a device failed, as the rules have it.
-use Rattle.std.proofs.Common.{◌≡◌, ◌≤◌, ◌⊎◌, inl, inr, ℕ, Bool, true, false, List, [], ◌∷◌, Option, Some, None, length, refl, sym, ap, ◌∙◌, arith}
+use Rattle.std.proofs.Common.{◌≡◌, ◌≤◌, inl, inr, ℕ, Bool, true, false, List, [], ◌∷◌, Option, Some, None, length, refl, sym, ap, ◌∙◌, arith}
 use Rattle.std.specs.Prelude.{if◌then◌else◌}
-use Rattle.std.proofs.lemmas.Bool.{cases_Bool}
 use Rattle.kept_chains.specs.Kept.{store_of}
 use Rattle.log_side.specs.Done as logs
 use Rattle.pair_side.specs.Done.{HoldsAt}
@@ -54,7 +53,7 @@ commits here server [] = record { once = inl refl; life = refl }
 commits here server (job.Apply ∷ rest) = record { once = inl (applies_records server.log (known server.log (next_place server.log))); life = refl }
 commits here server (job.Letter letter ∷ rest) = one_part here server (job.Letter letter) rest (is_log_job (job.Letter letter))
 commits here server (job.Stage cell ∷ rest) = one_part here server (job.Stage cell) rest false
-commits here server (job.Start ∷ rest) = one_part here server job.Start rest true
+commits here server (job.Start ∷ rest) = record { once = inr refl; life = refl }
 
 works_is : (here : Here) (server : Server) (queue : List Job) → (after_first here server queue).own.store.records ≤ journal_records
     → length (after_first here server queue).log.records ≤ journal_records → (works here server queue).server ≡ after_first here server queue
@@ -64,7 +63,7 @@ works_is here server (first ∷ rest) few few_log = ap (λ (left : Acted). left.
 -- ### What is left of the server
 
 -- what is left of a stopped server with this on its devices
-abbrev left_with : ℕ → Store → List StateRecord → Server
+abbrev pub left_with : ℕ → Store → List StateRecord → Server
 left_with inc store records = record {
   life = record { running = false; inc = inc };
   log = record first_log { records = records };
@@ -90,7 +89,7 @@ pub fault_commits : {D : Type 0} (old : Mounted D)
     (shown_of (left_by_first old.core (store_of old.store) old.state.records))
 fault_commits old = (commits (here_in old.core) (server_of old.core (store_of old.store) old.state.records) old.core.queue).once
 
-left_stopped : (inc : ℕ) (log : Log) (own : Own) (queue : List Job) (running : Bool) → running ≡ false
+pub left_stopped : (inc : ℕ) (log : Log) (own : Own) (queue : List Job) (running : Bool) → running ≡ false
     → left_of (record { life = record { running = running; inc = inc }; log = log; own = own; queue = queue }) ≡ left_with inc own.store log.records
 left_stopped inc log own queue true off = absurd (cc)
 left_stopped inc log own queue false off = refl

@@ -3,3 +3,4 @@ pub mod Ticking
 pub mod Seen
 pub mod Recovering
 pub mod Faults
+pub mod Booting

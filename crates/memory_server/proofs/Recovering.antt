@@ -1,19 +1,20 @@
 -- Which of two stores a device shows that was opened again, and which records.
-use Rattle.std.proofs.Common.{◌≡◌, ◌≢◌, ◌⊎◌, inl, inr, ⊎_elim, ◌+◌, ◌<◌, ◌^◌, ℕ, Bool, true, false, List, [], length, refl, sym, ap, ◌∙◌, arith}
+use Rattle.std.proofs.Common.{◌≡◌, ◌⊎◌, inl, inr, ⊎_elim, ◌+◌, ◌<◌, ◌^◌, ℕ, Bool, List, [], length, sym, ap, ◌∙◌, arith}
 use Rattle.log_side.specs.Done as logs
 use Rattle.pair_side.specs.Done.{HoldsAt}
 use Rattle.petal_disk.specs.declared.disk.Disk.{Ghosts}
 use Rattle.petal_paxos.specs.declared.record.StateRecord.{StateRecord}
 use Rattle.petal_rules.specs.Store.{Store}
+use Rattle.petal_rules.specs.declared.step.CommitEnd.{CommitEnd}
 use Rattle.petal_rules.specs.declared.step.CommitEnd.TheVariants.{Before, After}
 use Rattle.kept_chains.specs.Kept.{chains_of, store_of}
 use Rattle.kept_chains.specs.Standing.{StandsAs, StandsAsEither}
 use Rattle.server_store.specs.Holdings.{Holdings}
 use Rattle.server_store.specs.Opening.{Reopened}
 use Rattle.server_store.specs.Shown.{Picture, Shows as ShowsPicture}
-use Rattle.state_store.specs.Device.{Holds, Keeping, StandsFor, StandsForEither}
+use Rattle.state_store.specs.Device.{Keeping, StandsFor, StandsForEither}
 use Rattle.store_record.specs.declared.record.StoreRecord.{StoreRecord}
-use Rattle.memory_server.specs.Recovery.{CommitsOnce, Shown, Shows, on_device}
+use Rattle.memory_server.specs.Recovery.{CommitsOnce, IsReread, Shown, Shows, on_device}
 
 -- ### One device
 
@@ -107,3 +108,17 @@ module _ (was will : Shown) (store : Store) (records : List StateRecord) where
 
       stored_as : on_device will.store ≡ on_device was.store → StoreIs was.store will.store store → store ≡ on_device was.store
       stored_as same stored = ⊎_elim (λ is. is) (λ is. is.0 ∙ same) stored.is
+
+-- ### No commit was under way
+
+abbrev pub shown_in : {D : Type 0} → Holdings D → Keeping D → Shown
+shown_in store state = record { store = store_of store; records = state.records }
+
+module _ {D : Type 0} (device : Ghosts D) (before after : Holdings D) (was now : Keeping D) where
+  -- both stores are what they were, whichever end is told
+  pub reread : (end : CommitEnd) → Shows end (shown_in before was) (shown_in before was) (store_of after) now.records → after.tickets ≡ []
+      → HoldsAt device after → logs.HoldsAt device now → IsReread device before after was now
+  reread Before shows out holds kept =
+      record { store_is = shows.store_is; tickets = out; records_are = shows.records_are; holds = holds; state_holds = kept }
+  reread After shows out holds kept =
+      record { store_is = shows.store_is; tickets = out; records_are = shows.records_are; holds = holds; state_holds = kept }

@@ -1,21 +1,22 @@
 -- What a world sees of a server after a step that it may take.
-use Rattle.std.proofs.Common.{◌≡◌, Bool, true, refl, ap, ◌∙◌, sym}
+use Rattle.std.proofs.Common.{◌≡◌, Bool, true, refl, ◌∙◌, sym}
 use Rattle.memory_server.specs.Server.{left_at, whole_after}
 use Rattle.petal_msg.specs.declared.letter.Letter.{Letter}
 use Rattle.petal_rules.specs.declared.step.Step.{Step}
-use Rattle.petal_rules.specs.declared.step.Step.TheVariants.{Call, Deliver, Tick, Work, Stop, Glance}
+use Rattle.petal_rules.specs.declared.step.Step.TheVariants.{Call, Deliver, Tick, Work, Stop, Boot, Glance}
 use Rattle.petal_rules.specs.declared.step.WorkEnd.{WorkEnd}
 use Rattle.world_desks.proofs.Left.{StepsLeft, steps_left}
 use Rattle.world_desks.specs.Desks.{Site, acted_at, ended, may_take, site_after}
 use Rattle.std.specs.Prelude.{List}
 
--- a job may be taken with each end or with none
+-- a job or a boot may be taken with each end or with none
 may_ended : (what : Step) (end : WorkEnd) (running : Bool) → may_take (ended what end) running ≡ may_take what running
 may_ended (Call line) end running = refl
 may_ended (Deliver letter) end running = refl
 may_ended Tick end running = refl
 may_ended (Work named) end running = refl
 may_ended Stop end running = refl
+may_ended (Boot named) end running = refl
 may_ended (Glance line round) end running = refl
 
 module _ (old : Site) (what : Step) (end : WorkEnd) (may : may_take what old.server.life.running ≡ true) where

@@ -1,3 +1,4 @@
 pub mod Members
 pub mod Server
 pub mod Recovery
+pub mod Booted

@@ -1,4 +1,5 @@
 -- A server with its two stores, as the rules see it.
+use Rattle.std.specs.Prelude.{◌≡◌, ◌<◌, ◌+◌, ℕ, true}
 use Rattle.kept_chains.specs.Kept.{store_of}
 use Rattle.petal_rules.specs.declared.step.Step.{Step}
 use Rattle.world_desks.specs.Desks.{Site, acted_at, left_of}
@@ -31,12 +32,20 @@ left_at site = record site { server = left_of site.server }
 abbrev pub site_of : {D : Type 0} → Mounted D → Site
 site_of mounted = left_at (whole_of mounted)
 
+-- how often its two devices have failed
+abbrev pub faults_of : {D : Type 0} → Ghosts D → Mounted D → ℕ
+faults_of device mounted = device.faults mounted.store.disk + device.faults mounted.state.disk
+
+-- one of its two devices has failed since
+abbrev pub HasFailed : {D : Type 0} → Ghosts D → (old new : Mounted D) → Type 0
+HasFailed device old new = faults_of device old < faults_of device new
+
 -- the server after a step, with all that it has in memory
 abbrev pub whole_after : Site → Step → Site
 whole_after site step = record site { server = (acted_at site step).server }
 
--- the tickets stand where they are needed, and the devices show the stores
+-- where the server runs, the tickets stand where they are needed; and the devices show the stores
 pub record Stands {D : Type 0} (device : Ghosts D) (mounted : Mounted D) : Type 0 where
-  pub tickets : HasTicketsAt mounted.core.side mounted.store
+  pub tickets : mounted.core.running ≡ true → HasTicketsAt mounted.core.side mounted.store
   pub store : HoldsAt device mounted.store
   pub state : logs.HoldsAt device mounted.state

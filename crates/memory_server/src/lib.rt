@@ -4,6 +4,7 @@
 //! knows nothing of how letters travel.
 #![tactic(auto)]
 
+mod boot;
 mod cast;
 mod recovery;
 mod server;

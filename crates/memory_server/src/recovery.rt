@@ -1,12 +1,12 @@
 //! Two devices of which one failed in a job.
 
-ghost use Rattle.std.specs.Prelude.{◌≡◌, ◌<◌, ◌^◌, ℕ, List, length, IfOk, OnOk};
+ghost use Rattle.std.specs.Prelude.{◌≡◌, ◌<◌, ◌≤◌, ◌^◌, ℕ, List, [], length, IfOk, OnOk};
 ghost use Rattle.kept_chains.specs.Kept.{store_of};
 ghost use Rattle.kept_chains.specs.Standing.{StandsAsEither};
 ghost use Rattle.log_side.specs.Done as logs;
 ghost use Rattle.pair_side.specs.Done.{HoldsAt};
 ghost use Rattle.state_store.specs.Device.{StandsForEither};
-ghost use Rattle.memory_server.specs.Recovery.{CommitsOnce, Shown, Shows};
+ghost use Rattle.memory_server.specs.Recovery.{CommitsOnce, IsReread, Shown, Shows};
 
 use petal_base::NoMemory;
 use petal_disk::Disk;
@@ -36,6 +36,24 @@ impl Counts {
     }
 }
 
+/// Opens both stores again, as after a crash in which no commit was under way. They are as before, but nothing is set apart.
+///
+/// # Errors
+/// Out of memory, or where a device fails.
+pub fn reread<D: Disk>(
+    alloc: Global,
+    store: &mut Store<D>,
+    state: &mut StateStore<D>,
+) -> Result<(), NoMemory>
+    ensures again { OnOk result (D.told → store.old.slots < 2 ^ 32 → HoldsAt D.Disk store.old → logs.HoldsAt D.Disk state.old
+        → IsReread D.Disk store.old store.new state.old state.new) }
+    ensures later { (D.faults store.old.disk ≤ D.faults store.new.disk) × (D.faults state.old.disk ≤ D.faults state.new.disk) }
+{
+    let before = Counts::of(store, state);
+    let _end = reopen(alloc, store, state, before)?;
+    Ok(())
+}
+
 /// Opens both stores again, as after a crash. The answer is whether the one commit of the job before was made: it was, where a
 /// journal has more records than before the job.
 ///
@@ -55,9 +73,11 @@ pub fn reopen<D: Disk>(
     ensures holds { (was will : Shown) → OnOk result (D.told → was.store.slots < 2 ^ 32
         → ((c : List ℕ) → D.may_leave store.old.disk c → StandsAsEither was.store will.store c)
         → HoldsAt D.Disk store.new) }
+    ensures tickets { OnOk result (store.new.tickets ≡ []) }
     ensures state_holds { (was will : Shown) → OnOk result (D.told
         → ((c : List ℕ) → D.may_leave state.old.disk c → StandsForEither was.records will.records c)
         → logs.HoldsAt D.Disk state.new) }
+    ensures later { (D.faults store.old.disk ≤ D.faults store.new.disk) × (D.faults state.old.disk ≤ D.faults state.new.disk) }
 {
     let Ok(true) = store.reopen(alloc) else {
         return Err(NoMemory);

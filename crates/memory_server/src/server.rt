@@ -4,14 +4,15 @@ ghost use Rattle.std.specs.Prelude.{◌≡◌, ◌∷◌, ◌&&◌, [], true, If
 ghost use Rattle.log_side.specs.Done as logs;
 ghost use Rattle.petal_paxos.specs.declared.record.StateRecord.TheVariants.{Inc};
 ghost use Rattle.petal_rules.specs.Server.{first_server};
-ghost use Rattle.petal_rules.specs.declared.step.Step.TheVariants.{Stop, Work};
+ghost use Rattle.petal_rules.specs.declared.step.Step.TheVariants.{Boot, Stop, Work};
 ghost use Rattle.petal_rules.specs.declared.step.WorkEnd.TheVariants.{Done};
-ghost use Rattle.world_desks.specs.Desks.{acted_at, end_in, ended, may_take};
+ghost use Rattle.world_desks.specs.Desks.{IsFault, acted_at, end_in, ended, may_take};
 ghost use Rattle.server_store.specs.Slots.{slot_start};
-ghost use Rattle.memory_server.specs.Server.{left_at, site_of, whole_after, whole_of};
+ghost use Rattle.memory_server.specs.Server.{HasFailed, left_at, site_of, whole_after, whole_of};
 
+use crate::boot::boot_again;
 use crate::recovery::{Counts, reopen};
-use petal_base::{NoMemory, Rev, Sequence, ServerId};
+use petal_base::{Inc, NoMemory, Rev, Sequence, ServerId};
 use petal_disk::{Disk, MemDisk, Plan, Planned, Which};
 use petal_msg::Letter;
 use petal_rules::{Step, WorkEnd};
@@ -31,7 +32,7 @@ pub struct MemServer {
     core: ServerCore,
     store: Store<Device>,
     state: StateStore<Device>,
-    // what is in memory does not fit the devices, so that no job can be done
+    // what the stores have in memory is not known to be what their devices show: it takes no job, and does not boot
     over: bool,
 }
 
@@ -136,6 +137,7 @@ impl MemServer {
     fn work(&mut self, alloc: Global) -> Result<Taken, NoMemory>
         ensures site { IfOk result (λ taken. site_of self.new ≡ left_at (whole_after (whole_of self.old) (Work taken.end))) }
         ensures letters { IfOk result (λ taken. taken.letters ≡ (acted_at (whole_of self.old) (Work taken.end)).letters) }
+        ensures cause { IfOk result (λ taken. IsFault taken.end → HasFailed ⟦<Planned<MemDisk> as Disk>⟧ self.old self.new) }
     {
         if self.over || !self.core.is_running() || self.core.spent(&self.store) {
             return Err(NoMemory);
@@ -150,8 +152,12 @@ impl MemServer {
             Err(WorkError::Failed) => {
                 self.over = true;
                 let letters = self.core.stop(alloc);
-                let end = WorkEnd::Fault(reopen(alloc, &mut self.store, &mut self.state, before)?);
-                Ok(Taken { letters, end })
+                let end = reopen(alloc, &mut self.store, &mut self.state, before)?;
+                self.over = false;
+                Ok(Taken {
+                    letters,
+                    end: WorkEnd::Fault(end),
+                })
             }
             Err(WorkError::NoMemory) => {
                 self.over = true;
@@ -160,11 +166,29 @@ impl MemServer {
         }
     }
 
+    /// It boots, where it is stopped and its incarnation can be raised: both stores are opened again, and it runs as its next
+    /// incarnation. Where the journal of the state device has no room it stays stopped, and so does one of which the state device
+    /// fails: then the devices tell whether the incarnation was raised.
+    fn boot(&mut self, alloc: Global) -> Result<Taken, NoMemory>
+        ensures site { IfOk result (λ taken. site_of self.new ≡ left_at (whole_after (whole_of self.old) (Boot taken.end))) }
+        ensures letters { IfOk result (λ taken. taken.letters ≡ (acted_at (whole_of self.old) (Boot taken.end)).letters) }
+        ensures cause { IfOk result (λ taken. IsFault taken.end → HasFailed ⟦<Planned<MemDisk> as Disk>⟧ self.old self.new) }
+    {
+        if self.over || self.core.is_running() || self.core.inc() == Inc::MAX {
+            return Err(NoMemory);
+        }
+        self.over = true;
+        let taken = boot_again(alloc, &mut self.core, &mut self.store, &mut self.state)?;
+        self.over = false;
+        Ok(taken)
+    }
+
     /// Takes the step, whatever it has in memory.
     fn act(&mut self, alloc: Global, step: &Step) -> Result<Taken, NoMemory>
         ensures site { IfOk result (λ taken. site_of self.new ≡ left_at (whole_after (whole_of self.old) (ended step.now taken.end))) }
         ensures letters { IfOk result (λ taken. taken.letters ≡ (acted_at (whole_of self.old) (ended step.now taken.end)).letters) }
         ensures end { IfOk result (λ taken. taken.end ≡ end_in (ended step.now taken.end)) }
+        ensures cause { IfOk result (λ taken. IsFault taken.end → HasFailed ⟦<Planned<MemDisk> as Disk>⟧ self.old self.new) }
     {
         match step {
             Step::Call { line: _ } => Ok(done(Sequence::new(alloc))),
@@ -172,19 +196,21 @@ impl MemServer {
                 self.core.deliver(letter.share()?)?;
                 Ok(done(Sequence::new(alloc)))
             }
-            Step::Tick => Ok(done(self.core.tick(alloc)?)),
+            Step::Tick => Ok(done(self.core.tick(alloc, self.store.fresh())?)),
             Step::Work(_) => self.work(alloc),
             Step::Stop => Ok(done(self.stop(alloc)?)),
+            Step::Boot(_) => self.boot(alloc),
             Step::Glance { line, round } => Ok(done(self.core.glance(alloc, *line, *round)?)),
         }
     }
 
-    /// Whether it runs, or the step is one that a server takes that has stopped.
+    /// Whether the step is one that a server takes that runs, or that has stopped.
     fn may_take(&self, step: &Step) -> bool
         ensures { result ≡ may_take step.now self.now.core.running }
     {
         match step {
             Step::Tick | Step::Work(_) | Step::Stop => self.core.is_running(),
+            Step::Boot(_) => !self.core.is_running(),
             Step::Call { line: _ }
             | Step::Deliver { letter: _ }
             | Step::Glance { line: _, round: _ } => true,
@@ -193,9 +219,13 @@ impl MemServer {
 }
 
 impl Host for MemServer {
-    ghost use Rattle.memory_server.specs.Server.{site_of};
+    ghost use Rattle.petal_disk.specs.declared.memory_disk.MemDisk.{MemDisk};
+    ghost use Rattle.petal_disk.specs.declared.planned.Planned.{Planned};
+    ghost use Rattle.memory_server.specs.Server.{faults_of, site_of};
 
     ghost seen = { site_of };
+
+    ghost faults = { faults_of ⟦<Planned<MemDisk> as Disk>⟧ };
 
     fn step(&mut self, alloc: Global, step: &Step) -> Result<Taken, NoMemory> {
         if !self.may_take(step) {
@@ -206,6 +236,10 @@ impl Host for MemServer {
 
     fn is_running(&self) -> bool {
         self.core.is_running()
+    }
+
+    fn inc(&self) -> Inc {
+        self.core.inc()
     }
 
     fn is_idle(&self) -> bool {

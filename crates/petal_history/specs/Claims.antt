@@ -1,5 +1,5 @@
 -- What every legal history keeps. These are statements; `law_run` shows them.
-use Rattle.std.specs.Prelude.{◌≡◌, ◌≢◌, ◌⊎◌, ◌+◌, ◌++◌, ◌∷◌, ◌≤◌, ℕ, Bool, List, slice_get, Option, Some, None, true, false}
+use Rattle.std.specs.Prelude.{◌≡◌, ◌≢◌, ◌⊎◌, ◌+◌, ◌&&◌, ◌++◌, ◌∷◌, ◌≤◌, ℕ, Bool, List, slice_get, Option, Some, None, true, false}
 use Rattle.std.specs.Ordering.{nat_cmp}
 use Rattle.busy_marks.specs.declared.marks.MarkKind.TheVariants.{Busy, Stale}
 use Rattle.petal_base.specs.declared.cell.Cell.{Cell}
@@ -20,7 +20,7 @@ use Rattle.script_lines.specs.declared.script.Script.{Script}
 use Rattle.petal_rules.specs.Clients.{Asked}
 use Rattle.petal_rules.specs.Lists.{In}
 use Rattle.petal_state.specs.declared.answer.Hold.TheVariants.{No}
-use Rattle.petal_rules.specs.State.{State, first, second, primary, secondary, in_both, is_lead, leads_link, held}
+use Rattle.petal_rules.specs.State.{State, first, second, primary, secondary, in_both, is_in, is_lead, leads_link, held}
 use Rattle.petal_rules.specs.Store.{Chain, Store, cell_cmp, chain_in, version_of, is_marked}
 use Rattle.petal_rules.specs.Log.{rev_of}
 use Rattle.petal_rules.specs.World.{Setting, World, start, setting_of, server_state, devices, chosen_log, chosen_state}
@@ -35,16 +35,20 @@ abbrev pub one_put_ahead : Chain → Pending → Chain
 one_put_ahead chain op = put nat_cmp chain op.key.epoch (record { version = version_of chain + 1; bytes = op.bytes })
 
 -- two chains of a cell are equal, or the first is the second after one more put, the block is marked busy, and the operation
--- that put is pending, where its server runs
-abbrev pub Copies : Chain → Chain → (runs : Bool) → Option Pending → (busy : Bool) → Type 0
-Copies first second runs pending busy =
-    (first ≡ second) ⊎ ((op : Pending) × (first ≡ one_put_ahead second op) × (busy ≡ true) × (runs ≡ true → pending ≡ Some op))
+-- that put is pending, where its server is at work
+abbrev pub Copies : Chain → Chain → (works : Bool) → Option Pending → (busy : Bool) → Type 0
+Copies first second works pending busy =
+    (first ≡ second) ⊎ ((op : Pending) × (first ≡ one_put_ahead second op) × (busy ≡ true) × (works ≡ true → pending ≡ Some op))
+
+-- the server runs, as the incarnation that is In
+abbrev pub is_at_work : State → World → ℕ → Bool
+is_at_work state w n = (w.servers n).life.running && is_in state n (w.servers n).life.inc
 
 -- the two-copy rule for a cell in Both
 abbrev pub TwoCopies : State → World → Cell → Type 0
 TwoCopies state w cell =
     (n m : ℕ) → first state cell ≡ Some n → second state cell ≡ Some m
-    → Copies (chain_in (w.servers n).own.store.chains cell) (chain_in (w.servers m).own.store.chains cell) (w.servers n).life.running
+    → Copies (chain_in (w.servers n).own.store.chains cell) (chain_in (w.servers m).own.store.chains cell) (is_at_work state w n)
     (at cell_cmp (w.servers n).own.pairs.pending cell) (is_marked (w.servers n).own.store Busy cell)
 
 -- the block is marked on the device, as busy or as stale
@@ -78,11 +82,11 @@ pub record HasFinished (finished : Option Finished) (seq : ℕ) : Type 0 where
   pub is : finished ≡ Some last
   pub past : seq ≤ last.seq
 
--- a running server at the revision of a Write letter has its request as finished, or by its own state is not the cell's
--- lead, or holds it
+-- a server that is at work by its own state, at the revision of a Write letter, has its request as finished, or by its own state
+-- is not the cell's lead, or holds it
 abbrev pub IsLateAt : Setting → World → Letter → (client seq : ℕ) → Cell → ℕ → Type 0
 IsLateAt setting w letter client seq cell n =
-    (w.servers n).life.running ≡ true → rev_of (w.servers n).log ≡ letter.rev
+    is_at_work (server_state setting w n) w n ≡ true → rev_of (w.servers n).log ≡ letter.rev
     → HasFinished (at nat_cmp (w.servers n).own.pairs.finished client) seq
     ⊎ (is_lead (server_state setting w n) n cell ≡ false) ⊎ (held (server_state setting w n) cell ≢ No)
 

@@ -118,6 +118,21 @@ fn servers_that_stop(rt: HostRuntime) -> Result<(), Fail> {
 }
 
 #[test]
+fn servers_that_start_again(rt: HostRuntime) -> Result<(), Fail> {
+    let row = Row {
+        shows: "what a server has missed stays with its neighbour, and what one held alone is served once it starts again",
+        lines: "op stop 0\nwait\na write vol 0 fill 7\nwait\nop start 0\nwait\nop stop 1\nwait\na read vol 0\nb read vol 1\nwait
+op start 1\nop start 1\nwait\nc read vol 0\n",
+        written: &[
+            "2: ok\n4: ok\n6: ok\n8: ok\n10: ok\n12: unavailable\n13: data 65536x0\n15: ok\n16: ok\n18: data 65536x7\n",
+        ],
+        ..ON_DISK
+    };
+    assert!(rt; is_so(&rt, rt.alloc(), &row)?, "{}", row.shows);
+    Ok(())
+}
+
+#[test]
 fn lines_that_are_refused(rt: HostRuntime) -> Result<(), Fail> {
     let rows: [Row; 3] = [
         Row {
@@ -149,8 +164,8 @@ fn lines_that_are_refused(rt: HostRuntime) -> Result<(), Fail> {
 fn lines_that_are_not_built_yet(rt: HostRuntime) -> Result<(), Fail> {
     let rows: [Row; 3] = [
         Row {
-            shows: "a start of a server is not built yet",
-            lines: "op start 1\n",
+            shows: "a blank server is not built yet",
+            lines: "op blank 1\n",
             written: &["refused line 2: not built\n"],
             ..REFUSED
         },

@@ -56,12 +56,12 @@ with_leave (first ∷ rest) leave =
     else if leave_before leave first then leave ∷ first ∷ rest
     else first ∷ with_leave rest leave
 
--- what a server wants chosen, the most urgent first: the Leaves of incarnations that have stopped and are In, and then what
--- clients asked it to propose
-abbrev pub wanted : Voter → Log → List Command
-wanted voter log =
+-- what a server wants chosen, the most urgent first: the Leaves of incarnations that have stopped and are In, what it wants
+-- so that it and its links return, and then what clients asked it to propose
+abbrev pub wanted : Voter → Log → (returning : List Command) → List Command
+wanted voter log returning =
     let state = state_in voter.servers log in
-    fold with_leave (filter (is_due state) log.leaves) (own_leave voter.me voter.inc (inc_of state voter.me)) ++ log.wants
+    fold with_leave (filter (is_due state) log.leaves) (own_leave voter.me voter.inc (inc_of state voter.me)) ++ returning ++ log.wants
 
 -- an incarnation has stopped
 unfoldable pub on_down : Log → (server inc : ℕ) → LogDone
@@ -102,16 +102,18 @@ abbrev pub starts_ballot : Voter → Log → ℕ → Ballot → Command → LogD
 starts_ballot voter log place ballot want =
     posts_all (with_phase (commits log (Promise place ballot)) (collecting place ballot want)) (to_all voter (Prepare place ballot))
 
-abbrev pub starts_for : Voter → Log → Phase → List Command → LogDone
-starts_for voter log Idle (want ∷ wants) =
-    if nat_lt (rev_of log) greatest_place
-    then starts_ballot voter log (next_place log) (record { round = next_round log; server = voter.me }) want
-    else keeps log
-starts_for voter log _ _ = keeps log
+-- the command for which a ballot starts: the first that is wanted, where the proposer is idle and the log has a place left
+abbrev pub first_wanted : Phase → (rev : ℕ) → List Command → Option Command
+first_wanted Idle rev (want ∷ wants) = if nat_lt rev greatest_place then Some want else None
+first_wanted _ rev _ = None
 
--- a proposer that is idle starts a ballot for the first command that is wanted, at the next place
-unfoldable pub starts : Voter → Log → LogDone
-starts voter log = starts_for voter log log.phase (wanted voter log)
+abbrev pub starts_for : Voter → Log → Option Command → LogDone
+starts_for voter log None = keeps log
+starts_for voter log (Some want) = starts_ballot voter log (next_place log) (record { round = next_round log; server = voter.me }) want
+
+-- a proposer that is idle starts a ballot for the first of these commands, at the next place
+unfoldable pub starts : Voter → Log → List Command → LogDone
+starts voter log wants = starts_for voter log (first_wanted log.phase (rev_of log) wants)
 
 -- ### Taking part
 

@@ -209,12 +209,22 @@ replies asked rev what = option_map_or (counts_as asked rev what.any_rev) what.s
 abbrev pub answers : Client → Asked → Answer → Reaction
 answers client asked given = record { client = record client { asked = None }; posts = []; answer = Some (asked.line, given) }
 
+abbrev pub answers_where : Client → Asked → Option Answer → Reaction
+answers_where client asked None = rests client
+answers_where client asked (Some given) = answers client asked given
+
+-- what the operator's line is answered, once its server was glanced at: a start has failed where the server doesn't run
+abbrev pub seen_answer : Request → (running : Bool) → Option Answer
+seen_answer (request.Stop server) running = Some answer.Ok
+seen_answer (request.Start server) running = Some (if running then answer.Ok else answer.Failed)
+seen_answer _ running = None
+
 -- Data answers only a read, Written and Full only a write. What was refused for a while, or at another revision, is sent
 -- again, and the client asks what follows
 abbrev pub hears : State → ℕ → Client → Asked → ℕ → Body → Reaction
 hears state me client asked rev (body.Down server inc) = rests client
 hears state me client asked rev (body.Seen line round running inc full) =
-    if (line == asked.line) && is_stop asked.request then answers client asked answer.Ok else rests client
+    if line == asked.line then answers_where client asked (seen_answer asked.request running) else rests client
 hears state me client asked rev (body.Propose command) = rests client
 hears state me client asked rev (body.Pax said) = rests client
 hears state me client asked rev (body.Ask asked_rev) = rests client

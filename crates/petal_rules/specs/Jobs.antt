@@ -20,6 +20,7 @@ use Rattle.petal_rules.specs.Server.{Server, Own, Here, Post, Sender, Done, sile
 use Rattle.petal_rules.specs.Writes.{next_stage, acts, goes_on, on_write, on_reserve, on_reserved, on_pair_full, on_replicate, on_replicated}
 use Rattle.petal_rules.specs.Reads.{on_read}
 use Rattle.petal_rules.specs.Crossing.{crossed_by, stage_jobs_by}
+use Rattle.petal_rules.specs.Returns.{returning}
 use Rattle.petal_rules.specs.declared.step.CommitEnd.{CommitEnd}
 use Rattle.petal_rules.specs.declared.step.CommitEnd.TheVariants.{Before, After}
 use Rattle.petal_rules.specs.declared.job.Job.{Job}
@@ -105,7 +106,7 @@ unfoldable pub log_does : Voter → Log → Job → LogDone
 log_does voter log (job.Letter letter) = hears_log voter log letter letter.body
 log_does voter log (job.Stage cell) = keeps log
 log_does voter log job.Apply = applies log
-log_does voter log job.Start = starts voter log
+log_does voter log job.Start = keeps log
 
 -- the job is of the agreed log, and not of the pairs
 abbrev pub is_log_job : Job → Bool
@@ -153,9 +154,14 @@ crossing here server rest entry done = record {
   letters = letters_of (sender here) 0 done.posts;
 }
 
+-- what a server wants chosen, the most urgent first
+abbrev pub wanted_by : Here → Server → List Command
+wanted_by here server = wanted (voter_of here) server.log (returning here server.own)
+
 -- what the job leaves where it meets room in both journals
 abbrev pub job_done : Here → Server → Job → List Job → Acted
 job_done here server job.Apply rest = crossing here server rest (known server.log (next_place server.log)) (applies server.log)
+job_done here server job.Start rest = entered here server rest (starts (voter_of here) server.log (wanted_by here server))
 job_done here server first rest =
     if is_log_job first then entered here server rest (log_does (voter_of here) server.log first)
     else worked here server rest (does here server.own first)
@@ -244,6 +250,6 @@ tick_posts here server =
 -- a tick: letters go out again, and an idle proposer is to start a ballot where a command is wanted
 abbrev pub ticks : Here → Server → Acted
 ticks here server = record {
-  server = record server { log = asks_next (voter_of here) server.log; queue = server.queue ++ start_jobs server.log.phase (wanted (voter_of here) server.log) };
+  server = record server { log = asks_next (voter_of here) server.log; queue = server.queue ++ start_jobs server.log.phase (wanted_by here server) };
   letters = letters_of (sender here) 0 (tick_posts here server);
 }

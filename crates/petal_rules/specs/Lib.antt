@@ -9,7 +9,9 @@ pub mod Ballots
 pub mod Writes
 pub mod Reads
 pub mod Crossing
+pub mod Returns
 pub mod Jobs
+pub mod Boots
 pub mod Clients
 pub mod World
 pub mod Agreement

@@ -1,5 +1,5 @@
 -- The world of all servers and clients, and its steps.
-use Rattle.std.specs.Prelude.{◌≡◌, ◌≢◌, ℕ, ◌+◌, ◌==◌, ◌||◌, ◌&&◌, ◌<◌, max, Bool, true, false, nat_lt, List, [], ◌∷◌, ◌++◌, map, filter, slice_get, take, Option, Some, None}
+use Rattle.std.specs.Prelude.{◌≡◌, ◌≢◌, ◌⊎◌, ℕ, ◌+◌, ◌==◌, ◌||◌, ◌&&◌, ◌<◌, max, Bool, true, false, nat_lt, List, [], ◌∷◌, ◌++◌, map, filter, slice_get, take, Option, Some, None}
 use Rattle.std.specs.Option.{option_map_or}
 use Rattle.petal_command.specs.declared.command.Command.{Command}
 use Rattle.petal_msg.specs.declared.letter.Actor.{Actor}
@@ -7,6 +7,7 @@ use Rattle.petal_msg.specs.declared.letter.Actor.TheVariants as actor
 use Rattle.petal_msg.specs.declared.letter.Letter.{Letter}
 use Rattle.script_lines.specs.declared.answer.Answer.{Answer}
 use Rattle.script_lines.specs.declared.request.Line.{Line}
+use Rattle.script_lines.specs.declared.request.Request.{Request}
 use Rattle.script_lines.specs.declared.request.Request.TheVariants as request
 use Rattle.script_lines.specs.declared.script.Script.{Script}
 use Rattle.petal_paxos.specs.Chosen.{Devices}
@@ -18,9 +19,10 @@ use Rattle.petal_rules.specs.State.{State}
 use Rattle.petal_rules.specs.Store.{top_of}
 use Rattle.petal_rules.specs.Server.{Server, first_server, letters_of}
 use Rattle.petal_rules.specs.Jobs.{Acted, here_of, works, delivered, ticks, faults, stops, glances, operator}
+use Rattle.petal_rules.specs.Boots.{boots}
 use Rattle.petal_rules.specs.Clients.{Client, Asked, Reaction, first_client, client_sender, rests, called, heard, ticked}
 use Rattle.petal_rules.specs.declared.step.Step.{Step}
-use Rattle.petal_rules.specs.declared.step.Step.TheVariants.{Call, Deliver, Tick, Work, Stop, Glance}
+use Rattle.petal_rules.specs.declared.step.Step.TheVariants.{Call, Deliver, Tick, Work, Stop, Boot, Glance}
 use Rattle.petal_rules.specs.declared.step.WorkEnd.TheVariants as work_end
 
 -- what a run is given: how many servers and slots, and the lines of its script
@@ -29,10 +31,15 @@ pub record Setting : Type 0 where
   pub slots : ℕ
   pub lines : List Line
 
--- what was done of the operator's last line: the server that it stopped and that was not glanced at yet, and the line of the
--- last glance
+-- a step that a line of the operator gives a server
+pub data Deed : Type 0 where
+  Stopped : Deed
+  Booted : Deed
+
+-- what was done of the operator's last line: the server that is at its hand, with the last step that the line gave it, until
+-- that server is glanced at; and the line of the last glance
 pub record Control : Type 0 where
-  pub halted : Option ℕ
+  pub hand : Option (ℕ × Deed)
   pub glanced : Option ℕ
 
 -- all servers and clients, by number, with the stamp of the last step of each; all letters ever sent, the newest first; the
@@ -55,7 +62,7 @@ start setting = record {
   client_clocks = λ c. 0;
   sent = [];
   answers = [];
-  control = record { halted = None; glanced = None };
+  control = record { hand = None; glanced = None };
 }
 
 -- ### What a script sets
@@ -84,6 +91,7 @@ line_in (Deliver letter) = None
 line_in Tick = None
 line_in (Work end) = None
 line_in Stop = None
+line_in (Boot end) = None
 line_in (Glance line round) = None
 
 -- the letter that it hands over
@@ -93,6 +101,7 @@ letter_in (Deliver letter) = Some letter
 letter_in Tick = None
 letter_in (Work end) = None
 letter_in Stop = None
+letter_in (Boot end) = None
 letter_in (Glance line round) = None
 
 -- ### States
@@ -133,6 +142,7 @@ server_step Tick state me server = ticks (here_of state me server) server
 server_step (Work work_end.Done) state me server = works (here_of state me server) server server.queue
 server_step (Work (work_end.Fault end)) state me server = faults (here_of state me server) server server.queue end
 server_step Stop state me server = stops (here_of state me server) server
+server_step (Boot end) state me server = boots (here_of state me server) server end
 server_step (Glance line round) state me server = glances (here_of state me server) line round server
 
 abbrev pub calls : State → ℕ → Client → Option Line → Reaction
@@ -146,6 +156,7 @@ client_step (Deliver letter) state me client line = heard state me client letter
 client_step Tick state me client line = ticked state me client
 client_step (Work end) state me client line = rests client
 client_step Stop state me client line = rests client
+client_step (Boot end) state me client line = rests client
 client_step (Glance number round) state me client line = rests client
 
 -- the letters carry the stamp of the step that sent them
@@ -158,10 +169,11 @@ pub record Stepped : Type 0 where
   pub letters : List Letter
   pub answer : Option (ℕ × Answer)
 
--- a stop waits for its glance
+-- the steps of a line wait for their glance
 abbrev pub controls : Step → ℕ → Control → Control
-controls Stop n control = record control { halted = Some n }
-controls (Glance line round) n control = record { halted = None; glanced = Some line }
+controls Stop n control = record control { hand = Some (n, Stopped) }
+controls (Boot end) n control = record control { hand = Some (n, Booted) }
+controls (Glance line round) n control = record { hand = None; glanced = Some line }
 controls _ n control = control
 
 abbrev pub acts : World → ℕ → Step → ℕ → Acted → Stepped
@@ -202,6 +214,13 @@ step (actor.Client c) what setting w stamp =
 
 -- ### When a step is allowed
 
+-- the greatest numbers of 32 and of 64 bits
+abbrev pub greatest_u32 : ℕ
+greatest_u32 = 4294967295
+
+abbrev pub greatest_u64 : ℕ
+greatest_u64 = 18446744073709551615
+
 -- the line was answered
 pub record IsAnswered (given : List (ℕ × Answer)) (number : ℕ) : Type 0 where
   pub answer : Answer
@@ -220,41 +239,77 @@ pub record MayDeliver (w : World) (to : Actor) (letter : Letter) : Type 0 where
   pub sent : In letter w.sent
   pub own : letter.to ≡ to
 
--- the operator's open line stops this server, and was not glanced at
-pub record IsStopped_by (w : World) (n line : ℕ) : Type 0 where
-  pub asked : Asked
-  pub open_line : (w.clients operator).asked ≡ Some asked
-  pub line_is : asked.line ≡ line
-  pub request_is : asked.request ≡ request.Stop n
-  pub first : w.control.glanced ≢ Some line
+-- the operator's line is open, and was not glanced at
+pub record IsOpenLine (w : World) (asked : Asked) : Type 0 where
+  pub is : (w.clients operator).asked ≡ Some asked
+  pub first : w.control.glanced ≢ Some asked.line
 
--- the operator's open line stops this server
+-- a line stops this server
+abbrev pub Stops : Request → ℕ → Type 0
+Stops (request.Stop server) n = server ≡ n
+Stops _ n = ⊥
+
+-- the operator's open line stops this server, which runs
 pub record MayStop (w : World) (n : ℕ) : Type 0 where
   pub runs : (w.servers n).life.running ≡ true
-  pub line : ℕ
-  pub by : IsStopped_by w n line
+  pub asked : Asked
+  pub opened : IsOpenLine w asked
+  pub stops : Stops asked.request n
 
--- behind the stop that a line gives, or at once where its server doesn't run, stands the line's one glance
-pub record MayGlance (w : World) (n line round : ℕ) : Type 0 where
+-- a line boots this server, behind what the line did before
+abbrev pub Boots : Request → ℕ → Option (ℕ × Deed) → Type 0
+Boots (request.Start server) n before = (server ≡ n) × (before ≡ None)
+Boots _ n before = ⊥
+
+-- the operator's open line boots this server, which is stopped and whose incarnation can be raised
+pub record MayBoot (w : World) (n : ℕ) : Type 0 where
   pub rests : (w.servers n).life.running ≡ false
-  pub by : IsStopped_by w n line
+  pub raises : (w.servers n).life.inc < greatest_u32
+  pub asked : Asked
+  pub opened : IsOpenLine w asked
+  pub boots : Boots asked.request n w.control.hand
+
+-- a line has given the server each of its steps
+abbrev pub IsDone : Request → (n : ℕ) → (running : Bool) → Option (ℕ × Deed) → Type 0
+IsDone (request.Stop server) n running before = (server ≡ n) × (running ≡ false)
+IsDone (request.Start server) n running before = (server ≡ n) × ((running ≡ true) ⊎ (before ≡ Some (n, Booted)))
+IsDone _ n running before = ⊥
+
+-- behind the steps that a line gives, or at once where it gives none, stands the line's one glance
+pub record MayGlance (w : World) (n line round : ℕ) : Type 0 where
+  pub asked : Asked
+  pub opened : IsOpenLine w asked
+  pub line_is : asked.line ≡ line
+  pub done : IsDone asked.request n (w.servers n).life.running w.control.hand
   pub round_is : round ≡ 0
 
--- between a stop and its glance no letter comes to the server
+-- the server is not at the operator's hand: between the first step that a line gives a server and its glance, the server
+-- takes no other step
+abbrev pub IsFree : World → ℕ → Type 0
+IsFree w n = (deed : Deed) → w.control.hand ≢ Some (n, deed)
+
+-- a letter comes to the server
 pub record MayReceive (w : World) (n : ℕ) (letter : Letter) : Type 0 where
   pub comes : MayDeliver w (actor.Server n) letter
-  pub free : w.control.halted ≢ Some n
+  pub free : IsFree w n
 
--- the server runs, and has a job
-abbrev pub MayWork : World → ℕ → Type 0
-MayWork w n = ((w.servers n).life.running ≡ true) × ((w.servers n).queue ≢ [])
+-- the server runs, and takes a step by itself
+pub record MayAct (w : World) (n : ℕ) : Type 0 where
+  pub runs : (w.servers n).life.running ≡ true
+  pub free : IsFree w n
+
+-- it has a job, too
+pub record MayWork (w : World) (n : ℕ) : Type 0 where
+  pub acts : MayAct w n
+  pub busy : (w.servers n).queue ≢ []
 
 abbrev pub MayServer : Step → World → ℕ → Type 0
 MayServer (Call line) w n = ⊥
 MayServer (Deliver letter) w n = MayReceive w n letter
-MayServer Tick w n = (w.servers n).life.running ≡ true
+MayServer Tick w n = MayAct w n
 MayServer (Work end) w n = MayWork w n
 MayServer Stop w n = MayStop w n
+MayServer (Boot end) w n = MayBoot w n
 MayServer (Glance line round) w n = MayGlance w n line round
 
 abbrev pub MayClient : Step → Setting → World → ℕ → Type 0
@@ -263,6 +318,7 @@ MayClient (Deliver letter) setting w c = MayDeliver w (actor.Client c) letter
 MayClient Tick setting w c = Unit {0}
 MayClient (Work end) setting w c = ⊥
 MayClient Stop setting w c = ⊥
+MayClient (Boot end) setting w c = ⊥
 MayClient (Glance line round) setting w c = ⊥
 
 -- the stamp of what a step receives
@@ -277,13 +333,6 @@ clock_of w (actor.Client c) = w.client_clocks c
 -- of Events", 1978)
 abbrev pub next_stamp : World → Actor → Step → ℕ
 next_stamp w who what = max (clock_of w who) (received what) + 1
-
--- the greatest numbers of 32 and of 64 bits
-abbrev pub greatest_u32 : ℕ
-greatest_u32 = 4294967295
-
-abbrev pub greatest_u64 : ℕ
-greatest_u64 = 18446744073709551615
 
 abbrev pub turn_of : Option Asked → ℕ
 turn_of None = 0

@@ -11,7 +11,7 @@ pub enum CommitEnd {
     After,
 }
 
-/// How a server's job ended.
+/// How a server's job, or its boot, ended.
 #[derive(Clone, Copy, Debug, PartialEq, Eq)]
 pub enum WorkEnd {
     /// As its rule says.
@@ -33,6 +33,8 @@ pub enum Step {
     Work(WorkEnd),
     /// A running server stops.
     Stop,
+    /// A stopped server boots, which a failed device may end.
+    Boot(WorkEnd),
     /// A server shows the operator whether it runs, for this line and this round of it.
     Glance { line: u32, round: u32 },
 }

@@ -1,4 +1,4 @@
-//! The lines that are built so far: clients make disks, and write and read their blocks; the operator stops servers.
+//! The lines that are built so far: clients make disks, and write and read their blocks; the operator stops and starts servers.
 
 ghost use Rattle.std.specs.Prelude.{◌≡◌};
 ghost use Rattle.petal_run.specs.Built.{is_built, is_built_request, first_not_built};
@@ -10,7 +10,10 @@ fn is_built_request(request: &Request) -> bool
     ensures { result ≡ is_built_request request.now }
 {
     match request {
-        Request::Disk { .. } | Request::Write { .. } | Request::Stop { .. } => true,
+        Request::Disk { .. }
+        | Request::Write { .. }
+        | Request::Stop { .. }
+        | Request::Start { .. } => true,
         Request::Read {
             name: _,
             snap,
@@ -23,7 +26,8 @@ fn is_built_request(request: &Request) -> bool
 fn is_built(line: &Line) -> bool
     ensures { result ≡ is_built line.now }
 {
-    (line.client < OPERATOR || line.request.is_stop()) && is_built_request(&line.request)
+    (line.client < OPERATOR || line.request.is_stop() || line.request.is_boot())
+        && is_built_request(&line.request)
 }
 
 /// The number of the first line that is not built, if there is one.

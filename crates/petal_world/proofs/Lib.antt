@@ -4,3 +4,4 @@ pub mod Acting
 pub mod Playing
 pub mod Starting
 pub mod Ending
+pub mod Lines

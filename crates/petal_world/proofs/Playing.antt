@@ -7,7 +7,7 @@ use Rattle.petal_msg.specs.declared.letter.Actor.TheVariants as actor
 use Rattle.script_lines.specs.declared.request.Line.{Line}
 use Rattle.petal_rules.specs.World.{Setting, World, MayStep, MayClient, start, clock_of, next_stamp, next_line, setting_of}
 use Rattle.petal_rules.specs.declared.step.Step.{Step}
-use Rattle.petal_rules.specs.declared.step.Step.TheVariants.{Call, Deliver, Tick, Work, Stop, Glance}
+use Rattle.petal_rules.specs.declared.step.Step.TheVariants.{Call, Deliver, Tick, Work, Stop, Boot, Glance}
 use Rattle.petal_rules.specs.declared.step.WorkEnd.{WorkEnd}
 use Rattle.petal_history.specs.Legal.{IsLegalFrom, Follows, InPhase, CallsInPhase, world_after, stepped}
 use Rattle.petal_history.specs.declared.record.Record.{Record}
@@ -29,6 +29,7 @@ can_take setting w c (Deliver letter) may = tt
 can_take setting w c Tick may = tt
 can_take setting w c (Work end) may = tt
 can_take setting w c Stop may = tt
+can_take setting w c (Boot end) may = tt
 can_take setting w c (Glance line round) may = tt
 
 pub can : (setting : Setting) (w : World) (actors : Actors) (who : Actor) (what : Step) → Shows setting w actors → MayStep setting w who what → Can actors who what
@@ -75,6 +76,7 @@ calls_in (Deliver letter) who setting w phase = tt
 calls_in Tick who setting w phase = tt
 calls_in (Work end) who setting w phase = tt
 calls_in Stop who setting w phase = tt
+calls_in (Boot end) who setting w phase = tt
 calls_in (Glance line round) who setting w phase = tt
 
 follows : (play : Play) (who : Actor) (what : Step) → MayStep (setting_of play.script) (world_of play) who what → Follows (setting_of play.script) (world_of play) (record_of play who what)
@@ -130,6 +132,14 @@ module _ (play : Play) (actors new : Actors) (who : Actor) (what : Step) (end : 
 
   pub told_ended : told ≡ told_by play who (ended what end)
   told_ended = told_so play actors new who (ended what end) stamp phase told h going may_so at_so during_so left
+
+  -- the play has that record more
+  pub played_ended : (records : List Record)
+      → records ≡ play.records ++ record { actor = who; stamp = stamp; phase = phase; step = ended what end; sent = told.letters; answer = told.answer } ∷ []
+      → record play { records = records } ≡ played play who (ended what end)
+  played_ended records are =
+      let own = record_so play actors new who (ended what end) stamp phase told h going may_so at_so during_so left in
+      ap (λ (rs : List Record). record play { records = rs }) (are ∙ ap (λ (r : Record). play.records ++ r ∷ []) own)
 
   pub kept_ended : (records : List Record)
       → records ≡ play.records ++ record { actor = who; stamp = stamp; phase = phase; step = ended what end; sent = told.letters; answer = told.answer } ∷ []

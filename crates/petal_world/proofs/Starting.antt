@@ -31,7 +31,7 @@ unfolding In
 nothing_past script letter m = absurd m
 
 pub start_kept : {H : Type 0} (seen : H → Site) (hosts : List H) (script : Script) (actors : Actors) → AreOrdered script.lines → map seen hosts ≡ first_sites script
-    → actors.seats ≡ seats_of (setting_of script) (start (setting_of script)) → actors.desks ≡ map (λ host. first_desk (seen host)) hosts → actors.sent ≡ [] → Await script.lines [] actors.waiting → actors.control ≡ record { halted = None; glanced = None }
+    → actors.seats ≡ seats_of (setting_of script) (start (setting_of script)) → actors.desks ≡ map (λ host. first_desk (seen host)) hosts → actors.sent ≡ [] → Await script.lines [] actors.waiting → actors.control ≡ record { hand = None; glanced = None }
     → IsKept (record { script = script; records = []; phase = 0; floor = 0; over = false }) actors
 start_kept seen hosts script actors ordered sites seats desks sent waiting control =
     let all : map (λ host. first_desk (seen host)) hosts ≡ desks_of (setting_of script) (start (setting_of script)) =

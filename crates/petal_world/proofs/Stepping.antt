@@ -1,5 +1,5 @@
 -- What is kept after a step is that of the world after it.
-use Rattle.std.proofs.Common.{◌≡◌, ◌≢◌, ℕ, ◌≤◌, ◌<◌, List, [], ◌∷◌, ◌++◌, inl, inr, Option, Some, None, refl, sym, ap, ◌∙◌, subst, arith}
+use Rattle.std.proofs.Common.{◌≡◌, ◌≢◌, ℕ, ◌+◌, ◌≤◌, ◌<◌, List, [], ◌∷◌, ◌++◌, inl, inr, Option, Some, None, refl, sym, ap, ◌∙◌, subst, arith}
 use Rattle.std.proofs.lemmas.Bool.{cases_eq}
 use Rattle.std.specs.Prelude.{Bool, true, false, if◌then◌else◌, slice_set}
 use Rattle.petal_table.specs.Table.{Table}
@@ -9,11 +9,13 @@ use Rattle.petal_msg.specs.declared.letter.Letter.{Letter}
 use Rattle.script_lines.specs.declared.answer.Answer.{Answer}
 use Rattle.script_lines.specs.declared.request.Line.{Line}
 use Rattle.petal_rules.specs.Lists.{In, put_at}
-use Rattle.petal_rules.specs.State.{State}
-use Rattle.petal_rules.specs.Log.{LogDone, state_in}
+use Rattle.petal_rules.specs.State.{State, servers_of}
+use Rattle.petal_rules.specs.Log.{LogDone, rev_of, state_in}
 use Rattle.petal_rules.specs.Server.{Done, Here, Post, Sender, Server, letters_of, sender}
+use Rattle.petal_rules.specs.Ballots.{starts}
+use Rattle.petal_rules.specs.Boots.{awake, boots, raised, stays, wakes}
 use Rattle.petal_rules.specs.Entries.{applies}
-use Rattle.petal_rules.specs.Jobs.{Acted, does, entered, faults, glance_sender, glances, here_of, operator, shown, is_log_job, is_overfull, job_done, log_does, stops, voter_of, worked, works}
+use Rattle.petal_rules.specs.Jobs.{Acted, does, down_posts, entered, faults, glance_sender, glances, here_of, operator, shown, is_log_job, is_overfull, job_done, log_does, stops, voter_of, wanted_by, worked, works}
 use Rattle.petal_rules.specs.Clients.{Reaction, client_sender}
 use Rattle.petal_rules.specs.World.{Setting, World, Control, Stepped, MayServer, controls, step, stamped, clock_of, with_answer, client_step, server_step, next_line, lines_of, client_state, server_state}
 use Rattle.petal_rules.specs.declared.job.Job.{Job}
@@ -21,7 +23,8 @@ use Rattle.petal_rules.specs.declared.job.Job.TheVariants as job
 use Rattle.petal_rules.specs.declared.step.CommitEnd.{CommitEnd}
 use Rattle.petal_rules.specs.declared.step.CommitEnd.TheVariants.{Before, After}
 use Rattle.petal_rules.specs.declared.step.Step.{Step}
-use Rattle.petal_rules.specs.declared.step.Step.TheVariants.{Call, Deliver, Tick, Work, Stop, Glance}
+use Rattle.petal_rules.specs.declared.step.Step.TheVariants.{Call, Deliver, Tick, Work, Stop, Boot, Glance}
+use Rattle.petal_rules.specs.declared.step.WorkEnd.{WorkEnd}
 use Rattle.petal_rules.specs.declared.step.WorkEnd.TheVariants as work_end
 use Rattle.petal_rules.proofs.ListLemmas.{in-append, put_same, put_apart}
 use Rattle.world_desks.specs.declared.name.LetterName.{LetterName}
@@ -169,7 +172,7 @@ done_posts (job.Letter letter) here server rest stamp =
 done_posts (job.Stage cell) here server rest stamp =
     by_kind (is_log_job (job.Stage cell)) here server rest (log_does (voter_of here) server.log (job.Stage cell)) (does here server.own (job.Stage cell)) stamp
 done_posts job.Start here server rest stamp =
-    by_kind (is_log_job job.Start) here server rest (log_does (voter_of here) server.log job.Start) (does here server.own job.Start) stamp
+    record { sender = sender here; posts = (starts (voter_of here) server.log (wanted_by here server)).posts; from = refl; are = refl }
 
 stop_posts : (here : Here) (server : Server) (stamp : ℕ) → ArePosted (actor.Server here.me) stamp (stamped stamp (stops here server).letters)
 stop_posts here server stamp = record { sender = record { from = actor.Server here.me; inc = here.inc; rev = 0 }; posts = _; from = refl; are = refl }
@@ -183,6 +186,22 @@ room_posts false here server acted stamp posted = posted
 fault_posts : (end : CommitEnd) (here : Here) (server : Server) (queue : List Job) (stamp : ℕ) → ArePosted (actor.Server here.me) stamp (stamped stamp (faults here server queue end).letters)
 fault_posts Before here server queue stamp = stop_posts here server stamp
 fault_posts After here server queue stamp = stop_posts here (works here server queue).server stamp
+
+-- a server that boots tells of the incarnation before, where its journal has room
+woken_posts : (full : Bool) (here : Here) (server : Server) (stamp : ℕ)
+    → ArePosted (actor.Server here.me) stamp (stamped stamp (if full then stays server else wakes here (awake (raised server))).letters)
+woken_posts true here server stamp = record { sender = sender here; posts = []; from = refl; are = refl }
+woken_posts false here server stamp = record {
+  sender = record { from = actor.Server here.me; inc = server.life.inc + 1; rev = rev_of (awake (raised server)).log };
+  posts = down_posts here.me here.inc (servers_of here.state);
+  from = refl;
+  are = refl;
+}
+
+boot_posts : (end : WorkEnd) (here : Here) (server : Server) (stamp : ℕ) → ArePosted (actor.Server here.me) stamp (stamped stamp (boots here server end).letters)
+boot_posts work_end.Done here server stamp = woken_posts (is_overfull (raised server)) here server stamp
+boot_posts (work_end.Fault Before) here server stamp = record { sender = sender here; posts = []; from = refl; are = refl }
+boot_posts (work_end.Fault After) here server stamp = record { sender = sender here; posts = []; from = refl; are = refl }
 
 glance_from : (running : Bool) (here : Here) → (if running then sender here else record { from = actor.Server here.me; inc = 0; rev = 0 }).from ≡ actor.Server here.me
 glance_from true here = refl
@@ -204,6 +223,7 @@ server_posts Tick state n stamp server = record { sender = sender (here_of state
 server_posts (Work work_end.Done) state n stamp server = work_posts server.queue state n stamp server
 server_posts (Work (work_end.Fault end)) state n stamp server = fault_posts end (here_of state n server) server server.queue stamp
 server_posts Stop state n stamp server = stop_posts (here_of state n server) server stamp
+server_posts (Boot end) state n stamp server = boot_posts end (here_of state n server) server stamp
 server_posts (Glance line round) state n stamp server = glance_posts line round (here_of state n server) server stamp
 
 module _ (setting : Setting) (w : World) (actors : Actors) (h : Shows setting w actors) (n : ℕ) (what : Step) (stamp : ℕ) (may : MayServer what w n) where

@@ -68,7 +68,7 @@ impl<H: Host> Actors<H> {
         })
     }
 
-    /// A server takes a step, with this stamp. How a job ends is for the devices to say.
+    /// A server takes a step, with this stamp. How a job or a boot ends is for the devices to say.
     pub fn serve(
         &mut self,
         alloc: Global,

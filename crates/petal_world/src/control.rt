@@ -1,34 +1,44 @@
 //! What was done of the operator's last line.
 
-ghost use Rattle.std.specs.Prelude.{◌≡◌, ◌↔◌, Some, None, IsTrue};
-ghost use Rattle.petal_rules.specs.World.{controls};
+ghost use Rattle.std.specs.Prelude.{◌≡◌, ◌≢◌, ◌↔◌, Some, None, IsTrue};
+ghost use Rattle.petal_rules.specs.World.{Booted, controls};
+ghost use Rattle.petal_rules.specs.World as rules;
 
 use petal_base::ServerId;
 use petal_rules::Step;
 use std::marker::Model;
 
-/// The server that it stopped and that was not glanced at yet, and the line of the last glance.
+/// A step that a line of the operator gives a server.
+#[derive(Clone, Copy, Debug)]
+pub enum Given {
+    Stop,
+    Boot,
+}
+
+/// The server at the operator's hand, with the last step that the line gave it, until that server is glanced at; and the line of
+/// the last glance.
 #[derive(Drop)]
 pub struct Control {
-    halted: Option<ServerId>,
+    hand: Option<(ServerId, Given)>,
     glanced: Option<u32>,
 }
 
 impl Model for Control {
     ghost use Rattle.petal_rules.specs.World.{Control};
+    ghost use Rattle.petal_world.specs.Lines.{hand_of};
 
     ghost Value = { Control };
 
-    ghost view = { λ c. record { halted = c.halted; glanced = c.glanced } };
+    ghost view = { λ c. record { hand = hand_of c.hand; glanced = c.glanced } };
 }
 
 impl Control {
     /// Nothing was done.
     pub fn new() -> Control
-        ensures { result ≡ record { halted = None; glanced = None } }
+        ensures { result ≡ record { hand = None; glanced = None } }
     {
         Control {
-            halted: None,
+            hand: None,
             glanced: None,
         }
     }
@@ -38,22 +48,40 @@ impl Control {
         ensures { self.new ≡ controls step.now server self.old }
     {
         match step {
-            Step::Stop => self.halted = Some(server),
+            Step::Stop => self.hand = Some((server, Given::Stop)),
+            Step::Boot(_) => self.hand = Some((server, Given::Boot)),
             Step::Glance { line, round: _ } => {
-                self.halted = None;
+                self.hand = None;
                 self.glanced = Some(*line);
             }
             Step::Call { line: _ } | Step::Deliver { letter: _ } | Step::Tick | Step::Work(_) => {}
         }
     }
 
-    /// Whether the server was stopped and not glanced at yet.
-    pub fn has_halted(&self, server: ServerId) -> bool
-        ensures { IsTrue result ↔ (self.now.halted ≡ Some server) }
+    /// Whether no server is at the operator's hand.
+    pub fn is_empty(&self) -> bool
+        ensures { IsTrue result ↔ (self.now.hand ≡ None) }
     {
-        match self.halted {
-            None => false,
-            Some(halted) => halted == server,
+        self.hand.is_none()
+    }
+
+    /// Whether this server is not at the operator's hand.
+    pub fn is_free(&self, server: ServerId) -> bool
+        ensures { IsTrue result ↔ ((deed : rules.Deed) → self.now.hand ≢ Some (server, deed)) }
+    {
+        match self.hand {
+            None => true,
+            Some((held, _)) => held != server,
+        }
+    }
+
+    /// Whether this server is at the operator's hand, and booted last.
+    pub fn has_booted(&self, server: ServerId) -> bool
+        ensures { IsTrue result ↔ (self.now.hand ≡ Some (server, Booted)) }
+    {
+        match self.hand {
+            Some((held, Given::Boot)) => held == server,
+            Some((_, Given::Stop)) | None => false,
         }
     }
 

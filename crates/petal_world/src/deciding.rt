@@ -2,9 +2,10 @@
 
 ghost use Rattle.std.specs.Prelude.{◌≡◌, ◌↔◌, ℕ, Some, IsTrue, slice_get};
 ghost use Rattle.petal_msg.specs.declared.letter.Actor.TheVariants as actor;
-ghost use Rattle.petal_rules.specs.World.{Setting, World, IsStopped_by, MayCall, MayClient, MayGlance, MayReceive, MayServer, MayStep, MayStop, received};
+ghost use Rattle.petal_rules.specs.World.{Setting, World, MayAct, MayBoot, MayCall, MayClient, MayGlance, MayReceive, MayServer, MayStep, MayStop, MayWork, received};
 ghost use Rattle.petal_table.specs.Table.{at};
 ghost use Rattle.world_desks.specs.Playable.{AreOrdered};
+ghost use Rattle.petal_world.specs.Lines.{HasStarted, HasStopped, IsStartedBy, IsStoppedBy};
 ghost use Rattle.petal_world.specs.Seats.{seat_of};
 ghost use Rattle.world_desks.specs.Desks.{desk_of};
 ghost use Rattle.world_desks.specs.Sent.{name_of, name_cmp};
@@ -12,7 +13,7 @@ ghost use Rattle.petal_world.specs.Actors.{Shows};
 
 use crate::actors::Actors;
 use crate::seat::Seat;
-use petal_base::{ClientId, OPERATOR, ServerId, Stamp};
+use petal_base::{ClientId, Inc, OPERATOR, ServerId, Stamp};
 use petal_msg::{Actor, Letter};
 use petal_rules::Step;
 use world_desks::Host;
@@ -31,6 +32,7 @@ pub fn received(step: &Step) -> Stamp
         | Step::Tick
         | Step::Work(_)
         | Step::Stop
+        | Step::Boot(_)
         | Step::Glance { line: _, round: _ } => 0,
     }
 }
@@ -53,11 +55,11 @@ impl<H: Host> Actors<H> {
         is_same_actor(letter.to, to) && self.sent.has(letter)
     }
 
-    /// Whether the letter was sent to this server, which has no glance to come.
+    /// Whether the letter was sent to this server, which is not at the operator's hand.
     fn may_receive(&self, server: ServerId, letter: &Letter) -> bool
         ensures { (setting : Setting) (w : World) → Shows setting w self.now → IsTrue result ↔ MayReceive w server letter.now }
     {
-        if self.control.has_halted(server) {
+        if !self.control.is_free(server) {
             return false;
         }
         self.may_deliver(Actor::Server(server), letter)
@@ -65,7 +67,7 @@ impl<H: Host> Actors<H> {
 
     /// The operator's open line, where it stops this server and was not glanced at.
     fn open_stop(&self, server: ServerId) -> Option<u32>
-        ensures { (setting : Setting) (w : World) (line : ℕ) → Shows setting w self.now → (result ≡ Some line) ↔ IsStopped_by w server line }
+        ensures { (setting : Setting) (w : World) (line : ℕ) → Shows setting w self.now → (result ≡ Some line) ↔ IsStoppedBy w server line }
     {
         let Some(seat) = self.seats.get(OPERATOR) else {
             return None;
@@ -77,6 +79,44 @@ impl<H: Host> Actors<H> {
             return None;
         }
         Some(line)
+    }
+
+    /// The operator's open line, where it starts this server and was not glanced at.
+    fn open_start(&self, server: ServerId) -> Option<u32>
+        ensures { (setting : Setting) (w : World) (line : ℕ) → Shows setting w self.now → (result ≡ Some line) ↔ IsStartedBy w server line }
+    {
+        let Some(seat) = self.seats.get(OPERATOR) else {
+            return None;
+        };
+        let Some(line) = seat.core.starts(server) else {
+            return None;
+        };
+        if self.control.has_glanced(line) {
+            return None;
+        }
+        Some(line)
+    }
+
+    /// Whether the server may take a step by itself.
+    fn may_act(&self, desk: &Desk<H>, server: ServerId) -> bool
+        ensures { (setting : Setting) (w : World) → Shows setting w self.now → desk.now ≡ desk_of setting w server
+            → IsTrue result ↔ MayAct w server }
+    {
+        if !desk.host.is_running() {
+            return false;
+        }
+        self.control.is_free(server)
+    }
+
+    /// Whether it may do a job.
+    fn may_work(&self, desk: &Desk<H>, server: ServerId) -> bool
+        ensures { (setting : Setting) (w : World) → Shows setting w self.now → desk.now ≡ desk_of setting w server
+            → IsTrue result ↔ MayWork w server }
+    {
+        if desk.host.is_idle() {
+            return false;
+        }
+        self.may_act(desk, server)
     }
 
     /// Whether the server may stop.
@@ -93,21 +133,69 @@ impl<H: Host> Actors<H> {
         }
     }
 
-    /// Whether the server may be glanced at.
-    fn may_glance(&self, desk: &Desk<H>, server: ServerId, line: u32, round: u32) -> bool
+    /// Whether the server may boot.
+    fn may_boot(&self, desk: &Desk<H>, server: ServerId) -> bool
         ensures { (setting : Setting) (w : World) → Shows setting w self.now → desk.now ≡ desk_of setting w server
-            → IsTrue result ↔ MayGlance w server line round }
+            → IsTrue result ↔ MayBoot w server }
     {
         if desk.host.is_running() {
             return false;
         }
-        if round != 0 {
+        if desk.host.inc() >= Inc::MAX {
+            return false;
+        }
+        if !self.control.is_empty() {
+            return false;
+        }
+        match self.open_start(server) {
+            None => false,
+            Some(_line) => true,
+        }
+    }
+
+    /// Whether the open line is this one, and has stopped the server.
+    fn has_stopped(&self, desk: &Desk<H>, server: ServerId, line: u32) -> bool
+        ensures { (setting : Setting) (w : World) → Shows setting w self.now → desk.now ≡ desk_of setting w server
+            → IsTrue result ↔ HasStopped w server line }
+    {
+        if desk.host.is_running() {
             return false;
         }
         match self.open_stop(server) {
             None => false,
             Some(own) => own == line,
         }
+    }
+
+    /// Whether the open line is this one, and has started the server, which runs or has booted.
+    fn has_started(&self, desk: &Desk<H>, server: ServerId, line: u32) -> bool
+        ensures { (setting : Setting) (w : World) → Shows setting w self.now → desk.now ≡ desk_of setting w server
+            → IsTrue result ↔ HasStarted w server line }
+    {
+        let Some(own) = self.open_start(server) else {
+            return false;
+        };
+        if own != line {
+            return false;
+        }
+        if desk.host.is_running() {
+            return true;
+        }
+        self.control.has_booted(server)
+    }
+
+    /// Whether the server may be glanced at: after the steps that the line gives it, or at once where it gives none.
+    fn may_glance(&self, desk: &Desk<H>, server: ServerId, line: u32, round: u32) -> bool
+        ensures { (setting : Setting) (w : World) → Shows setting w self.now → desk.now ≡ desk_of setting w server
+            → IsTrue result ↔ MayGlance w server line round }
+    {
+        if round != 0 {
+            return false;
+        }
+        if self.has_stopped(desk, server, line) {
+            return true;
+        }
+        self.has_started(desk, server, line)
     }
 
     /// Whether the client may call this line.
@@ -135,7 +223,9 @@ impl<H: Host> Actors<H> {
             Step::Call { line } => self.may_call(seat, *line),
             Step::Deliver { letter } => self.may_deliver(Actor::Client(client), letter.get()),
             Step::Tick => true,
-            Step::Work(_) | Step::Stop | Step::Glance { line: _, round: _ } => false,
+            Step::Work(_) | Step::Stop | Step::Boot(_) | Step::Glance { line: _, round: _ } => {
+                false
+            }
         }
     }
 
@@ -146,9 +236,10 @@ impl<H: Host> Actors<H> {
         match step {
             Step::Call { line: _ } => false,
             Step::Deliver { letter } => self.may_receive(server, letter.get()),
-            Step::Tick => desk.host.is_running(),
-            Step::Work(_) => desk.host.is_running() && !desk.host.is_idle(),
+            Step::Tick => self.may_act(desk, server),
+            Step::Work(_) => self.may_work(desk, server),
             Step::Stop => self.may_stop(desk, server),
+            Step::Boot(_) => self.may_boot(desk, server),
             Step::Glance { line, round } => self.may_glance(desk, server, *line, *round),
         }
     }

@@ -99,13 +99,14 @@ impl<H: Host> Actors<H> {
                 | Step::Tick
                 | Step::Work(_)
                 | Step::Stop
+                | Step::Boot(_)
                 | Step::Glance { line: _, round: _ },
                 _,
             ) => phase,
         }
     }
 
-    /// An actor takes a step that it can take, with this stamp. How a job ends is for the devices to say.
+    /// An actor takes a step that it can take, with this stamp. How a job or a boot ends is for the devices to say.
     pub fn act(
         &mut self,
         alloc: Global,

@@ -6,18 +6,27 @@ use script_lines::{Line, Request, Script};
 use std::alloc::Global;
 use std::collections::VecDeque;
 
-/// A line that is to be called, its phase, and the server that it stops, where it stops one.
+/// A line that is to be called, its phase, and the server that it stops or starts, where it does that.
 #[derive(Clone, Copy, Debug, PartialEq, Eq)]
 pub(crate) struct Due {
     pub(crate) number: u32,
     pub(crate) phase: u32,
     pub(crate) stops: Option<ServerId>,
+    pub(crate) starts: Option<ServerId>,
 }
 
 /// The server that the request stops, where it stops one.
 fn stopped_by(request: &Request) -> Option<ServerId> {
     match request {
         Request::Stop { server } => Some(*server),
+        _ => None,
+    }
+}
+
+/// The server that the request starts, where it starts one.
+fn started_by(request: &Request) -> Option<ServerId> {
+    match request {
+        Request::Start { server } => Some(*server),
         _ => None,
     }
 }
@@ -45,6 +54,7 @@ impl Caller {
             number: line.number,
             phase: line.phase,
             stops: stopped_by(&line.request),
+            starts: started_by(&line.request),
         })?;
         Ok(())
     }

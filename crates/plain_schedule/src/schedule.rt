@@ -23,8 +23,13 @@ const AT_ONCE: u32 = 4;
 /// For so many rounds they come to one client and one server.
 const SPAN: u32 = 8;
 
+/// For so many rounds after a boot the phase goes on: mostly the servers agree within them that the server is back, so that lines of
+/// the next phase find it so.
+const AFTER_BOOT: u32 = 128;
+
 /// A world in the middle of a run: the letters that are on their way, what each client has still to call, how long each server
-/// waits to be ticked, the phase, how many of its lines have no answer yet, and whether it has only begun.
+/// waits to be ticked, the phase, how many of its lines have no answer yet, for how many rounds it goes on at least, and whether it
+/// has only begun.
 #[derive(Drop)]
 pub(crate) struct Schedule {
     pub(crate) world: World<MemServer>,
@@ -34,6 +39,7 @@ pub(crate) struct Schedule {
     patience: Vec<Patience>,
     phase: u32,
     left: usize,
+    rounds_left: u32,
     // Whether no round of the phase has been gone through.
     is_new: bool,
     rounds: u32,
@@ -84,6 +90,7 @@ impl Schedule {
             patience,
             phase: 0,
             left: 0,
+            rounds_left: 0,
             is_new: false,
             rounds: 0,
             after_loss: false,
@@ -267,6 +274,9 @@ impl Schedule {
             if let Some(server) = due.stops {
                 self.stop(alloc, line, server)?;
             }
+            if let Some(server) = due.starts {
+                self.start(alloc, line, server)?;
+            }
         }
         Ok(())
     }
@@ -278,6 +288,22 @@ impl Schedule {
     {
         let actor = Actor::Server(server);
         self.take(alloc, actor, &Step::Stop)?;
+        self.take(alloc, actor, &Step::Glance { line, round: 0 })?;
+        Ok(())
+    }
+
+    // The operator's line starts the server, where it is stopped, and shows the operator whether it runs.
+    fn start(&mut self, alloc: Global, line: u32, server: ServerId) -> Result<(), NoMemory>
+        ensures script { self.new.world.script ≡ self.old.world.script }
+        ensures goes_on { GoesOn self.old.world.records self.new.world.records }
+    {
+        let actor = Actor::Server(server);
+        if self
+            .take(alloc, actor, &Step::Boot(WorkEnd::Done))?
+            .is_some()
+        {
+            self.rounds_left = AFTER_BOOT;
+        }
         self.take(alloc, actor, &Step::Glance { line, round: 0 })?;
         Ok(())
     }
@@ -381,17 +407,18 @@ impl Schedule {
 
     /// Each client and then each server has its turn, by number. In it an actor gets the letters that were sent to it, ticks are
     /// passed on to it, a client with nothing open calls its next line of the phase, and a server works until its queue is
-    /// empty, before the ticks and after them. Where the operator calls a line that stops a server, the stop and its glance follow
-    /// at once. A tick is passed on where the actor has waited for it long enough. In the round after a loss four to six are
-    /// passed on at once to one client and one server, and each box is emptied from another letter on than in the round before, so
-    /// that no loss of every K-th letter hits the same letters for ever. In the first round of a later phase a client calls
-    /// nothing, and one that has a line to call asks what was chosen: so it need not find out by an entry of its own that a disk
-    /// was made.
+    /// empty, before the ticks and after them. Where the operator calls a line that stops or starts a server, the stop or the boot
+    /// and its glance follow at once. A tick is passed on where the actor has waited for it long enough. In the round after a loss
+    /// four to six are passed on at once to one client and one server, and each box is emptied from another letter on than in the
+    /// round before, so that no loss of every K-th letter hits the same letters for ever. In the first round of a later phase a
+    /// client calls nothing, and one that has a line to call asks what was chosen: so it need not find out by an entry of its own
+    /// that a disk was made.
     pub(crate) fn round<R: Wait>(&mut self, rt: &R, alloc: Global) -> Result<(), NoMemory>
         ensures script { self.new.world.script ≡ self.old.world.script }
         ensures goes_on { GoesOn self.old.world.records self.new.world.records }
     {
         self.rounds = self.rounds.wrapping_add(1);
+        self.rounds_left = self.rounds_left.saturating_sub(1);
         self.after_loss = self.post.take_loss();
         for client in 0..CLIENTS {
             self.client_turn(alloc, client)?;
@@ -414,8 +441,8 @@ impl Schedule {
         self.world.enter(phase)
     }
 
-    /// Whether each line of the phase was answered.
+    /// Whether each line of the phase was answered, and the last boot of a server was long enough ago.
     pub(crate) fn is_through(&self) -> bool {
-        self.left == 0
+        self.left == 0 && self.rounds_left == 0
     }
 }

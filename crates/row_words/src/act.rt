@@ -12,6 +12,8 @@ pub enum Want {
     NoDisk,
     Unavailable,
     Exists,
+    /// The server that the line starts does not run.
+    DoesNotRun,
     /// There is none yet.
     Open,
     /// A block of this byte.
@@ -31,6 +33,8 @@ pub enum Act<'a> {
     Tick(Actor),
     /// The server stops.
     Stop(ServerId),
+    /// The server boots.
+    Boot(ServerId),
     /// The server is glanced at for this line.
     Show(ServerId, u32),
     Hand(Mail<'a>),
@@ -83,6 +87,7 @@ fn want_of(words: &[&str]) -> Result<Want, usize> {
         ["nodisk"] => Ok(Want::NoDisk),
         ["unavailable"] => Ok(Want::Unavailable),
         ["exists"] => Ok(Want::Exists),
+        ["failed"] => Ok(Want::DoesNotRun),
         ["open"] => Ok(Want::Open),
         ["fill", word] => fill(word),
         ["as", line] => Ok(Want::As(number(line, 4)?)),
@@ -142,6 +147,7 @@ pub fn act_of<'a>(words: &'a [&'a str]) -> Result<Act<'a>, usize> {
         [who, "works", "off"] => Ok(Act::WorkOff(server(who, 1)?)),
         [who, "ticks"] => Ok(Act::Tick(actor(who, 1)?)),
         [who, "stops"] => Ok(Act::Stop(server(who, 1)?)),
+        [who, "boots"] => Ok(Act::Boot(server(who, 1)?)),
         [who, "shows", line] => Ok(Act::Show(server(who, 1)?, number(line, 3)?)),
         [who, ..] if actor(who, 1).is_ok() => Err(2),
         [kind, way] => Ok(Act::Hand(mail_of(kind, way, 1)?)),

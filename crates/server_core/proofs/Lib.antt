@@ -6,3 +6,4 @@ pub mod Stops
 pub mod Refused
 pub mod Ticks
 pub mod Pairing
+pub mod Boots

@@ -1,5 +1,5 @@
 -- What a tick sends, part after part.
-use Rattle.std.proofs.Common.{◌≡◌, ℕ, suc, ◌+◌, List, [], ◌∷◌, ◌++◌, length, refl, sym, ap, ◌∙◌, arith}
+use Rattle.std.proofs.Common.{◌≡◌, ℕ, suc, ◌+◌, Bool, List, [], ◌∷◌, ◌++◌, length, refl, sym, ap, ◌∙◌, arith}
 use Rattle.std.specs.List.{flat_map}
 use Rattle.std.specs.Prelude.{◌-◌, ◌%◌}
 use Rattle.petal_rules.proofs.Applied.{servers_after}
@@ -7,12 +7,12 @@ use Rattle.petal_rules.proofs.Letters.{letters_append}
 use Rattle.log_side.specs.Part.{log_of, sender_of}
 use Rattle.petal_msg.specs.declared.letter.Letter.{Letter}
 use Rattle.petal_paxos.specs.declared.record.StateRecord.{StateRecord}
-use Rattle.petal_rules.specs.Ballots.{ballot_posts, ask_posts, start_jobs, wanted}
+use Rattle.petal_rules.specs.Ballots.{ballot_posts, ask_posts, start_jobs}
 use Rattle.petal_rules.specs.Jobs.{sent_anew, tick_posts, ticks, voter_of}
 use Rattle.petal_rules.specs.Log.{Voter}
 use Rattle.petal_rules.specs.Server.{Own, Post, Sender, letters_of, sender}
 use Rattle.petal_rules.specs.Store.{Store}
-use Rattle.server_core.specs.Core.{Core, acted, here_in, server_of}
+use Rattle.server_core.specs.Core.{Core, acted, here_in, server_of, wanted_at}
 use Rattle.server_core.proofs.Works.{voter_is}
 
 count_letters : (who : Sender) (n : ℕ) (ps : List Post) → length (letters_of who n ps) ≡ length ps
@@ -47,10 +47,10 @@ tick_all core store records ballot pending all first second last = at_voter (vot
         ballot pending all first (second (server_of core store records).own) last)
 
 -- a tick is done as the rule says
-pub ticked : (old new : Core) (store : Store) (records : List StateRecord) (letters : List Letter) (asks : ℕ)
+pub ticked : (old new : Core) (store : Store) (records : List StateRecord) (letters : List Letter) (asks : ℕ) (fresh : Bool) → store.fresh ≡ fresh
     → letters ≡ letters_of (sender (here_in old)) 0 (tick_posts (here_in old) (server_of old store records))
     → asks ≡ (old.log.asks + 1) % (old.log.voter.servers - 1)
-    → new ≡ record old { log = record old.log { asks = asks }; queue = old.queue ++ start_jobs old.log.phase (wanted old.log.voter (log_of old.log records)) }
+    → new ≡ record old { log = record old.log { asks = asks }; queue = old.queue ++ start_jobs old.log.phase (wanted_at old.log records fresh) }
     → acted new store records letters ≡ ticks (here_in old) (server_of old store records)
-ticked old new store records letters asks sent next is =
-    rw (is, sent, next) (rw (voter_is old) (rw (servers_after old.log.voter.servers old.log.applied) refl))
+ticked old new store records letters asks fresh same sent next is =
+    rw (is, sent, next, ← same) (rw (voter_is old) (rw (servers_after old.log.voter.servers old.log.applied) refl))

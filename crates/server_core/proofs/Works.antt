@@ -12,7 +12,7 @@ use Rattle.petal_msg.specs.declared.letter.Letter.{Letter}
 use Rattle.petal_paxos.specs.declared.record.StateRecord.{StateRecord}
 use Rattle.petal_rules.specs.Crossing.{crossed_by, stage_jobs_by}
 use Rattle.petal_rules.specs.Entries.{applies}
-use Rattle.petal_rules.specs.Jobs.{Acted, crossing, does, entered, is_log_job, job_done, journal_records, log_does, stops, voter_of, where_room, worked, works}
+use Rattle.petal_rules.specs.Jobs.{Acted, crossing, does, entered, is_log_job, job_done, journal_records, stops, voter_of, where_room, worked, works}
 use Rattle.petal_rules.specs.Log.{Log, Voter, known, next_place}
 use Rattle.petal_rules.specs.Log.{LogDone as Rule}
 use Rattle.petal_rules.specs.Server.{Done, Here, Own, Server}
@@ -21,6 +21,7 @@ use Rattle.petal_rules.specs.declared.job.Job.{Job}
 use Rattle.petal_rules.specs.declared.job.Job.TheVariants as job
 use Rattle.server_core.specs.Core.{Core, acted, after_first, here_in, left_by_first, server_of}
 use Rattle.server_core.specs.Kind.{kind_of}
+use Rattle.server_core.specs.Steps.{log_rule}
 use Rattle.server_core.specs.declared.queue.Kind.TheVariants.{Applies, OfLog, OfPairs}
 
 -- ### Which part does it
@@ -43,13 +44,6 @@ job_pair here server job.Apply rest is = absurd (cc)
 job_pair here server (job.Letter letter) rest is = rw (not_pairs (is_log_job (job.Letter letter)) is) refl
 job_pair here server (job.Stage cell) rest is = refl
 job_pair here server job.Start rest is = absurd (cc)
-
-job_log : (here : Here) (server : Server) (first : Job) (rest : List Job) → kind_of first ≡ OfLog
-    → job_done here server first rest ≡ entered here server rest (log_does (voter_of here) server.log first)
-job_log here server job.Apply rest is = absurd (cc)
-job_log here server (job.Letter letter) rest is = rw (not_log (is_log_job (job.Letter letter)) is) refl
-job_log here server (job.Stage cell) rest is = absurd (cc)
-job_log here server job.Start rest is = refl
 
 -- only the job by which an entry is applied is of both
 pub apply_first : (queue : List Job) → IsSomeAnd (slice_get queue 0) (λ first. kind_of first ≡ Applies) → slice_get queue 0 ≡ Some job.Apply
@@ -79,10 +73,10 @@ pub first_is : (queue : List Job) (first : Job) (P : Job → Type 0) → IsSomeA
 first_is [] first P none is = absurd none
 first_is (j ∷ rest) first P some is = ap Some (sym is)
 
-few : (n : ℕ) → n ≤ journal_records → nat_lt journal_records n ≡ false
+pub few : (n : ℕ) → n ≤ journal_records → nat_lt journal_records n ≡ false
 few n le = grind (arith, nat_tests)
 
-many : (n : ℕ) → n ≡ journal_records + 1 → nat_lt journal_records n ≡ true
+pub many : (n : ℕ) → n ≡ journal_records + 1 → nat_lt journal_records n ≡ true
 many n is = grind (arith, nat_tests)
 
 -- where both journals have room for what the job leaves
@@ -141,16 +135,29 @@ pub voter_is : (core : Core) → voter_of (here_in core) ≡ core.log.voter
 voter_is core =
     ap (λ (n : ℕ). record { me = core.log.voter.me; inc = core.log.voter.inc; servers = n }) (servers_after core.log.voter.servers core.log.applied)
 
+-- at each store that is still to be filled, or at each that is not, the job leaves what this rule says of a voter
+abbrev pub IsEntered : (core : Core) → List StateRecord → (first : Job) → (fresh : Bool) → (Voter → Rule) → Type 0
+IsEntered core records first fresh rule_of = (store : Store) → store.fresh ≡ fresh
+    → job_done (here_in core) (server_of core store records) first (drop 1 core.queue)
+    ≡ entered (here_in core) (server_of core store records) (drop 1 core.queue) (rule_of (voter_of (here_in core)))
+
+pub log_entered : (core : Core) (records : List StateRecord) (first : Job) (fresh : Bool) → kind_of first ≡ OfLog
+    → IsEntered core records first fresh (log_rule core.log records fresh first)
+log_entered core records job.Apply fresh kind = absurd (cc)
+log_entered core records (job.Letter letter) fresh kind = λ store same. rw (not_log (is_log_job (job.Letter letter)) kind) refl
+log_entered core records (job.Stage cell) fresh kind = absurd (cc)
+log_entered core records job.Start fresh kind = λ store same.
+    ap (λ (unfilled : Bool). entered (here_in core) (server_of core store records) (drop 1 core.queue)
+    (log_rule core.log records unfilled job.Start (voter_of (here_in core)))) same
+
 module _ (core : Core) (store : Store) (records : List StateRecord)
-    (first : Job) (there : slice_get core.queue 0 ≡ Some first) (kind : kind_of first ≡ OfLog) where
+    (first : Job) (there : slice_get core.queue 0 ≡ Some first) (fresh : Bool) (same : store.fresh ≡ fresh)
+    (rule_of : Voter → Rule) (enters : IsEntered core records first fresh rule_of) where
   abbrev at : Here
   at = here_in core
 
   abbrev it : Server
   it = server_of core store records
-
-  abbrev rule_of : Voter → Rule
-  rule_of voter = log_does voter (log_of core.log records) first
 
   abbrev entered_by : Voter → Acted
   entered_by voter = entered at it (drop 1 core.queue) (rule_of voter)
@@ -158,12 +165,12 @@ module _ (core : Core) (store : Store) (records : List StateRecord)
   entered_is : works at it core.queue ≡ where_room at it (entered_by core.log.voter)
   entered_is =
       first_done at it core.queue first there
-      ∙ ap (where_room at it) (job_log at it first (drop 1 core.queue) kind)
+      ∙ ap (where_room at it) (enters store same)
       ∙ ap (λ (voter : Voter). where_room at it (entered_by voter)) (voter_is core)
 
   pub log_left : (rule_of core.log.voter).log.records ≡ (left_by_first core store records).log.records
   log_left = sym (ap (λ (it : Server). it.log.records)
-      (first_left at it core.queue first there ∙ ap (λ (left : Acted). left.server) (job_log at it first (drop 1 core.queue) kind
+      (first_left at it core.queue first there ∙ ap (λ (left : Acted). left.server) (enters store same
       ∙ ap (λ (voter : Voter). entered_by voter) (voter_is core))))
 
   pub log_works : store.records ≤ journal_records → length (rule_of core.log.voter).log.records ≤ journal_records
@@ -181,20 +188,20 @@ made running inc log own queue letters = record {
 
 -- a job of the log is done as the rule says
 pub log_worked : (old new : Core) (store : Store) (before after : List StateRecord) (first : Job) (done : LogDone)
-    → slice_get old.queue 0 ≡ Some first → kind_of first ≡ OfLog
-    → IsBy (sender_of old.log) (log_of new.log after) done (log_does old.log.voter (log_of old.log before) first)
+    → slice_get old.queue 0 ≡ Some first → (fresh : Bool) → store.fresh ≡ fresh → (rule_of : Voter → Rule) → IsEntered old before first fresh rule_of
+    → IsBy (sender_of old.log) (log_of new.log after) done (rule_of old.log.voter)
     → new.running ≡ old.running → new.log.voter ≡ old.log.voter → new.side ≡ old.side → new.queue ≡ drop 1 old.queue ++ follow_ups done
     → store.records ≤ journal_records → length after ≤ journal_records
     → acted new store after done.letters ≡ works (here_in old) (server_of old store before) old.queue
 unfolding made
-log_worked old new store before after first done there kind by running voter side queue few_store few_log =
-    let rule = log_does old.log.voter (log_of old.log before) first in
+log_worked old new store before after first done there fresh same rule_of enters by running voter side queue few_store few_log =
+    let rule = rule_of old.log.voter in
     let jobs = queue ∙ ap (λ (js : List Job). drop 1 old.queue ++ js) by.jobs in
     let inc : new.log.voter.inc ≡ old.log.voter.inc = ap (λ (v : Voter). v.inc) voter in
     let records : length rule.log.records ≤ journal_records =
     (let same : length after ≡ length rule.log.records = ap (λ (log : Log). length log.records) by.log in omega (arith, same)) in
     (λ i. made (running i) (inc i) (by.log i) (record { pairs = pairs_of (side i); store = store }) (jobs i) (by.letters i))
-    ∙ sym (log_works old store before first there kind few_store records)
+    ∙ sym (log_works old store before first there fresh same rule_of enters few_store records)
 
 -- ### An entry
 

@@ -4,6 +4,7 @@ use Rattle.log_side.specs.Part.{Part, log_of, state_of}
 use Rattle.pair_side.specs.Side.{Side, pairs_of}
 use Rattle.pair_side.specs.declared.error.WorkError.{WorkError}
 use Rattle.pair_side.specs.declared.error.WorkError.TheVariants.{Failed}
+use Rattle.petal_command.specs.declared.command.Command.{Command}
 use Rattle.petal_msg.specs.declared.letter.Actor.TheVariants as actor
 use Rattle.petal_msg.specs.declared.letter.Letter.{Letter}
 use Rattle.petal_paxos.specs.declared.record.StateRecord.{StateRecord}
@@ -11,6 +12,8 @@ use Rattle.petal_rules.specs.Store.{Store, top_of}
 use Rattle.petal_rules.specs.Log.{Voter}
 use Rattle.petal_rules.specs.Server.{Server, Here, letters_of}
 use Rattle.petal_rules.specs.Jobs.{Acted, down_posts, job_done, works}
+use Rattle.petal_rules.specs.Ballots.{wanted}
+use Rattle.petal_rules.specs.Returns.{own_join}
 use Rattle.petal_rules.specs.World.{greatest_u64}
 use Rattle.petal_rules.specs.declared.job.Job.{Job}
 
@@ -20,6 +23,10 @@ pub record Core : Type 0 where
   pub log : Part
   pub side : Side
   pub queue : List Job
+
+-- what the server wants chosen, with these records on its state device and a store that is still to be filled or not
+abbrev pub wanted_at : Part → List StateRecord → (fresh : Bool) → List Command
+wanted_at part records fresh = wanted part.voter (log_of part records) (own_join (state_of part) part.voter.me part.voter.inc fresh)
 
 -- where its jobs are done
 abbrev pub here_in : Core → Here

@@ -1,3 +1,4 @@
 pub mod Core
 pub mod Kind
 pub mod Steps
+pub mod Boots

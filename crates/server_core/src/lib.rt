@@ -5,6 +5,7 @@
 //! It knows nothing of threads, of the way letters travel, or of what is kept of its steps.
 #![tactic(auto)]
 
+mod boot;
 mod jobs;
 mod queue;
 mod recent;

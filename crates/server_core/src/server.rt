@@ -3,7 +3,7 @@
 ghost use Rattle.std.specs.Prelude.{◌≡◌, ◌++◌, ◌∷◌, ◌||◌, ◌↔◌, List, [], true, false, length, if◌then◌else◌, IsTrue, IfOk, OnOk, OnErr};
 ghost use Rattle.log_side.specs.Part.{log_of, new_part, state_of};
 ghost use Rattle.petal_paxos.specs.declared.record.StateRecord.{StateRecord};
-ghost use Rattle.petal_rules.specs.Ballots.{start_jobs, wanted};
+ghost use Rattle.petal_rules.specs.Ballots.{start_jobs};
 ghost use Rattle.petal_rules.specs.Jobs as jobs;
 ghost use Rattle.petal_rules.specs.Jobs.{tick_posts, ticks};
 ghost use Rattle.petal_rules.specs.Server.{letters_of, sender};
@@ -11,12 +11,12 @@ ghost use Rattle.petal_rules.specs.Store as stores;
 ghost use Rattle.petal_rules.specs.declared.job.Job.TheVariants as job;
 ghost use Rattle.kept_chains.specs.Kept.{store_of};
 ghost use Rattle.pair_side.specs.Side.{new_side};
-ghost use Rattle.server_core.specs.Core.{acted, here_in, is_spent, server_of};
+ghost use Rattle.server_core.specs.Core.{acted, here_in, is_spent, server_of, wanted_at};
 
 use crate::recent::RecentBlocks;
 use global_state::GlobalState;
 use log_side::{Envelope, LogSide, farewell};
-use petal_base::{NoMemory, OPERATOR, Rev, Sequence, ServerId};
+use petal_base::{Inc, NoMemory, OPERATOR, Rev, Sequence, ServerId};
 use petal_command::ServerNumber;
 use petal_disk::Disk;
 use petal_msg::{Actor, Body, Letter, SharedLetter};
@@ -31,12 +31,12 @@ use write_pair::{Here, Side, letters_after};
 /// queue. Nothing reads what a stopped server has in memory.
 #[derive(Drop)]
 pub struct ServerCore {
-    running: bool,
+    pub(crate) running: bool,
     pub(crate) log: LogSide,
     pub(crate) side: Side,
     pub(crate) queue: VecDeque<Job>,
     pub(crate) recent: RecentBlocks,
-    farewell: Sequence<Letter>,
+    pub(crate) farewell: Sequence<Letter>,
 }
 
 impl Model for ServerCore {
@@ -126,6 +126,13 @@ impl ServerCore {
         self.log.me()
     }
 
+    /// Its incarnation.
+    pub fn inc(&self) -> Inc
+        ensures { result ≡ self.now.log.voter.inc }
+    {
+        self.log.inc()
+    }
+
     /// The global state, as the entries that it has applied make it.
     pub fn state(&self) -> &GlobalState
         ensures { result.now ≡ state_of self.now.log }
@@ -160,35 +167,45 @@ impl ServerCore {
     }
 
     /// A tick: each letter of a ballot or of a pending operation that is not yet answered goes out again, another server is
-    /// asked what follows, and an idle proposer is to start a ballot where a command is wanted. The letters have the stamp 0.
+    /// asked what follows, and an idle proposer is to start a ballot where a command is wanted: its own Join among them, where it
+    /// is Out, which tells whether its store is still to be filled. The letters have the stamp 0.
     ///
     /// # Errors
     /// Out of memory. Nothing changed.
-    pub fn tick(&mut self, alloc: Global) -> Result<Sequence<Letter>, NoMemory>
-        ensures ok { IfOk result (λ letters. (store : stores.Store) (records : List StateRecord)
+    pub fn tick(&mut self, alloc: Global, fresh: bool) -> Result<Sequence<Letter>, NoMemory>
+        ensures ok { IfOk result (λ letters. (store : stores.Store) (records : List StateRecord) → store.fresh ≡ fresh
             → acted self.new store records letters ≡ ticks (here_in self.old) (server_of self.old store records)) }
         ensures life { (self.new.running ≡ self.old.running) × (self.new.log.voter ≡ self.old.log.voter) × (self.new.side ≡ self.old.side) }
         ensures err { OnErr result (self.new ≡ self.old) }
     {
         let letters = self.tick_letters(alloc)?;
         let asks = self.log.asks_next()?;
-        self.queue_start(alloc)?;
+        self.queue_start(alloc, fresh)?;
         self.log.ask_at(asks);
         Ok(letters)
     }
 
     /// An idle proposer is to start a ballot where a command is wanted.
-    fn queue_start(&mut self, alloc: Global) -> Result<(), NoMemory>
+    fn queue_start(&mut self, alloc: Global, fresh: bool) -> Result<(), NoMemory>
         ensures ok { (records : List StateRecord) → OnOk result (self.new ≡ record self.old {
           queue = self.old.queue
-              ++ start_jobs self.old.log.phase (wanted self.old.log.voter (log_of self.old.log records));
+              ++ start_jobs self.old.log.phase (wanted_at self.old.log records fresh);
         }) }
         ensures err { OnErr result (self.new ≡ self.old) }
     {
-        if self.log.may_start(alloc)? {
+        if self.may_start(alloc, fresh)? {
             self.queue.push_back(Job::Start)?;
         }
         Ok(())
+    }
+
+    /// Whether a tick is to start a ballot.
+    fn may_start(&self, alloc: Global, fresh: bool) -> Result<bool, NoMemory>
+        ensures { IfOk result (λ may. (records : List StateRecord) → (if may then job.Start ∷ [] else [])
+            ≡ start_jobs self.now.log.phase (wanted_at self.now.log records fresh)) }
+    {
+        let returning = self.log.own_join(alloc, fresh)?;
+        self.log.may_start(alloc, returning.as_slice())
     }
 
     /// What a tick sends.

@@ -10,6 +10,7 @@ ghost use Rattle.petal_rules.specs.Log.{known, next_place};
 ghost use Rattle.petal_rules.specs.State.{State};
 ghost use Rattle.petal_rules.specs.Store as stores;
 ghost use Rattle.petal_rules.specs.World.{greatest_u64};
+ghost use Rattle.petal_rules.specs.declared.job.Job.TheVariants as job;
 ghost use Rattle.kept_chains.specs.Kept.{store_of};
 ghost use Rattle.kept_chains.specs.Standing.{StandsAsEither};
 ghost use Rattle.pair_side.specs.declared.error.WorkError.TheVariants as error;
@@ -17,14 +18,14 @@ ghost use Rattle.pair_side.specs.Side.{HasTicketsAt, own_of, pairs_of};
 ghost use Rattle.pair_side.specs.Done.{HasVersions, HoldsAt};
 ghost use Rattle.server_core.specs.Core.{HasFaults, IsWork, is_spent, left_by_first};
 ghost use Rattle.server_core.specs.Kind.{kind_of};
-ghost use Rattle.server_core.specs.Steps.{IsApplied, IsFullWork, IsLogWork, IsPairWork, of_state};
+ghost use Rattle.server_core.specs.Steps.{IsApplied, IsFullWork, IsLogWork, IsPairWork, log_rule, of_state};
 ghost use Rattle.state_store.specs.Device.{StandsForEither};
 ghost use Rattle.server_core.specs.declared.queue.Kind.TheVariants.{Applies, OfLog, OfPairs};
 
 use crate::jobs::does;
 use crate::queue::{Kind, add_all, enter, go_on, kind_of, make_room};
 use crate::server::ServerCore;
-use log_side::{Entered, LogSide};
+use log_side::{Entered, LogDone, LogSide};
 use pair_side::{crosses, stage_jobs};
 use petal_base::{Inc, NoMemory, Sequence, ServerId};
 use petal_disk::Disk;
@@ -45,7 +46,7 @@ fn has_versions<D: Disk>(store: &Store<D>)
 }
 
 /// What a refusal of the state store means for a job.
-fn of_state(error: StateError) -> WorkError
+pub(crate) fn of_state(error: StateError) -> WorkError
     ensures { result ≡ of_state error }
 {
     match error {
@@ -99,6 +100,36 @@ fn stages_of_next<D: Disk>(
     }
 }
 
+/// Starts a ballot for the first command that is wanted. The server wants its Join, where it is Out, with an empty store or not.
+fn start_wanted<E: Disk>(
+    alloc: Global,
+    fresh: bool,
+    log: &mut LogSide,
+    state: &mut StateStore<E>,
+) -> Result<LogDone, StateError>
+    ensures { logs.IsLogDone E.Disk log.old log.new state.old state.new result
+        (log_rule log.old state.old.records fresh job.Start log.old.voter) }
+{
+    let returning = log.own_join(alloc, fresh)?;
+    log.start_ballot(alloc, state, returning.as_slice())
+}
+
+/// Does a job of the agreed log, with a store that is still to be filled or not.
+fn does_log<E: Disk>(
+    alloc: Global,
+    fresh: bool,
+    log: &mut LogSide,
+    state: &mut StateStore<E>,
+    job: &Job,
+) -> Result<LogDone, StateError>
+    ensures { logs.IsLogDone E.Disk log.old log.new state.old state.new result (log_rule log.old state.old.records fresh job.now log.old.voter) }
+{
+    match job {
+        Job::Start => start_wanted(alloc, fresh, log, state),
+        Job::Letter(_) | Job::Stage(_) | Job::Apply => log.does(alloc, state, job),
+    }
+}
+
 impl ServerCore {
     /// Does the first job of the queue, with at most one commit, and gives its letters, with the stamp 0; None exactly where there
     /// is no job. Where a device showed its store, now and after any crash, it shows the store after the job; a crash at any
@@ -145,7 +176,7 @@ impl ServerCore {
         };
         match first {
             Kind::OfPairs => Ok(Some(self.work_pair(alloc, store)?)),
-            Kind::OfLog => Ok(Some(self.work_log(alloc, state)?)),
+            Kind::OfLog => Ok(Some(self.work_log(alloc, store.fresh(), state)?)),
             Kind::Applies => Ok(Some(self.work_apply(alloc, store, state)?)),
         }
     }
@@ -172,20 +203,21 @@ impl ServerCore {
         Ok(letters)
     }
 
-    /// Does the first job, of the agreed log.
+    /// Does the first job, of the agreed log, with a store that is still to be filled or not.
     fn work_log<E: Disk>(
         &mut self,
         alloc: Global,
+        fresh: bool,
         state: &mut StateStore<E>,
     ) -> Result<Sequence<Letter>, WorkError>
         requires first { IsSomeAnd (slice_get self.old.queue 0) (λ job. kind_of job ≡ OfLog) }
-        ensures { IsLogWork E.Disk self.old self.new state.old state.new result }
+        ensures { IsLogWork E.Disk fresh self.old self.new state.old state.new result }
     {
         make_room(&mut self.queue, 0)?;
         let Some(job) = self.queue.front() else {
             return Ok(Sequence::new(alloc));
         };
-        match self.log.does(alloc, state, job) {
+        match does_log(alloc, fresh, &mut self.log, state, job) {
             Ok(done) => {
                 enter(&mut self.queue, done.apply, done.again);
                 Ok(done.letters)

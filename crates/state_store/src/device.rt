@@ -131,6 +131,7 @@ impl<D: Disk> Device<D> {
         ensures inc { IfOk result (λ kept. kept.inc ≡ inc_of self.new.records) }
         ensures err { OnErr result (self.new.records ≡ self.old.records) }
         ensures failed { IsErrOf result error.Failed → D.faults self.old.disk < D.faults self.new.disk }
+        ensures later { D.faults self.old.disk ≤ D.faults self.new.disk }
         ensures not_full { ¬ IsErrOf result error.JournalFull }
     {
         self.disk.crash();
@@ -247,6 +248,7 @@ fn read_device<D: Disk>(alloc: Global, disk: &mut D) -> Result<(Journal<128>, Re
     ensures blank { IsErrOf result error.Blank → D.told → 8392704 ≤ D.size disk.old → take 64 (D.seen disk.old) ≢ header }
     ensures bad { (index : ℕ) → IfErr result (λ e. e ≡ error.BadRecord index → D.told → IsBadOn (D.seen disk.old) index) }
     ensures failed { IsErrOf result error.Failed → D.faults disk.old < D.faults disk.new }
+    ensures later { D.faults disk.old ≤ D.faults disk.new }
     ensures bad_headed { (index : ℕ) → IfErr result (λ e. e ≡ error.BadRecord index → (8392704 ≤ D.size disk.old) × (D.told → take 64 (D.seen disk.old) ≡ header)) }
     ensures not_full { ¬ IsErrOf result error.JournalFull }
     ensures device { KeepsDevice D.size D.seen D.may_leave D.moment D.left_since disk.old disk.new }

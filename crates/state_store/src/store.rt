@@ -116,6 +116,7 @@ impl<D: Disk> StateStore<D> {
         ensures holds { (records : List StateRecord) → OnOk result (D.told → StandsFor (D.seen self.new.disk) records → Holds self.new.region (D.seen self.new.disk) (D.may_leave self.new.disk) self.new.records) }
         ensures err { OnErr result (self.new.records ≡ self.old.records) }
         ensures failed { IsErrOf result error.Failed → D.faults self.old.disk < D.faults self.new.disk }
+        ensures later { D.faults self.old.disk ≤ D.faults self.new.disk }
         ensures not_full { ¬ IsErrOf result error.JournalFull }
     {
         let kept = self.device.reopen(alloc)?;

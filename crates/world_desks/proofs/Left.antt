@@ -1,13 +1,23 @@
 -- What is left of a server, and of it after a step.
-use Rattle.std.proofs.Common.{◌≡◌, ℕ, Bool, true, false, List, Some, None, refl, ap}
-use Rattle.std.specs.Prelude.{if◌then◌else◌}
+use Rattle.std.proofs.Common.{◌≡◌, ℕ, zero, suc, ◌+◌, Bool, true, false, List, length, Some, None, refl, sym, ap, ◌∙◌}
+use Rattle.std.specs.Prelude.{not, if◌then◌else◌}
+use Rattle.petal_msg.specs.declared.letter.Actor.TheVariants as actor
 use Rattle.petal_msg.specs.declared.letter.Letter.{Letter}
+use Rattle.petal_paxos.specs.Kept.{known_at}
+use Rattle.petal_rules.proofs.Applied.{servers_after}
+use Rattle.petal_rules.specs.Boots.{awake, known_front, raised, stays, wakes}
+use Rattle.petal_rules.specs.Entries.{before_known, known_run}
+use Rattle.petal_rules.specs.Jobs.{down_posts, here_of, is_overfull}
 use Rattle.petal_rules.specs.Log.{Log, rev_of, state_in}
-use Rattle.petal_rules.specs.Server.{Life, Own, Server}
+use Rattle.petal_rules.specs.Server.{Here, Life, Own, Server, letters_of}
+use Rattle.petal_rules.specs.State.{servers_of}
 use Rattle.petal_rules.specs.World.{World, MayServer, is_spent_server, server_step}
 use Rattle.petal_rules.specs.declared.job.Job.{Job}
 use Rattle.petal_rules.specs.declared.step.Step.{Step}
-use Rattle.petal_rules.specs.declared.step.Step.TheVariants.{Call, Deliver, Tick, Work, Stop, Glance}
+use Rattle.petal_rules.specs.declared.step.Step.TheVariants.{Call, Deliver, Tick, Work, Stop, Boot, Glance}
+use Rattle.petal_rules.specs.declared.step.CommitEnd.TheVariants.{After, Before}
+use Rattle.petal_rules.specs.declared.step.WorkEnd.{WorkEnd}
+use Rattle.petal_rules.specs.declared.step.WorkEnd.TheVariants.{Done, Fault}
 use Rattle.world_desks.specs.Desks.{acted_at, left_of, may_take, on_devices}
 
 -- a server of these parts
@@ -79,6 +89,57 @@ shows : (servers n line round : ℕ) (running : Bool) (inc : ℕ) (log : Log) (o
 shows servers n line round true inc log own queue = record { letters = refl; left = refl }
 shows servers n line round false inc log own queue = record { letters = refl; left = refl }
 
+-- ### Boots
+
+-- what is known of places goes by the records alone
+same_run : (log other : Log) → log.records ≡ other.records → (place most : ℕ) → known_run log place most ≡ known_run other place most
+same_run log other same place zero = refl
+same_run log other same place (suc most) = λ i. before_known (known_at (same i) place) (same_run log other same (place + 1) most i)
+
+module _ (servers n inc : ℕ) (log : Log) (own : Own) (queue : List Job) where
+  abbrev asleep : Server
+  asleep = made false inc log own queue
+
+  abbrev shown : Server
+  shown = on_devices asleep
+
+  abbrev here_now : Here
+  here_now = here_of (state_in servers log) n asleep
+
+  abbrev here_left : Here
+  here_left = here_of (state_in servers shown.log) n shown
+
+  count : servers_of here_left.state ≡ servers_of here_now.state
+  count = servers_after servers shown.log.applied ∙ sym (servers_after servers log.applied)
+
+  front : known_front (raised shown).log ≡ known_front (raised asleep).log
+  front = same_run (raised shown).log (raised asleep).log refl 1 (length (raised asleep).log.records)
+
+  booted_letters : (full : Bool) → (if full then stays shown else wakes here_left (awake (raised shown))).letters
+      ≡ (if full then stays asleep else wakes here_now (awake (raised asleep))).letters
+  booted_letters true = refl
+  booted_letters false =
+      λ i. letters_of (record { from = actor.Server n; inc = inc + 1; rev = length (front i) }) 0 (down_posts n inc (count i))
+
+  booted_left : (full : Bool) → left_of (if full then stays shown else wakes here_left (awake (raised shown))).server
+      ≡ left_of (if full then stays asleep else wakes here_now (awake (raised asleep))).server
+  booted_left true = refl
+  booted_left false = λ i. record (awake (raised asleep)) { log = record (awake (raised asleep)).log { applied = front i } }
+
+  raised_left : (full : Bool) → left_of (if full then shown else raised shown) ≡ left_of (if full then asleep else raised asleep)
+  raised_left true = refl
+  raised_left false = refl
+
+  boots_left : (end : WorkEnd) → StepsLeft servers n asleep (Boot end)
+  boots_left Done = record { letters = booted_letters (is_overfull (raised asleep)); left = booted_left (is_overfull (raised asleep)) }
+  boots_left (Fault Before) = record { letters = refl; left = refl }
+  boots_left (Fault After) = record { letters = refl; left = raised_left (is_overfull (raised asleep)) }
+
+boots_at : (servers n : ℕ) (end : WorkEnd) (running : Bool) (inc : ℕ) (log : Log) (own : Own) (queue : List Job) → not running ≡ true
+    → StepsLeft servers n (made running inc log own queue) (Boot end)
+boots_at servers n end true inc log own queue rests = absurd (cc)
+boots_at servers n end false inc log own queue rests = boots_left servers n inc log own queue end
+
 -- a step that it may take
 pub steps_left : (servers n : ℕ) (server : Server) (what : Step) → may_take what server.life.running ≡ true → StepsLeft servers n server what
 steps_left servers n s (Call line) on = calls servers n line s.life.running s.life.inc s.log s.own s.queue
@@ -86,13 +147,15 @@ steps_left servers n s (Deliver letter) on = receives servers n letter s.life.ru
 steps_left servers n s Tick on = runs servers n s Tick on
 steps_left servers n s (Work end) on = runs servers n s (Work end) on
 steps_left servers n s Stop on = runs servers n s Stop on
+steps_left servers n s (Boot end) on = boots_at servers n end s.life.running s.life.inc s.log s.own s.queue on
 steps_left servers n s (Glance line round) on = shows servers n line round s.life.running s.life.inc s.log s.own s.queue
 
 -- as it may each step that is allowed
 pub allowed : (w : World) (n : ℕ) (what : Step) → MayServer what w n → may_take what (w.servers n).life.running ≡ true
 allowed w n (Call line) may = refl
 allowed w n (Deliver letter) may = refl
-allowed w n Tick may = may
-allowed w n (Work end) may = may.0
+allowed w n Tick may = may.runs
+allowed w n (Work end) may = may.acts.runs
 allowed w n Stop may = may.runs
+allowed w n (Boot end) may = ap not may.rests
 allowed w n (Glance line round) may = refl

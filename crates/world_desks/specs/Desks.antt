@@ -1,5 +1,5 @@
 -- The servers of a world.
-use Rattle.std.specs.Prelude.{ℕ, Bool, true, List, [], map, if◌then◌else◌}
+use Rattle.std.specs.Prelude.{ℕ, Bool, true, not, List, [], map, if◌then◌else◌}
 use Rattle.std.specs.List.{range_with_len}
 use Rattle.script_lines.specs.declared.script.Script.{Script}
 use Rattle.petal_rules.specs.Log.{first_log, state_in}
@@ -8,9 +8,9 @@ use Rattle.petal_rules.specs.Jobs.{Acted}
 pub use Rattle.petal_rules.specs.World.{is_spent_server}
 use Rattle.petal_rules.specs.World.{Setting, World, server_step, setting_of, start}
 use Rattle.petal_rules.specs.declared.step.Step.{Step}
-use Rattle.petal_rules.specs.declared.step.Step.TheVariants.{Tick, Work, Stop}
+use Rattle.petal_rules.specs.declared.step.Step.TheVariants.{Tick, Work, Stop, Boot}
 use Rattle.petal_rules.specs.declared.step.WorkEnd.{WorkEnd}
-use Rattle.petal_rules.specs.declared.step.WorkEnd.TheVariants.{Done}
+use Rattle.petal_rules.specs.declared.step.WorkEnd.TheVariants.{Done, Fault}
 
 -- ### What is left of a server
 
@@ -27,24 +27,32 @@ on_devices server = record {
 abbrev pub left_of : Server → Server
 left_of server = if server.life.running then server else on_devices server
 
--- a server that has stopped drops letters and is glanced at, and takes no other step
+-- a server that has stopped drops letters, is glanced at and boots, and takes no other step; one that runs does not boot
 abbrev pub may_take : Step → (running : Bool) → Bool
 may_take Tick running = running
 may_take (Work end) running = running
 may_take Stop running = running
+may_take (Boot end) running = not running
 may_take _ running = true
 
--- ### How a job ends
+-- ### How a job or a boot ends
 
--- the step that was taken: how a job ended is told by the devices
+-- the step that was taken: how a job or a boot ended is told by the devices
 abbrev pub ended : Step → WorkEnd → Step
 ended (Work named) end = Work end
+ended (Boot named) end = Boot end
 ended what end = what
 
--- how the job of a step ended; a step without a job is done
+-- how the job or the boot of a step ended; any other step is done
 abbrev pub end_in : Step → WorkEnd
 end_in (Work end) = end
+end_in (Boot end) = end
 end_in _ = Done
+
+-- a device failed in it
+abbrev pub IsFault : WorkEnd → Type 0
+IsFault Done = ⊥
+IsFault (Fault end) = Unit {0}
 
 -- ### Servers and their steps
 

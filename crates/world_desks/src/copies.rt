@@ -79,7 +79,7 @@ pub fn answer_again(answer: &Answer) -> Result<Answer, NoMemory>
     Ok(answer.clone()?)
 }
 
-/// The step that was taken, where its job ended so.
+/// The step that was taken, where its job or its boot ended so.
 pub fn step_taken(step: &Step, end: WorkEnd) -> Result<Step, NoMemory>
     ensures { IfOk result (λ taken. taken ≡ ended step.now end) }
 {
@@ -91,6 +91,7 @@ pub fn step_taken(step: &Step, end: WorkEnd) -> Result<Step, NoMemory>
         Step::Tick => Ok(Step::Tick),
         Step::Work(_) => Ok(Step::Work(end)),
         Step::Stop => Ok(Step::Stop),
+        Step::Boot(_) => Ok(Step::Boot(end)),
         Step::Glance { line, round } => Ok(Step::Glance {
             line: *line,
             round: *round,

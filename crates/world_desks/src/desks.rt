@@ -41,7 +41,7 @@ impl<H: Host> Model for Desks<H> {
 }
 
 impl<H: Host> Desk<H> {
-    /// A step of the server, with its stamp. How a job ends is for the devices to say.
+    /// A step of the server, with its stamp. How a job or a boot ends is for the devices to say.
     fn step(&mut self, alloc: Global, step: &Step, stamp: Stamp) -> Result<Taken, NoMemory>
         ensures desk { IfOk result (λ taken. self.new ≡ record { site = site_after self.old.site (ended step.now taken.end); clock = stamp }) }
         ensures letters { IfOk result (λ taken. taken.letters ≡ (acted_at self.old.site (ended step.now taken.end)).letters) }
@@ -72,7 +72,7 @@ impl<H: Host> Desks<H> {
         self.desks.get(server as usize)
     }
 
-    /// A step of one server, with its stamp. How a job ends is for the devices to say.
+    /// A step of one server, with its stamp. How a job or a boot ends is for the devices to say.
     pub fn step(
         &mut self,
         alloc: Global,

@@ -1,10 +1,10 @@
 //! One server of a world.
 
-ghost use Rattle.std.specs.Prelude.{◌≡◌, ◌↔◌, [], IfOk, IsTrue};
+ghost use Rattle.std.specs.Prelude.{◌≡◌, ◌<◌, ◌↔◌, ℕ, [], IfOk, IsTrue};
 ghost use Rattle.petal_rules.specs.Log.{rev_of};
-ghost use Rattle.world_desks.specs.Desks.{Site, acted_at, end_in, ended, is_spent_server, site_after};
+ghost use Rattle.world_desks.specs.Desks.{IsFault, Site, acted_at, end_in, ended, is_spent_server, site_after};
 
-use petal_base::{NoMemory, Rev, Sequence};
+use petal_base::{Inc, NoMemory, Rev, Sequence};
 use petal_msg::Letter;
 use petal_rules::{Step, WorkEnd};
 use std::alloc::Global;
@@ -14,7 +14,7 @@ use std::alloc::Global;
 pub struct Taken {
     /// The letters that it sends, without their stamps.
     pub letters: Sequence<Letter>,
-    /// How the job ended; `Done` for a step without a job.
+    /// How the job or the boot ended; `Done` for any other step.
     pub end: WorkEnd,
 }
 
@@ -24,16 +24,25 @@ pub trait Host: Drop {
     /// stands on its two devices.
     ghost seen: { Self → Site };
 
-    /// Takes a step. How a job ends is for the devices to say, whatever end the step names; the server and the letters are
-    /// those of the step with the end that is given. After it ran out of memory nothing is said of the server.
+    /// How often its devices have failed so far.
+    ghost faults: { Self → ℕ };
+
+    /// Takes a step. How a job or a boot ends is for the devices to say, whatever end the step names; the server and the letters
+    /// are those of the step with the end that is given, which is a fault only where a device failed. After it ran out of memory
+    /// nothing is said of the server.
     fn step(&mut self, alloc: Global, step: &Step) -> Result<Taken, NoMemory>
         ensures site { IfOk result (λ taken. seen self.new ≡ site_after (seen self.old) (ended step.now taken.end)) }
         ensures letters { IfOk result (λ taken. taken.letters ≡ (acted_at (seen self.old) (ended step.now taken.end)).letters) }
-        ensures end { IfOk result (λ taken. taken.end ≡ end_in (ended step.now taken.end)) };
+        ensures end { IfOk result (λ taken. taken.end ≡ end_in (ended step.now taken.end)) }
+        ensures cause { IfOk result (λ taken. IsFault taken.end → faults self.old < faults self.new) };
 
     /// Whether it runs.
     fn is_running(&self) -> bool
         ensures { result ≡ (seen self.now).server.life.running };
+
+    /// Its incarnation.
+    fn inc(&self) -> Inc
+        ensures { result ≡ (seen self.now).server.life.inc };
 
     /// Whether no job waits.
     fn is_idle(&self) -> bool

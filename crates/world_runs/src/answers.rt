@@ -51,6 +51,13 @@ fn shown(answer: Option<&Answer>) -> Option<&SharedBlock> {
     }
 }
 
+fn is_failed(answer: Option<&Answer>) -> bool {
+    match answer {
+        Some(Answer::Failed) => true,
+        _ => false,
+    }
+}
+
 /// Whether the answer is a block of this byte.
 fn is_filled(answer: Option<&Answer>, fill: u8) -> bool {
     match shown(answer) {
@@ -76,6 +83,7 @@ pub fn is_so<H: Host>(run: &Run<H>, line: u32, want: &Want) -> bool {
         Want::NoDisk => is_no_disk(answer),
         Want::Unavailable => is_unavailable(answer),
         Want::Exists => is_exists(answer),
+        Want::DoesNotRun => is_failed(answer),
         Want::Open => answer.is_none(),
         Want::Fill(fill) => is_filled(answer, *fill),
         Want::Either(one, other) => is_filled(answer, *one) || is_filled(answer, *other),

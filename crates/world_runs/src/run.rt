@@ -80,29 +80,47 @@ impl<H: Host> Run<H> {
         self.take(alloc, Actor::Server(server), &Step::Stop)
     }
 
+    /// The stopped server boots.
+    pub fn boot(&mut self, alloc: Global, server: ServerId) -> Result<bool, NoMemory> {
+        self.take(alloc, Actor::Server(server), &Step::Boot(WorkEnd::Done))
+    }
+
     /// The server is glanced at for this line.
     pub fn show(&mut self, alloc: Global, server: ServerId, line: u32) -> Result<bool, NoMemory> {
         let glance = Step::Glance { line, round: 0 };
         self.take(alloc, Actor::Server(server), &glance)
     }
 
-    /// The operator's open line, where it stops a server, and that server.
-    pub fn open_stop(&self) -> Option<(u32, ServerId)> {
+    /// The operator's open line, what it asks for, and of which server.
+    pub fn open_order(&self) -> Option<(u32, Order, ServerId)> {
         let line = last_call(self.records(), OPERATOR)?;
         if self.answer(line).is_some() {
             return None;
         }
-        let server = stopped_by(self.script(), line)?;
-        Some((line, server))
+        let (order, server) = ordered_by(self.script(), line)?;
+        Some((line, order, server))
     }
 
-    /// What the operator's open line asks for is done: its server stops, where it runs, and is glanced at. Gives whether it was
-    /// done only now.
+    /// The server takes the step that the order gives it, where it can.
+    pub fn follow(
+        &mut self,
+        alloc: Global,
+        order: Order,
+        server: ServerId,
+    ) -> Result<bool, NoMemory> {
+        match order {
+            Order::Stop => self.stop(alloc, server),
+            Order::Start => self.boot(alloc, server),
+        }
+    }
+
+    /// What the operator's open line asks for is done: its server stops, where it runs, or boots, where it does not, and is glanced
+    /// at. Gives whether it was done only now.
     pub fn obey(&mut self, alloc: Global) -> Result<bool, NoMemory> {
-        match self.open_stop() {
+        match self.open_order() {
             None => Ok(false),
-            Some((line, server)) => {
-                self.stop(alloc, server)?;
+            Some((line, order, server)) => {
+                self.follow(alloc, order, server)?;
                 self.show(alloc, server, line)
             }
         }
@@ -240,10 +258,10 @@ fn calls_of(records: &[Record], client: ClientId) -> usize {
         .count()
 }
 
-/// Whether a device failed in the job.
+/// Whether a device failed in the job or the boot.
 fn has_failed(step: &Step) -> bool {
     match step {
-        Step::Work(WorkEnd::Fault(_)) => true,
+        Step::Work(WorkEnd::Fault(_)) | Step::Boot(WorkEnd::Fault(_)) => true,
         _ => false,
     }
 }
@@ -255,6 +273,7 @@ fn is_call(step: &Step) -> bool {
         | Step::Tick
         | Step::Work(_)
         | Step::Stop
+        | Step::Boot(_)
         | Step::Glance { line: _, round: _ } => false,
     }
 }
@@ -272,13 +291,22 @@ fn last_call(records: &[Record], client: ClientId) -> Option<u32> {
     last
 }
 
-/// The server that the line stops.
-fn stopped_by(script: &Script, number: u32) -> Option<ServerId> {
+/// What a line of the operator asks a server for.
+#[derive(Clone, Copy, Debug, PartialEq, Eq)]
+pub enum Order {
+    Stop,
+    Start,
+}
+
+/// What the line asks for, and of which server.
+fn ordered_by(script: &Script, number: u32) -> Option<(Order, ServerId)> {
     for line in script.lines.as_slice() {
         if line.number == number {
-            if let Request::Stop { server } = &line.request {
-                return Some(*server);
-            }
+            return match &line.request {
+                Request::Stop { server } => Some((Order::Stop, *server)),
+                Request::Start { server } => Some((Order::Start, *server)),
+                _ => None,
+            };
         }
     }
     None

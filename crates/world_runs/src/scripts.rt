@@ -44,14 +44,37 @@ pub fn script_by(alloc: Global, chance: &mut Chance) -> Result<String, AllocErro
     Ok(text)
 }
 
+// Two of five servers.
+fn two_by(chance: &mut Chance) -> (usize, usize) {
+    let first = chance.below(5);
+    let second = (first + 1 + chance.below(4)) % 5;
+    (first, second)
+}
+
 /// The same over five servers, two of which the operator stops.
 pub fn script_with_stops(alloc: Global, chance: &mut Chance) -> Result<String, AllocError> {
     let slots = 3 + chance.below(3);
-    let first = chance.below(5);
-    let second = (first + 1 + chance.below(4)) % 5;
+    let (first, second) = two_by(chance);
     let mut text = format!(in alloc;
         "servers 5 slots {slots}\na disk vol on 0 1 2\nb disk log on 3 4\nop stop {first}\nop stop {second}\n"
     )?;
+    add_lines(alloc, chance, &mut text)?;
+    Ok(text)
+}
+
+/// The same over five servers, of which the operator again and again stops two and starts them.
+pub fn script_with_starts(alloc: Global, chance: &mut Chance) -> Result<String, AllocError> {
+    let slots = 3 + chance.below(3);
+    let mut text = format!(in alloc;
+        "servers 5 slots {slots}\na disk vol on 0 1 2\nb disk log on 3 4\n"
+    )?;
+    for _ in 0..4 {
+        let (first, second) = two_by(chance);
+        let orders = format!(in alloc;
+            "op stop {first}\nop start {first}\nop stop {second}\nop stop {first}\nop start {first}\nop start {second}\n"
+        )?;
+        text.push_str(orders.as_str())?;
+    }
     add_lines(alloc, chance, &mut text)?;
     Ok(text)
 }

@@ -5,7 +5,7 @@ use crate::chance::Chance;
 use crate::run::Run;
 use petal_base::{NoMemory, OPERATOR};
 use petal_msg::{Actor, SharedLetter};
-use petal_world::{Host, Step};
+use petal_world::{Host, Step, WorkEnd};
 use std::alloc::Global;
 use std::test::Fail;
 
@@ -98,13 +98,13 @@ impl Choice {
         }
     }
 
-    // The operator calls its next line, or its open line goes on: its server stops, or is glanced at.
+    // The operator calls its next line, or its open line goes on: its server stops or boots, or is glanced at.
     fn operate<H: Host>(&mut self, alloc: Global, run: &mut Run<H>) -> Result<bool, NoMemory> {
-        match (run.open_stop(), self.chance.below(4)) {
+        match (run.open_order(), self.chance.below(4)) {
             (None, 0) => run.call(alloc, OPERATOR),
             (None, _) => Ok(false),
-            (Some((_line, server)), 0) => run.stop(alloc, server),
-            (Some((line, server)), _) => run.show(alloc, server, line),
+            (Some((_line, order, server)), 0) => run.follow(alloc, order, server),
+            (Some((line, _order, server)), _) => run.show(alloc, server, line),
         }
     }
 
@@ -139,13 +139,14 @@ impl Choice {
 }
 
 /// How many lines were answered in some runs, how many of these with `nospace` and with `unavailable`, how often a server was
-/// stopped, and in how many jobs a device failed.
+/// stopped and how often one booted, and in how many jobs a device failed.
 #[derive(Clone, Copy, Debug, PartialEq, Eq)]
 pub struct Count {
     pub answered: usize,
     pub no_space: usize,
     pub unavailable: usize,
     pub stops: usize,
+    pub boots: usize,
     pub faults: usize,
 }
 
@@ -157,6 +158,7 @@ impl Count {
             no_space: 0,
             unavailable: 0,
             stops: 0,
+            boots: 0,
             faults: 0,
         }
     }
@@ -168,6 +170,7 @@ impl Count {
             no_space: self.no_space.saturating_add(more.no_space),
             unavailable: self.unavailable.saturating_add(more.unavailable),
             stops: self.stops.saturating_add(more.stops),
+            boots: self.boots.saturating_add(more.boots),
             faults: self.faults.saturating_add(more.faults),
         }
     }
@@ -180,6 +183,13 @@ fn stops<H: Host>(run: &Run<H>) -> usize {
         .count()
 }
 
+fn boots<H: Host>(run: &Run<H>) -> usize {
+    run.records()
+        .iter()
+        .filter(|record| record.step == Step::Boot(WorkEnd::Done))
+        .count()
+}
+
 fn counted<H: Host>(run: &Run<H>) -> Count {
     let mut count = Count::new();
     for line in run.script().lines.as_slice() {
@@ -189,10 +199,12 @@ fn counted<H: Host>(run: &Run<H>) -> Count {
             no_space: usize::from(is_no_space(answer)),
             unavailable: usize::from(is_unavailable(answer)),
             stops: 0,
+            boots: 0,
             faults: 0,
         });
     }
     count.stops = stops(run);
+    count.boots = boots(run);
     count.faults = run.failed();
     count
 }

@@ -4,4 +4,4 @@ use Rattle.law_copies.proofs.Copying.{covered_after}
 use Rattle.law_copies.proofs.an_unequal_block_is_marked.Goals as goal
 
 pub returns : goal.returns
-returns c script records sound legal = covered_after script records (always_firm script records sound legal) legal
+returns c script records sound legal = covered_after script records sound (always_firm script records sound legal) legal

@@ -4,4 +4,4 @@ use Rattle.law_copies.proofs.First.{marks_first}
 use Rattle.law_copies.proofs.leads_put_on_marked_blocks.Goals as goal
 
 pub returns : goal.returns
-returns c script records sound legal = marks_first script records (always_firm script records sound legal) legal
+returns c script records sound legal = marks_first script records sound (always_firm script records sound legal) legal

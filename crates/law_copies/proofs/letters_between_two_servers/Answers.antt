@@ -4,4 +4,4 @@ use Rattle.law_copies.proofs.Copying.{good_after}
 use Rattle.law_copies.proofs.letters_between_two_servers.Goals as goal
 
 pub returns : goal.returns
-returns c script records sound legal = good_after script records (always_firm script records sound legal) legal
+returns c script records sound legal = good_after script records sound (always_firm script records sound legal) legal

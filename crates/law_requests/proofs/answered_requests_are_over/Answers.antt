@@ -4,4 +4,4 @@ use Rattle.law_requests.proofs.Histories.{requests_after}
 use Rattle.law_requests.proofs.answered_requests_are_over.Goals as goal
 
 pub returns : goal.returns
-returns c script records sound legal = requests_after script records (always_firm script records sound legal) legal
+returns c script records sound legal = requests_after script records sound (always_firm script records sound legal) legal

@@ -4,4 +4,4 @@ use Rattle.law_requests.proofs.Histories.{asking_after}
 use Rattle.law_requests.proofs.letters_of_clients_and_replies.Goals as goal
 
 pub returns : goal.returns
-returns c script records sound legal = asking_after script records (always_firm script records sound legal) legal
+returns c script records sound legal = asking_after script records sound (always_firm script records sound legal) legal

@@ -4,4 +4,4 @@ use Rattle.law_requests.proofs.Histories.{open_after}
 use Rattle.law_requests.proofs.pending_writes_are_open.Goals as goal
 
 pub returns : goal.returns
-returns c script records sound legal = open_after script records (always_firm script records sound legal) legal
+returns c script records sound legal = open_after script records sound (always_firm script records sound legal) legal

@@ -3,25 +3,25 @@ use Rattle.std.proofs.Common.{refl}
 use Rattle.petal_rules.proofs.Tests.{none_some}
 use Rattle.petal_rules.specs.Lists.{put_at}
 use Rattle.petal_rules.specs.Clients.{heard, refusal}
-use Rattle.petal_rules.specs.World.{IsStopped_by, step}
+use Rattle.petal_rules.specs.World.{IsOpenLine, step}
 use Rattle.history_rows.specs.Stops.{asked_acts, stopped_acts, trio_after}
 use Rattle.history_rows.proofs.Lines.{asked_for, none_yet, one_of_three, one_step}
 use Rattle.history_rows.proofs.stops.a_line_stops_a_server.Goals as goal
 
-asked : IsStopped_by (trio_after asked_acts) 1 3
+asked : IsOpenLine (trio_after asked_acts) (asked_for 3 1)
 unfolding put_at refusal step
-asked = record { asked = asked_for 3 1; open_line = refl; line_is = refl; request_is = refl; first = λ is. none_some refl is }
+asked = record { is = refl; first = λ is. none_some refl is }
 
-stopped : IsStopped_by (trio_after stopped_acts) 1 3
+stopped : IsOpenLine (trio_after stopped_acts) (asked_for 3 1)
 unfolding put_at refusal step
-stopped = record { asked = asked_for 3 1; open_line = refl; line_is = refl; request_is = refl; first = λ is. none_some refl is }
+stopped = record { is = refl; first = λ is. none_some refl is }
 
 pub returns : goal.returns
 unfolding put_at heard refusal step
 returns c = record {
-  may = record { may = (one_of_three, record { runs = refl; line = 3; by = asked }); clock = none_yet; receives = none_yet; goes_on = refl };
+  may = record { may = (one_of_three, record { runs = refl; asked = asked_for 3 1; opened = asked; stops = refl }); clock = none_yet; receives = none_yet; goes_on = refl };
   stopped = refl;
   told = refl;
-  glance = record { may = (one_of_three, record { rests = refl; by = stopped; round_is = refl }); clock = one_step; receives = none_yet; goes_on = refl };
+  glance = record { may = (one_of_three, record { asked = asked_for 3 1; opened = stopped; line_is = refl; done = (refl, refl); round_is = refl }); clock = one_step; receives = none_yet; goes_on = refl };
   answered = refl;
 }

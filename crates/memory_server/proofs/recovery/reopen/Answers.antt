@@ -1,5 +1,4 @@
 -- Both stores are those that the devices show.
-use Rattle.std.proofs.Common.{◌≡◌}
 use Rattle.memory_server.proofs.Recovering.{store_holds}
 use Rattle.memory_server.proofs.recovery.reopen.Goals as goal
 

@@ -16,7 +16,7 @@ returns-clause-none c =
       wants = it.wants;
       asks = it.asks;
     } in
-    rw (← c.self.view_is) (IfOk-weaker c.first_wanted.result _ _ (none_wanted part c.in-Idle.is) (rw (← c.self.view_is) at c.first_wanted.ensures))
+    rw (← c.self.view_is) (IfOk-weaker c.most_urgent.result _ _ (none_wanted part c.args.returning.now c.in-Idle.is) (rw (← c.self.view_is) at c.most_urgent.ensures))
 
 pub returns-clause-some : goal.returns-clause-some
 returns-clause-some c =
@@ -33,4 +33,4 @@ returns-clause-some c =
     let entries = rw (← c.self.view_is) at c.rev.ensures.entries in
     let below = c.if-rev-ge-GREATEST_PLACE.false in
     rw (← c.self.view_is)
-    (IfOk-weaker c.first_wanted.result _ _ (some_wanted part c.in-Idle.is (omega (arith, entries, below))) (rw (← c.self.view_is) at c.first_wanted.ensures))
+    (IfOk-weaker c.most_urgent.result _ _ (some_wanted part c.args.returning.now c.in-Idle.is (omega (arith, entries, below))) (rw (← c.self.view_is) at c.most_urgent.ensures))

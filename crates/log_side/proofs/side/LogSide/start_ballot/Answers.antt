@@ -54,3 +54,8 @@ returns-in-Err g c =
     (refused_done g.D.Disk part old c.promise.new.self (committed old.records entry) c.in-Err.error _
     (records_are part old.records place round c.in-Some.want next) (one_over old.records entry)
     _ refl refused.full refused.memory refused.failed refused.err refused.only refused.any_moment refused.later refused.run)
+
+pub returns-in_default : goal.returns-in_default
+returns-in_default g c =
+    let none = rw c.in_default.is at c.in_ok-found.ensures.none in
+    rw (none c.args.state.now.records) c.quiet.ensures

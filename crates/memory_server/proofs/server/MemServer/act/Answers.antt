@@ -1,4 +1,4 @@
-use Rattle.std.proofs.Common.{Ok, ap, ◌∙◌}
+use Rattle.std.proofs.Common.{Ok, sym, ap, ◌∙◌}
 use Rattle.kept_chains.specs.Kept.{store_of}
 use Rattle.petal_rules.specs.Jobs.{Acted}
 use Rattle.memory_server.proofs.Ticking.{tick_site}
@@ -12,7 +12,7 @@ returns-in_ok-tick-in-Tick-clause-site c =
     let it = c.self-in-Tick.inside in
     rw (c.in-Tick.is, ← c.self-in-Tick.view_is)
     (ap (λ (site : Site). left_at site)
-    (tick_site it.core c.tick.new.self it.store it.state (Ok c.in_ok-tick-in-Tick.field-0) c.in_ok-tick-in-Tick.ensures.ok c.tick.ensures.life.1))
+    (tick_site it.core c.tick.new.self it.store it.state (Ok c.in_ok-tick-in-Tick.field-0) c.fresh.result (sym c.fresh.ensures) c.in_ok-tick-in-Tick.ensures.ok c.tick.ensures.life.1))
 
 pub returns-in_ok-glance-in-Glance-clause-letters : goal.returns-in_ok-glance-in-Glance-clause-letters
 returns-in_ok-glance-in-Glance-clause-letters c =

@@ -9,7 +9,7 @@ use Rattle.memory_server.proofs.server.MemServer.start.Goals as goal
 
 pub invariant_of-result : goal.invariant_of-result
 invariant_of-result c = λ on. record {
-  tickets = blank c.in_ok-core.core.side c.in-Ok-format.store (ap (λ (core : Core). core.side) c.in_ok-core.ensures)
+  tickets = λ _. blank c.in_ok-core.core.side c.in-Ok-format.store (ap (λ (core : Core). core.side) c.in_ok-core.ensures)
       (ap (λ (store : Holdings (Planned MemDisk)). store.tickets) c.in-Ok-format.ensures.ok);
   store = c.in-Ok-format.ensures.holds tt;
   state = c.in_ok-state.ensures.holds;

@@ -5,11 +5,11 @@ use Rattle.server_core.proofs.Ticks.{ticked}
 use Rattle.server_core.proofs.server.ServerCore.tick.Goals as goal
 
 pub returns-clause-ok : goal.returns-clause-ok
-returns-clause-ok c = λ store records.
+returns-clause-ok c = λ store records same.
     let it = c.self-2.inside in
     let asks = c.in_ok-asks.asks in
     let new : Core = record { running = it.running; log = c.ask_at.new.self; side = it.side; queue = it.queue.items } in
-    ticked c.args.self.now new store records c.in_ok-letters.letters asks
+    ticked c.args.self.now new store records c.in_ok-letters.letters asks c.args.fresh same
     (c.in_ok-letters.ensures store records)
     (c.in_ok-asks.ensures ∙ ap (λ (core : Core). (core.log.asks + 1) % (core.log.voter.servers - 1)) c.self.view_is)
     (ap (λ (log : Part). record { running = it.running; log = log; side = it.side; queue = it.queue.items }) c.ask_at.ensures

@@ -1,0 +1,661 @@
+-- What the lines that name a server are answered by: each by its own glance, which tells what it saw. And why a start fails: its
+-- glance comes right after the boot that its line gave, and finds the server stopped.
+use Rattle.std.proofs.Common.{◌≡◌, ◌≢◌, ◌⊎◌, inl, inr, ◌<◌, ◌+◌, ◌++◌, ◌==◌, ℕ, Bool, true, false, List, [], ◌∷◌, Option, Some, None, is_some, refl, sym, ap, ◌∙◌, subst, arith, append_assoc}
+use Rattle.std.specs.Prelude.{length, slice_get}
+use Rattle.std.proofs.lemmas.List.{append-nil}
+use Rattle.global_tables.specs.declared.disk.Latest.{Latest}
+use Rattle.global_tables.specs.declared.disk.Verdict.{Verdict}
+use Rattle.global_tables.specs.declared.disk.Verdict.TheVariants as verdict
+use Rattle.petal_base.specs.declared.cell.Cell.{Cell}
+use Rattle.petal_command.specs.declared.command.Command.{Command}
+use Rattle.petal_msg.specs.declared.body.Body.TheVariants as body
+use Rattle.petal_msg.specs.declared.letter.Actor.{Actor}
+use Rattle.petal_msg.specs.declared.letter.Actor.TheVariants as actor
+use Rattle.petal_msg.specs.declared.letter.Letter.{Letter}
+use Rattle.petal_msg.specs.declared.operation.Ending.{Ending}
+use Rattle.petal_msg.specs.declared.operation.Ending.TheVariants as ending
+use Rattle.petal_state.specs.declared.answer.DiskView.{DiskView}
+use Rattle.petal_state.specs.State.{latest}
+use Rattle.script_lines.specs.Requests.{names}
+use Rattle.script_lines.specs.declared.answer.Answer.{Answer}
+use Rattle.script_lines.specs.declared.answer.Answer.TheVariants as answer
+use Rattle.script_lines.specs.declared.request.Line.{Line}
+use Rattle.script_lines.specs.declared.request.Request.{Request}
+use Rattle.script_lines.specs.declared.request.Request.TheVariants as request
+use Rattle.script_lines.specs.declared.script.Script.{Script}
+use Rattle.petal_rules.specs.Boots.{awake, boots, raised, stays, wakes}
+use Rattle.petal_rules.specs.Clients.{Client, Asked, Reaction, epoch_for, cell_on, is_read, is_write, command_of, read_refusal, read_refusal_at, readers, refusal, seen_answer, verdict_answer, verdict_for, write_refusal}
+use Rattle.petal_rules.specs.Jobs.{Acted, here_of, is_overfull, operator, shown}
+use Rattle.petal_rules.specs.Lists.{In}
+use Rattle.petal_rules.specs.Server.{Here, Server}
+use Rattle.petal_rules.specs.State.{State, find, lead}
+use Rattle.petal_rules.specs.World.{Booted, Control, Deed, IsDone, IsFree, MayActor, MayGlance, MayServer, Setting, Stopped, World, acts, client_state, client_step, controls, lines_of, next_line, reacts, server_state, server_step, setting_of, start, step, with_answer}
+use Rattle.petal_rules.specs.declared.step.Step.{Step}
+use Rattle.petal_rules.specs.declared.step.Step.TheVariants.{Call, Deliver, Tick, Work, Stop, Boot, Glance}
+use Rattle.petal_rules.specs.declared.step.WorkEnd.{WorkEnd}
+use Rattle.petal_rules.specs.declared.step.WorkEnd.TheVariants as work_end
+use Rattle.petal_rules.proofs.ListLemmas.{in-append, put_apart, put_same}
+use Rattle.petal_rules.proofs.Tests.{all_put, by_test, none_some, same_some, true_false}
+use Rattle.petal_history.specs.Legal.{IsLegal, world_after}
+use Rattle.petal_history.specs.Order.{AreRising}
+use Rattle.petal_history.specs.Sound.{IsSound}
+use Rattle.petal_history.specs.declared.record.Record.{Record}
+use Rattle.law_answers.proofs.Places.{line_at, one_place}
+use Rattle.law_steps.specs.Happens.{Heard}
+use Rattle.law_steps.specs.Turned.{Turned, IsReason, By_verdict, By_witness, IsSame, StaysOpen, Goes_on, Begins, Reads, Ends, Shown, Judges, answer_of}
+use Rattle.law_steps.proofs.Histories.{front_legal, world_more}
+use Rattle.law_steps.proofs.Turning.{client_turns}
+use Rattle.law_causes.specs.Fails.{IsReasonToFail, Device_failed, Journal_full, HasReasonToFail}
+use Rattle.law_causes.specs.Glances.{IsGlance, Tells}
+use Rattle.law_causes.proofs.Answered.{IsOpenFor}
+use Rattle.law_causes.proofs.Lines.{boots_is, line_of, open_for}
+use Rattle.law_causes.proofs.Saying.{IsMute, is_mute, Mute, Rev, Sight, server_says, client_says}
+
+-- ### Which answers are `failed`
+
+-- a glance alone says so, of a start whose server does not run
+record IsFailed (asked : Request) (running : Bool) : Type 0 where
+  server : ℕ
+  starts : asked ≡ request.Start server
+  rests : running ≡ false
+
+seen_failed : (asked : Request) (running : Bool) → seen_answer asked running ≡ Some answer.Failed → IsFailed asked running
+seen_failed (request.Stop server) running e = let f : answer.Ok ≡ answer.Failed = same_some e in absurd (cc)
+seen_failed (request.Start server) true e = let f : answer.Ok ≡ answer.Failed = same_some e in absurd (cc)
+seen_failed (request.Start server) false e = record { server = server; starts = refl; rests = refl }
+seen_failed _ running e = none_some refl e
+
+verdict_not : (v : Verdict) → verdict_answer v ≢ Some answer.Failed
+verdict_not verdict.Ok e = absurd (cc)
+verdict_not verdict.Waiting e = absurd (cc)
+verdict_not verdict.Exists e = absurd (cc)
+verdict_not verdict.NoDisk e = absurd (cc)
+verdict_not verdict.Moving e = absurd (cc)
+
+verdict_for_not : (seq : ℕ) (o : Option Latest) → verdict_for seq o ≢ Some answer.Failed
+verdict_for_not seq None = λ e. absurd (cc)
+verdict_for_not seq (Some row) = by_test (λ o. o ≢ Some answer.Failed) (row.seq == seq) _ _ (λ t. verdict_not row.verdict) (λ t e. absurd (cc))
+
+write_not : (state : State) (o : Option DiskView) (block : ℕ) → write_refusal state o block ≢ Some answer.Failed
+write_not state None block = λ e. absurd (cc)
+write_not state (Some disk) block =
+    by_test (λ o. o ≢ Some answer.Failed) (is_some (lead state (cell_on disk block))) _ _ (λ t e. absurd (cc)) (λ t e. absurd (cc))
+
+read_at_not : (state : State) (cell : Cell) (o : Option ℕ) → read_refusal_at state cell o ≢ Some answer.Failed
+read_at_not state cell None = λ e. absurd (cc)
+read_at_not state cell (Some epoch) =
+    by_test (λ o. o ≢ Some answer.Failed) (length (readers state cell) == 0) _ _ (λ t e. absurd (cc)) (λ t e. absurd (cc))
+
+read_not : (state : State) (o : Option DiskView) (snap : Option (List ℕ)) (block : ℕ) → read_refusal state o snap block ≢ Some answer.Failed
+read_not state None snap block = λ e. absurd (cc)
+read_not state (Some disk) snap block = read_at_not state (cell_on disk block) (epoch_for state disk snap)
+
+refusal_not : (state : State) (asked : Request) → refusal state asked ≢ Some answer.Failed
+unfolding refusal
+refusal_not state (request.Write name block pattern) = write_not state (find state name) block
+refusal_not state (request.Read name snap block) = read_not state (find state name) snap block
+refusal_not state _ = λ e. absurd (cc)
+
+ending_not : (how : Ending) → answer_of how ≢ answer.Failed
+ending_not ending.Written e = absurd (cc)
+ending_not ending.Full e = absurd (cc)
+
+reason_not : (c : ℕ) (asked : Asked) (given : Answer) (state : State) (entry : Command) → given ≡ answer.Failed
+    → IsReason c asked given state entry → ⊥
+reason_not c asked given state entry e (By_verdict command own so) = verdict_for_not asked.seq (latest state c) (so ∙ ap Some e)
+reason_not c asked given state entry e (By_witness none is so) = refusal_not state asked.request (so ∙ ap Some e)
+
+-- ### What answers a line that names a server
+
+not_read : (asked : Request) (n : ℕ) → (names asked).server ≡ Some n → is_read asked ≡ true → ⊥
+not_read (request.Read name snap block) n named read = none_some refl named
+not_read _ n named read = true_false read refl
+
+not_written : (asked : Request) (n : ℕ) → (names asked).server ≡ Some n → is_write asked ≡ true → ⊥
+not_written (request.Write name block pattern) n named write = none_some refl named
+not_written _ n named write = true_false write refl
+
+no_command : (c seq : ℕ) (asked : Request) (n : ℕ) (command : Command) → (names asked).server ≡ Some n → command_of c seq asked ≡ Some command → ⊥
+no_command c seq (request.Disk name tuple) n command named own = none_some refl named
+no_command c seq _ n command named own = none_some refl own
+
+no_refusal : (state : State) (asked : Request) (n : ℕ) (given : Answer) → (names asked).server ≡ Some n → refusal state asked ≡ Some given → ⊥
+unfolding refusal
+no_refusal state (request.Write name block pattern) n given named so = none_some refl named
+no_refusal state (request.Read name snap block) n given named so = none_some refl named
+no_refusal state _ n given named so = none_some refl so
+
+-- no entry does
+not_judged : (c : ℕ) (asked : Asked) (n : ℕ) (given : Answer) (state : State) (entry : Command) → (names asked.request).server ≡ Some n
+    → IsReason c asked given state entry → ⊥
+not_judged c asked n given state entry named (By_verdict command own so) = no_command c asked.seq asked.request n command named own
+not_judged c asked n given state entry named (By_witness none is so) = no_refusal state asked.request n given named so
+
+-- a glance is at the server that its line names
+glanced_at : (asked : Request) (n m : ℕ) (running : Bool) (before : Option (ℕ × Deed)) → IsDone asked n running before
+    → (names asked).server ≡ Some m → n ≡ m
+glanced_at (request.Stop server) n m running before done named = sym done.0 ∙ same_some named
+glanced_at (request.Start server) n m running before done named = sym done.0 ∙ same_some named
+glanced_at _ n m running before never named = absurd never
+
+-- and the answer tells what it saw
+told_by : (asked : Request) (n : ℕ) (running : Bool) (before : Option (ℕ × Deed)) (given : Answer) → IsDone asked n running before
+    → seen_answer asked running ≡ Some given → Tells asked running given
+told_by (request.Stop server) n running before given done seen = (done.1, sym (same_some seen))
+told_by (request.Start server) n running before given done seen = sym (same_some seen)
+told_by _ n running before given never seen = absurd never
+
+-- ### Boots
+
+-- a boot leaves its server stopped for a reason
+boot_why : (w : World) (n : ℕ) (here : Here) (end : WorkEnd) → (boots here (w.servers n) end).server.life.running ≡ false
+    → IsReasonToFail w n (Boot end)
+boot_why w n here work_end.Done =
+    by_test (λ (a : Acted). a.server.life.running ≡ false → IsReasonToFail w n (Boot work_end.Done)) (is_overfull (raised (w.servers n)))
+    (stays (w.servers n)) (wakes here (awake (raised (w.servers n))))
+    (λ full rests. Journal_full refl full) (λ room rests. true_false refl rests)
+boot_why w n here (work_end.Fault end) = λ rests. Device_failed end refl
+
+-- ### A history
+
+module _ (script : Script) (records : List Record) (sound : IsSound script) (rise : AreRising script.lines)
+    (legal : IsLegal script records) where
+  abbrev setting : Setting
+  setting = setting_of script
+
+  abbrev lines : List Line
+  lines = script.lines
+
+  abbrev Fails : ℕ → Type 0
+  Fails number = HasReasonToFail setting (start setting) records number
+
+  -- one of the records is a glance of this line at the server, which the answer tells of
+  pub record Glanced (line : Line) (n : ℕ) (given : Answer) : Type 0 where
+    pub front : List Record
+    pub own : Record
+    pub behind : List Record
+    pub is : records ≡ front ++ own ∷ behind
+    pub so : IsGlance setting (world_after setting (start setting) front) own line n given
+
+  -- a letter shows whether a server runs, at the glance of this line, which the operator has called. The last one that it has
+  -- called was then glanced at
+  record IsShown (w : World) (letter : Letter) (number : ℕ) (running : Bool) : Type 0 where
+    to : letter.to ≡ actor.Client operator
+    place : ℕ
+    line : Line
+    is : slice_get (lines_of lines operator) place ≡ Some line
+    number_is : line.number ≡ number
+    called : place < (w.clients operator).seq
+    last : place + 1 ≡ (w.clients operator).seq → w.control.glanced ≡ Some number
+    fails : (n : ℕ) → line.request ≡ request.Start n → running ≡ false → Fails number
+    glance : (n : ℕ) (given : Answer) → (names line.request).server ≡ Some n → seen_answer line.request running ≡ Some given
+        → Glanced line n given
+
+  -- the operator's open line has booted the server, and was not glanced at
+  record IsBooted (w : World) (n : ℕ) : Type 0 where
+    asked : Asked
+    is : (w.clients operator).asked ≡ Some asked
+    starts : asked.request ≡ request.Start n
+    fresh : w.control.glanced ≢ Some asked.line
+    fails : (w.servers n).life.running ≡ false → Fails asked.line
+
+  -- what is so of an answer
+  record IsSeen (number : ℕ) (given : Answer) : Type 0 where
+    fails : given ≡ answer.Failed → Fails number
+    glance : (line : Line) (n : ℕ) → In line lines → line.number ≡ number → (names line.request).server ≡ Some n → Glanced line n given
+
+  -- what is kept: of letters that show a server, of the server at the operator's hand, of numbers of requests, and of answers
+  record Kept (w : World) : Type 0 where
+    shows : (letter : Letter) (line round : ℕ) (running : Bool) (inc : ℕ) (full : Bool) → In letter w.sent
+        → letter.body ≡ body.Seen line round running inc full → IsShown w letter line running
+    hand : (n : ℕ) → w.control.hand ≡ Some (n, Booted) → IsBooted w n
+    newest : (c : ℕ) (asked : Asked) → (w.clients c).asked ≡ Some asked → asked.seq ≡ (w.clients c).seq
+    answers : (number : ℕ) (given : Answer) → In (number, given) w.answers → IsSeen number given
+
+  -- ### One step
+
+  module _ (front : List Record) (own : Record) (behind : List Record) (lies : records ≡ front ++ own ∷ behind)
+      (kept : Kept (world_after setting (start setting) front)) where
+    abbrev w : World
+    w = world_after setting (start setting) front
+
+    front_is_legal : IsLegal script front
+    front_is_legal = (front_legal setting (start setting) front (own ∷ behind) (subst (IsLegal script) lies legal)).0
+
+    opened : (c : ℕ) (asked : Asked) → (w.clients c).asked ≡ Some asked → IsOpenFor lines c asked
+    opened = open_for script front sound front_is_legal
+
+    -- ### A server's step
+
+    -- what was shown stays so
+    shown_on : (v : World) → v.clients ≡ w.clients → (letter : Letter) (number : ℕ) (running : Bool) (s : IsShown w letter number running)
+        → (s.place + 1 ≡ (w.clients operator).seq → v.control.glanced ≡ Some number) → IsShown v letter number running
+    shown_on v same letter number running s last = record {
+      to = s.to;
+      place = s.place;
+      line = s.line;
+      is = s.is;
+      number_is = s.number_is;
+      called = subst (λ (clients : ℕ → Client). s.place < (clients operator).seq) (sym same) s.called;
+      last = λ e. last (e ∙ ap (λ (clients : ℕ → Client). (clients operator).seq) same);
+      fails = s.fails;
+      glance = s.glance;
+    }
+
+    -- the world after a server's step
+    abbrev served : ℕ → Step → World
+    served n what = (acts w n what own.stamp (server_step what (server_state setting w n) n (w.servers n))).world
+
+    old_shown : (n : ℕ) (what : Step) → MayServer what w n → (letter : Letter) (number : ℕ) (running : Bool)
+        → IsShown w letter number running → IsShown (served n what) letter number running
+    old_shown n (Glance l r) may letter number running s =
+        let o = opened operator may.asked may.opened.is in
+        let newest = kept.newest operator may.asked may.opened.is in
+        let at = o.seq_is in
+        shown_on (served n (Glance l r)) refl letter number running s (λ e.
+        let place : s.place ≡ o.before = omega arith in
+        let line : s.line ≡ o.line = same_some (sym s.is ∙ ap (slice_get (lines_of lines operator)) place ∙ o.is) in
+        ap Some (sym may.line_is ∙ o.line_is ∙ sym (ap (λ (x : Line). x.number) line) ∙ s.number_is))
+    old_shown n _ may letter number running s = shown_on _ refl letter number running s s.last
+
+    shown_is : (l r : ℕ) (server : Server) (line round : ℕ) (running : Bool) (inc : ℕ) (full : Bool)
+        → shown l r server ≡ body.Seen line round running inc full → (l ≡ line) × (server.life.running ≡ running)
+    shown_is l r server line round running inc full =
+        by_test (λ said. said ≡ body.Seen line round running inc full → (l ≡ line) × (server.life.running ≡ running))
+        server.life.running _ _
+        (λ on e. let same : true ≡ running = cc in (cc, on ∙ same)) (λ off e. let same : false ≡ running = cc in (cc, off ∙ same))
+
+    -- what a glance shows: where it finds a start's server stopped, that line has booted it
+    new_shown : (n l r : ℕ) → own.actor ≡ actor.Server n → own.step ≡ Glance l r → (may : MayGlance w n l r) (letter : Letter) (line : ℕ)
+        (running : Bool) → letter.to ≡ actor.Client operator → l ≡ line → (w.servers n).life.running ≡ running
+        → IsShown (served n (Glance l r)) letter line running
+    new_shown n l r who does may letter line running to same runs =
+        let o = opened operator may.asked may.opened.is in
+        let newest = kept.newest operator may.asked may.opened.is in
+        let at = o.seq_is in
+        record {
+          to = to;
+          place = o.before;
+          line = o.line;
+          is = o.is;
+          number_is = sym o.line_is ∙ may.line_is ∙ same;
+          called = omega arith;
+          last = λ e. ap Some same;
+          fails = λ m starts off.
+              let done : IsDone (request.Start m) n (w.servers n).life.running w.control.hand =
+              subst (λ asked. IsDone asked n (w.servers n).life.running w.control.hand) (o.request_is ∙ starts) may.done in
+              elim done.1 [
+                | inl on ↦ true_false on (runs ∙ off)
+                | inr there ↦
+                    let b = kept.hand n there in
+                    let one : b.asked ≡ may.asked = same_some (sym b.is ∙ may.opened.is) in
+                    subst Fails (ap (λ (x : Asked). x.line) one ∙ may.line_is ∙ same) (b.fails (runs ∙ off))
+              ];
+          glance = λ m given named seen.
+              let done : IsDone o.line.request n (w.servers n).life.running w.control.hand =
+              subst (λ asked. IsDone asked n (w.servers n).life.running w.control.hand) o.request_is may.done in
+              let at = glanced_at o.line.request n m _ _ done named in
+              record {
+                front = front;
+                own = own;
+                behind = behind;
+                is = lies;
+                so = record {
+                  asked = may.asked;
+                  opened = line_of lines w may.asked o may.opened;
+                  who = who ∙ ap actor.Server at;
+                  what = does ∙ ap (λ k. Glance k r) (sym may.line_is ∙ o.line_is) ∙ ap (Glance o.line.number) may.round_is;
+                  tells = subst (λ k. Tells o.line.request (w.servers k).life.running given) at
+                      (told_by o.line.request n _ _ given done (ap (seen_answer o.line.request) runs ∙ seen));
+                };
+              };
+        }
+
+    mute_not : (letter : Letter) (line round : ℕ) (running : Bool) (inc : ℕ) (full : Bool) → letter.body ≡ body.Seen line round running inc full
+        → IsMute letter.body → ⊥
+    mute_not letter line round running inc full e mute = true_false (ap (λ said. is_mute said) (sym e) ∙ mute) refl
+
+    server_shows : (n : ℕ) (what : Step) → own.actor ≡ actor.Server n → own.step ≡ what → MayServer what w n → (letter : Letter)
+        (line round : ℕ) (running : Bool) (inc : ℕ) (full : Bool) → In letter (served n what).sent
+        → letter.body ≡ body.Seen line round running inc full → IsShown (served n what) letter line running
+    server_shows n what who does may letter line round running inc full i e = elim (in-append letter _ w.sent i) [
+      | inr old ↦ old_shown n what may letter line running (kept.shows letter line round running inc full old e)
+      | inl new ↦ elim (server_says setting w n what own.stamp may letter new) [
+        | Mute mute ↦ absurd (mute_not letter line round running inc full e mute)
+        | Rev seq other told ↦ absurd (let f : body.WrongRev seq ≡ body.Seen line round running inc full = sym other ∙ e in cc)
+        | Sight l r glance to so ↦
+            let seen = shown_is l r (w.servers n) line round running inc full (sym so ∙ e) in
+            subst (λ x. IsShown (served n x) letter line running) (sym glance)
+            (new_shown n l r who (does ∙ glance) (subst (λ x. MayServer x w n) glance may) letter line running to seen.0 seen.1)
+      ]
+    ]
+
+    -- another server takes a step: not the one at the operator's hand
+    hand_on : (n : ℕ) (what : Step) → controls what n w.control ≡ w.control → IsFree w n → (m : ℕ) → w.control.hand ≡ Some (m, Booted)
+        → IsBooted (served n what) m
+    hand_on n what same free m e =
+        let b = kept.hand m e in
+        let apart : m ≢ n = λ k. free Booted (subst (λ j. w.control.hand ≡ Some (j, Booted)) k e) in
+        record {
+          asked = b.asked;
+          is = b.is;
+          starts = b.starts;
+          fresh = λ g. b.fresh (sym (ap (λ (control : Control). control.glanced) same) ∙ g);
+          fails = λ rests. b.fails (sym (ap (λ (x : Server). x.life.running) (put_apart w.servers n _ m apart)) ∙ rests);
+        }
+
+    -- a boot puts its server there
+    booted : (n : ℕ) (end : WorkEnd) → own.actor ≡ actor.Server n → own.step ≡ Boot end → MayServer (Boot end) w n
+        → IsBooted (served n (Boot end)) n
+    booted n end who does may =
+        let o = opened operator may.asked may.opened.is in
+        let starts = (boots_is may.asked.request n w.control.hand may.boots).0 in
+        record {
+          asked = may.asked;
+          is = may.opened.is;
+          starts = starts;
+          fresh = may.opened.first;
+          fails = λ rests. record {
+            front = front;
+            own = own;
+            behind = behind;
+            is = lies;
+            server = n;
+            asked = may.asked;
+            line = o.line;
+            number_is = sym o.line_is;
+            starts = sym o.request_is ∙ starts;
+            given = line_of lines w may.asked o may.opened;
+            who = who;
+            why = subst (IsReasonToFail w n) (sym does)
+                (boot_why w n (here_of (server_state setting w n) n (w.servers n)) end
+                (sym (ap (λ (x : Server). x.life.running) (put_same w.servers n _)) ∙ rests));
+          };
+        }
+
+    server_hand : (n : ℕ) (what : Step) → own.actor ≡ actor.Server n → own.step ≡ what → MayServer what w n → (m : ℕ)
+        → (served n what).control.hand ≡ Some (m, Booted) → IsBooted (served n what) m
+    server_hand n (Call line) who does may m e = absurd may
+    server_hand n (Deliver letter) who does may m e = hand_on n (Deliver letter) refl may.free m e
+    server_hand n Tick who does may m e = hand_on n Tick refl may.free m e
+    server_hand n (Work end) who does may m e = hand_on n (Work end) refl may.acts.free m e
+    server_hand n Stop who does may m e =
+        let f : Stopped ≡ Booted = ap (λ (x : ℕ × Deed). x.1) (same_some e) in absurd (cc)
+    server_hand n (Boot end) who does may m e =
+        subst (IsBooted (served n (Boot end))) (ap (λ (x : ℕ × Deed). x.0) (same_some e)) (booted n end who does may)
+    server_hand n (Glance line round) who does may m e = none_some refl e
+
+    server_keeps : (n : ℕ) (what : Step) → own.actor ≡ actor.Server n → own.step ≡ what → MayServer what w n → Kept (served n what)
+    server_keeps n what who does may = record {
+      shows = server_shows n what who does may;
+      hand = server_hand n what who does may;
+      newest = kept.newest;
+      answers = kept.answers;
+    }
+
+    -- ### A client's step
+
+    kept_open : (rev : ℕ) (old new : Option Asked) → StaysOpen rev old new → (now : Asked) → new ≡ Some now
+        → (asked : Asked) × (old ≡ Some asked) × IsSame rev asked now
+    kept_open rev None None stays now e = none_some refl e
+    kept_open rev None (Some new) stays now e = absurd stays
+    kept_open rev (Some old) None stays now e = absurd stays
+    kept_open rev (Some old) (Some new) stays now e = (old, refl, subst (IsSame rev old) (same_some e) stays)
+
+    -- the request is still open
+    record StillOpen (asked : Asked) (client : Client) : Type 0 where
+      now : Asked
+      is : client.asked ≡ Some now
+      line : now.line ≡ asked.line
+      request : now.request ≡ asked.request
+
+    still_open : (rev : ℕ) (o : Option Asked) (client : Client) → StaysOpen rev o client.asked → (asked : Asked) → o ≡ Some asked
+        → StillOpen asked client
+    still_open rev None client stays asked e = none_some refl e
+    still_open rev (Some old) client stays asked e =
+        by client.asked refl (subst (λ x. StaysOpen rev (Some x) client.asked) (same_some e) stays)
+      where
+        by : (o : Option Asked) → client.asked ≡ o → StaysOpen rev (Some asked) o → StillOpen asked client
+        by None is none = absurd none
+        by (Some now) is same = record { now = now; is = is; line = same.line; request = same.request }
+
+    -- a client goes on, and a start stays open whose server was not glanced at
+    record Goes (old new : Client) : Type 0 where
+      seq : (new.seq ≡ old.seq) ⊎ (new.seq ≡ old.seq + 1)
+      newest : (asked : Asked) → new.asked ≡ Some asked → asked.seq ≡ new.seq
+      stays : (asked : Asked) (n : ℕ) → old.asked ≡ Some asked → asked.request ≡ request.Start n → w.control.glanced ≢ Some asked.line
+          → StillOpen asked new
+
+    goes_itself : (c : ℕ) → Goes (w.clients c) (w.clients c)
+    goes_itself c = record {
+      seq = inl refl;
+      newest = kept.newest c;
+      stays = λ asked n is starts fresh. record { now = asked; is = is; line = refl; request = refl };
+    }
+
+    -- a client hears of its open line only once that was glanced at: so it is the operator, and the line the last that it called
+    record IsOwn (letter : Letter) (c : ℕ) (asked : Asked) (running : Bool) : Type 0 where
+      glanced : w.control.glanced ≡ Some asked.line
+      fails : (n : ℕ) → asked.request ≡ request.Start n → running ≡ false → Fails asked.line
+      glance : (line : Line) (n : ℕ) (given : Answer) → In line lines → line.number ≡ asked.line → (names line.request).server ≡ Some n
+          → seen_answer asked.request running ≡ Some given → Glanced line n given
+
+    heard_own : (c : ℕ) (asked : Asked) (rev round : ℕ) (running : Bool) (inc : ℕ) (full : Bool)
+        → (told : Heard w (actor.Client c) rev (body.Seen asked.line round running inc full)) → (w.clients c).asked ≡ Some asked
+        → IsOwn told.letter c asked running
+    heard_own c asked rev round running inc full told is =
+        let s = kept.shows told.letter asked.line round running inc full told.sent told.is in
+        let o = opened c asked is in
+        let newest = kept.newest c asked is in
+        let at = o.seq_is in
+        let to : actor.Client c ≡ actor.Client operator = sym told.own ∙ s.to in
+        let same : c ≡ operator = cc in
+        let here = subst (λ k. slice_get (lines_of lines k) s.place ≡ Some s.line) (sym same) s.is in
+        let place : s.place ≡ o.before = one_place lines rise c s.place o.before s.line o.line here o.is (s.number_is ∙ o.line_is) in
+        let line : s.line ≡ o.line = same_some (sym here ∙ ap (slice_get (lines_of lines c)) place ∙ o.is) in
+        let seqs : (w.clients c).seq ≡ (w.clients operator).seq = ap (λ k. (w.clients k).seq) same in
+        let asks : s.line.request ≡ asked.request = ap (λ (x : Line). x.request) line ∙ sym o.request_is in
+        record {
+          glanced = s.last (omega arith);
+          fails = λ n starts off. s.fails n (asks ∙ starts) off;
+          glance = λ one n given there at named seen.
+              let itself : s.line ≡ one =
+              sound.numbered s.line one (line_at lines operator s.place s.line s.is).0 there (s.number_is ∙ sym at) in
+              subst (λ x. Glanced x n given) itself
+              (s.glance n given (ap (λ (x : Line). (names x.request).server) itself ∙ named) (ap (λ r. seen_answer r running) asks ∙ seen));
+        }
+
+    -- what was shown stays so
+    shown_later : (v : World) → Goes (w.clients operator) (v.clients operator) → v.control ≡ w.control → (letter : Letter) (number : ℕ)
+        (running : Bool) → IsShown w letter number running → IsShown v letter number running
+    shown_later v g same letter number running s =
+        let called = s.called in
+        record {
+          to = s.to;
+          place = s.place;
+          line = s.line;
+          is = s.is;
+          number_is = s.number_is;
+          called = elim g.seq [ inl e ↦ omega arith | inr e ↦ omega arith ];
+          last = λ at. elim g.seq [
+            | inl e ↦ ap (λ (control : Control). control.glanced) same ∙ s.last (at ∙ e)
+            | inr e ↦ absurd (omega arith)
+          ];
+          fails = s.fails;
+          glance = s.glance;
+        }
+
+    module _ (c : ℕ) where
+      abbrev client : Client
+      client = w.clients c
+
+      same_request : (asked other : Asked) (n : ℕ) → client.asked ≡ Some asked → client.asked ≡ Some other → other.request ≡ request.Start n
+          → asked.request ≡ request.Start n
+      same_request asked other n is there starts = ap (λ (x : Asked). x.request) (same_some (sym is ∙ there)) ∙ starts
+
+      turned_goes : (in_call : Bool) (reacted : Reaction) → Turned (Heard w (actor.Client c)) setting.servers lines c client in_call reacted
+          → Goes client reacted.client
+      turned_goes _ _ (Goes_on reacted seq stays says) = record {
+        seq = inl seq;
+        newest = λ now e. let o = kept_open _ client.asked reacted.client.asked stays now e in o.2.seq ∙ kept.newest c o.0 o.1 ∙ sym seq;
+        stays = λ asked n is starts fresh. still_open _ client.asked reacted.client stays asked is;
+      }
+      turned_goes _ _ (Begins reacted line asked next free seq now called says) = record {
+        seq = inr seq;
+        newest = λ new e. sym (ap (λ (x : Asked). x.seq) (same_some (sym now ∙ e))) ∙ called.seq_is ∙ sym seq;
+        stays = λ asked n is starts fresh. none_some free is;
+      }
+      turned_goes _ _ (Reads asked bytes told is read) = record {
+        seq = inl refl;
+        newest = λ now e. none_some refl e;
+        stays = λ other n there starts fresh. true_false read (ap (λ r. is_read r) (same_request asked other n is there starts));
+      }
+      turned_goes _ _ (Ends asked how told is write) = record {
+        seq = inl refl;
+        newest = λ now e. none_some refl e;
+        stays = λ other n there starts fresh. true_false write (ap (λ r. is_write r) (same_request asked other n is there starts));
+      }
+      turned_goes _ _ (Shown asked rev round inc running full told is given seen) = record {
+        seq = inl refl;
+        newest = λ now e. none_some refl e;
+        stays = λ other n there starts fresh.
+            let h = heard_own c asked rev round running inc full told is in
+            absurd (fresh (h.glanced ∙ ap (λ (x : Asked). Some x.line) (same_some (sym is ∙ there))));
+      }
+      turned_goes _ _ (Judges after asked given is gone seq judged) = record {
+        seq = inl seq;
+        newest = λ now e. none_some gone e;
+        stays = λ other n there starts fresh.
+            absurd (not_judged c asked n given _ _ (ap (λ r. (names r).server) (same_request asked other n is there starts)) judged.reason);
+      }
+
+      pair_is : {line number : ℕ} {given told : Answer} → (let o : Option (ℕ × Answer) = Some (line, given) in o) ≡ Some (number, told)
+          → (line ≡ number) × (given ≡ told)
+      pair_is e = let f = same_some e in (ap (λ (x : ℕ × Answer). x.0) f, ap (λ (x : ℕ × Answer). x.1) f)
+
+      -- the open request is that of the line of its number, and names the server that the line does
+      asks_of : (asked : Asked) → client.asked ≡ Some asked → (line : Line) (n : ℕ) → In line lines → line.number ≡ asked.line
+          → (names line.request).server ≡ Some n → (names asked.request).server ≡ Some n
+      asks_of asked is line n there at named =
+          let o = opened c asked is in
+          let same : o.line ≡ line = sound.numbered o.line line (line_at lines c o.before o.line o.is).0 there (sym o.line_is ∙ sym at) in
+          ap (λ r. (names r).server) (o.request_is ∙ ap (λ (x : Line). x.request) same) ∙ named
+
+      -- where the open request names no server
+      unnamed : (asked : Asked) → client.asked ≡ Some asked → (number : ℕ) (given : Answer) → asked.line ≡ number → given ≢ answer.Failed
+          → ((n : ℕ) → (names asked.request).server ≡ Some n → ⊥) → IsSeen number given
+      unnamed asked is number given at well none = record {
+        fails = λ failed. absurd (well failed);
+        glance = λ line n there same named. absurd (none n (asks_of asked is line n there (same ∙ sym at) named));
+      }
+
+      turned_seen : (in_call : Bool) (reacted : Reaction) → Turned (Heard w (actor.Client c)) setting.servers lines c client in_call reacted
+          → (number : ℕ) (told : Answer) → reacted.answer ≡ Some (number, told) → IsSeen number told
+      turned_seen _ _ (Goes_on reacted seq stays says) number told e = none_some says.unanswered e
+      turned_seen _ _ (Begins reacted line asked next free seq now called says) number told e = none_some says.unanswered e
+      turned_seen _ _ (Reads asked bytes heard is read) number told e =
+          let f = pair_is e in
+          unnamed asked is number told f.0 (λ failed. let g : answer.Data bytes ≡ answer.Failed = f.1 ∙ failed in absurd (cc))
+          (λ n named. not_read asked.request n named read)
+      turned_seen _ _ (Ends asked how heard is write) number told e =
+          let f = pair_is e in
+          unnamed asked is number told f.0 (λ failed. ending_not how (f.1 ∙ failed)) (λ n named. not_written asked.request n named write)
+      turned_seen _ _ (Shown asked rev round inc running full heard is given seen) number told e =
+          let f = pair_is e in
+          let h = heard_own c asked rev round running inc full heard is in
+          record {
+            fails = λ failed.
+                let off = seen_failed asked.request running (seen ∙ ap Some (f.1 ∙ failed)) in
+                subst Fails f.0 (h.fails off.server off.starts off.rests);
+            glance = λ line n there same named. h.glance line n told there (same ∙ sym f.0) named (seen ∙ ap Some f.1);
+          }
+      turned_seen _ _ (Judges after asked given is gone seq judged) number told e =
+          let f = pair_is e in
+          unnamed asked is number told f.0 (λ failed. reason_not c asked given _ _ (f.1 ∙ failed) judged.reason)
+          (λ n named. not_judged c asked n given _ _ named judged.reason)
+
+    more_seen : (given : Option (ℕ × Answer)) → ((number : ℕ) (told : Answer) → given ≡ Some (number, told) → IsSeen number told)
+        → (number : ℕ) (told : Answer) → In (number, told) (with_answer given w.answers) → IsSeen number told
+    unfolding In
+    more_seen None now number told i = kept.answers number told i
+    more_seen (Some given) now number told (inl e) = now number told (ap Some (sym e))
+    more_seen (Some given) now number told (inr i) = kept.answers number told i
+
+    client_keeps : (c : ℕ) (what : Step) → MayActor (actor.Client c) what setting w
+        → Kept (step (actor.Client c) what setting w own.stamp).world
+    unfolding step
+    client_keeps c what may =
+        let reacted = client_step what (client_state setting w c) c (w.clients c) (next_line lines c (w.clients c)) in
+        let turned = (client_turns setting w c what may.1).turned in
+        let v = (reacts w c own.stamp reacted).world in
+        let goes = all_put w.clients c reacted.client (λ k client. Goes (w.clients k) client) goes_itself
+        (turned_goes c _ reacted turned) in
+        let g = goes operator in
+        record {
+          shows = λ letter line round running inc full i e. elim (in-append letter _ w.sent i) [
+            | inl new ↦ absurd (mute_not letter line round running inc full e (client_says setting w c what own.stamp may.1 letter new))
+            | inr old ↦ shown_later v g refl letter line running (kept.shows letter line round running inc full old e)
+          ];
+          hand = λ n e.
+              let b = kept.hand n e in
+              let s = g.stays b.asked n b.is b.starts b.fresh in
+              record {
+                asked = s.now;
+                is = s.is;
+                starts = s.request ∙ b.starts;
+                fresh = λ h. b.fresh (h ∙ ap Some s.line);
+                fails = λ rests. subst Fails (sym s.line) (b.fails rests);
+              };
+          newest = λ k. (goes k).newest;
+          answers = more_seen reacted.answer (turned_seen c _ reacted turned);
+        }
+
+    -- ### The record's step
+
+    record_keeps : (who : Actor) (what : Step) → own.actor ≡ who → own.step ≡ what → MayActor who what setting w
+        → Kept (step who what setting w own.stamp).world
+    unfolding step
+    record_keeps (actor.Server n) what who does may = server_keeps n what who does may.1
+    record_keeps (actor.Client c) what who does may = client_keeps c what may
+
+  kept_after : (front later : List Record) → records ≡ front ++ later → Kept (world_after setting (start setting) front)
+      → Kept (world_after setting (start setting) records)
+  kept_after front [] is kept = subst (λ done. Kept (world_after setting (start setting) done)) (sym (is ∙ append-nil front)) kept
+  kept_after front (own ∷ later) is kept =
+      let may = (front_legal setting (start setting) front (own ∷ later) (subst (IsLegal script) is legal)).1.0.may.may in
+      kept_after (front ++ own ∷ []) later (is ∙ sym (append_assoc front (own ∷ []) later))
+      (subst Kept (sym (world_more setting (start setting) front own)) (record_keeps front own later is kept own.actor own.step refl refl may))
+
+  start_kept : Kept (start setting)
+  unfolding In
+  start_kept = record {
+    shows = λ letter line round running inc full i e. absurd i;
+    hand = λ n e. none_some refl e;
+    newest = λ c asked e. none_some refl e;
+    answers = λ number given i. absurd i;
+  }
+
+  abbrev last : World
+  last = world_after setting (start setting) records
+
+  all_kept : Kept last
+  all_kept = kept_after [] records refl start_kept
+
+  pub fails_for_a_reason : (number : ℕ) → In (number, answer.Failed) last.answers → Fails number
+  fails_for_a_reason number i = (all_kept.answers number answer.Failed i).fails refl
+
+  pub was_glanced : (line : Line) (n : ℕ) (given : Answer) → In line lines → (names line.request).server ≡ Some n
+      → In (line.number, given) last.answers → Glanced line n given
+  was_glanced line n given there named i = (all_kept.answers line.number given i).glance line n there refl named
+
+  -- a line for which a server was shown is not glanced at again
+  pub glanced_before : (letter : Letter) (number round : ℕ) (running : Bool) (inc : ℕ) (full : Bool) → In letter last.sent
+      → letter.body ≡ body.Seen number round running inc full → (n later : ℕ) → MayGlance last n number later → ⊥
+  glanced_before letter number round running inc full i e n later may =
+      let s = all_kept.shows letter number round running inc full i e in
+      let o = open_for script records sound legal operator may.asked may.opened.is in
+      let newest = all_kept.newest operator may.asked may.opened.is in
+      let at = o.seq_is in
+      let place : s.place ≡ o.before =
+      one_place lines rise operator s.place o.before s.line o.line s.is o.is (s.number_is ∙ sym may.line_is ∙ o.line_is) in
+      may.opened.first (s.last (omega arith) ∙ ap Some (sym may.line_is))

@@ -1,0 +1,38 @@
+-- The operator's open request is that of one of its lines, and what such a line asks of a server.
+use Rattle.std.proofs.Common.{◌≡◌, ℕ, List, Option, None, Some, ap}
+use Rattle.script_lines.specs.declared.request.Line.{Line}
+use Rattle.script_lines.specs.declared.request.Request.{Request}
+use Rattle.script_lines.specs.declared.request.Request.TheVariants as request
+use Rattle.script_lines.specs.declared.script.Script.{Script}
+use Rattle.petal_rules.specs.Clients.{Asked}
+use Rattle.petal_rules.specs.Jobs.{operator}
+use Rattle.petal_rules.specs.World.{Boots, Deed, IsOpenLine, Stops, World, setting_of, start}
+use Rattle.petal_history.specs.Legal.{IsLegal, world_after}
+use Rattle.petal_history.specs.Sound.{IsSound}
+use Rattle.petal_history.specs.declared.record.Record.{Record}
+use Rattle.law_answers.proofs.Places.{line_at}
+use Rattle.law_steps.proofs.Firms.{always_firm}
+use Rattle.law_causes.specs.Lines.{IsLineOf}
+use Rattle.law_causes.proofs.Answered.{IsOpenFor, open_after}
+use Rattle.law_causes.proofs.Asked.{disks_are_asked}
+
+-- an open request is that of a line
+pub open_for : (script : Script) (records : List Record) → IsSound script → IsLegal script records → (c : ℕ) (asked : Asked)
+    → ((world_after (setting_of script) (start (setting_of script)) records).clients c).asked ≡ Some asked
+    → IsOpenFor script.lines c asked
+open_for script records sound legal =
+    open_after script records (always_firm script records sound legal) legal (disks_are_asked script records sound legal)
+
+pub line_of : (lines : List Line) (w : World) (asked : Asked) (o : IsOpenFor lines operator asked) → IsOpenLine w asked
+    → IsLineOf lines w asked o.line
+line_of lines w asked o opened =
+    let l = line_at lines operator o.before o.line o.is in
+    record { opened = opened; there = l.0; own = l.1; line_is = o.line_is; request_is = o.request_is }
+
+pub stops_is : (asked : Request) (n : ℕ) → Stops asked n → asked ≡ request.Stop n
+stops_is (request.Stop server) n is = ap request.Stop is
+stops_is _ n never = absurd never
+
+pub boots_is : (asked : Request) (n : ℕ) (hand : Option (ℕ × Deed)) → Boots asked n hand → (asked ≡ request.Start n) × (hand ≡ None)
+boots_is (request.Start server) n hand is = (ap request.Start is.0, is.1)
+boots_is _ n hand never = absurd never

@@ -1,0 +1,437 @@
+-- What letters say of two matters: a client is told of another revision in one place alone, where its letter has one; and of whether a
+-- server runs at a glance alone.
+use Rattle.std.proofs.Common.{◌≡◌, ◌≢◌, inl, inr, ◌++◌, ◌==◌, ◌&&◌, ℕ, Bool, true, false, not, List, [], ◌∷◌, Option, Some, None, refl, sym, ap, ◌∙◌, subst, arith}
+use Rattle.std.proofs.lemmas.Bool.Decides.{nat_tests}
+use Rattle.std.specs.Prelude.{map, nat_lt}
+use Rattle.petal_rules.specs.Store.{free_of}
+use Rattle.std.specs.List.{flat_map}
+use Rattle.petal_base.specs.declared.cell.Cell.{Cell}
+use Rattle.petal_base.specs.declared.cell.Key.{Key}
+use Rattle.petal_base.specs.Cells.{cell_of}
+use Rattle.petal_msg.specs.Kinds.{asked_by, is_logged, subject_of}
+use Rattle.petal_msg.specs.declared.body.Body.{Body}
+use Rattle.petal_msg.specs.declared.body.Body.TheVariants as body
+use Rattle.petal_msg.specs.declared.letter.Actor.{Actor}
+use Rattle.petal_msg.specs.declared.letter.Actor.TheVariants as actor
+use Rattle.petal_msg.specs.declared.letter.Letter.{Letter}
+use Rattle.petal_msg.specs.declared.operation.Action.{Action}
+use Rattle.petal_msg.specs.declared.operation.Action.TheVariants as action
+use Rattle.petal_msg.specs.declared.operation.Ending.{Ending}
+use Rattle.petal_msg.specs.declared.operation.Ending.TheVariants as ending
+use Rattle.petal_msg.specs.declared.operation.Far.{Far}
+use Rattle.petal_msg.specs.declared.operation.Far.TheVariants as far
+use Rattle.petal_msg.specs.declared.operation.LastOp.{LastOp}
+use Rattle.petal_msg.specs.declared.operation.Pending.{Pending}
+use Rattle.petal_msg.specs.declared.operation.Reply.{Reply}
+use Rattle.petal_msg.specs.declared.operation.Reply.TheVariants as reply
+use Rattle.petal_rules.specs.Lists.{In}
+use Rattle.petal_rules.specs.State.{State, is_in, is_lead, is_second, first, second, readable, servers_of}
+use Rattle.petal_rules.specs.Server.{Server, Own, Here, Done, Post, Sender, post_to, sender, silent, letters_of}
+use Rattle.petal_rules.specs.Reads.{on_read, said, reply_to}
+use Rattle.petal_rules.specs.Writes.{Wanted, Standing, Older, Again, Newer, pending_on, next_stage, acts, goes_on, goes_on_with, ended, opens, opened, takes, takes_newer, is_pending_for, on_write, hears_reserved, hears_pair_full, hears_replicated, is_reserving, is_replicating, with_pending, with_reserved, with_paired, on_reserved, on_pair_full, on_replicated, tells, reserves, has_slot, hears_reserve, on_reserve, follows_once, hears_replicate, on_replicate}
+use Rattle.petal_command.specs.declared.command.Command.{Command}
+use Rattle.petal_rules.specs.Ballots.{post_of, starts}
+use Rattle.petal_rules.specs.Boots.{awake, boots, raised, stays, wakes}
+use Rattle.petal_rules.specs.Entries.{applies}
+use Rattle.petal_rules.specs.Log.{LogDone, known, next_place, rev_of}
+use Rattle.petal_rules.specs.Jobs.{Acted, handles, wrong_rev, at_other_rev, is_from_in, does, here_of, works, job_done, worked, entered, stops, is_overfull, down_posts, glances, glance_sender, shown, operator, voter_of, wanted_by, is_log_job, sent_anew, awaited, tick_posts}
+use Rattle.petal_rules.specs.Clients.{Client, Asked, Reaction, client_sender}
+use Rattle.petal_rules.specs.World.{Setting, World, stamped, server_state, server_step, client_state, client_step, next_line, MayClient, MayServer}
+use Rattle.petal_rules.specs.declared.job.Job.{Job}
+use Rattle.petal_rules.specs.declared.job.Job.TheVariants as job
+use Rattle.petal_rules.specs.declared.step.CommitEnd.TheVariants.{Before, After}
+use Rattle.petal_rules.specs.declared.step.Step.{Step}
+use Rattle.petal_rules.specs.declared.step.Step.TheVariants.{Call, Deliver, Tick, Work, Stop, Boot, Glance}
+use Rattle.petal_rules.specs.declared.step.WorkEnd.{WorkEnd}
+use Rattle.petal_rules.specs.declared.step.WorkEnd.TheVariants as work_end
+use Rattle.petal_rules.proofs.ListLemmas.{in-append}
+use Rattle.petal_rules.proofs.Tests.{by_test, true_false, not_true}
+use Rattle.script_lines.specs.declared.request.Line.{Line}
+use Rattle.law_steps.specs.Turned.{Turned, Says, Of_the_log, A_write, A_read, Goes_on, Begins, Reads, Ends, Shown, Judges}
+use Rattle.law_steps.proofs.Letters.{one_post, posted}
+use Rattle.law_steps.proofs.Letters.{said as said_in}
+use Rattle.law_steps.proofs.LogJobs.{LogFrame, letter_frame_of, start_frame_of, applied_entry, applied_none, ballot_logged, ask_logged}
+use Rattle.law_steps.proofs.Turning.{client_turns}
+
+-- ### What says nothing of either
+
+abbrev pub is_mute : Body → Bool
+is_mute (body.WrongRev seq) = false
+is_mute (body.Seen line round running inc full) = false
+is_mute _ = true
+
+abbrev pub IsMute : Body → Type 0
+IsMute said = is_mute said ≡ true
+
+abbrev AreMute : List Post → Type 0
+AreMute posts = (post : Post) → In post posts → IsMute post.body
+
+abbrev M : Done → Type 0
+M done = AreMute done.posts
+
+none_mute : AreMute []
+unfolding In
+none_mute post h = absurd h
+
+one_mute : (to : Actor) (what : Body) → IsMute what → AreMute (record { to = to; body = what } ∷ [])
+one_mute to what mute post h = subst IsMute (sym (one_post to what post h).1) mute
+
+to_mute : (to : Option ℕ) (what : Body) → IsMute what → AreMute (post_to to what)
+to_mute to what mute post h = subst IsMute (sym (posted to what post h)) mute
+
+both_mute : (one other : List Post) → AreMute one → AreMute other → AreMute (one ++ other)
+both_mute one other a b post h = elim (in-append post one other h) [
+  | inl i ↦ a post i
+  | inr i ↦ b post i
+]
+
+all_mute : {A : Type 0} (f : A → List Post) (xs : List A) → ((x : A) → AreMute (f x)) → AreMute (flat_map f xs)
+all_mute f [] each = none_mute
+all_mute f (x ∷ xs) each = both_mute (f x) (flat_map f xs) (each x) (all_mute f xs each)
+
+logged_mute : (said : Body) → is_logged (subject_of said) ≡ true → IsMute said
+logged_mute (body.WrongRev seq) h = true_false h refl
+logged_mute (body.Seen line round running inc full) h = true_false h refl
+logged_mute _ h = refl
+
+ended_mute : (seq : ℕ) (how : Ending) → IsMute (ended seq how)
+ended_mute seq ending.Written = refl
+ended_mute seq ending.Full = refl
+
+-- ### Jobs of the pairs
+
+module _ (here : Here) where
+  acts_mute : (own : Own) (op : Pending) (what : Action) → M (acts here own op what)
+  acts_mute own op action.Reserve = to_mute (second here.state op.cell) (body.Reserve op.op op.cell) refl
+  acts_mute own op (action.Mark kind) = none_mute
+  acts_mute own op action.Put = none_mute
+  acts_mute own op action.Replicate = to_mute (second here.state op.cell) (body.Replicate op.op op.key op.version op.bytes) refl
+  acts_mute own op (action.Unmark kind) = none_mute
+  acts_mute own op action.Answer = one_mute (actor.Client op.client) (body.Written op.seq) refl
+  acts_mute own op action.Drop = none_mute
+
+  goes_on_mute : (own : Own) (o : Option Pending) → M (goes_on_with here own o)
+  goes_on_mute own None = none_mute
+  goes_on_mute own (Some op) = acts_mute own op (next_stage here.state here.me op)
+
+  on_mute : (own : Own) (cell : Cell) → M (goes_on here own cell)
+  unfolding goes_on
+  on_mute own cell = goes_on_mute own (pending_on own cell)
+
+  reply_mute : (seq : ℕ) (answer : Reply) → IsMute (said seq answer)
+  reply_mute seq (reply.Data bytes) = refl
+  reply_mute seq reply.NotHere = refl
+  reply_mute seq reply.BlockBusy = refl
+  reply_mute seq reply.Held = refl
+
+  read_mute : (own : Own) (client seq : ℕ) (cell : Cell) (epoch : ℕ) → M (on_read here own client seq cell epoch)
+  unfolding on_read
+  read_mute own client seq cell epoch =
+      by_test M (readable here.state here.me cell) _ _
+      (λ t. one_mute (actor.Client client) (said seq (reply_to here own cell epoch)) (reply_mute seq (reply_to here own cell epoch))) (λ t. none_mute)
+
+  opens_mute : (own : Own) (want : Wanted) (room : Bool) → M (opens here own want room)
+  opens_mute own want false = one_mute (actor.Client want.client) (body.Full want.seq) refl
+  opens_mute own want true = on_mute (opened here own want) want.cell
+
+  newer_mute : (own : Own) (want : Wanted) (fenced : Bool) (o : Option Pending) → M (takes_newer here own want fenced o)
+  newer_mute own want true o = one_mute (actor.Client want.client) (body.Held want.seq) refl
+  newer_mute own want false (Some op) = one_mute (actor.Client want.client) (body.BlockBusy want.seq) refl
+  newer_mute own want false None = opens_mute own want _
+
+  takes_mute : (own : Own) (want : Wanted) (how : Standing) → M (takes here own want how)
+  takes_mute own want Older = none_mute
+  takes_mute own want (Again how) = one_mute (actor.Client want.client) (ended want.seq how) (ended_mute want.seq how)
+  takes_mute own want Newer = by_test M (is_pending_for (pending_on own want.cell) want) _ _ (λ t. none_mute) (λ t. newer_mute own want _ _)
+
+  write_mute : (own : Own) (want : Wanted) → M (on_write here own want)
+  unfolding on_write
+  write_mute own want = by_test M (is_lead here.state here.me want.cell) _ _ (λ t. takes_mute own want _) (λ t. none_mute)
+
+  reserved_mute : (own : Own) (number : ℕ) (o : Option Pending) → M (hears_reserved here own number o)
+  reserved_mute own number None = none_mute
+  reserved_mute own number (Some op) = by_test M (is_reserving op number) _ _ (λ t. on_mute (with_pending own (with_reserved op)) op.cell) (λ t. none_mute)
+
+  full_mute : (own : Own) (number : ℕ) (o : Option Pending) → M (hears_pair_full own number o)
+  full_mute own number None = none_mute
+  full_mute own number (Some op) =
+      by_test M (is_reserving op number && not op.stage.put) _ _ (λ t. one_mute (actor.Client op.client) (body.Full op.seq) refl)
+      (λ t. none_mute)
+
+  replicated_mute : (own : Own) (number : ℕ) (o : Option Pending) → M (hears_replicated here own number o)
+  replicated_mute own number None = none_mute
+  replicated_mute own number (Some op) = by_test M (is_replicating op number) _ _ (λ t. on_mute (with_pending own (with_paired op)) op.cell) (λ t. none_mute)
+
+  tells_mute : (own : Own) (cell : Cell) (number : ℕ) (how : Far) → M (tells here own cell number how)
+  tells_mute own cell number far.Reserved = to_mute (first here.state cell) (body.Reserved number cell) refl
+  tells_mute own cell number far.Replicated = to_mute (first here.state cell) (body.Replicated number cell) refl
+
+  reserves_mute : (own : Own) (cell : Cell) (number : ℕ) (has room : Bool) → M (reserves here own cell number has room)
+  reserves_mute own cell number true room = tells_mute own cell number far.Reserved
+  reserves_mute own cell number false true = tells_mute own cell number far.Reserved
+  reserves_mute own cell number false false = to_mute (first here.state cell) (body.PairFull number cell) refl
+
+  reserve_mute : (own : Own) (cell : Cell) (number : ℕ) (o : Option LastOp) → M (hears_reserve here own cell number o)
+  reserve_mute own cell number None = reserves_mute own cell number false _
+  reserve_mute own cell number (Some last) =
+      by_test M (nat_lt number last.op) _ _ (λ t. none_mute)
+      (λ t. by_test M (number == last.op) _ _ (λ t. tells_mute own cell number last.far)
+      (λ t. reserves_mute own cell number (has_slot last.far) (nat_lt 0 (free_of own.store))))
+
+  follows_mute : (own : Own) (number : ℕ) (key : Key) (bytes : List ℕ) (how : Far) → M (follows_once here own number key bytes how)
+  follows_mute own number key bytes far.Reserved = tells_mute own (cell_of key) number far.Replicated
+  follows_mute own number key bytes far.Replicated = tells_mute own (cell_of key) number far.Replicated
+
+  replicate_mute : (own : Own) (number : ℕ) (key : Key) (bytes : List ℕ) (o : Option LastOp) → M (hears_replicate here own number key bytes o)
+  replicate_mute own number key bytes None = none_mute
+  replicate_mute own number key bytes (Some last) = by_test M (number == last.op) _ _ (λ t. follows_mute own number key bytes last.far) (λ t. none_mute)
+
+  handles_mute : (own : Own) (what : Body) → M (handles here own what)
+  unfolding handles on_reserve on_reserved on_pair_full on_replicate on_replicated
+  handles_mute own (body.Read client seq cell epoch) = read_mute own client seq cell epoch
+  handles_mute own (body.Write client seq cell epoch bytes) = write_mute own (record { client = client; seq = seq; cell = cell; epoch = epoch; bytes = bytes })
+  handles_mute own (body.Reserve number cell) = by_test M (is_second here.state here.me cell) _ _ (λ t. reserve_mute own cell number _) (λ t. none_mute)
+  handles_mute own (body.Reserved number cell) = reserved_mute own number (pending_on own cell)
+  handles_mute own (body.PairFull number cell) = full_mute own number (pending_on own cell)
+  handles_mute own (body.Replicate number key version bytes) =
+      by_test M (is_second here.state here.me (cell_of key)) _ _ (λ t. replicate_mute own number key bytes _) (λ t. none_mute)
+  handles_mute own (body.Replicated number cell) = replicated_mute own number (pending_on own cell)
+  handles_mute own _ = none_mute
+
+  awaited_mute : (own : Own) (op : Pending) (what : Action) → AreMute (awaited here own op what)
+  awaited_mute own op action.Reserve = acts_mute own op action.Reserve
+  awaited_mute own op (action.Mark kind) = none_mute
+  awaited_mute own op action.Put = none_mute
+  awaited_mute own op action.Replicate = acts_mute own op action.Replicate
+  awaited_mute own op (action.Unmark kind) = none_mute
+  awaited_mute own op action.Answer = none_mute
+  awaited_mute own op action.Drop = none_mute
+
+  tick_mute : (server : Server) → AreMute (tick_posts here server)
+  tick_mute server =
+      both_mute _ _
+      (both_mute _ _ (λ post h. logged_mute post.body (ballot_logged (voter_of here) server.log.phase post h))
+      (all_mute (λ row. sent_anew here server.own row.1) server.own.pairs.pending (λ row. awaited_mute server.own row.1 (next_stage here.state here.me row.1))))
+      (λ post h. logged_mute post.body (ask_logged (voter_of here) server.log post h))
+
+  -- a job that tells of another revision
+  pub record IsTold (what : Job) (post : Post) (seq : ℕ) : Type 0 where
+    pub client : ℕ
+    pub asked : Letter
+    pub job_is : what ≡ job.Letter asked
+    pub from_is : asked.from ≡ actor.Client client
+    pub number : asked_by asked.body ≡ Some seq
+    pub itself : is_in here.state here.me here.inc ≡ true
+    pub other : asked.rev ≢ here.state.rev
+    pub told : post.to ≡ actor.Client client
+
+  -- what a job says: nothing of either, or of another revision
+  pub data JobSays (what : Job) (post : Post) : Type 0 where
+    Mute_post : IsMute post.body → JobSays what post
+    Rev_post : (seq : ℕ) → post.body ≡ body.WrongRev seq → IsTold what post seq → JobSays what post
+
+  abbrev W : Job → Done → Type 0
+  W what done = (post : Post) → In post done.posts → JobSays what post
+
+  mute_tells : (what : Job) (done : Done) → M done → W what done
+  mute_tells what done mute post h = Mute_post (mute post h)
+
+  rev_tells : (own : Own) (letter : Letter) (client : ℕ) (o : Option ℕ) → is_in here.state here.me here.inc ≡ true → letter.rev ≢ here.state.rev
+      → letter.from ≡ actor.Client client
+      → asked_by letter.body ≡ o → W (job.Letter letter) (wrong_rev own client o)
+  rev_tells own letter client None itself other from_is number post h = mute_tells (job.Letter letter) (wrong_rev own client None) none_mute post h
+  rev_tells own letter client (Some k) itself other from_is number post h =
+      let one = one_post (actor.Client client) (body.WrongRev k) post h in
+      Rev_post k one.1 (record {
+        client = client;
+        asked = letter;
+        job_is = refl;
+        from_is = from_is;
+        number = number;
+        itself = itself;
+        other = other;
+        told = one.0;
+      })
+
+  other_tells : (own : Own) (letter : Letter) (who : Actor) → is_in here.state here.me here.inc ≡ true → letter.rev ≢ here.state.rev → letter.from ≡ who
+      → W (job.Letter letter) (at_other_rev own letter who)
+  other_tells own letter (actor.Server n) itself other from_is = mute_tells (job.Letter letter) (at_other_rev own letter (actor.Server n)) none_mute
+  other_tells own letter (actor.Client c) itself other from_is = rev_tells own letter c (asked_by letter.body) itself other from_is refl
+
+  differs : (a b : ℕ) → not (a == b) ≡ true → a ≢ b
+  differs a b t = grind (arith, nat_tests, not_true)
+
+  stays_in : (b : Bool) → not b ≡ false → b ≡ true
+  stays_in true t = refl
+  stays_in false t = absurd (cc)
+
+  pub job_tells : (own : Own) (what : Job) → W what (does here own what)
+  unfolding does
+  job_tells own (job.Letter letter) =
+      by_test (W (job.Letter letter)) (not (is_in here.state here.me here.inc)) _ _ (λ t. mute_tells (job.Letter letter) (silent own) none_mute) (λ now.
+      by_test (W (job.Letter letter)) (not (letter.rev == here.state.rev)) _ _
+      (λ t. other_tells own letter letter.from (stays_in (is_in here.state here.me here.inc) now) (differs letter.rev here.state.rev t) refl) (λ t.
+      by_test (W (job.Letter letter)) (not (is_from_in here.state letter.inc letter.from)) _ _ (λ t. mute_tells (job.Letter letter) (silent own) none_mute)
+      (λ t. mute_tells (job.Letter letter) (handles here own letter.body) (handles_mute own letter.body))))
+  job_tells own (job.Stage cell) =
+      by_test (W (job.Stage cell)) (is_in here.state here.me here.inc) _ _ (λ t. mute_tells (job.Stage cell) (goes_on here own cell) (on_mute own cell))
+      (λ t. mute_tells (job.Stage cell) (silent own) none_mute)
+  job_tells own job.Apply = mute_tells job.Apply (silent own) none_mute
+  job_tells own job.Start = mute_tells job.Start (silent own) none_mute
+
+-- ### Clients
+
+says_mute : (state : State) (c : ℕ) (open_now : Option Asked) (post : Post) → Says state c open_now post → IsMute post.body
+says_mute state c open_now _ (Of_the_log post is) = logged_mute post.body is
+says_mute state c open_now _ (A_write asked name block pattern disk to now is there rev) = refl
+says_mute state c open_now _ (A_read asked name snap block disk epoch to now is there at) = refl
+
+pub client_mute : (heard : ℕ → Body → Type 0) (servers : ℕ) (lines : List Line) (c : ℕ) (client : Client) (in_call : Bool) (reacted : Reaction)
+    → Turned heard servers lines c client in_call reacted → AreMute reacted.posts
+client_mute heard servers lines c client _ _ (Goes_on reacted seq stays says) post h = says_mute _ c reacted.client.asked post (says.says post h)
+client_mute heard servers lines c client _ _ (Begins reacted line asked next free seq now called says) post h = says_mute _ c reacted.client.asked post
+    (says.says post h)
+client_mute heard servers lines c client _ _ (Reads asked bytes told is read) post h = none_mute post h
+client_mute heard servers lines c client _ _ (Ends asked how told is write) post h = none_mute post h
+client_mute heard servers lines c client _ _ (Shown asked rev round inc running full told is given seen) post h = none_mute post h
+client_mute heard servers lines c client _ _ (Judges after asked told is gone seq judged) post h = none_mute post h
+
+-- ### Servers
+
+-- where a server's step tells a client of another revision
+pub record TellsRev (here : Here) (queue : List Job) (what : Step) (letter : Letter) (seq : ℕ) : Type 0 where
+  pub works : what ≡ Work work_end.Done
+  pub first : Job
+  pub rest : List Job
+  pub next : queue ≡ first ∷ rest
+  pub post : Post
+  pub told : IsTold here first post seq
+  pub to : letter.to ≡ post.to
+
+-- what a letter of a server's step says: nothing of either, or of another revision, or what a glance showed
+pub data StepSays (here : Here) (server : Server) (what : Step) (letter : Letter) : Type 0 where
+  Mute : IsMute letter.body → StepSays here server what letter
+  Rev : (seq : ℕ) → letter.body ≡ body.WrongRev seq → TellsRev here server.queue what letter seq → StepSays here server what letter
+  Sight : (line round : ℕ) → what ≡ Glance line round → letter.to ≡ actor.Client operator → letter.body ≡ shown line round server
+      → StepSays here server what letter
+
+no_letter : {A : Type 0} (stamp : ℕ) (letter : Letter) → In letter (stamped stamp []) → A
+unfolding In
+no_letter stamp letter h = absurd h
+
+downs_mute : (me inc : ℕ) (others : List ℕ) → AreMute (map (post_of (body.Down me inc)) others)
+unfolding In
+downs_mute me inc [] post h = absurd h
+downs_mute me inc (n ∷ others) post (inl e) = subst IsMute (sym (ap (λ (p : Post). p.body) e)) refl
+downs_mute me inc (n ∷ others) post (inr h) = downs_mute me inc others post h
+
+-- of mute posts there are mute letters
+sent_mute : (who : Sender) (stamp : ℕ) (posts : List Post) → AreMute posts → (letter : Letter) → In letter (stamped stamp (letters_of who 0 posts))
+    → IsMute letter.body
+sent_mute who stamp posts mute letter h = let s = said_in who stamp 0 posts letter h in subst IsMute (sym s.body) (mute s.post s.there)
+
+-- what a server that stops tells the others
+stops_mute : (here : Here) (server : Server) (stamp : ℕ) (letter : Letter) → In letter (stamped stamp (stops here server).letters) → IsMute letter.body
+stops_mute here server stamp letter h =
+    sent_mute (record { from = actor.Server here.me; inc = here.inc; rev = 0 }) stamp (down_posts here.me here.inc (servers_of here.state))
+    (downs_mute here.me here.inc _) letter h
+
+-- and one that boots
+boots_mute : (here : Here) (server : Server) (end : WorkEnd) (stamp : ℕ) (letter : Letter) → In letter (stamped stamp (boots here server end).letters)
+    → IsMute letter.body
+boots_mute here server work_end.Done stamp letter h =
+    by_test (λ (a : Acted). In letter (stamped stamp a.letters) → IsMute letter.body) (is_overfull (raised server)) (stays server)
+    (wakes here (awake (raised server)))
+    (λ full i. no_letter stamp letter i)
+    (λ room i. let up = awake (raised server) in
+    sent_mute (record { from = actor.Server here.me; inc = up.life.inc; rev = rev_of up.log }) stamp
+    (down_posts here.me here.inc (servers_of here.state)) (downs_mute here.me here.inc _) letter i) h
+boots_mute here server (work_end.Fault Before) stamp letter h = no_letter stamp letter h
+boots_mute here server (work_end.Fault After) stamp letter h = no_letter stamp letter h
+
+glance_says : (here : Here) (line round : ℕ) (server : Server) (stamp : ℕ) (letter : Letter)
+    → In letter (stamped stamp (glances here line round server).letters) → StepSays here server (Glance line round) letter
+glance_says here line round server stamp letter h =
+    let s = said_in (glance_sender here server) stamp 0 (record { to = actor.Client operator; body = shown line round server } ∷ []) letter h in
+    let one = one_post (actor.Client operator) (shown line round server) s.post s.there in
+    Sight line round refl (s.to ∙ one.0) (s.body ∙ one.1)
+
+module _ (here : Here) (server : Server) (stamp : ℕ) (letter : Letter) where
+  abbrev Tells : List Job → Acted → Type 0
+  Tells queue acted = server.queue ≡ queue → In letter (stamped stamp acted.letters) → StepSays here server (Work work_end.Done) letter
+
+  entered_tells : (queue : List Job) (what : Job) (rest : List Job) (done : LogDone) → LogFrame server.log what done
+      → Tells queue (entered here server rest done)
+  entered_tells queue what rest done frame is i =
+      Mute (sent_mute (sender here) stamp done.posts (λ post h. logged_mute post.body (frame.says post h)) letter i)
+
+  pair_tells : (first : Job) (rest : List Job) → Tells (first ∷ rest) (worked here server rest (does here server.own first))
+  pair_tells first rest is i =
+      let s = said_in (sender here) stamp 0 (does here server.own first).posts letter i in
+      elim (job_tells here server.own first s.post s.there) [
+        | Mute_post mute ↦ Mute (subst IsMute (sym s.body) mute)
+        | Rev_post seq e told ↦ Rev seq (s.body ∙ e) (record {
+          works = refl;
+          first = first;
+          rest = rest;
+          next = is;
+          post = s.post;
+          told = told;
+          to = s.to;
+        })
+      ]
+
+  applied_silent : (o : Option Command) → known server.log (next_place server.log) ≡ o → (applies server.log).posts ≡ []
+  applied_silent None none = ap (λ (d : LogDone). d.posts) (applied_none server.log none)
+  applied_silent (Some entry) is = (applied_entry server.log entry is).silent
+
+  done_tells : (first : Job) (rest : List Job) → Tells (first ∷ rest) (job_done here server first rest)
+  done_tells (job.Letter heard) rest =
+      by_test (Tells (job.Letter heard ∷ rest)) (is_log_job (job.Letter heard)) _ _
+      (λ t. entered_tells (job.Letter heard ∷ rest) (job.Letter heard) rest _ (letter_frame_of (voter_of here) server.log heard))
+      (λ t. pair_tells (job.Letter heard) rest)
+  done_tells (job.Stage cell) rest = pair_tells (job.Stage cell) rest
+  done_tells job.Start rest =
+      entered_tells (job.Start ∷ rest) job.Start rest (starts (voter_of here) server.log (wanted_by here server))
+      (start_frame_of (voter_of here) server.log (wanted_by here server))
+  done_tells job.Apply rest = λ is i.
+      no_letter stamp letter
+      (subst (λ posts. In letter (stamped stamp (letters_of (sender here) 0 posts))) (applied_silent (known server.log (next_place server.log)) refl) i)
+
+  works_tells : (queue : List Job) → Tells queue (works here server queue)
+  works_tells [] = λ is i. no_letter stamp letter i
+  works_tells (first ∷ rest) =
+      let acted = job_done here server first rest in
+      by_test (Tells (first ∷ rest)) (is_overfull acted.server) (stops here server) acted
+      (λ full is i. Mute (stops_mute here server stamp letter i)) (λ room. done_tells first rest)
+
+pub server_says : (setting : Setting) (w : World) (n : ℕ) (what : Step) (stamp : ℕ) → MayServer what w n → (letter : Letter)
+    → In letter (stamped stamp (server_step what (server_state setting w n) n (w.servers n)).letters)
+    → StepSays (here_of (server_state setting w n) n (w.servers n)) (w.servers n) what letter
+server_says setting w n (Call line) stamp may letter h = absurd may
+server_says setting w n (Deliver other) stamp may letter h = no_letter stamp letter h
+server_says setting w n Tick stamp may letter h =
+    let here = here_of (server_state setting w n) n (w.servers n) in
+    Mute (sent_mute (sender here) stamp (tick_posts here (w.servers n)) (tick_mute here (w.servers n)) letter h)
+server_says setting w n (Work work_end.Done) stamp may letter h =
+    works_tells (here_of (server_state setting w n) n (w.servers n)) (w.servers n) stamp letter (w.servers n).queue refl h
+server_says setting w n (Work (work_end.Fault Before)) stamp may letter h =
+    Mute (stops_mute (here_of (server_state setting w n) n (w.servers n)) (w.servers n) stamp letter h)
+server_says setting w n (Work (work_end.Fault After)) stamp may letter h =
+    let here = here_of (server_state setting w n) n (w.servers n) in
+    Mute (stops_mute here (works here (w.servers n) (w.servers n).queue).server stamp letter h)
+server_says setting w n Stop stamp may letter h =
+    Mute (stops_mute (here_of (server_state setting w n) n (w.servers n)) (w.servers n) stamp letter h)
+server_says setting w n (Boot end) stamp may letter h =
+    Mute (boots_mute (here_of (server_state setting w n) n (w.servers n)) (w.servers n) end stamp letter h)
+server_says setting w n (Glance line round) stamp may letter h =
+    glance_says (here_of (server_state setting w n) n (w.servers n)) line round (w.servers n) stamp letter h
+
+-- a client says nothing of either
+pub client_says : (setting : Setting) (w : World) (c : ℕ) (what : Step) (stamp : ℕ) → MayClient what setting w c → (letter : Letter)
+    → (let reacted = client_step what (client_state setting w c) c (w.clients c) (next_line setting.lines c (w.clients c)) in
+    In letter (stamped stamp (letters_of (client_sender c reacted.client) 0 reacted.posts)) → IsMute letter.body)
+client_says setting w c what stamp may letter h =
+    let reacted = client_step what (client_state setting w c) c (w.clients c) (next_line setting.lines c (w.clients c)) in
+    sent_mute (client_sender c reacted.client) stamp reacted.posts
+    (client_mute _ setting.servers setting.lines c (w.clients c) _ reacted (client_turns setting w c what may).turned) letter h

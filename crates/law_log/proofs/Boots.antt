@@ -1,0 +1,112 @@
+-- A server that boots, in the schedule: its incarnation is raised, and it begins with what its device knows.
+use Rattle.std.proofs.Common.{◌≡◌, ◌+◌, inl, inr, ℕ, true, false, List, [], ◌∷◌, Option, Some, None, refl, sym, ap, ◌∙◌, subst, arith}
+use Rattle.petal_command.specs.declared.ballot.Ballot.{Ballot}
+use Rattle.petal_command.specs.declared.command.Command.{Command}
+use Rattle.petal_paxos.specs.Kept.{committed, inc_of, known_at}
+use Rattle.petal_paxos.specs.Schedule.{World, Boots, Goes, StopsAfter, raise, turn}
+use Rattle.petal_paxos.specs.declared.phase.Phase.{Phase}
+use Rattle.petal_paxos.specs.declared.phase.Phase.TheVariants.{Idle}
+use Rattle.petal_paxos.specs.declared.record.StateRecord.{StateRecord}
+use Rattle.petal_paxos.specs.declared.record.StateRecord.TheVariants.{Inc, Accepted}
+use Rattle.petal_paxos.proofs.Committed.{acceptor_inc, inc_committed, known_inc}
+use Rattle.petal_rules.specs.Agreement.{IsProposer}
+use Rattle.petal_rules.specs.Boots.{known_front, read_log}
+use Rattle.petal_rules.specs.Log.{Log, commits}
+use Rattle.law_log.specs.Logged.{AreLow, IsBusyAs, IsSeenAt}
+use Rattle.law_log.proofs.Jobs.{run_known}
+use Rattle.law_log.proofs.Kept.{in_committed}
+use Rattle.law_log.proofs.Lists.{put_away, put_here}
+use Rattle.law_log.proofs.Turns.{HasTurn, IsApart, apart_both, apart_turn, asked_more, low_turn, no_posts, seen_same}
+
+no_inc : (inc place : ℕ) (ballot : Ballot) (command : Command) → Inc inc ≡ Accepted place ballot command → ⊥
+no_inc inc place ballot command e = absurd cc
+
+-- a server that doesn't run has no proposer
+pub no_proposer : (phase : Phase) (o : Option Phase) → IsProposer false phase o → o ≡ None
+no_proposer phase None h = refl
+no_proposer phase (Some there) h = let f : false ≡ true = h.0 in absurd cc
+
+apart_raise : (n : ℕ) (p : World) → IsApart n p (raise p n)
+apart_raise n p = record {
+  acceptors = λ s place ne. refl;
+  known = λ s place ne. refl;
+  incs = λ s ne. put_away p.incs n (p.incs n + 1) s ne;
+  proposers = λ s ne. refl;
+  votes = λ s place ballot command ne i. i;
+  more = λ x i. i;
+  letters = λ x i. i;
+}
+
+low_raise : (p : World) (n : ℕ) → AreLow p → AreLow (raise p n)
+low_raise p n low = record { acceptors = low.acceptors; letters = low.letters }
+
+-- its device has the incarnation raised by one
+seen_raised : (n : ℕ) (records : List StateRecord) (entries : List Command) (p : World) (inc : ℕ) → inc_of records ≡ inc → IsSeenAt n records entries p
+    → IsSeenAt n (committed records (Inc (inc + 1))) entries (raise p n)
+seen_raised n records entries p inc is seen = record {
+  acceptors = λ place. seen.acceptors place ∙ sym (acceptor_inc records (inc + 1) place);
+  known = λ place. seen.known place ∙ sym (known_inc records (inc + 1) place);
+  inc = put_here p.incs n (p.incs n + 1) ∙ ap (λ k. k + 1) (seen.inc ∙ is) ∙ sym (inc_committed records (Inc (inc + 1)));
+  votes = λ place ballot command. (
+    λ i. (in_committed records (Inc (inc + 1)) place ballot command).1 (inr ((seen.votes place ballot command).0 i)),
+    λ i. elim ((in_committed records (Inc (inc + 1)) place ballot command).0 i) [
+      | inl e ↦ absurd (no_inc (inc + 1) place ballot command e)
+      | inr old ↦ (seen.votes place ballot command).1 old
+    ],
+  );
+  told = λ place command e. let t = seen.told place command (sym (known_inc records (inc + 1) place) ∙ e) in record { from = t.from; is = t.is };
+  applied = λ i command e. known_inc records (inc + 1) (i + 1) ∙ seen.applied i command e;
+}
+
+-- what it has applied then, it knows
+seen_read : (n : ℕ) (log : Log) (entries : List Command) (p : World) → IsSeenAt n log.records entries p → IsSeenAt n log.records (known_front log) p
+seen_read n log entries p seen = record {
+  acceptors = seen.acceptors;
+  known = seen.known;
+  inc = seen.inc;
+  votes = seen.votes;
+  told = seen.told;
+  applied = λ i command e. let at : i + 1 ≡ 1 + i = omega arith in ap (known_at log.records) at ∙ run_known log _ 1 i command e;
+}
+
+module _ (servers n : ℕ) (log : Log) (p : World) (inc : ℕ) (is : inc_of log.records ≡ inc) (low : AreLow p) (seen : IsSeenAt n log.records log.applied p)
+    (asleep : p.proposers n ≡ None) (Good : ℕ → Command → Type 0) where
+  -- it runs
+  pub wake_turn : HasTurn servers n true (read_log (commits log (Inc (inc + 1)))) [] p Good
+  wake_turn =
+      let q = raise p n in
+      let raised = commits log (Inc (inc + 1)) in
+      record {
+        events = Boots n Goes ∷ [];
+        wanted = λ place command h. absurd h;
+        turns = rw asleep (record {
+          apart = apart_both n p q (turn q n (Some Idle)) (apart_raise n p) (apart_turn n q (Some Idle));
+          low = low_turn q n (Some Idle) (low_raise p n low);
+          seen = seen_same n raised.records (known_front raised) q (turn q n (Some Idle)) (λ x i. i) (λ place. refl) (λ place. refl) refl
+              (λ place ballot command. (λ i. i, λ i. i))
+              (seen_read n raised log.applied q (seen_raised n log.records log.applied p inc is seen));
+          busy = record { proposer = subst (IsProposer true Idle) (sym (put_here q.proposers n (Some Idle))) (refl, tt); asked = tt };
+          posted = λ post i. no_posts post i;
+        });
+      }
+
+  -- it failed behind its commit, and doesn't run
+  pub fail_turn : IsBusyAs servers n false log.phase p → HasTurn servers n false (commits log (Inc (inc + 1))) [] p Good
+  fail_turn busy =
+      let q = raise p n in
+      let raised = commits log (Inc (inc + 1)) in
+      record {
+        events = Boots n StopsAfter ∷ [];
+        wanted = λ place command h. absurd h;
+        turns = rw asleep (record {
+          apart = apart_both n p q (turn q n None) (apart_raise n p) (apart_turn n q None);
+          low = low_turn q n None (low_raise p n low);
+          seen = seen_same n raised.records log.applied q (turn q n None) (λ x i. i) (λ place. refl) (λ place. refl) refl
+              (λ place ballot command. (λ i. i, λ i. i)) (seen_raised n log.records log.applied p inc is seen);
+          busy = record {
+            proposer = subst (IsProposer false log.phase) (sym (put_here q.proposers n None)) refl;
+            asked = asked_more p (turn q n None) (λ x i. i) n servers log.phase busy.asked;
+          };
+          posted = λ post i. no_posts post i;
+        });
+      }

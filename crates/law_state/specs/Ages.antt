@@ -1,0 +1,13 @@
+-- How old a server's place among the servers is: it only rises. Each incarnation is In before it is Out, and before the next one.
+use Rattle.std.specs.Prelude.{ℕ, ◌+◌, Option, Some, None, slice_get}
+use Rattle.global_tables.specs.declared.fence.Member.{Member}
+use Rattle.global_tables.specs.declared.fence.Member.TheVariants as member
+use Rattle.petal_rules.specs.State.{State}
+
+abbrev pub age : Option Member → ℕ
+age None = 0
+age (Some (member.In inc)) = inc + inc + 1
+age (Some (member.Out inc)) = inc + inc + 2
+
+abbrev pub age_of : State → ℕ → ℕ
+age_of state n = age (slice_get state.view.members n)

@@ -1,0 +1,23 @@
+-- What is so of a server that boots.
+use Rattle.std.specs.Prelude.{◌≡◌, ◌+◌, ℕ, false, List, [], ◌∷◌}
+use Rattle.petal_state.specs.Command.{state_after}
+use Rattle.petal_history.specs.Claims.{IsPrefix}
+use Rattle.petal_history.specs.Legal.{stepped}
+use Rattle.petal_history.specs.declared.record.Record.{Record}
+use Rattle.petal_rules.specs.Boots.{known_front, raised}
+use Rattle.petal_rules.specs.State.{is_in}
+use Rattle.petal_rules.specs.World.{Setting, World, chosen_log}
+
+-- a server that boots in this world goes on from the entries that it had applied, by which it is not yet In as its next incarnation
+pub record MayWake (setting : Setting) (w : World) (n : ℕ) : Type 0 where
+  pub onward : IsPrefix (w.servers n).log.applied (known_front (raised (w.servers n)).log)
+  pub chosen : IsPrefix (known_front (raised (w.servers n)).log) (chosen_log setting w)
+  pub out : is_in (state_after setting.servers (known_front (raised (w.servers n)).log)) n ((w.servers n).life.inc + 1) ≡ false
+
+abbrev pub AllMayWake : Setting → World → Type 0
+AllMayWake setting w = (n : ℕ) → MayWake setting w n
+
+-- so it is in each world on the way
+abbrev pub WakeAlong : Setting → World → List Record → Type 0
+WakeAlong setting w [] = AllMayWake setting w
+WakeAlong setting w (own ∷ later) = AllMayWake setting w × WakeAlong setting (stepped setting w own).world later

@@ -1,0 +1,84 @@
+-- What the operator's open line asks for, and which steps and which glance it allows.
+use Rattle.std.proofs.Common.{◌≡◌, ◌⊎◌, ◌<◌, inl, inr, ℕ, Bool, true, false, Option, None, refl, sym, ap, subst, ◌∙◌}
+use Rattle.script_lines.specs.declared.request.Request.{Request}
+use Rattle.script_lines.specs.declared.request.Request.TheVariants as request
+use Rattle.petal_rules.specs.Server.{Life}
+use Rattle.petal_rules.specs.World.{Setting, Boots, Deed, IsDone, MayBoot, MayGlance, MayStop, Stops, World, greatest_u32}
+use Rattle.world_desks.specs.Desks.{Desk, desk_of}
+use Rattle.world_desks.proofs.Left.{left_life, left_runs}
+use Rattle.petal_world.specs.Lines.{HasStarted, HasStopped, IsStartedBy, IsStoppedBy}
+
+stops_is : (asked : Request) (n : ℕ) → Stops asked n → asked ≡ request.Stop n
+stops_is (request.Stop server) n is = ap request.Stop is
+stops_is _ n never = absurd never
+
+is_stops : (asked : Request) (n : ℕ) → asked ≡ request.Stop n → Stops asked n
+is_stops asked n is = subst (λ (r : Request). Stops r n) (sym is) refl
+
+boots_is : (asked : Request) (n : ℕ) (hand : Option (ℕ × Deed)) → Boots asked n hand → (asked ≡ request.Start n) × (hand ≡ None)
+boots_is (request.Start server) n hand is = (ap request.Start is.0, is.1)
+boots_is _ n hand never = absurd never
+
+is_boots : (asked : Request) (n : ℕ) (hand : Option (ℕ × Deed)) → asked ≡ request.Start n → hand ≡ None → Boots asked n hand
+is_boots asked n hand is empty = subst (λ (r : Request). Boots r n hand) (sym is) (refl, empty)
+
+-- what a server's desk tells of it
+pub runs_as : (setting : Setting) (w : World) (n : ℕ) (desk : Desk) (b : Bool) → desk ≡ desk_of setting w n → b ≡ desk.site.server.life.running
+    → (w.servers n).life.running ≡ b
+runs_as setting w n desk b is told = sym (left_runs (w.servers n)) ∙ ap (λ (d : Desk). d.site.server.life.running) (sym is) ∙ sym told
+
+pub inc_as : (setting : Setting) (w : World) (n : ℕ) (desk : Desk) (inc : ℕ) → desk ≡ desk_of setting w n → inc ≡ desk.site.server.life.inc
+    → (w.servers n).life.inc ≡ inc
+inc_as setting w n desk inc is told =
+    ap (λ (life : Life). life.inc) (sym (left_life (w.servers n))) ∙ ap (λ (d : Desk). d.site.server.life.inc) (sym is) ∙ sym told
+
+module _ (w : World) (n : ℕ) where
+  pub stopped_by : (may : MayStop w n) → IsStoppedBy w n may.asked.line
+  stopped_by may = record { asked = may.asked; opened = may.opened; line_is = refl; request_is = stops_is may.asked.request n may.stops }
+
+  pub may_stop_by : (line : ℕ) → (w.servers n).life.running ≡ true → IsStoppedBy w n line → MayStop w n
+  may_stop_by line runs by = record { runs = runs; asked = by.asked; opened = by.opened; stops = is_stops by.asked.request n by.request_is }
+
+  pub started_by : (may : MayBoot w n) → IsStartedBy w n may.asked.line
+  started_by may =
+      record { asked = may.asked; opened = may.opened; line_is = refl; request_is = (boots_is may.asked.request n w.control.hand may.boots).0 }
+
+  pub boots_empty : MayBoot w n → w.control.hand ≡ None
+  boots_empty may = (boots_is may.asked.request n w.control.hand may.boots).1
+
+  pub may_boot_by : (line : ℕ) → (w.servers n).life.running ≡ false → (w.servers n).life.inc < greatest_u32 → w.control.hand ≡ None
+      → IsStartedBy w n line → MayBoot w n
+  may_boot_by line rests raises empty by =
+      record { rests = rests; raises = raises; asked = by.asked; opened = by.opened; boots = is_boots by.asked.request n w.control.hand by.request_is empty }
+
+  -- a line that stops the server is done where it doesn't run, one that starts it where it runs or has booted
+  shown_as : (line round : ℕ) (may : MayGlance w n line round) (asked : Request) → may.asked.request ≡ asked
+      → IsDone asked n (w.servers n).life.running w.control.hand → HasStopped w n line ⊎ HasStarted w n line
+  shown_as line round may (request.Stop server) is done = inl (record {
+    by = record { asked = may.asked; opened = may.opened; line_is = may.line_is; request_is = is ∙ ap request.Stop done.0 };
+    rests = done.1;
+  })
+  shown_as line round may (request.Start server) is done = inr (record {
+    by = record { asked = may.asked; opened = may.opened; line_is = may.line_is; request_is = is ∙ ap request.Start done.0 };
+    shows = done.1;
+  })
+  shown_as line round may _ is never = absurd never
+
+  pub shown : (line round : ℕ) → MayGlance w n line round → HasStopped w n line ⊎ HasStarted w n line
+  shown line round may = shown_as line round may may.asked.request refl may.done
+
+  pub may_glance_by : (line round : ℕ) → round ≡ 0 → HasStopped w n line ⊎ HasStarted w n line → MayGlance w n line round
+  may_glance_by line round first (inl done) = record {
+    asked = done.by.asked;
+    opened = done.by.opened;
+    line_is = done.by.line_is;
+    done = subst (λ (r : Request). IsDone r n (w.servers n).life.running w.control.hand) (sym done.by.request_is) (refl, done.rests);
+    round_is = first;
+  }
+  may_glance_by line round first (inr done) = record {
+    asked = done.by.asked;
+    opened = done.by.opened;
+    line_is = done.by.line_is;
+    done = subst (λ (r : Request). IsDone r n (w.servers n).life.running w.control.hand) (sym done.by.request_is) (refl, done.shows);
+    round_is = first;
+  }
