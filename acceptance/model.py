@@ -1,8 +1,9 @@
 """A plain model of the script language as far as it is built: what `petal run` may print for a script.
 
 It knows nothing of servers' letters and of agreement: a disk is a map of blocks, and each block takes a slot on two
-neighbouring servers of the disk's tuple, its pair. A server that stopped never runs again, and what is left of a pair serves
-its blocks alone, until it stops too. Within a phase the clients and the operator run at once, so the model goes through a
+neighbouring servers of the disk's tuple, its pair. Where one of a pair stops, the other one holds the pair's blocks alone from
+then on, and serves them while it runs. The model doesn't know when the others are told that a server has stopped, and when a
+server that was started is taken in again: it goes by what was answered. Within a phase the clients and the operator run at once, so the model goes through a
 phase as a whole and tells for each line which answers are right in some order of them; it allows a little more than that where
 several clients write one block, or where slots run out while servers stop, and never less. `answers_of` tells the answers of
 scripts in which each line has one right answer, and `complaint` says what is wrong with a run's answers to any script.
@@ -63,28 +64,52 @@ class Making:
         self.number, self.client, self.name = number, client, words[2]
         self.tuple = [int(word) for word in words[4:]]
 
-class Stop:
-    """A line that stops a server."""
+class Order:
+    """A line that stops or starts a server."""
 
     def __init__(self, number, words):
-        self.number, self.server = number, int(words[2])
+        self.number, self.kind, self.server = number, words[1], int(words[2])
+
+class Pair:
+    """Two servers, the primary and the secondary: whether both may hold their blocks, who may hold them alone, and who of the two
+    has stopped."""
+
+    def __init__(self, servers):
+        self.servers, self.both, self.alone, self.gone = servers, True, set(), set()
+
+    def may_leave(self, server):
+        """The server is out perhaps, or stops now: then the other one holds the blocks alone, where both did."""
+        if server in self.servers and self.both:
+            self.alone |= set(self.servers) - {server}
+
+    def leave(self, server):
+        self.may_leave(server)
+        self.gone |= {server} & set(self.servers)
+
+    def narrow(self, alone, why):
+        """One of these holds the blocks alone."""
+        self.both, self.alone = False, self.alone & alone
+        if not self.alone:
+            raise ValueError(f"{why}, and then nobody can hold its block")
 
 class World:
-    """The disks by name, what each block may hold, which servers have stopped, and on each server the blocks that have a slot,
-    or may have one."""
+    """The disks by name with their pairs, what each block may hold, which servers have stopped, which of those that run were started
+    and may not be taken in yet, and on each server the blocks that have a slot, or may have one."""
 
     def __init__(self, servers, slots):
         self.slots = slots
         self.disks = {}
         self.contents = {}
-        self.stopped = set()
+        self.stopped, self.returning = set(), set()
         self.taken = {server: {} for server in range(servers)}
 
+    def make(self, name, tuple_):
+        self.disks[name] = [Pair((first, second)) for first, second in zip(tuple_, tuple_[1:] + tuple_[:1])]
+
     def pair_of(self, spot):
-        """The two servers of a block: the primary and the secondary."""
-        tuple_ = self.disks[spot[0]]
-        at = spot[1] % len(tuple_)
-        return tuple_[at], tuple_[(at + 1) % len(tuple_)]
+        """The two servers of a block."""
+        pairs = self.disks[spot[0]]
+        return pairs[spot[1] % len(pairs)]
 
     def take_slot(self, server, spot, is_sure):
         self.taken[server][spot] = is_sure or self.taken[server].get(spot, False)
@@ -108,26 +133,51 @@ class Phase:
         self.lines = lines
         self.old = set(world.disks)
         self.winners = {}
-        self.stopping = {line.server for line in lines if isinstance(line, Stop)} - world.stopped
-        # By line: the servers of its block that may run when it is served; and whether a write took effect for sure, or perhaps.
-        self.running, self.effects = {}, {}
+        # Who stops in the phase, who starts, who was surely taken in again, and who has stopped at its end.
+        self.stopping, self.starting, self.back, self.resting = set(), set(), set(), set(world.stopped)
+        # The pairs of which a server had stopped before.
+        self.left = {pair for pairs in world.disks.values() for pair in pairs if pair.gone}
+        # By line: the servers that may serve it together, in each way in which it may be served; whether it may be told that nobody
+        # does; and whether a write took effect for sure, or perhaps.
+        self.ways, self.may_fail, self.effects = {}, {}, {}
 
     def answers(self):
         """Which answers are right, by number of line."""
-        self.answer_stops()
+        self.obey()
         self.make_disks()
         served = [use for use in self.lines if isinstance(use, Use) and self.is_served(use)]
         self.find_servers(served)
-        self.write([use for use in served if use.writes is not None and self.running[use.number]])
+        self.write([use for use in served if use.writes is not None and self.ways[use.number]])
         self.read(served)
-        self.world.stopped |= self.stopping
+        for use in served:
+            self.learn(use)
+        self.world.returning = (self.world.returning - self.back | self.starting) - self.resting
+        self.world.stopped = self.resting
         return self.allowed
 
-    def answer_stops(self):
-        """The operator is always told that the server has stopped."""
+    def obey(self):
+        """The operator is always told that the server has stopped, or runs."""
         for line in self.lines:
-            if isinstance(line, Stop):
+            if isinstance(line, Order):
                 self.allowed[line.number] = {"ok"}
+                if line.kind == "stop" and line.server not in self.resting:
+                    self.stopping.add(line.server)
+                    self.resting.add(line.server)
+                elif line.kind == "start" and line.server in self.resting:
+                    self.starting.add(line.server)
+                    self.resting.remove(line.server)
+        for pairs in self.world.disks.values():
+            for pair in pairs:
+                for server in self.stopping:
+                    pair.leave(server)
+
+    def may_run(self, server):
+        """Whether it runs at some time of the phase."""
+        return server not in self.world.stopped or server in self.starting
+
+    def is_firm(self, server):
+        """Whether it runs all the time, and nobody takes it to be out."""
+        return server not in self.world.stopped | self.world.returning | self.stopping | self.starting
 
     def answer_to(self, line):
         """What was answered, or the one answer that may be."""
@@ -152,7 +202,17 @@ class Phase:
                 self.allowed[line.number] = {"ok" if line is winner else "exists"}
             if winner:
                 self.winners[name] = winner
-                self.world.disks[name] = winner.tuple
+                self.make(name, winner.tuple)
+
+    def make(self, name, tuple_):
+        """Of a new disk those servers hold blocks that are not out when it is made."""
+        self.world.make(name, tuple_)
+        for pair in self.world.disks[name]:
+            for server in pair.servers:
+                if server in self.resting:
+                    pair.leave(server)
+                elif not self.is_firm(server):
+                    pair.may_leave(server)
 
     def winner_of(self, firsts):
         """The line that made the disk: the only one that could, or the first that says so."""
@@ -182,27 +242,43 @@ class Phase:
         return self.heard.get(use.number) != "nodisk"
 
     def find_servers(self, served):
-        """A block is served while a server of its pair runs. A client that was told that a pair has stopped knows it from then on."""
+        """A block is served while one of those runs that hold it. A client that was told that nobody does knows it from then on, where
+        none of the pair returns."""
         known = defaultdict(set)
         for use in served:
             pair = self.world.pair_of(use.spot)
-            self.running[use.number] = [server for server in pair if server not in self.world.stopped | known[use.client]]
-            if not self.stays(use):
+            here = [] if pair in known[use.client] else [server for server in pair.servers if self.may_run(server)]
+            self.ways[use.number] = ([here] if pair.both and here else []) + [[server] for server in here if server in pair.alone]
+            self.may_fail[use.number] = any(not self.is_firm(server) for server in pair.alone)
+            if self.may_fail[use.number]:
                 self.allowed[use.number] |= {"unavailable"}
-            if self.was_unavailable(use):
-                known[use.client] |= set(pair)
+            if self.was_unavailable(use) and not pair.alone & (self.starting | self.world.returning):
+                known[use.client].add(pair)
 
-    def stays(self, use):
-        """The servers that surely run when the line is served."""
-        return [server for server in self.running[use.number] if server not in self.stopping]
+    def running(self, use):
+        """The servers that may serve the line."""
+        return [server for server in self.world.pair_of(use.spot).servers if any(server in way for way in self.ways[use.number])]
 
     def was_unavailable(self, use):
-        """Whether its client was told that both servers have stopped."""
-        if self.stays(use):
+        """Whether its client was told that nobody serves the block."""
+        if not self.may_fail[use.number]:
             return False
-        if self.running[use.number] and self.heard is None:
-            raise Racing(f"line {use.number} races with the stop of the last server of its block")
+        if self.ways[use.number] and self.heard is None:
+            raise Racing(f"line {use.number} races with the stop or the start of a server of its block")
         return self.answer_to(use) == "unavailable"
+
+    def learn(self, use):
+        """What an answer tells of who holds the block alone."""
+        pair, answer = self.world.pair_of(use.spot), self.answer_to(use)
+        if answer is None or answer == "nodisk":
+            return
+        why = f"line {use.number} is answered {answer!r}"
+        if answer == "unavailable":
+            pair.narrow({server for server in pair.alone if not self.is_firm(server)}, why)
+        elif use.writes is not None and answer == "ok" and pair in self.left:
+            pair.narrow({server for server in pair.alone if self.may_run(server)}, why)
+        if answer != "unavailable" and not pair.both and len(pair.alone) == 1:
+            self.back |= pair.alone - self.stopping
 
     def write(self, writes):
         """A write needs a free slot on each server of its pair that runs; one that replaces a content gives its slots back
@@ -216,32 +292,32 @@ class Phase:
 
     def outcomes_of(self, use):
         """What the write of the only client that writes may be answered, beside `unavailable`."""
-        world, running, stays = self.world, self.running[use.number], self.stays(use)
-        has_room = [world.most_free(server) > 0 for server in stays or running]
-        full = self.may_be_full_again(use) or any(world.least_free(server) <= 0 for server in running)
-        return ({"ok"} if (all(has_room) if stays else any(has_room)) else set()) | ({"nospace"} if full else set())
+        world, ways = self.world, self.ways[use.number]
+        has_room = any(all(world.most_free(server) > 0 for server in way) for way in ways)
+        full = self.may_be_full_again(use) or any(world.least_free(server) <= 0 for server in self.running(use))
+        return ({"ok"} if has_room else set()) | ({"nospace"} if full else set())
 
     def may_be_full_again(self, use):
         """Whether the write may take the secondary's last slot, and then find none, where it is sent again after a stop of the
         primary. Then it takes effect."""
-        if len(self.running[use.number]) < 2 or self.running[use.number][0] not in self.stopping:
+        running = self.running(use)
+        if len(running) < 2 or running[0] not in self.stopping:
             return False
-        second = self.running[use.number][1]
-        return not self.world.taken[second].get(use.spot, False) and self.world.least_free(second) <= 1
+        return not self.world.taken[running[1]].get(use.spot, False) and self.world.least_free(running[1]) <= 1
 
     def note_effect(self, use):
-        """A write that is told `unavailable` may have taken effect before. Slots of a server that stops are not sure."""
+        """A write that is told `unavailable` may have taken effect before. Only those surely take a slot that serve it in every way."""
         answer = self.answer_to(use)
         if answer in ("ok", "unavailable") or answer == "nospace" and self.may_be_full_again(use):
             self.effects[use.number] = answer == "ok"
-            for server in self.running[use.number]:
-                self.world.take_slot(server, use.spot, answer == "ok" and server not in self.stopping)
+            for server in self.running(use):
+                self.world.take_slot(server, use.spot, answer == "ok" and all(server in way for way in self.ways[use.number]))
 
     def give_up_where_slots_may_run_out(self, writes):
         """Each client has one write open at a time, which takes a slot more than what stays."""
         fresh, writers = defaultdict(set), defaultdict(set)
         for use in writes:
-            for server in self.running[use.number]:
+            for server in self.running(use):
                 writers[server].add(use.client)
                 if use.spot not in self.world.taken[server]:
                     fresh[server].add(use.spot)
@@ -267,7 +343,7 @@ class Phase:
             own = use.client if use.client in writers else None
             if use in writes:
                 found[own] = {use.writes} if self.effects[use.number] else found[own] | {use.writes}
-            elif use.writes is None and self.running[use.number]:
+            elif use.writes is None and self.ways[use.number]:
                 others = {write.writes for write in writes if write.client != use.client}
                 self.allowed[use.number] |= {"data " + content for content in found[own] | others}
                 if not others:
@@ -289,8 +365,8 @@ def phases_of(text):
         elif words[0] in CLIENTS:
             kind = Making if words[1] == "disk" else Use
             phases[-1].append(kind(number, words[0], words))
-        elif words[:2] == ["op", "stop"]:
-            phases[-1].append(Stop(number, words))
+        elif words[:2] in (["op", "stop"], ["op", "start"]):
+            phases[-1].append(Order(number, words))
     return world, phases
 
 def answers_of(text):

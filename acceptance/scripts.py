@@ -192,6 +192,56 @@ def stops(seed, *nets):
 
     return joined(mixed_phases(draw, servers, 4, nets, stops_of))
 
+def starts(seed, *nets):
+    """A mixed script of few disks in which servers stop and start again, so that a majority runs: mostly in phases of their own, and
+    beside writes and reads. Some are stopped that have stopped, and started that run."""
+    draw = random.Random(int(seed))
+    servers = draw.choice((3, 3, 4, 5, 5, 6, 7, 8))
+    stopped, left = [], [64]
+
+    def order():
+        if left[0] and (stopped and draw.randrange(2) or not draw.randrange(8)):
+            left[0] -= 1
+            server = draw.choice(stopped) if stopped and draw.randrange(8) else draw.randrange(servers)
+            if server in stopped:
+                stopped.remove(server)
+            return f"op start {server}"
+        if len(stopped) < servers - servers // 2 - 1:
+            server = draw.randrange(servers)
+            if server not in stopped:
+                stopped.append(server)
+            return f"op stop {server}"
+        return f"op stop {draw.choice(stopped)}"
+
+    def orders_of():
+        before = [order() for _ in range(draw.choice((0, 1, 1, 2, 4)))]
+        return [*before, "wait"] if before else [], [order() for _ in range(draw.choice((0, 0, 0, 1, 3)))]
+
+    return joined(mixed_phases(draw, servers, 4, nets, orders_of))
+
+def rolling(servers, turns, *nets):
+    """One server after the other stops, a block of its is written and read, and it starts again; at the end each block is read."""
+    servers, turns = int(servers), int(turns)
+    lines = head(servers, 2 * turns, *(net.replace("_", " ") for net in nets))
+    for turn in range(turns):
+        server = turn % servers
+        lines += [f"op stop {server}", "wait", f"a write vol {turn} fill {turn}", f"b write vol {turn + servers - 1} fill {turn + 100}"]
+        lines += [f"c read vol {turn}", "wait", f"op start {server}", "wait"]
+    return joined(lines + [f"a read vol {block}" for block in range(turns)])
+
+def neighbours(*nets):
+    """Two neighbours stop, one after the other or both at once, and start again, with writes and reads before, between and after."""
+    lines = ["servers 5 slots 16", *(net.replace("_", " ") for net in nets), "a disk vol on 0 1 2 3 4", "wait"]
+    fill = 0
+    for orders in ("op stop 1|op stop 2|op start 1|op start 2", "op stop 2;op stop 1|op start 2|op stop 0|op start 1;op start 0", "op stop 1;op stop 2;op start 1;op start 2"):
+        for order in orders.split("|"):
+            lines += [*order.split(";"), "wait"]
+            for block, client in enumerate("abc"):
+                fill += 1
+                lines += [f"{client} write vol {block} fill {fill}", f"{client} read vol {block}"]
+            lines.append("wait")
+    return joined(lines + [f"d read vol {block}" for block in range(5)])
+
 def amid(slots, stopped, delay, *nets):
     """A client writes block 2, on servers 2 and 3, again and again, and reads it. After so many lines of the operator one of the two
     stops. Then blocks are written until the slots run out."""
@@ -203,7 +253,7 @@ def amid(slots, stopped, delay, *nets):
     lines += [f"b write vol {block} fill {block}" for block in range(2, 22, 5)] + ["wait"]
     return joined(lines + [f"c read vol {block}" for block in range(2, 22, 5)])
 
-MAKERS = {"many_disks": many_disks, "mixed": mixed, "stops": stops, "amid": amid, "text": text, "bytes": bytes_of, "nothing": nothing, "work": work, "busy": busy,
+MAKERS = {"many_disks": many_disks, "mixed": mixed, "stops": stops, "starts": starts, "rolling": rolling, "neighbours": neighbours, "amid": amid, "text": text, "bytes": bytes_of, "nothing": nothing, "work": work, "busy": busy,
           "all_servers": all_servers, "patterns": patterns, "sized": sized, "requests": requests, "phases": phases, "large": large}
 
 def made(words):
