@@ -1,5 +1,5 @@
-//! Tests of what servers and clients are made of: pending operations, chains, reads, and a client over one disk. The
-//! crate itself has no code.
+//! Tests of what servers and clients are made of: pending operations, chains, reads, a client over one disk, and the
+//! operator's settle. The crate itself has no code.
 #![tactic(auto)]
 
 #[cfg(test)]
@@ -10,3 +10,5 @@ mod clients;
 mod locks;
 #[cfg(test)]
 mod reads;
+#[cfg(test)]
+mod settles;

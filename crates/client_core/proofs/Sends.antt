@@ -1,12 +1,12 @@
 -- What a call, and the entries of a letter, send and leave: the rule's outcome from the parts that the code computes.
-use Rattle.std.proofs.Common.{◌≡◌, ℕ, ◌+◌, List, length, Option, Some, None, refl, sym, ◌∙◌, ap, subst}
+use Rattle.std.proofs.Common.{◌≡◌, ℕ, ◌+◌, List, [], length, Option, Some, None, refl, sym, ◌∙◌, ap, subst}
 use Rattle.petal_command.specs.declared.command.Command.{Command}
 use Rattle.petal_msg.specs.declared.letter.Actor.TheVariants as actor
 use Rattle.petal_msg.specs.declared.letter.Letter.{Letter}
 use Rattle.script_lines.specs.declared.request.Request.{Request}
 use Rattle.petal_rules.specs.State.{State}
 use Rattle.petal_rules.specs.Server.{letters_of}
-use Rattle.petal_rules.specs.Clients.{Client, Asked, called, goes_out, goes_out_where, then_goes_out}
+use Rattle.petal_rules.specs.Clients.{Client, Asked, called, first_round, goes_out, goes_out_where, then_goes_out}
 use Rattle.client_core.specs.Core.{Core, at_core, state_of}
 use Rattle.client_core.specs.Open.{with_send, with_witnesses}
 use Rattle.client_core.specs.Sending.{posts_of, asked_after, sent_by, sent_where}
@@ -43,13 +43,31 @@ open_sent_in core state log witnesses asked sent is_open is =
     rw is_open (is (record core.client { applied = log; asked = Some (record asked { witnesses = witnesses }) }))
 
 called_goes_out : (core : Core) (line : ℕ) (request : Request) (fresh : Asked)
-    → fresh ≡ record { line = line; seq = core.client.seq + 1; request = request; turn = 0; rev = (state_of core).rev; witnesses = 0 }
+    → fresh ≡ record {
+      line = line;
+      seq = core.client.seq + 1;
+      request = request;
+      turn = 0;
+      rev = (state_of core).rev;
+      witnesses = 0;
+      round = first_round request;
+      seen = [];
+    }
     → called (state_of core) core.me core.client line request ≡ goes_out (state_of core) core.me (record core.client { seq = fresh.seq }) fresh
 called_goes_out core line request fresh is = rw is refl
 
 -- a call
 pub called_is : (core new : Core) (line : ℕ) (request : Request) (fresh : Asked) (sent : Sent) (letters : List Letter)
-    → fresh ≡ record { line = line; seq = core.client.seq + 1; request = request; turn = 0; rev = (state_of core).rev; witnesses = 0 }
+    → fresh ≡ record {
+      line = line;
+      seq = core.client.seq + 1;
+      request = request;
+      turn = 0;
+      rev = (state_of core).rev;
+      witnesses = 0;
+      round = first_round request;
+      seen = [];
+    }
     → ((client : Client) → goes_out (state_of core) core.me (record client { asks = core.client.asks }) fresh ≡ sent_by client fresh sent)
     → letters ≡ letters_of (record { from = actor.Client core.me; inc = 0; rev = length core.client.applied }) 0 (posts_of sent.post)
     → new ≡ record core { client = record core.client { seq = fresh.seq; asks = sent.asks; asked = Some (asked_after fresh sent) } }

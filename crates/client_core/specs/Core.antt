@@ -5,7 +5,7 @@ use Rattle.petal_rules.specs.State.{State}
 use Rattle.petal_rules.specs.Server.{letters_of}
 use Rattle.petal_rules.specs.Clients.{Client, client_sender}
 use Rattle.petal_rules.specs.Clients as rules
-use Rattle.petal_rules.specs.World.{greatest_u32, turn_of}
+use Rattle.petal_rules.specs.World.{greatest_u32, round_of, turn_of}
 use Rattle.client_core.specs.declared.reaction.Reaction.{Reaction}
 
 -- a client's number, how many servers there are, and what the rules know of it
@@ -27,4 +27,5 @@ at_core core reacted = (
 
 -- a number of the client is the greatest of its type
 abbrev pub is_spent : Client → Bool
-is_spent client = (client.seq == greatest_u32) || (turn_of client.asked == greatest_u32)
+is_spent client =
+    (client.seq == greatest_u32) || (turn_of client.asked == greatest_u32) || (round_of client.asked == greatest_u32)

@@ -7,7 +7,8 @@ use Rattle.script_lines.specs.declared.request.Request.TheVariants as request
 use Rattle.petal_rules.specs.State.{State}
 use Rattle.petal_rules.specs.Clients.{Client, Asked, Reaction, rests, answers, asking, goes_out_where}
 use Rattle.client_core.specs.declared.hearing.Heard.{Heard}
-use Rattle.client_core.specs.declared.hearing.Heard.TheVariants.{Nothing, Answered, Again}
+use Rattle.client_core.specs.declared.hearing.Heard.TheVariants as heard
+use Rattle.client_core.specs.declared.round.Round.{Round}
 
 -- the bytes that a request sends
 abbrev pub bytes_sent : Request → Option (List ℕ)
@@ -18,11 +19,16 @@ abbrev pub answers_where : Client → Option Asked → Answer → Reaction
 answers_where client None given = rests client
 answers_where client (Some asked) given = answers client asked given
 
--- what comes of a reply
+-- the request, where its rounds are so far
+abbrev pub in_round : Round → Option Asked → Option Asked
+in_round round asked = option_map (λ (was : Asked). record was { round = round.number; seen = round.shown }) asked
+
+-- what comes of a letter
 abbrev pub outcome : Heard → State → ℕ → Client → Option Asked → Reaction
-outcome Nothing state me client asked = rests client
-outcome (Answered given) state me client asked = answers_where client asked given
-outcome Again state me client asked = asking state client (goes_out_where state me client asked)
+outcome heard.Nothing state me client asked = rests client
+outcome (heard.Answered given) state me client asked = answers_where client asked given
+outcome heard.Again state me client asked = asking state client (goes_out_where state me client asked)
+outcome (heard.Round round) state me client asked = rests (record client { asked = in_round round asked })
 
 -- the request, where so many of its Witnesses were applied
 abbrev pub with_witnesses : ℕ → Option Asked → Option Asked
@@ -49,3 +55,12 @@ start_in server asked _ = None
 abbrev pub start_of : ℕ → Option Asked → Option ℕ
 start_of server None = None
 start_of server (Some asked) = start_in server asked asked.request
+
+-- the request's line and its round, where it is a settle
+abbrev pub settle_in : Asked → Request → Option (ℕ × ℕ)
+settle_in asked request.Settle = Some (asked.line, asked.round)
+settle_in asked _ = None
+
+abbrev pub settle_of : Option Asked → Option (ℕ × ℕ)
+settle_of None = None
+settle_of (Some asked) = settle_in asked asked.request

@@ -4,10 +4,11 @@ ghost use Rattle.std.specs.Prelude.{◌≡◌, ◌↔◌, ◌+◌, ◌<◌, leng
 ghost use Rattle.std.specs.Option.{option_map_or};
 ghost use Rattle.petal_state.specs.Command.{state_after};
 ghost use Rattle.petal_rules.specs.State.{servers_of};
-ghost use Rattle.petal_rules.specs.Clients.{Client, first_client, called, heard, hears_of, next_entries, takes_entries, then_goes_out, ticked, asking, goes_out_where};
-ghost use Rattle.petal_rules.specs.World.{turn_of};
+ghost use Rattle.petal_rules.specs.Clients.{Client, first_client, called, first_round, heard, hears_of, next_entries, sees, takes_entries};
+ghost use Rattle.petal_rules.specs.Clients.{then_goes_out, ticked, asking, goes_out_where};
+ghost use Rattle.petal_rules.specs.World.{round_of, turn_of};
 ghost use Rattle.client_core.specs.Core.{at_core, is_spent, state_of};
-ghost use Rattle.client_core.specs.Open.{answers_where, outcome, start_of, stop_of, with_send, with_witnesses};
+ghost use Rattle.client_core.specs.Open.{answers_where, in_round, outcome, settle_of, start_of, stop_of, with_send, with_witnesses};
 ghost use Rattle.client_core.specs.Learning.{learnt};
 
 use crate::hearing::Heard;
@@ -16,12 +17,13 @@ use crate::learning::Learning;
 use crate::open::{Open, was_sent, was_witnessed};
 use crate::posting::{one_letter, two_letters};
 use crate::reaction::Reaction;
+use crate::round::{Round, Sight, went_round};
 use crate::sending::Sent;
 use ghost_list::GhostList;
 use global_state::GlobalState;
 use petal_base::{CLIENTS, ClientId, NoMemory, Rev, Seq, Sequence, ServerId};
 use petal_command::{ClientNumber, Command};
-use petal_msg::{Body, Letter};
+use petal_msg::{Actor, Body, Letter};
 use script_lines::{Answer, Request};
 use std::alloc::Global;
 use std::marker::Model;
@@ -105,6 +107,26 @@ impl ClientCore {
     {
         match &letter.body {
             Body::News { after, commands } => self.learn(alloc, *after, commands.as_slice()),
+            Body::Seen {
+                line,
+                round,
+                running,
+                inc,
+                full,
+            } => match letter.from {
+                Actor::Server(server) => self.see(
+                    alloc,
+                    &Sight {
+                        server,
+                        line: *line,
+                        round: *round,
+                        running: *running,
+                        inc: *inc,
+                        full: *full,
+                    },
+                ),
+                Actor::Client(_) => Ok(nothing(alloc)),
+            },
             _ => self.hear(alloc, letter),
         }
     }
@@ -145,7 +167,7 @@ impl ClientCore {
     pub fn spent(&self) -> bool
         ensures { result ≡ is_spent self.now.client }
     {
-        self.seq == Seq::MAX || self.turn() == u32::MAX
+        self.seq == Seq::MAX || self.turn() == u32::MAX || self.round() == u32::MAX
     }
 
     /// The line of the open request, where it stops this server.
@@ -165,6 +187,26 @@ impl ClientCore {
         match &self.asked {
             None => None,
             Some(open) => open.starts(server),
+        }
+    }
+
+    /// The line and the round of the open request, where it is a settle.
+    pub fn settles(&self) -> Option<(u32, u32)>
+        ensures { result ≡ settle_of self.now.client.asked }
+    {
+        match &self.asked {
+            None => None,
+            Some(open) => open.settles(),
+        }
+    }
+
+    /// In which round of glances the open request is. Only a settle has rounds.
+    fn round(&self) -> u32
+        ensures { result ≡ round_of self.now.client.asked }
+    {
+        match &self.asked {
+            None => 0,
+            Some(open) => open.round.number,
         }
     }
 
@@ -210,20 +252,56 @@ impl ClientCore {
         })
     }
 
-    /// Handles a letter that is no News.
+    /// Handles a reply.
     fn hear(&mut self, alloc: Global, letter: &Letter) -> Result<Reaction, NoMemory>
         ensures ok { IfOk result (λ reaction. (self.new, reaction)
             ≡ at_core self.old (hears_of (state_of self.old) self.old.me self.old.client self.old.client.asked letter.now)) }
         ensures err { OnErr result (self.new ≡ self.old) }
     {
-        match self.heard(letter)? {
+        let heard = self.heard(letter)?;
+        self.go_on(alloc, heard)
+    }
+
+    /// A glance shows a server.
+    fn see(&mut self, alloc: Global, sight: &Sight) -> Result<Reaction, NoMemory>
+        ensures ok { IfOk result (λ reaction. (self.new, reaction)
+            ≡ at_core self.old (sees (state_of self.old) self.old.client self.old.client.asked sight.now)) }
+        ensures err { OnErr result (self.new ≡ self.old) }
+    {
+        let heard = self.seen(alloc, sight)?;
+        self.go_on(alloc, heard)
+    }
+
+    /// What came of a letter is done.
+    fn go_on(&mut self, alloc: Global, heard: Heard) -> Result<Reaction, NoMemory>
+        ensures ok { IfOk result (λ reaction. (self.new, reaction)
+            ≡ at_core self.old (outcome heard (state_of self.old) self.old.me self.old.client self.old.client.asked)) }
+        ensures err { OnErr result (self.new ≡ self.old) }
+    {
+        match heard {
             Heard::Nothing => Ok(nothing(alloc)),
             Heard::Answered(answer) => Ok(self.answer(alloc, answer)),
             Heard::Again => self.ask_and_send(alloc),
+            Heard::Round(round) => {
+                self.has_round(round);
+                Ok(nothing(alloc))
+            }
         }
     }
 
-    /// What a letter means for the open request.
+    /// What a glance means for the open request.
+    #[tactic(auto, using(petal_rules::proofs::Applied::servers_after))]
+    fn seen(&self, alloc: Global, sight: &Sight) -> Result<Heard, NoMemory>
+        ensures { IfOk result (λ heard. sees (state_of self.now) self.now.client self.now.client.asked sight.now
+            ≡ outcome heard (state_of self.now) self.now.me self.now.client self.now.client.asked) }
+    {
+        match &self.asked {
+            None => Ok(Heard::Nothing),
+            Some(open) => open.see(alloc, self.servers, &self.state, sight),
+        }
+    }
+
+    /// What a reply means for the open request.
     fn heard(&self, letter: &Letter) -> Result<Heard, NoMemory>
         ensures { IfOk result (λ heard. (client : Client)
             → hears_of (state_of self.now) self.now.me client self.now.client.asked letter.now
@@ -322,6 +400,8 @@ impl ClientCore {
           turn = 0;
           rev = (state_of self.now).rev;
           witnesses = 0;
+          round = first_round request;
+          seen = [];
         }) }
     {
         let seq = self.seq.checked_add(1).ok_or(NoMemory)?;
@@ -352,6 +432,13 @@ impl ClientCore {
             ≡ record self.old { client = record self.old.client { asked = with_witnesses witnesses self.old.client.asked } } }
     {
         was_witnessed(&mut self.asked, witnesses);
+    }
+
+    /// The open request is in this round.
+    fn has_round(&mut self, round: Round)
+        ensures { self.new ≡ record self.old { client = record self.old.client { asked = in_round round self.old.client.asked } } }
+    {
+        went_round(&mut self.asked, round);
     }
 
     /// These are the entries that are applied, and this is what they made.

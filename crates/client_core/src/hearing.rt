@@ -1,16 +1,17 @@
-//! What a reply means for the open request.
+//! What a letter means for the open request.
 
 ghost use Rattle.std.specs.Prelude.{◌≡◌, ℕ, Some, IfOk, if◌then◌else◌};
 ghost use Rattle.petal_rules.specs.State.{State};
-ghost use Rattle.petal_rules.specs.Clients.{Client, hears, seen_answer};
+ghost use Rattle.petal_rules.specs.Clients.{Client, hears};
 ghost use Rattle.client_core.specs.Open.{outcome};
 
 use crate::open::Open;
+use crate::round::Round;
 use petal_base::{NoMemory, Rev, Seq};
 use petal_msg::Body;
-use script_lines::{Answer, Request};
+use script_lines::Answer;
 
-/// What comes of a reply.
+/// What comes of a letter.
 #[derive(Drop)]
 pub enum Heard {
     /// It does not count.
@@ -19,6 +20,8 @@ pub enum Heard {
     Answered(Answer),
     /// It asks what follows, and the request is sent again.
     Again,
+    /// It shows a server to a settle, which goes on in this round.
+    Round(Round),
 }
 
 fn answered_if(counts: bool, answer: Answer) -> Heard
@@ -37,19 +40,8 @@ fn again_if(counts: bool) -> Heard
     if counts { Heard::Again } else { Heard::Nothing }
 }
 
-/// What the operator's line is answered, once its server was glanced at: a start has failed where the server does not run.
-fn seen_answer(request: &Request, running: bool) -> Option<Answer>
-    ensures { result ≡ seen_answer request.now running }
-{
-    match request {
-        Request::Stop { server: _ } => Some(Answer::Ok),
-        Request::Start { server: _ } => Some(if running { Answer::Ok } else { Answer::Failed }),
-        _ => None,
-    }
-}
-
 impl Open {
-    /// What a letter that comes at a revision means for this request.
+    /// What a reply that comes at a revision means for this request.
     pub fn hear(&self, rev: Rev, body: &Body) -> Result<Heard, NoMemory>
         ensures { IfOk result (λ heard. (state : State) (me : ℕ) (client : Client)
             → hears state me client self.now rev body.now ≡ outcome heard state me client (Some self.now)) }
@@ -70,16 +62,8 @@ impl Open {
             )),
             Body::BlockBusy { seq } | Body::Held { seq } => Ok(again_if(self.counts(rev, *seq))),
             Body::WrongRev { seq } => Ok(again_if(*seq == self.seq)),
-            Body::Seen { line, running, .. } => {
-                if *line != self.line {
-                    return Ok(Heard::Nothing);
-                }
-                match seen_answer(&self.request, *running) {
-                    Some(answer) => Ok(Heard::Answered(answer)),
-                    None => Ok(Heard::Nothing),
-                }
-            }
             Body::Down { .. }
+            | Body::Seen { .. }
             | Body::Propose { .. }
             | Body::Pax(_)
             | Body::Ask { .. }

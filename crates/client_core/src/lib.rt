@@ -13,6 +13,7 @@ mod open;
 mod posting;
 mod proposing;
 mod reaction;
+mod round;
 mod sending;
 
 pub use client::ClientCore;

@@ -1,9 +1,10 @@
 //! The request that is open.
 
-ghost use Rattle.std.specs.Prelude.{◌≡◌, IfOk};
-ghost use Rattle.petal_rules.specs.Clients.{counts};
-ghost use Rattle.client_core.specs.Open.{bytes_sent, start_in, stop_in, with_send, with_witnesses};
+ghost use Rattle.std.specs.Prelude.{◌≡◌, IfOk, []};
+ghost use Rattle.petal_rules.specs.Clients.{counts, first_round};
+ghost use Rattle.client_core.specs.Open.{bytes_sent, settle_in, start_in, stop_in, with_send, with_witnesses};
 
+use crate::round::{Round, Shown};
 use petal_base::{NoMemory, Rev, Seq, ServerId, SharedBlock};
 use script_lines::Request;
 use std::alloc::Global;
@@ -19,6 +20,8 @@ pub struct Open {
     pub rev: Rev,
     /// How many of its Witnesses were applied.
     pub witnesses: u32,
+    /// Of a settle, the round that it is in.
+    pub round: Round,
     pub bytes: Option<SharedBlock>,
 }
 
@@ -29,7 +32,16 @@ impl Model for Open {
 
     ghost Value = { Asked };
 
-    ghost view = { λ o. record { line = o.line; seq = o.seq; request = o.request; turn = o.turn; rev = o.rev; witnesses = o.witnesses } };
+    ghost view = { λ o. record {
+      line = o.line;
+      seq = o.seq;
+      request = o.request;
+      turn = o.turn;
+      rev = o.rev;
+      witnesses = o.witnesses;
+      round = o.round.number;
+      seen = o.round.shown;
+    } };
 
     ghost invariant = { λ o. o.bytes ≡ bytes_sent o.request };
 }
@@ -48,6 +60,16 @@ fn bytes_sent(alloc: Global, request: &Request) -> Result<Option<SharedBlock>, N
     }
 }
 
+/// The round in which a request begins. Only a settle has rounds.
+fn first_round(request: &Request) -> u32
+    ensures { result ≡ first_round request.now }
+{
+    match request {
+        Request::Settle => 1,
+        _ => 0,
+    }
+}
+
 impl Open {
     /// A request that was never sent, called at a revision.
     pub fn new(
@@ -57,9 +79,22 @@ impl Open {
         request: Request,
         rev: Rev,
     ) -> Result<Open, NoMemory>
-        ensures { IfOk result (λ asked. asked ≡ record { line = line; seq = seq; request = request; turn = 0; rev = rev; witnesses = 0 }) }
+        ensures { IfOk result (λ asked. asked ≡ record {
+          line = line;
+          seq = seq;
+          request = request;
+          turn = 0;
+          rev = rev;
+          witnesses = 0;
+          round = first_round request;
+          seen = [];
+        }) }
     {
         let bytes = bytes_sent(alloc, &request)?;
+        let round = Round {
+            number: first_round(&request),
+            shown: Shown::new(alloc),
+        };
         Ok(Open {
             line,
             seq,
@@ -67,6 +102,7 @@ impl Open {
             turn: 0,
             rev,
             witnesses: 0,
+            round,
             bytes,
         })
     }
@@ -106,6 +142,16 @@ impl Open {
                     None
                 }
             }
+            _ => None,
+        }
+    }
+
+    /// The request's line and its round, where it is a settle.
+    pub fn settles(&self) -> Option<(u32, u32)>
+        ensures { result ≡ settle_in self.now self.now.request }
+    {
+        match &self.request {
+            Request::Settle => Some((self.line, self.round.number)),
             _ => None,
         }
     }

@@ -4,6 +4,7 @@
 //! reader gives that fold's value. It knows nothing of how entries are chosen, of letters, and of what any server stores.
 #![tactic(auto)]
 
+mod alone;
 mod ask;
 mod place;
 mod role;
@@ -11,6 +12,9 @@ mod settled;
 mod state;
 mod touch;
 
-pub use global_tables::{Fence, FenceKind, Latest, LinkState, Member, RegionState, Verdict};
+pub use alone::holder_of;
+pub use global_tables::{
+    Fence, FenceKind, Latest, LinkRow, LinkState, Member, RegionState, Verdict,
+};
 pub use petal_state::{DiskView, Hold, Link};
 pub use state::GlobalState;

@@ -1,17 +1,20 @@
 //! Which links an entry of the log touches.
 
-ghost use Rattle.std.specs.Prelude.{◌≡◌};
+ghost use Rattle.std.specs.Prelude.{◌≡◌, false};
+ghost use Rattle.std.specs.Option.{option_map_or};
+ghost use Rattle.global_tables.specs.Link.{link_at};
 ghost use Rattle.petal_state.specs.Place.{touches, touches_cell};
 
 use crate::state::GlobalState;
 use global_tables::LinkRow;
 use link_table::{has_server, is_link};
-use petal_base::Cell;
+use petal_base::{Cell, MapId};
 use petal_command::Command;
 use state_fold::{may_catch, may_join};
 
 impl GlobalState {
-    fn touches(&self, entry: &Command, row: &LinkRow) -> bool
+    /// Whether the entry would change this link, or make one of its two servers In or Out.
+    pub fn touches(&self, entry: &Command, row: &LinkRow) -> bool
         ensures { result ≡ touches self.now entry.now row.now }
     {
         match entry {
@@ -45,6 +48,16 @@ impl GlobalState {
         ensures { result ≡ touches_cell self.now entry.now cell }
     {
         match self.row_of(cell) {
+            Some(row) => self.touches(entry, row),
+            None => false,
+        }
+    }
+
+    /// Whether the entry would change the link of this name, or make one of its two servers In or Out.
+    pub fn touches_link(&self, entry: &Command, map: MapId, link: u8) -> bool
+        ensures { result ≡ option_map_or (touches self.now entry.now) (link_at self.now.links map link) false }
+    {
+        match self.tables.links.get(map, link) {
             Some(row) => self.touches(entry, row),
             None => false,
         }

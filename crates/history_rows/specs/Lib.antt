@@ -1,3 +1,6 @@
 pub mod Acts
 pub mod Boots
+pub mod Copies
+pub mod Returned
+pub mod Settles
 pub mod Stops

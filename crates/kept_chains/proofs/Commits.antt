@@ -9,13 +9,15 @@ use Rattle.petal_base.specs.declared.cell.Key.{Key}
 use Rattle.petal_disk.specs.Disk.{LeavesOnly}
 use Rattle.petal_disk.specs.declared.disk.Disk.{Ghosts}
 use Rattle.petal_disk.proofs.Moments.{started, weaker}
-use Rattle.petal_rules.specs.Store.{Store, mark_on, with_entry, with_mark_on, without_mark_on}
-use Rattle.server_store.specs.Holdings.{Holdings}
+use Rattle.petal_rules.specs.Store.{Store, mark_on, with_entry, with_mark_on, without_entry, without_mark_on}
+use Rattle.physical_map.specs.Keys.{IsInOrder}
+use Rattle.server_store.specs.Holdings.{Holdings, key_held}
 use Rattle.server_store.specs.Shown.{BeforeOrAfter, Holds, Shows, picture_of}
 use Rattle.store_record.specs.declared.record.StoreRecord.{StoreRecord}
 use Rattle.store_record.specs.declared.record.StoreRecord.TheVariants as kind
 use Rattle.kept_chains.specs.Kept.{store_of}
 use Rattle.kept_chains.specs.Standing.{StandsAs, StandsAsEither}
+use Rattle.kept_chains.proofs.Drops.{chains_dropped}
 use Rattle.kept_chains.proofs.Kept.{placed_is}
 
 -- what shows a store of the device stands for the rules' store that it is
@@ -100,6 +102,25 @@ module _ {D : Type 0} (file : List ℕ) (before : Holdings D) where
     refl,
   )
 
+  -- an entry is dropped
+  drop_after : (key : Key) → IsInOrder key_held before.entries → BeforeOrAfter file before (kind.Drop key) []
+      → StandsAsEither (store_of before) (without_entry (store_of before) key) file
+  drop_after key order (inl shows) = inl (stands_before file before shows)
+  drop_after key order (inr shows) = inr (
+    record {
+      fresh = before.log.fresh;
+      records = before.log.records ++ kind.Drop key ∷ [];
+      picture = _;
+      shows = shows;
+      chains_are = chains_dropped before.entries key order;
+      marks_are = refl;
+      fresh_is = refl;
+      count_is = count_more before.log.records (kind.Drop key);
+    },
+    refl,
+    refl,
+  )
+
 module _ {D : Type 0} (device : Ghosts D) where
   -- the device shows the store, now and after any crash
   abbrev HoldsAt : Holdings D → Type 0
@@ -115,6 +136,13 @@ module _ {D : Type 0} (device : Ghosts D) where
       → Leaves before after (StandsAsEither (store_of before) (with_entry (store_of before) key (record { version = version; bytes = bytes })))
   put_moments before after key version slot bytes run =
       weaker device.moment device.left_since before.disk after.disk _ _ run (λ c. put_after c before key version slot bytes)
+
+  -- what a crash within the drop of an entry leaves
+  pub drop_moments : (before after : Holdings D) (key : Key) → IsInOrder key_held before.entries
+      → Leaves before after (λ c. BeforeOrAfter c before (kind.Drop key) [])
+      → Leaves before after (StandsAsEither (store_of before) (without_entry (store_of before) key))
+  drop_moments before after key order run =
+      weaker device.moment device.left_since before.disk after.disk _ _ run (λ c. drop_after c before key order)
 
   module _ (only_now : (d : D) (c : List ℕ) → device.left_since d (device.moment d) c → device.may_leave d c) where
     -- where no call of the device was made, a crash leaves the store as it is

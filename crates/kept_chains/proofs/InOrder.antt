@@ -26,7 +26,7 @@ use Rattle.kept_chains.proofs.Chains.{chain_here, chain_apart, well_by}
 is_less : (a b : ℕ) → a < b → nat_cmp a b ≡ Less
 is_less a b h = grind (arith, nat_tests)
 
-cell_in : (cell : Cell) (k : Key) → in_cell cell k ≡ true → cell ≡ cell_of k
+pub cell_in : (cell : Cell) (k : Key) → in_cell cell k ≡ true → cell ≡ cell_of k
 cell_in cell k is = λ i. record { map = map_is i; block = block_is i }
   where
     map_is : cell.map ≡ k.map
@@ -35,7 +35,7 @@ cell_in cell k is = λ i. record { map = map_is i; block = block_is i }
     block_is : cell.block ≡ k.block
     block_is = grind (arith, nat_tests)
 
-cell_out : (cell : Cell) (k : Key) → in_cell cell k ≡ false → cell ≢ cell_of k
+pub cell_out : (cell : Cell) (k : Key) → in_cell cell k ≡ false → cell ≢ cell_of k
 cell_out cell k out e =
     let m : cell.map ≡ k.map = ap (λ (c : Cell). c.map) e in
     let n : cell.block ≡ k.block = ap (λ (c : Cell). c.block) e in
@@ -156,7 +156,7 @@ module _ {A : Type 0} (key : A → Key) (stored : A → Stored) where
   in_own k = grind (arith, nat_tests)
 
   -- the first entry's row stands before those of its cell
-  new_first : (x : A) (xs : List A) → IsInOrder key (x ∷ xs) → put nat_cmp (chain_in (chains_by key stored xs) (cell_of (key x))) (key x).epoch (stored x) ≡ ((key x).epoch, stored x) ∷ chain_in (chains_by key stored xs) (cell_of (key x))
+  pub new_first : (x : A) (xs : List A) → IsInOrder key (x ∷ xs) → put nat_cmp (chain_in (chains_by key stored xs) (cell_of (key x))) (key x).epoch (stored x) ≡ ((key x).epoch, stored x) ∷ chain_in (chains_by key stored xs) (cell_of (key x))
   new_first x xs order =
       let own = chain_is xs (cell_of (key x)) order.1 in
       rw own (put_front (key x).epoch (stored x) _ (starts_above (key x) (cell_of (key x)) xs (in_own (key x)) order.0))

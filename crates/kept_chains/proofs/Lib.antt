@@ -3,3 +3,5 @@ pub mod Chains
 pub mod InOrder
 pub mod Kept
 pub mod Commits
+pub mod Drops
+pub mod Walks

@@ -98,7 +98,7 @@ module _ {K X : Type 0} (R : K → K → Ordering) where
   unfolding put
   sorted_put o t k x h = subst (IsSorted R) (sym (insert_is_put t k x)) (rows.is_sorted-put R o k x t h)
 
-  at_is_find : (q : K) (t : Table K X) → rows.find R q t ≡ at R t q
+  pub at_is_find : (q : K) (t : Table K X) → rows.find R q t ≡ at R t q
   unfolding at
   at_is_find q [] = refl
   at_is_find q (e ∷ es) = ap (cond (is_eq (R q e.0)) (Some e.1)) (at_is_find q es)

@@ -3,3 +3,4 @@ pub mod Kept
 pub mod Marking
 pub mod Reading
 pub mod Standing
+pub mod Walking

@@ -1,5 +1,5 @@
 -- Commits of a store that set a mark or take one away.
-use Rattle.std.specs.Prelude.{◌≡◌, ◌+◌, length, Result, IfErr, IsErrOf, OnOk}
+use Rattle.std.specs.Prelude.{◌≡◌, ◌+◌, length, Result, IfErr, IsErrOf, OnOk, OnErr}
 use Rattle.petal_disk.specs.Disk.{LeavesOnly}
 use Rattle.petal_disk.specs.declared.disk.Disk.{Ghosts}
 use Rattle.petal_rules.specs.Store.{Store}
@@ -28,6 +28,21 @@ pub record IsCommit {D T : Type 0} (device : Ghosts D) (before after : Holdings 
       → LeavesOnly device.moment device.left_since before.disk after.disk (StandsAsEither (store_of before) rule)
   pub tickets : after.tickets ≡ before.tickets
   pub kept : device.told → after.entries ≡ before.entries
+  pub errors : IfErr result IsMarkError
+  pub memory : IsErrOf result NoMemory → after ≡ before
+  pub full : IsErrOf result JournalFull → IsFull before after rule
+  pub cause : HasFault (device.faults before.disk) (device.faults after.disk) result
+  pub run : device.came_to before.disk after.disk
+
+-- so of a commit that changes the entries: they stay where it was refused. A slot that it needed was set apart and used at once
+pub record IsChange {D T : Type 0} (device : Ghosts D) (before after : Holdings D) (result : Result T StoreError) (rule : Store) : Type 0 where
+  pub done : OnOk result (device.told → store_of after ≡ rule)
+  pub holds : device.told → Holds before (device.seen before.disk) (device.may_leave before.disk)
+      → OnOk result (Holds after (device.seen after.disk) (device.may_leave after.disk))
+  pub moments : device.told → Holds before (device.seen before.disk) (device.may_leave before.disk)
+      → LeavesOnly device.moment device.left_since before.disk after.disk (StandsAsEither (store_of before) rule)
+  pub tickets : after.tickets ≡ before.tickets
+  pub kept : OnErr result (device.told → after.entries ≡ before.entries)
   pub errors : IfErr result IsMarkError
   pub memory : IsErrOf result NoMemory → after ≡ before
   pub full : IsErrOf result JournalFull → IsFull before after rule

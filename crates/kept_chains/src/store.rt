@@ -1,19 +1,22 @@
 //! Calls of a store, said as the rules say them.
 
-ghost use Rattle.std.specs.Prelude.{◌≡◌, ◌+◌, ◌-◌, ◌^◌, ◌<◌, ◌++◌, ◌∷◌, [], length, nat_lt, Contains, IfOk, IfErr, IfSome, IfNone, OnOk, OnErr, is_some};
+ghost use Rattle.std.specs.Prelude.{◌≡◌, ◌+◌, ◌-◌, ◌^◌, ◌<◌, ◌++◌, ◌∷◌, [], length, nat_lt, Contains, IfOk, IfErr, IfSome, IfNone, OnOk, OnErr, is_some, nat_eq, true};
+ghost use Rattle.std.specs.List.{list_any};
+ghost use Rattle.petal_base.specs.Cells.{cell_of};
 ghost use Rattle.petal_disk.specs.Faults.{HasCause};
 ghost use Rattle.petal_disk.specs.Keeping.{KeepsDevice};
-ghost use Rattle.petal_rules.specs.Store.{bytes_of, chain_in, entry_at, free_of, version_of, top_of, with_mark_on, without_mark_on};
+ghost use Rattle.petal_rules.specs.Store.{bytes_of, chain_in, entry_at, epochs_of, free_of, version_of, top_of, with_mark_on, without_entry, without_mark_on};
 ghost use Rattle.physical_map.specs.Entries as map;
+ghost use Rattle.server_store.specs.Errors.{IsCommitError};
 ghost use Rattle.server_store.specs.Holdings.{listed};
 ghost use Rattle.server_store.specs.Shown.{Holds};
 ghost use Rattle.kept_chains.specs.Kept.{chains_of, store_of};
-ghost use Rattle.kept_chains.specs.Marking.{IsCommit};
+ghost use Rattle.kept_chains.specs.Marking.{IsChange, IsCommit};
 ghost use Rattle.kept_chains.specs.Reading.{IsReadFault};
 
 use crate::ReadError;
 use busy_marks::MarkKind;
-use petal_base::{BLOCK_BYTES, Block, Cell, Epoch, NoMemory, SharedBlock, Version};
+use petal_base::{BLOCK_BYTES, Block, Cell, Epoch, Key, NoMemory, SharedBlock, Version};
 use petal_disk::{Disk, Failed};
 use server_store::{Store, StoreError, Ticket};
 use std::alloc::{AllocError, Global};
@@ -98,4 +101,18 @@ pub fn unmark<D: Disk>(store: &mut Store<D>, kind: MarkKind, cell: Cell) -> Resu
     ensures { IsCommit D.Disk store.old store.new result (without_mark_on (store_of store.old) kind cell) }
 {
     store.unmark(kind, cell)
+}
+
+/// Drops the entry of a key, and its slot is free. It takes no memory.
+///
+/// # Errors
+/// `JournalFull` only where the journal has all its records; `Failed`, where the device failed. The entries stay as they were.
+pub fn drop_entry<D: Disk>(store: &mut Store<D>, key: Key) -> Result<(), StoreError>
+    requires { list_any (nat_eq key.epoch) (epochs_of (chain_in (chains_of store.old.entries) (cell_of key))) ≡ true }
+    ensures change { IsChange D.Disk store.old store.new result (without_entry (store_of store.old) key) }
+    ensures errors { IfErr result IsCommitError }
+{
+    // What `free` promises tells the proof that the entries are in order.
+    let _ = store.free();
+    store.drop_key(key)
 }

@@ -168,7 +168,7 @@ module _ (lines : List Line) (rise : AreRising lines) (given : List (ℕ × Answ
       own = λ row e. the_row client.seq e (a.asked asked is);
       ahead = none_ahead _ _ (omega arith) refl (a.asked asked is);
     }
-    turned _ _ (happens.Shown asked rev round inc running full h is given seen) = record {
+    turned _ _ (happens.Shown asked rev sight given h is seen) = record {
       own = λ row e. the_row client.seq e (a.asked asked is);
       ahead = none_ahead _ _ (omega arith) refl (a.asked asked is);
     }

@@ -24,7 +24,7 @@ use Rattle.petal_history.specs.declared.record.Record.{Record}
 use Rattle.script_lines.specs.declared.script.Script.{Script}
 use Rattle.petal_rules.specs.Lists.{In}
 use Rattle.petal_rules.specs.State.{State, is_in}
-use Rattle.petal_rules.specs.Clients.{Client, Asked, Reaction, is_read, is_write, command_of, refusal, seen_answer, verdict_for, verdict_answer, is_witness}
+use Rattle.petal_rules.specs.Clients.{Client, Asked, Reaction, Sight, is_read, is_write, command_of, refusal, verdict_for, verdict_answer, is_witness}
 use Rattle.petal_rules.specs.World.{Setting, World, lines_of, chosen_log, chosen_state, state_at, with_answer, setting_of, start}
 use Rattle.petal_rules.proofs.Tests.{by_test, same_some, none_some, same_numbers, both_true, all_put}
 use Rattle.law_state.specs.Plain.{IsPlainLog}
@@ -33,7 +33,7 @@ use Rattle.law_state.proofs.Ages.{between}
 use Rattle.law_state.proofs.Disks.{first_at_start}
 use Rattle.law_state.proofs.Entries.{log_plain}
 use Rattle.law_state.proofs.Steady.{front_plain, log_below, log_steady}
-use Rattle.law_steps.specs.Turned.{Turned, IsSame, StaysOpen, IsReason, By_verdict, By_witness, IsJudged, Goes_on, Begins, Reads, Ends, Shown, Judges, answer_of}
+use Rattle.law_steps.specs.Turned.{Turned, IsSame, StaysOpen, IsReason, By_verdict, By_witness, IsJudged, Goes_on, Begins, Reads, Ends, Shown, IsSeenAs, Stops_it, Starts_it, Has_no_space, Is_settled, Judges, answer_of}
 use Rattle.law_steps.specs.Happens.{Happens, Serves, Turns}
 use Rattle.petal_rules.proofs.ListLemmas.{put_same}
 use Rattle.law_steps.specs.Ready.{AreFirm, Rests}
@@ -285,13 +285,30 @@ module _ (setting : Setting) (last : World) (plain : IsPlainLog setting.servers 
   write_cause c seq asked ending.Written is = subst (λ o. CauseOf setting last c seq asked o answer.Ok) (sym (no_command_write c seq asked is)) tt
   write_cause c seq asked ending.Full is = subst (λ o. CauseOf setting last c seq asked o answer.NoSpace) (sym (no_command_write c seq asked is)) tt
 
-  seen_cause : (c seq : ℕ) (asked : Request) (running : Bool) (given : Answer) → seen_answer asked running ≡ Some given
-      → CauseOf setting last c seq asked (command_of c seq asked) given
-  seen_cause c seq (request.Stop server) running given e = subst (CauseOf setting last c seq (request.Stop server) None) (same_some e) tt
-  seen_cause c seq (request.Start server) running given e =
-      subst (CauseOf setting last c seq (request.Start server) None) (same_some e)
-      (by_test (CauseOf setting last c seq (request.Start server) None) running answer.Ok answer.Failed (λ t. tt) (λ t. tt))
-  seen_cause c seq _ running given e = none_some refl e
+  -- an answer that a glance gives needs no entry
+  seen_cause : (state : State) (c : ℕ) (asked : Asked) (sight : Sight) (given : Answer) → IsSeenAs state asked sight given
+      → CauseOf setting last c asked.seq asked.request (command_of c asked.seq asked.request) given
+  seen_cause state c asked sight given seen = subst (λ a. CauseOf setting last c asked.seq asked.request (command_of c asked.seq asked.request) a) (sym (told seen).1)
+      (subst (λ r. CauseOf setting last c asked.seq r (command_of c asked.seq r) (told seen).0) (sym (asks seen).1) (none seen))
+    where
+      asks : IsSeenAs state asked sight given → (r : Request) × (asked.request ≡ r)
+      asks (Stops_it server is e) = (request.Stop server, is)
+      asks (Starts_it server is e) = (request.Start server, is)
+      asks (Has_no_space is full e) = (request.Settle, is)
+      asks (Is_settled is round seen all e) = (request.Settle, is)
+
+      told : IsSeenAs state asked sight given → (a : Answer) × (given ≡ a)
+      told (Stops_it server is e) = (answer.Ok, e)
+      told (Starts_it server is e) = ((if sight.running then answer.Ok else answer.Failed), e)
+      told (Has_no_space is full e) = (answer.NoSpace, e)
+      told (Is_settled is round seen all e) = (answer.Ok, e)
+
+      none : (s : IsSeenAs state asked sight given) → CauseOf setting last c asked.seq (asks s).0 (command_of c asked.seq (asks s).0) (told s).0
+      none (Stops_it server is e) = tt
+      none (Starts_it server is e) =
+          by_test (CauseOf setting last c asked.seq (request.Start server) None) sight.running answer.Ok answer.Failed (λ t. tt) (λ t. tt)
+      none (Has_no_space is full e) = tt
+      none (Is_settled is round seen all e) = tt
 
   reacted_kept : (heard : ℕ → Body → Type 0) (c : ℕ) (client : Client) (in_call : Bool) (reacted : Reaction)
       → ((asked : Asked) → client.asked ≡ Some asked → IsOpenFor setting.lines c asked)
@@ -324,11 +341,11 @@ module _ (setting : Setting) (last : World) (plain : IsPlainLog setting.servers 
         answer_given number asked.line given (answer_of how) e
         (caused_by c asked (answer_of how) (before asked is) (write_cause c asked.seq asked.request how write));
   }
-  reacted_kept heard c client _ _ before part (Shown asked rev round inc running full told is shown seen) = record {
+  reacted_kept heard c client _ _ before part (Shown asked rev sight shown told is seen) = record {
     open_for = λ other e. none_some refl e;
     answered = λ number given e.
         answer_given number asked.line given shown e
-        (caused_by c asked shown (before asked is) (seen_cause c asked.seq asked.request running shown seen));
+        (caused_by c asked shown (before asked is) (seen_cause _ c asked sight shown seen));
   }
   reacted_kept heard c client _ _ before part (Judges after asked told is gone seq judged) = record {
     open_for = λ other e. none_some gone e;

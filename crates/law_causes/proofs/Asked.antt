@@ -45,9 +45,12 @@ pub disks_are_asked : (script : Script) (records : List Record) → IsSound scri
     → AreAsked script.lines (chosen_log (setting_of script) (world_after (setting_of script) (start (setting_of script)) records))
 disks_are_asked script records sound legal c seq name tuple there =
     elim (chosen_is_called_for script records sound legal (MakeDisk c seq name tuple) there) [
-      | inr leaving ↦ absurd leaving
-      | inl r ↦ elim r.so [
-        | inl own ↦ line_asks script.lines r.client r.before c seq r.line name tuple r.is own
-        | inr witness ↦ absurd (no_witness r.client (r.before + 1) witness.0 c seq name tuple witness.1)
+      | inr caught ↦ absurd caught.is
+      | inl called ↦ elim called [
+        | inr leaving ↦ absurd leaving
+        | inl r ↦ elim r.so [
+          | inl own ↦ line_asks script.lines r.client r.before c seq r.line name tuple r.is own
+          | inr witness ↦ absurd (no_witness r.client (r.before + 1) witness.0 c seq name tuple witness.1)
+        ]
       ]
     ]

@@ -10,11 +10,12 @@ use Rattle.global_tables.specs.declared.disk.Latest.{Latest}
 use Rattle.global_tables.specs.declared.disk.Verdict.{Verdict}
 use Rattle.global_tables.specs.declared.disk.Verdict.TheVariants as verdict
 use Rattle.petal_command.specs.declared.command.Command.{Command}
-use Rattle.petal_command.specs.declared.command.Command.TheVariants.{Join, Leave, MakeDisk, Witness}
+use Rattle.petal_command.specs.declared.command.Command.TheVariants.{Caught, Join, Leave, MakeDisk, Witness}
 use Rattle.petal_state.specs.State.{State, is_up_as, latest, told}
 use Rattle.petal_state.specs.Command.{is_new, may_join, with_disk, leave, make_disk, act, after}
 use Rattle.petal_state.specs.Fence.{settled}
 use Rattle.petal_rules.proofs.Tests.{by_test, same_or_apart}
+use Rattle.law_state.proofs.Caughts.{act_caught}
 use Rattle.law_state.specs.Plain.{IsPlain}
 use Rattle.law_state.proofs.Entries.{settled_quiet}
 
@@ -70,6 +71,8 @@ act_queue servers (Witness client seq turn) s plain quiet = quiet
 act_queue servers (Join server inc blank) s plain quiet =
     by_test (λ (t : State). t.view.queue ≡ []) (may_join (slice_get s.view.members server) inc) _ s (λ may. quiet) (λ no. quiet)
 act_queue servers (Leave server inc) s plain quiet = leave_queue s server inc quiet
+act_queue servers (Caught of link holder holder_inc other other_inc) s plain quiet =
+    act_caught (λ (t : State). t.view.queue ≡ []) s of link holder holder_inc other other_inc (λ acts. quiet) quiet
 act_queue servers _ s plain quiet = absurd plain
 
 -- an entry has no further effect
@@ -160,4 +163,8 @@ telling servers s (Join server inc blank) c plain quiet =
 telling servers s (Leave server inc) c plain quiet =
     Same (ap (λ (x : State). latest x c) (after_is servers (Leave server inc) s plain quiet)
     ∙ by_test (λ (t : State). latest t c ≡ latest s c) (is_up_as s server inc) _ s (λ up. refl) (λ out. refl)) (λ seq name tuple e low. absurd (cc))
+telling servers s (Caught of link holder holder_inc other other_inc) c plain quiet =
+    Same (ap (λ (x : State). latest x c) (after_is servers (Caught of link holder holder_inc other other_inc) s plain quiet)
+    ∙ act_caught (λ (t : State). latest t c ≡ latest s c) s of link holder holder_inc other other_inc (λ acts. refl) refl)
+    (λ seq name tuple e low. absurd (cc))
 telling servers s _ c plain quiet = absurd plain

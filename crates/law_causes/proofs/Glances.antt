@@ -1,7 +1,7 @@
 -- What the lines that name a server are answered by: each by its own glance, which tells what it saw. And why a start fails: its
 -- glance comes right after the boot that its line gave, and finds the server stopped.
 use Rattle.std.proofs.Common.{◌≡◌, ◌≢◌, ◌⊎◌, inl, inr, ◌<◌, ◌+◌, ◌++◌, ◌==◌, ℕ, Bool, true, false, List, [], ◌∷◌, Option, Some, None, is_some, refl, sym, ap, ◌∙◌, subst, arith, append_assoc}
-use Rattle.std.specs.Prelude.{length, slice_get}
+use Rattle.std.specs.Prelude.{if◌then◌else◌, length, slice_get}
 use Rattle.std.proofs.lemmas.List.{append-nil}
 use Rattle.global_tables.specs.declared.disk.Latest.{Latest}
 use Rattle.global_tables.specs.declared.disk.Verdict.{Verdict}
@@ -24,12 +24,13 @@ use Rattle.script_lines.specs.declared.request.Request.{Request}
 use Rattle.script_lines.specs.declared.request.Request.TheVariants as request
 use Rattle.script_lines.specs.declared.script.Script.{Script}
 use Rattle.petal_rules.specs.Boots.{awake, boots, raised, stays, wakes}
-use Rattle.petal_rules.specs.Clients.{Client, Asked, Reaction, epoch_for, cell_on, is_read, is_write, command_of, read_refusal, read_refusal_at, readers, refusal, seen_answer, verdict_answer, verdict_for, write_refusal}
+use Rattle.petal_rules.specs.Clients.{Sight as Shown_by}
+use Rattle.petal_rules.specs.Clients.{Client, Asked, Reaction, epoch_for, cell_on, is_read, is_write, command_of, read_refusal, read_refusal_at, readers, refusal, verdict_answer, verdict_for, write_refusal}
 use Rattle.petal_rules.specs.Jobs.{Acted, here_of, is_overfull, operator, shown}
 use Rattle.petal_rules.specs.Lists.{In}
 use Rattle.petal_rules.specs.Server.{Here, Server}
 use Rattle.petal_rules.specs.State.{State, find, lead}
-use Rattle.petal_rules.specs.World.{Booted, Control, Deed, IsDone, IsFree, MayActor, MayGlance, MayServer, Setting, Stopped, World, acts, client_state, client_step, controls, lines_of, next_line, reacts, server_state, server_step, setting_of, start, step, with_answer}
+use Rattle.petal_rules.specs.World.{Booted, Control, Deed, IsDone, IsDue, IsFree, MayActor, MayGlance, MayServer, Setting, Stopped, World, acts, client_state, client_step, controls, lines_of, next_line, reacts, server_state, server_step, setting_of, start, step, with_answer}
 use Rattle.petal_rules.specs.declared.step.Step.{Step}
 use Rattle.petal_rules.specs.declared.step.Step.TheVariants.{Call, Deliver, Tick, Work, Stop, Boot, Glance}
 use Rattle.petal_rules.specs.declared.step.WorkEnd.{WorkEnd}
@@ -42,7 +43,7 @@ use Rattle.petal_history.specs.Sound.{IsSound}
 use Rattle.petal_history.specs.declared.record.Record.{Record}
 use Rattle.law_answers.proofs.Places.{line_at, one_place}
 use Rattle.law_steps.specs.Happens.{Heard}
-use Rattle.law_steps.specs.Turned.{Turned, IsReason, By_verdict, By_witness, IsSame, StaysOpen, Goes_on, Begins, Reads, Ends, Shown, Judges, answer_of}
+use Rattle.law_steps.specs.Turned.{Turned, IsReason, By_verdict, By_witness, IsSame, StaysOpen, Goes_on, Begins, Reads, Ends, Shown, IsSeenAs, Stops_it, Starts_it, Has_no_space, Is_settled, Judges, answer_of}
 use Rattle.law_steps.proofs.Histories.{front_legal, world_more}
 use Rattle.law_steps.proofs.Turning.{client_turns}
 use Rattle.law_causes.specs.Fails.{IsReasonToFail, Device_failed, Journal_full, HasReasonToFail}
@@ -59,11 +60,13 @@ record IsFailed (asked : Request) (running : Bool) : Type 0 where
   starts : asked ≡ request.Start server
   rests : running ≡ false
 
-seen_failed : (asked : Request) (running : Bool) → seen_answer asked running ≡ Some answer.Failed → IsFailed asked running
-seen_failed (request.Stop server) running e = let f : answer.Ok ≡ answer.Failed = same_some e in absurd (cc)
-seen_failed (request.Start server) true e = let f : answer.Ok ≡ answer.Failed = same_some e in absurd (cc)
-seen_failed (request.Start server) false e = record { server = server; starts = refl; rests = refl }
-seen_failed _ running e = none_some refl e
+seen_failed : (state : State) (asked : Asked) (sight : Shown_by) → IsSeenAs state asked sight answer.Failed → IsFailed asked.request sight.running
+seen_failed state asked sight (Stops_it server is e) = let f : answer.Failed ≡ answer.Ok = e in absurd (cc)
+seen_failed state asked sight (Starts_it server is e) =
+    by_test (λ a. answer.Failed ≡ a → IsFailed asked.request sight.running) sight.running answer.Ok answer.Failed
+    (λ on f. let g : answer.Failed ≡ answer.Ok = f in absurd (cc)) (λ off f. record { server = server; starts = is; rests = off }) e
+seen_failed state asked sight (Has_no_space is full e) = let f : answer.Failed ≡ answer.NoSpace = e in absurd (cc)
+seen_failed state asked sight (Is_settled is round seen all e) = let f : answer.Failed ≡ answer.Ok = e in absurd (cc)
 
 verdict_not : (v : Verdict) → verdict_answer v ≢ Some answer.Failed
 verdict_not verdict.Ok e = absurd (cc)
@@ -138,11 +141,30 @@ glanced_at (request.Stop server) n m running before done named = sym done.0 ∙ 
 glanced_at (request.Start server) n m running before done named = sym done.0 ∙ same_some named
 glanced_at _ n m running before never named = absurd never
 
+-- it stands behind the steps that its line gives, and is the line's first
+due_once : (w : World) (asked : Asked) (n round : ℕ) (what : Request) (m : ℕ) → (names what).server ≡ Some m → IsDue w asked n round what
+    → (round ≡ 0) × (w.control.glanced ≢ Some asked.line) × IsDone what n (w.servers n).life.running w.control.hand
+due_once w asked n round request.Settle m named due = none_some refl named
+due_once w asked n round _ m named due = due
+
+-- what a line that names a server is answered, where its glance shows whether the server runs
+abbrev AnsweredAs : Request → (running : Bool) → Answer → Type 0
+AnsweredAs (request.Stop server) running given = given ≡ answer.Ok
+AnsweredAs (request.Start server) running given = given ≡ (if running then answer.Ok else answer.Failed)
+AnsweredAs _ running given = ⊥
+
+seen_as : (state : State) (asked : Asked) (sight : Shown_by) (given : Answer) (n : ℕ) → (names asked.request).server ≡ Some n
+    → IsSeenAs state asked sight given → AnsweredAs asked.request sight.running given
+seen_as state asked sight given n named (Stops_it server is e) = subst (λ r. AnsweredAs r sight.running given) (sym is) e
+seen_as state asked sight given n named (Starts_it server is e) = subst (λ r. AnsweredAs r sight.running given) (sym is) e
+seen_as state asked sight given n named (Has_no_space is full e) = none_some (ap (λ r. (names r).server) is) named
+seen_as state asked sight given n named (Is_settled is round seen all e) = none_some (ap (λ r. (names r).server) is) named
+
 -- and the answer tells what it saw
 told_by : (asked : Request) (n : ℕ) (running : Bool) (before : Option (ℕ × Deed)) (given : Answer) → IsDone asked n running before
-    → seen_answer asked running ≡ Some given → Tells asked running given
-told_by (request.Stop server) n running before given done seen = (done.1, sym (same_some seen))
-told_by (request.Start server) n running before given done seen = sym (same_some seen)
+    → AnsweredAs asked running given → Tells asked running given
+told_by (request.Stop server) n running before given done seen = (done.1, seen)
+told_by (request.Start server) n running before given done seen = seen
 told_by _ n running before given never seen = absurd never
 
 -- ### Boots
@@ -188,8 +210,7 @@ module _ (script : Script) (records : List Record) (sound : IsSound script) (ris
     called : place < (w.clients operator).seq
     last : place + 1 ≡ (w.clients operator).seq → w.control.glanced ≡ Some number
     fails : (n : ℕ) → line.request ≡ request.Start n → running ≡ false → Fails number
-    glance : (n : ℕ) (given : Answer) → (names line.request).server ≡ Some n → seen_answer line.request running ≡ Some given
-        → Glanced line n given
+    glance : (n : ℕ) (given : Answer) → (names line.request).server ≡ Some n → AnsweredAs line.request running given → Glanced line n given
 
   -- the operator's open line has booted the server, and was not glanced at
   record IsBooted (w : World) (n : ℕ) : Type 0 where
@@ -249,8 +270,8 @@ module _ (script : Script) (records : List Record) (sound : IsSound script) (ris
     old_shown : (n : ℕ) (what : Step) → MayServer what w n → (letter : Letter) (number : ℕ) (running : Bool)
         → IsShown w letter number running → IsShown (served n what) letter number running
     old_shown n (Glance l r) may letter number running s =
-        let o = opened operator may.asked may.opened.is in
-        let newest = kept.newest operator may.asked may.opened.is in
+        let o = opened operator may.asked may.is in
+        let newest = kept.newest operator may.asked may.is in
         let at = o.seq_is in
         shown_on (served n (Glance l r)) refl letter number running s (λ e.
         let place : s.place ≡ o.before = omega arith in
@@ -270,8 +291,8 @@ module _ (script : Script) (records : List Record) (sound : IsSound script) (ris
         (running : Bool) → letter.to ≡ actor.Client operator → l ≡ line → (w.servers n).life.running ≡ running
         → IsShown (served n (Glance l r)) letter line running
     new_shown n l r who does may letter line running to same runs =
-        let o = opened operator may.asked may.opened.is in
-        let newest = kept.newest operator may.asked may.opened.is in
+        let o = opened operator may.asked may.is in
+        let newest = kept.newest operator may.asked may.is in
         let at = o.seq_is in
         record {
           to = to;
@@ -283,17 +304,17 @@ module _ (script : Script) (records : List Record) (sound : IsSound script) (ris
           last = λ e. ap Some same;
           fails = λ m starts off.
               let done : IsDone (request.Start m) n (w.servers n).life.running w.control.hand =
-              subst (λ asked. IsDone asked n (w.servers n).life.running w.control.hand) (o.request_is ∙ starts) may.done in
+              (subst (λ what. IsDue w may.asked n r what) (o.request_is ∙ starts) may.due).2 in
               elim done.1 [
                 | inl on ↦ true_false on (runs ∙ off)
                 | inr there ↦
                     let b = kept.hand n there in
-                    let one : b.asked ≡ may.asked = same_some (sym b.is ∙ may.opened.is) in
+                    let one : b.asked ≡ may.asked = same_some (sym b.is ∙ may.is) in
                     subst Fails (ap (λ (x : Asked). x.line) one ∙ may.line_is ∙ same) (b.fails (runs ∙ off))
               ];
           glance = λ m given named seen.
-              let done : IsDone o.line.request n (w.servers n).life.running w.control.hand =
-              subst (λ asked. IsDone asked n (w.servers n).life.running w.control.hand) o.request_is may.done in
+              let due = due_once w may.asked n r o.line.request m named (subst (IsDue w may.asked n r) o.request_is may.due) in
+              let done = due.2 in
               let at = glanced_at o.line.request n m _ _ done named in
               record {
                 front = front;
@@ -302,11 +323,11 @@ module _ (script : Script) (records : List Record) (sound : IsSound script) (ris
                 is = lies;
                 so = record {
                   asked = may.asked;
-                  opened = line_of lines w may.asked o may.opened;
+                  opened = line_of lines w may.asked o (record { is = may.is; first = due.1 });
                   who = who ∙ ap actor.Server at;
-                  what = does ∙ ap (λ k. Glance k r) (sym may.line_is ∙ o.line_is) ∙ ap (Glance o.line.number) may.round_is;
+                  what = does ∙ ap (λ k. Glance k r) (sym may.line_is ∙ o.line_is) ∙ ap (Glance o.line.number) due.0;
                   tells = subst (λ k. Tells o.line.request (w.servers k).life.running given) at
-                      (told_by o.line.request n _ _ given done (ap (seen_answer o.line.request) runs ∙ seen));
+                      (told_by o.line.request n _ _ given done (subst (λ on. AnsweredAs o.line.request on given) (sym runs) seen));
                 };
               };
         }
@@ -323,7 +344,7 @@ module _ (script : Script) (records : List Record) (sound : IsSound script) (ris
       | inl new ↦ elim (server_says setting w n what own.stamp may letter new) [
         | Mute mute ↦ absurd (mute_not letter line round running inc full e mute)
         | Rev seq other told ↦ absurd (let f : body.WrongRev seq ≡ body.Seen line round running inc full = sym other ∙ e in cc)
-        | Sight l r glance to so ↦
+        | Sight l r glance to mine so ↦
             let seen = shown_is l r (w.servers n) line round running inc full (sym so ∙ e) in
             subst (λ x. IsShown (served n x) letter line running) (sym glance)
             (new_shown n l r who (does ∙ glance) (subst (λ x. MayServer x w n) glance may) letter line running to seen.0 seen.1)
@@ -438,7 +459,7 @@ module _ (script : Script) (records : List Record) (sound : IsSound script) (ris
       glanced : w.control.glanced ≡ Some asked.line
       fails : (n : ℕ) → asked.request ≡ request.Start n → running ≡ false → Fails asked.line
       glance : (line : Line) (n : ℕ) (given : Answer) → In line lines → line.number ≡ asked.line → (names line.request).server ≡ Some n
-          → seen_answer asked.request running ≡ Some given → Glanced line n given
+          → AnsweredAs asked.request running given → Glanced line n given
 
     heard_own : (c : ℕ) (asked : Asked) (rev round : ℕ) (running : Bool) (inc : ℕ) (full : Bool)
         → (told : Heard w (actor.Client c) rev (body.Seen asked.line round running inc full)) → (w.clients c).asked ≡ Some asked
@@ -462,7 +483,8 @@ module _ (script : Script) (records : List Record) (sound : IsSound script) (ris
               let itself : s.line ≡ one =
               sound.numbered s.line one (line_at lines operator s.place s.line s.is).0 there (s.number_is ∙ sym at) in
               subst (λ x. Glanced x n given) itself
-              (s.glance n given (ap (λ (x : Line). (names x.request).server) itself ∙ named) (ap (λ r. seen_answer r running) asks ∙ seen));
+              (s.glance n given (ap (λ (x : Line). (names x.request).server) itself ∙ named)
+              (subst (λ r. AnsweredAs r running given) (sym asks) seen));
         }
 
     -- what was shown stays so
@@ -515,11 +537,11 @@ module _ (script : Script) (records : List Record) (sound : IsSound script) (ris
         newest = λ now e. none_some refl e;
         stays = λ other n there starts fresh. true_false write (ap (λ r. is_write r) (same_request asked other n is there starts));
       }
-      turned_goes _ _ (Shown asked rev round inc running full told is given seen) = record {
+      turned_goes _ _ (Shown asked rev sight given told is seen) = record {
         seq = inl refl;
         newest = λ now e. none_some refl e;
         stays = λ other n there starts fresh.
-            let h = heard_own c asked rev round running inc full told is in
+            let h = heard_own c asked rev sight.round sight.running sight.inc sight.full told is in
             absurd (fresh (h.glanced ∙ ap (λ (x : Asked). Some x.line) (same_some (sym is ∙ there))));
       }
       turned_goes _ _ (Judges after asked given is gone seq judged) = record {
@@ -560,14 +582,17 @@ module _ (script : Script) (records : List Record) (sound : IsSound script) (ris
       turned_seen _ _ (Ends asked how heard is write) number told e =
           let f = pair_is e in
           unnamed asked is number told f.0 (λ failed. ending_not how (f.1 ∙ failed)) (λ n named. not_written asked.request n named write)
-      turned_seen _ _ (Shown asked rev round inc running full heard is given seen) number told e =
+      turned_seen _ _ (Shown asked rev sight given heard is seen) number told e =
           let f = pair_is e in
-          let h = heard_own c asked rev round running inc full heard is in
+          let h = heard_own c asked rev sight.round sight.running sight.inc sight.full heard is in
           record {
             fails = λ failed.
-                let off = seen_failed asked.request running (seen ∙ ap Some (f.1 ∙ failed)) in
+                let off = seen_failed _ asked sight (subst (IsSeenAs _ asked sight) (f.1 ∙ failed) seen) in
                 subst Fails f.0 (h.fails off.server off.starts off.rests);
-            glance = λ line n there same named. h.glance line n told there (same ∙ sym f.0) named (seen ∙ ap Some f.1);
+            glance = λ line n there same named.
+                h.glance line n told there (same ∙ sym f.0) named
+                (seen_as _ asked sight told n (asks_of asked is line n there (same ∙ sym f.0) named)
+                (subst (IsSeenAs _ asked sight) f.1 seen));
           }
       turned_seen _ _ (Judges after asked given is gone seq judged) number told e =
           let f = pair_is e in
@@ -648,14 +673,19 @@ module _ (script : Script) (records : List Record) (sound : IsSound script) (ris
       → In (line.number, given) last.answers → Glanced line n given
   was_glanced line n given there named i = (all_kept.answers line.number given i).glance line n there refl named
 
-  -- a line for which a server was shown is not glanced at again
-  pub glanced_before : (letter : Letter) (number round : ℕ) (running : Bool) (inc : ℕ) (full : Bool) → In letter last.sent
-      → letter.body ≡ body.Seen number round running inc full → (n later : ℕ) → MayGlance last n number later → ⊥
-  glanced_before letter number round running inc full i e n later may =
-      let s = all_kept.shows letter number round running inc full i e in
-      let o = open_for script records sound legal operator may.asked may.opened.is in
-      let newest = all_kept.newest operator may.asked may.opened.is in
+  -- a line that names a server, and for which a server was shown, is not glanced at again
+  pub glanced_before : (line : Line) (m : ℕ) → In line lines → (names line.request).server ≡ Some m → (letter : Letter) (round : ℕ)
+      (running : Bool) (inc : ℕ) (full : Bool) → In letter last.sent → letter.body ≡ body.Seen line.number round running inc full
+      → (n later : ℕ) → MayGlance last n line.number later → ⊥
+  glanced_before line m there named letter round running inc full i e n later may =
+      let s = all_kept.shows letter line.number round running inc full i e in
+      let o = open_for script records sound legal operator may.asked may.is in
+      let newest = all_kept.newest operator may.asked may.is in
       let at = o.seq_is in
       let place : s.place ≡ o.before =
       one_place lines rise operator s.place o.before s.line o.line s.is o.is (s.number_is ∙ sym may.line_is ∙ o.line_is) in
-      may.opened.first (s.last (omega arith) ∙ ap Some (sym may.line_is))
+      let itself : o.line ≡ line =
+      sound.numbered o.line line (line_at lines operator o.before o.line o.is).0 there (sym o.line_is ∙ may.line_is) in
+      let asks : may.asked.request ≡ line.request = o.request_is ∙ ap (λ (x : Line). x.request) itself in
+      let due = due_once last may.asked n later line.request m named (subst (IsDue last may.asked n later) asks may.due) in
+      due.1 (s.last (omega arith) ∙ ap Some (sym may.line_is))

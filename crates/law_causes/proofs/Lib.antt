@@ -9,3 +9,5 @@ pub mod Lines
 pub mod Stops
 pub mod Glances
 pub mod Once
+pub mod Rounds
+pub mod Settled

@@ -47,7 +47,7 @@ shown_so : (number round : ℕ) (server : Server)
     → (running : Bool) × (inc : ℕ) × (full : Bool) × (shown number round server ≡ body.Seen number round running inc full)
 shown_so number round server =
     by_test (λ said. (running : Bool) × (inc : ℕ) × (full : Bool) × (said ≡ body.Seen number round running inc full)) server.life.running _ _
-    (λ on. (true, server.life.inc, false, refl)) (λ off. (false, 0, false, refl))
+    (λ on. (true, server.life.inc, server.own.copies.full, refl)) (λ off. (false, 0, false, refl))
 
 module _ (setting : Setting) (number : ℕ) where
   -- a glance is a server's
@@ -89,15 +89,18 @@ module _ (script : Script) (sound : IsSound script) (rise : AreRising script.lin
   abbrev setting : Setting
   setting = setting_of script
 
-  one_glance : (front : List Record) (own : Record) (middle : List Record) (other : Record) (behind : List Record) (number round later : ℕ)
-      → IsLegal script (front ++ own ∷ (middle ++ other ∷ behind)) → own.step ≡ Glance number round → other.step ≡ Glance number later → ⊥
-  one_glance front own middle other behind number round later legal is again =
+  one_glance : (line : Line) (m : ℕ) → In line script.lines → (names line.request).server ≡ Some m → (front : List Record) (own : Record)
+      (middle : List Record) (other : Record) (behind : List Record) (round later : ℕ)
+      → IsLegal script (front ++ own ∷ (middle ++ other ∷ behind)) → own.step ≡ Glance line.number round
+      → other.step ≡ Glance line.number later → ⊥
+  one_glance line m there named front own middle other behind round later legal is again =
       let done = front ++ own ∷ middle in
       let parts = front_legal setting (start setting) done (other ∷ behind)
       (subst (IsLegal script) (sym (append_assoc front (own ∷ middle) (other ∷ behind))) legal) in
-      let s = was_said setting number (start setting) front own middle round is parts.0 in
-      let g = glances_at setting number other.actor other.step later (world_after setting (start setting) done) again parts.1.0.may.may in
-      glanced_before script done sound rise parts.0 s.letter number s.round s.running s.inc s.full s.there s.is g.0 later g.1
+      let s = was_said setting line.number (start setting) front own middle round is parts.0 in
+      let g = glances_at setting line.number other.actor other.step later
+      (world_after setting (start setting) done) again parts.1.0.may.may in
+      glanced_before script done sound rise parts.0 line m there named s.letter s.round s.running s.inc s.full s.there s.is g.0 later g.1
 
   pub has_glance : (records : List Record) → IsLegal script records → (line : Line) (n : ℕ) (given : Answer) → In line script.lines
       → (names line.request).server ≡ Some n → In (line.number, given) (world_after setting (start setting) records).answers
@@ -113,13 +116,13 @@ module _ (script : Script) (sound : IsSound script) (rise : AreRising script.lin
         once = λ other round i again. elim (in-append other g.front g.behind i) [
           | inl before ↦
               let r = lies_in other g.front before in
-              one_glance r.0 other r.1 g.own g.behind line.number round 0
+              one_glance line n there named r.0 other r.1 g.own g.behind round 0
               (subst (IsLegal script)
               (g.is ∙ ap (λ xs. xs ++ g.own ∷ g.behind) r.2 ∙ append_assoc r.0 (other ∷ r.1) (g.own ∷ g.behind)) legal)
               again g.so.what
           | inr after ↦
               let r = lies_in other g.behind after in
-              one_glance g.front g.own r.0 other r.1 line.number 0 round
+              one_glance line n there named g.front g.own r.0 other r.1 0 round
               (subst (IsLegal script) (g.is ∙ ap (λ xs. g.front ++ g.own ∷ xs) r.2) legal) g.so.what again
         ];
       }

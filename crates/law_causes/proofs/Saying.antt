@@ -2,18 +2,31 @@
 -- server runs at a glance alone.
 use Rattle.std.proofs.Common.{◌≡◌, ◌≢◌, inl, inr, ◌++◌, ◌==◌, ◌&&◌, ℕ, Bool, true, false, not, List, [], ◌∷◌, Option, Some, None, refl, sym, ap, ◌∙◌, subst, arith}
 use Rattle.std.proofs.lemmas.Bool.Decides.{nat_tests}
-use Rattle.std.specs.Prelude.{map, nat_lt}
-use Rattle.petal_rules.specs.Store.{free_of}
+use Rattle.std.specs.Prelude.{is_some, map, nat_lt}
+use Rattle.petal_rules.specs.Store.{Stored, chain_in, epochs_of, free_of}
+use Rattle.busy_marks.specs.declared.marks.MarkKind.{MarkKind}
+use Rattle.global_tables.specs.declared.link.LinkRow.{LinkRow}
+use Rattle.global_tables.specs.declared.link.LinkState.{LinkState}
+use Rattle.global_tables.specs.declared.link.LinkState.TheVariants.{Both, Only, Lost}
 use Rattle.std.specs.List.{flat_map}
 use Rattle.petal_base.specs.declared.cell.Cell.{Cell}
 use Rattle.petal_base.specs.declared.cell.Key.{Key}
-use Rattle.petal_base.specs.Cells.{cell_of}
+use Rattle.petal_base.specs.Cells.{cell_of, key_at}
 use Rattle.petal_msg.specs.Kinds.{asked_by, is_logged, subject_of}
 use Rattle.petal_msg.specs.declared.body.Body.{Body}
 use Rattle.petal_msg.specs.declared.body.Body.TheVariants as body
 use Rattle.petal_msg.specs.declared.letter.Actor.{Actor}
 use Rattle.petal_msg.specs.declared.letter.Actor.TheVariants as actor
 use Rattle.petal_msg.specs.declared.letter.Letter.{Letter}
+use Rattle.petal_msg.specs.declared.copying.CopyAction.{CopyAction}
+use Rattle.petal_msg.specs.declared.copying.CopyAction.TheVariants as copy_action
+use Rattle.petal_msg.specs.declared.copying.Copying.{Copying}
+use Rattle.petal_msg.specs.declared.copying.LastCopy.{LastCopy}
+use Rattle.petal_msg.specs.declared.copying.LinkId.{LinkId}
+use Rattle.petal_msg.specs.declared.copying.NextCopy.{NextCopy}
+use Rattle.petal_msg.specs.declared.copying.NextCopy.TheVariants.{Ask, Block, Wait, Nothing}
+use Rattle.petal_rules.specs.Copies.{Entry, answers_page, begins_copy, catches_up, cell_at, cell_holder, copies_on, copies_with, copy_acts, copy_awaited, copy_posts, copy_stage, goes_for, hears_entry, hears_hello, hears_page, hears_sync, hears_sync_full, hears_synced, hears_trim, hears_trim_of, hears_trimmed, is_syncing, mends, mends_found, mends_row, on_hello, on_hello_ask, on_sync, on_sync_full, on_synced, on_trim, on_trimmed, page_asked, page_for, page_posts, page_wanted, puts_entry, same_block, sends_entry, takes_mark, tidies, trims_again, trims_first, trims_for, trims_on}
+use Rattle.petal_rules.specs.Progress.{copying_on, last_copy, progress_on, with_copying, with_last_copy}
 use Rattle.petal_msg.specs.declared.operation.Action.{Action}
 use Rattle.petal_msg.specs.declared.operation.Action.TheVariants as action
 use Rattle.petal_msg.specs.declared.operation.Ending.{Ending}
@@ -25,7 +38,7 @@ use Rattle.petal_msg.specs.declared.operation.Pending.{Pending}
 use Rattle.petal_msg.specs.declared.operation.Reply.{Reply}
 use Rattle.petal_msg.specs.declared.operation.Reply.TheVariants as reply
 use Rattle.petal_rules.specs.Lists.{In}
-use Rattle.petal_rules.specs.State.{State, is_in, is_lead, is_second, first, second, readable, servers_of}
+use Rattle.petal_rules.specs.State.{State, first, holder_of, is_in, is_lead, is_second, link_named, other_in, readable, second, servers_of}
 use Rattle.petal_rules.specs.Server.{Server, Own, Here, Done, Post, Sender, post_to, sender, silent, letters_of}
 use Rattle.petal_rules.specs.Reads.{on_read, said, reply_to}
 use Rattle.petal_rules.specs.Writes.{Wanted, Standing, Older, Again, Newer, pending_on, next_stage, acts, goes_on, goes_on_with, ended, opens, opened, takes, takes_newer, is_pending_for, on_write, hears_reserved, hears_pair_full, hears_replicated, is_reserving, is_replicating, with_pending, with_reserved, with_paired, on_reserved, on_pair_full, on_replicated, tells, reserves, has_slot, hears_reserve, on_reserve, follows_once, hears_replicate, on_replicate}
@@ -34,7 +47,7 @@ use Rattle.petal_rules.specs.Ballots.{post_of, starts}
 use Rattle.petal_rules.specs.Boots.{awake, boots, raised, stays, wakes}
 use Rattle.petal_rules.specs.Entries.{applies}
 use Rattle.petal_rules.specs.Log.{LogDone, known, next_place, rev_of}
-use Rattle.petal_rules.specs.Jobs.{Acted, handles, wrong_rev, at_other_rev, is_from_in, does, here_of, works, job_done, worked, entered, stops, is_overfull, down_posts, glances, glance_sender, shown, operator, voter_of, wanted_by, is_log_job, sent_anew, awaited, tick_posts}
+use Rattle.petal_rules.specs.Jobs.{Acted, handles, wrong_rev, at_other_rev, is_from_in, does, here_of, works, job_done, worked, entered, stops, is_overfull, down_posts, glances, glance_sender, shown, operator, voter_of, wanted_by, is_log_job, sent_anew, awaited, copies_anew, stages, tick_posts}
 use Rattle.petal_rules.specs.Clients.{Client, Asked, Reaction, client_sender}
 use Rattle.petal_rules.specs.World.{Setting, World, stamped, server_state, server_step, client_state, client_step, next_line, MayClient, MayServer}
 use Rattle.petal_rules.specs.declared.job.Job.{Job}
@@ -134,10 +147,10 @@ module _ (here : Here) where
   opens_mute own want false = one_mute (actor.Client want.client) (body.Full want.seq) refl
   opens_mute own want true = on_mute (opened here own want) want.cell
 
-  newer_mute : (own : Own) (want : Wanted) (fenced : Bool) (o : Option Pending) → M (takes_newer here own want fenced o)
-  newer_mute own want true o = one_mute (actor.Client want.client) (body.Held want.seq) refl
-  newer_mute own want false (Some op) = one_mute (actor.Client want.client) (body.BlockBusy want.seq) refl
-  newer_mute own want false None = opens_mute own want _
+  newer_mute : (own : Own) (want : Wanted) (kept_back busy : Bool) → M (takes_newer here own want kept_back busy)
+  newer_mute own want true busy = one_mute (actor.Client want.client) (body.Held want.seq) refl
+  newer_mute own want false true = one_mute (actor.Client want.client) (body.BlockBusy want.seq) refl
+  newer_mute own want false false = opens_mute own want _
 
   takes_mute : (own : Own) (want : Wanted) (how : Standing) → M (takes here own want how)
   takes_mute own want Older = none_mute
@@ -186,8 +199,133 @@ module _ (here : Here) where
   replicate_mute own number key bytes None = none_mute
   replicate_mute own number key bytes (Some last) = by_test M (number == last.op) _ _ (λ t. follows_mute own number key bytes last.far) (λ t. none_mute)
 
+  -- ### Copies
+
+  sends_mute : (own : Own) (cell : Cell) (copy : Copying) (o : Option (ℕ × Stored)) → M (sends_entry here own cell copy o)
+  sends_mute own cell copy None = none_mute
+  sends_mute own cell copy (Some row) = to_mute _ (body.Sync copy.op (key_at cell row.0) row.1.version copy.index row.1.bytes) refl
+
+  copy_mute : (own : Own) (cell : Cell) (copy : Copying) (what : CopyAction) → M (copy_acts here own cell copy what)
+  copy_mute own cell copy copy_action.Trim = to_mute _ (body.Trim copy.op cell (epochs_of (chain_in own.store.chains cell))) refl
+  copy_mute own cell copy copy_action.Sync = sends_mute own cell copy _
+  copy_mute own cell copy (copy_action.Unmark kind) = none_mute
+  copy_mute own cell copy copy_action.Close = none_mute
+
+  copies_with_mute : (own : Own) (cell : Cell) (o : Option Copying) → M (copies_with here own cell o)
+  copies_with_mute own cell None = none_mute
+  copies_with_mute own cell (Some copy) = copy_mute own cell copy _
+
+  copies_mute : (own : Own) (cell : Cell) → M (copies_on here own cell)
+  unfolding copies_on
+  copies_mute own cell = copies_with_mute own cell (copying_on own cell)
+
+  goes_mute : (own : Own) (row : LinkRow) (other : ℕ) (next : NextCopy) → M (goes_for here own row other next)
+  goes_mute own row other Ask = to_mute (Some other) (page_wanted own row) refl
+  goes_mute own row other (Block cell) = copies_mute (begins_copy own cell) cell
+  goes_mute own row other Wait = none_mute
+  goes_mute own row other Nothing = none_mute
+
+  catches_mute : (own : Own) (row : LinkRow) (o : Option ℕ) → M (catches_up here own row o)
+  catches_mute own row None = none_mute
+  catches_mute own row (Some other) = goes_mute own row other _
+
+  mark_mute : (own : Own) (row : LinkRow) (cell : Cell) (o : Option MarkKind) → M (takes_mark own row cell o)
+  mark_mute own row cell None = none_mute
+  mark_mute own row cell (Some kind) = none_mute
+
+  tidies_mute : (own : Own) (row : LinkRow) (o : Option ℕ) → M (tidies own row o)
+  tidies_mute own row None = none_mute
+  tidies_mute own row (Some block) = mark_mute own row (cell_at row block) _
+
+  mends_row_mute : (own : Own) (row : LinkRow) (how : LinkState) → M (mends_row here own row how)
+  mends_row_mute own row Both = tidies_mute own row _
+  mends_row_mute own row (Only holder whole) = catches_mute own row _
+  mends_row_mute own row Lost = none_mute
+
+  mends_found_mute : (own : Own) (o : Option LinkRow) → M (mends_found here own o)
+  mends_found_mute own None = none_mute
+  mends_found_mute own (Some row) = mends_row_mute own row row.state
+
+  mends_mute : (own : Own) (id : LinkId) → M (mends here own id)
+  unfolding mends
+  mends_mute own id = mends_found_mute own (link_named here.state id)
+
+  answers_mute : (own : Own) (after : Option ℕ) (o : Option LinkRow) → M (answers_page here own after o)
+  answers_mute own after None = none_mute
+  answers_mute own after (Some row) = to_mute (holder_of here.me row) (body.Hello row.map row.link after _) refl
+
+  page_mute : (own : Own) (after block : Option ℕ) (row : LinkRow) (o : Option ℕ) → M (hears_page own after block row o)
+  page_mute own after block row None = none_mute
+  page_mute own after block row (Some other) = by_test M (not (progress_on own row).paged && same_block after (progress_on own row).after) _ _ (λ t. none_mute) (λ t. none_mute)
+
+  hello_mute : (own : Own) (after block : Option ℕ) (o : Option LinkRow) → M (hears_hello here own after block o)
+  hello_mute own after block None = none_mute
+  hello_mute own after block (Some row) = page_mute own after block row _
+
+  first_mute : (own : Own) (cell : Cell) (number holder : ℕ) (epochs : List ℕ) → M (trims_first own cell number holder epochs)
+  first_mute own cell number holder [] = to_mute (Some holder) (body.Trimmed number cell) refl
+  first_mute own cell number holder (epoch ∷ epochs) = none_mute
+
+  trims_for_mute : (own : Own) (cell : Cell) (holder : Option ℕ) (last : Option LastCopy) → M (trims_for own cell holder last)
+  trims_for_mute own cell None last = none_mute
+  trims_for_mute own cell (Some holder) None = none_mute
+  trims_for_mute own cell (Some holder) (Some last) = first_mute own cell last.op holder _
+
+  trims_mute : (own : Own) (cell : Cell) → M (trims_on here own cell)
+  unfolding trims_on
+  trims_mute own cell = trims_for_mute own cell (cell_holder here cell) (last_copy own cell)
+
+  again_mute : (own : Own) (cell : Cell) (number holder : ℕ) (epochs : List ℕ) → M (trims_again own cell number holder epochs)
+  again_mute own cell number holder [] = to_mute (Some holder) (body.Trimmed number cell) refl
+  again_mute own cell number holder (epoch ∷ epochs) = none_mute
+
+  trim_mute : (own : Own) (number : ℕ) (cell : Cell) (epochs : List ℕ) (holder : ℕ) (o : Option LastCopy) → M (hears_trim here own number cell epochs holder o)
+  trim_mute own number cell epochs holder None = trims_mute (with_last_copy own cell _) cell
+  trim_mute own number cell epochs holder (Some last) =
+      by_test M (nat_lt number last.op) _ _ (λ t. none_mute)
+      (λ t. by_test M (number == last.op) _ _ (λ t. again_mute own cell number holder _) (λ t. trims_mute (with_last_copy own cell _) cell))
+
+  trim_of_mute : (own : Own) (number : ℕ) (cell : Cell) (epochs : List ℕ) (o : Option ℕ) → M (hears_trim_of here own number cell epochs o)
+  trim_of_mute own number cell epochs None = none_mute
+  trim_of_mute own number cell epochs (Some holder) = trim_mute own number cell epochs holder (last_copy own cell)
+
+  puts_mute : (own : Own) (entry : Entry) (last : LastCopy) (holder : ℕ) (room : Bool) → M (puts_entry own entry last holder room)
+  puts_mute own entry last holder true = to_mute (Some holder) (body.Synced entry.op (cell_of entry.key) entry.index) refl
+  puts_mute own entry last holder false = to_mute (Some holder) (body.SyncFull entry.op (cell_of entry.key)) refl
+
+  entry_mute : (own : Own) (entry : Entry) (holder : ℕ) (last : LastCopy) → M (hears_entry own entry holder last)
+  entry_mute own entry holder last =
+      by_test M (nat_lt entry.index last.index) _ _ (λ t. to_mute (Some holder) (body.Synced entry.op (cell_of entry.key) entry.index) refl)
+      (λ t. by_test M (entry.index == last.index) _ _ (λ t. puts_mute own entry last holder _) (λ t. none_mute))
+
+  sync_mute : (own : Own) (entry : Entry) (holder : Option ℕ) (last : Option LastCopy) → M (hears_sync own entry holder last)
+  sync_mute own entry None last = none_mute
+  sync_mute own entry (Some holder) None = none_mute
+  sync_mute own entry (Some holder) (Some last) = by_test M (entry.op == last.op) _ _ (λ t. entry_mute own entry holder last) (λ t. none_mute)
+
+  trimmed_mute : (own : Own) (number : ℕ) (cell : Cell) (o : Option Copying) → M (hears_trimmed here own number cell o)
+  trimmed_mute own number cell None = none_mute
+  trimmed_mute own number cell (Some copy) =
+      by_test M ((copy.op == number) && not copy.trimmed) _ _ (λ t. copies_mute (with_copying own cell _) cell) (λ t. none_mute)
+
+  synced_mute : (own : Own) (number : ℕ) (cell : Cell) (index : ℕ) (o : Option Copying) → M (hears_synced here own number cell index o)
+  synced_mute own number cell index None = none_mute
+  synced_mute own number cell index (Some copy) =
+      by_test M (is_syncing own cell copy number && (copy.index == index)) _ _ (λ t. copies_mute (with_copying own cell _) cell) (λ t. none_mute)
+
+  sync_full_mute : (own : Own) (number : ℕ) (cell : Cell) (o : Option Copying) → M (hears_sync_full own number cell o)
+  sync_full_mute own number cell None = none_mute
+  sync_full_mute own number cell (Some copy) = by_test M (is_syncing own cell copy number) _ _ (λ t. none_mute) (λ t. none_mute)
+
+  stages_mute : (own : Own) (cell : Cell) → M (stages here own cell)
+  stages_mute own cell =
+      by_test M (is_some (pending_on own cell)) _ _ (λ t. on_mute own cell)
+      (λ t. by_test M (is_some (copying_on own cell)) _ _ (λ t. copies_mute own cell) (λ t. trims_mute own cell))
+
+  -- ### Letters
+
   handles_mute : (own : Own) (what : Body) → M (handles here own what)
-  unfolding handles on_reserve on_reserved on_pair_full on_replicate on_replicated
+  unfolding handles on_reserve on_reserved on_pair_full on_replicate on_replicated on_hello_ask on_hello on_trim on_trimmed on_sync on_synced on_sync_full
   handles_mute own (body.Read client seq cell epoch) = read_mute own client seq cell epoch
   handles_mute own (body.Write client seq cell epoch bytes) = write_mute own (record { client = client; seq = seq; cell = cell; epoch = epoch; bytes = bytes })
   handles_mute own (body.Reserve number cell) = by_test M (is_second here.state here.me cell) _ _ (λ t. reserve_mute own cell number _) (λ t. none_mute)
@@ -196,6 +334,15 @@ module _ (here : Here) where
   handles_mute own (body.Replicate number key version bytes) =
       by_test M (is_second here.state here.me (cell_of key)) _ _ (λ t. replicate_mute own number key bytes _) (λ t. none_mute)
   handles_mute own (body.Replicated number cell) = replicated_mute own number (pending_on own cell)
+  handles_mute own (body.HelloAsk map link after) = answers_mute own after (link_named here.state (record { map = map; link = link }))
+  handles_mute own (body.Hello map link after block) = hello_mute own after block (link_named here.state (record { map = map; link = link }))
+  handles_mute own (body.Trim number cell epochs) = trim_of_mute own number cell epochs (cell_holder here cell)
+  handles_mute own (body.Trimmed number cell) = trimmed_mute own number cell (copying_on own cell)
+  handles_mute own (body.Sync number key version index bytes) =
+      sync_mute own (record { op = number; key = key; index = index; stored = record { version = version; bytes = bytes } }) (cell_holder here (cell_of key))
+      (last_copy own (cell_of key))
+  handles_mute own (body.Synced number cell index) = synced_mute own number cell index (copying_on own cell)
+  handles_mute own (body.SyncFull number cell) = sync_full_mute own number cell (copying_on own cell)
   handles_mute own _ = none_mute
 
   awaited_mute : (own : Own) (op : Pending) (what : Action) → AreMute (awaited here own op what)
@@ -207,11 +354,37 @@ module _ (here : Here) where
   awaited_mute own op action.Answer = none_mute
   awaited_mute own op action.Drop = none_mute
 
+  copy_awaited_mute : (own : Own) (cell : Cell) (copy : Copying) (what : CopyAction) → AreMute (copy_awaited here own cell copy what)
+  copy_awaited_mute own cell copy copy_action.Trim = copy_mute own cell copy copy_action.Trim
+  copy_awaited_mute own cell copy copy_action.Sync = copy_mute own cell copy copy_action.Sync
+  copy_awaited_mute own cell copy (copy_action.Unmark kind) = none_mute
+  copy_awaited_mute own cell copy copy_action.Close = none_mute
+
+  page_asked_mute : (own : Own) (row : LinkRow) (other : ℕ) (next : NextCopy) → AreMute (page_asked own row other next)
+  page_asked_mute own row other Ask = to_mute (Some other) (page_wanted own row) refl
+  page_asked_mute own row other (Block cell) = none_mute
+  page_asked_mute own row other Wait = none_mute
+  page_asked_mute own row other Nothing = none_mute
+
+  page_for_mute : (own : Own) (row : LinkRow) (o : Option ℕ) → AreMute (page_for here.state own row o)
+  page_for_mute own row None = none_mute
+  page_for_mute own row (Some other) = page_asked_mute own row other _
+
+  anew_mute : (own : Own) → AreMute (copies_anew here own)
+  anew_mute own = by_test AreMute (is_in here.state here.me here.inc) (copy_posts here own ++ page_posts here own) []
+      (λ t. both_mute (copy_posts here own) (page_posts here own)
+      (all_mute (λ (row : Cell × Copying). copy_awaited here own row.0 row.1 (copy_stage own.store row.0 row.1)) own.copies.pending
+      (λ row. copy_awaited_mute own row.0 row.1 (copy_stage own.store row.0 row.1)))
+      (all_mute (λ row. page_for here.state own row (other_in here.state here.me row)) here.state.links (λ row. page_for_mute own row (other_in here.state here.me row))))
+      (λ t. none_mute)
+
   tick_mute : (server : Server) → AreMute (tick_posts here server)
   tick_mute server =
       both_mute _ _
+      (both_mute _ _
       (both_mute _ _ (λ post h. logged_mute post.body (ballot_logged (voter_of here) server.log.phase post h))
       (all_mute (λ row. sent_anew here server.own row.1) server.own.pairs.pending (λ row. awaited_mute server.own row.1 (next_stage here.state here.me row.1))))
+      (anew_mute server.own))
       (λ post h. logged_mute post.body (ask_logged (voter_of here) server.log post h))
 
   -- a job that tells of another revision
@@ -274,8 +447,11 @@ module _ (here : Here) where
       by_test (W (job.Letter letter)) (not (is_from_in here.state letter.inc letter.from)) _ _ (λ t. mute_tells (job.Letter letter) (silent own) none_mute)
       (λ t. mute_tells (job.Letter letter) (handles here own letter.body) (handles_mute own letter.body))))
   job_tells own (job.Stage cell) =
-      by_test (W (job.Stage cell)) (is_in here.state here.me here.inc) _ _ (λ t. mute_tells (job.Stage cell) (goes_on here own cell) (on_mute own cell))
+      by_test (W (job.Stage cell)) (is_in here.state here.me here.inc) _ _ (λ t. mute_tells (job.Stage cell) (stages here own cell) (stages_mute own cell))
       (λ t. mute_tells (job.Stage cell) (silent own) none_mute)
+  job_tells own (job.Mend id) =
+      by_test (W (job.Mend id)) (is_in here.state here.me here.inc) _ _ (λ t. mute_tells (job.Mend id) (mends here own id) (mends_mute own id))
+      (λ t. mute_tells (job.Mend id) (silent own) none_mute)
   job_tells own job.Apply = mute_tells job.Apply (silent own) none_mute
   job_tells own job.Start = mute_tells job.Start (silent own) none_mute
 
@@ -293,7 +469,7 @@ client_mute heard servers lines c client _ _ (Begins reacted line asked next fre
     (says.says post h)
 client_mute heard servers lines c client _ _ (Reads asked bytes told is read) post h = none_mute post h
 client_mute heard servers lines c client _ _ (Ends asked how told is write) post h = none_mute post h
-client_mute heard servers lines c client _ _ (Shown asked rev round inc running full told is given seen) post h = none_mute post h
+client_mute heard servers lines c client _ _ (Shown asked rev sight given told is seen) post h = none_mute post h
 client_mute heard servers lines c client _ _ (Judges after asked told is gone seq judged) post h = none_mute post h
 
 -- ### Servers
@@ -312,8 +488,8 @@ pub record TellsRev (here : Here) (queue : List Job) (what : Step) (letter : Let
 pub data StepSays (here : Here) (server : Server) (what : Step) (letter : Letter) : Type 0 where
   Mute : IsMute letter.body → StepSays here server what letter
   Rev : (seq : ℕ) → letter.body ≡ body.WrongRev seq → TellsRev here server.queue what letter seq → StepSays here server what letter
-  Sight : (line round : ℕ) → what ≡ Glance line round → letter.to ≡ actor.Client operator → letter.body ≡ shown line round server
-      → StepSays here server what letter
+  Sight : (line round : ℕ) → what ≡ Glance line round → letter.to ≡ actor.Client operator → letter.from ≡ actor.Server here.me
+      → letter.body ≡ shown line round server → StepSays here server what letter
 
 no_letter : {A : Type 0} (stamp : ℕ) (letter : Letter) → In letter (stamped stamp []) → A
 unfolding In
@@ -354,7 +530,9 @@ glance_says : (here : Here) (line round : ℕ) (server : Server) (stamp : ℕ) (
 glance_says here line round server stamp letter h =
     let s = said_in (glance_sender here server) stamp 0 (record { to = actor.Client operator; body = shown line round server } ∷ []) letter h in
     let one = one_post (actor.Client operator) (shown line round server) s.post s.there in
-    Sight line round refl (s.to ∙ one.0) (s.body ∙ one.1)
+    let mine : (glance_sender here server).from ≡ actor.Server here.me =
+    by_test (λ (who : Sender). who.from ≡ actor.Server here.me) server.life.running _ _ (λ on. refl) (λ off. refl) in
+    Sight line round refl (s.to ∙ one.0) (s.from ∙ mine) (s.body ∙ one.1)
 
 module _ (here : Here) (server : Server) (stamp : ℕ) (letter : Letter) where
   abbrev Tells : List Job → Acted → Type 0
@@ -391,6 +569,7 @@ module _ (here : Here) (server : Server) (stamp : ℕ) (letter : Letter) where
       (λ t. entered_tells (job.Letter heard ∷ rest) (job.Letter heard) rest _ (letter_frame_of (voter_of here) server.log heard))
       (λ t. pair_tells (job.Letter heard) rest)
   done_tells (job.Stage cell) rest = pair_tells (job.Stage cell) rest
+  done_tells (job.Mend id) rest = pair_tells (job.Mend id) rest
   done_tells job.Start rest =
       entered_tells (job.Start ∷ rest) job.Start rest (starts (voter_of here) server.log (wanted_by here server))
       (start_frame_of (voter_of here) server.log (wanted_by here server))

@@ -8,12 +8,13 @@ use Rattle.global_tables.specs.declared.disk.Verdict.{Verdict}
 use Rattle.global_tables.specs.declared.disk.Verdict.TheVariants as verdict
 use Rattle.script_lines.specs.declared.answer.Answer.{Answer}
 use Rattle.petal_command.specs.declared.command.Command.{Command}
-use Rattle.petal_command.specs.declared.command.Command.TheVariants.{Join, Leave, MakeDisk, Witness}
+use Rattle.petal_command.specs.declared.command.Command.TheVariants.{Caught, Join, Leave, MakeDisk, Witness}
 use Rattle.petal_state.specs.State.{State, is_up_as, latest, told}
 use Rattle.petal_state.specs.Command.{is_new, may_join, with_disk, make_disk, act, after}
 use Rattle.petal_rules.specs.Clients.{verdict_answer, verdict_for}
 use Rattle.petal_rules.specs.Lists.{In}
 use Rattle.petal_rules.proofs.Tests.{by_test, same_some, true_false, same_numbers}
+use Rattle.law_state.proofs.Caughts.{act_caught}
 use Rattle.law_state.specs.Plain.{IsPlain, IsPlainLog}
 use Rattle.law_causes.proofs.Folds.{Same, Told, Outcome, telling, after_is, after_quiet, set_length, client_is}
 
@@ -63,6 +64,8 @@ act_length servers (Join server inc blank) s plain =
     by_test (λ (t : State). length t.verdicts ≡ length s.verdicts) (may_join (slice_get s.view.members server) inc) _ s (λ may. refl) (λ no. refl)
 act_length servers (Leave server inc) s plain =
     by_test (λ (t : State). length t.verdicts ≡ length s.verdicts) (is_up_as s server inc) _ s (λ up. refl) (λ out. refl)
+act_length servers (Caught of link holder holder_inc other other_inc) s plain =
+    act_caught (λ (t : State). length t.verdicts ≡ length s.verdicts) s of link holder holder_inc other other_inc (λ acts. refl) refl
 act_length servers _ s plain = absurd plain
 
 after_length : (servers : ℕ) (e : Command) (s : State) → IsPlain servers e → s.view.queue ≡ [] → length (after s e).verdicts ≡ length s.verdicts

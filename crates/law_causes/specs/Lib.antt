@@ -4,3 +4,4 @@ pub mod Lines
 pub mod Stops
 pub mod Fails
 pub mod Glances
+pub mod Settles

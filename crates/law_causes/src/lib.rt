@@ -1,6 +1,7 @@
 //! Why each request is answered so: over every legal history of a sound script, each answer that says what is not there, and
 //! each answer of a `disk` line, comes by its own entry of the chosen log, with a state at its place that says so; and each
-//! answer of a line that names a server comes by that line's one glance. And why a server does not run, or a start of it fails.
+//! answer of a line that names a server comes by that line's one glance, and that of a settle by its glances, round by round. And
+//! why a server does not run, or a start of it fails.
 //!
 //! To the layers above it promises this of answers, of what clients are told of revisions, and of servers that stop or fail to boot. It speaks
 //! of definitions alone, and knows nothing of code.
@@ -11,6 +12,7 @@ ghost use Rattle.petal_msg.specs.declared.body.Body.TheVariants.{WrongRev};
 ghost use Rattle.petal_msg.specs.declared.letter.Letter.{Letter};
 ghost use Rattle.script_lines.specs.Requests.{names};
 ghost use Rattle.script_lines.specs.declared.request.Line.{Line};
+ghost use Rattle.script_lines.specs.declared.request.Request.TheVariants.{Settle};
 ghost use Rattle.script_lines.specs.declared.script.Script.{Script};
 ghost use Rattle.script_lines.specs.declared.answer.Answer.{Answer};
 ghost use Rattle.script_lines.specs.declared.answer.Answer.TheVariants.{Failed, Unavailable};
@@ -24,6 +26,7 @@ ghost use Rattle.petal_history.specs.declared.record.Record.{Record};
 ghost use Rattle.law_causes.specs.Fails.{HasReasonToFail};
 ghost use Rattle.law_causes.specs.Glances.{HasGlance};
 ghost use Rattle.law_causes.specs.Reasons.{HasReason};
+ghost use Rattle.law_causes.specs.Settles.{HasSettled};
 ghost use Rattle.law_causes.specs.Stops.{HasReasonToStop, NoneIsStopped, NoneStopsByItself};
 
 /// Each answer has its cause in the chosen log. The lines rise, so an answer's number names the place of one line.
@@ -47,6 +50,12 @@ pub fn a_start_fails_for_a_reason()
 /// stop is answered `ok`, and the server did not run there; a start `ok` where it ran and `failed` where it did not.
 pub fn a_line_at_a_server_is_answered_by_its_glance()
     ensures { (script : Script) (records : List Record) → IsSound script → AreRising script.lines → IsLegal script records → (line : Line) (server : ℕ) (given : Answer) → In line script.lines → (names line.request).server ≡ Some server → In (line.number, given) (world_after (setting_of script) (start (setting_of script)) records).answers → HasGlance (setting_of script) (start (setting_of script)) records line server given }
+{}
+
+/// A settle is answered `ok` only where all was settled by the operator's state, as one round of the line's glances had shown each server;
+/// and `nospace` only where one of its glances found a server whose last copy had found no slot. It is answered nothing else.
+pub fn a_settle_is_answered_by_its_glances()
+    ensures { (script : Script) (records : List Record) → IsSound script → IsLegal script records → (line : Line) (given : Answer) → In line script.lines → line.request ≡ Settle → In (line.number, given) (world_after (setting_of script) (start (setting_of script)) records).answers → HasSettled (setting_of script) (start (setting_of script)) records line.number given }
 {}
 
 /// Where no line of the script stops a server, and in no step a server stops by itself, each block of a known disk has its

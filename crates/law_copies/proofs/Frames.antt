@@ -1,137 +1,150 @@
--- A step of one server changes the pairs that it is of, and no others.
-use Rattle.std.proofs.Common.{◌≡◌, ◌≢◌, ℕ, Bool, List, true, false, Some, None, ap, sym, ◌∙◌, subst, if◌then◌else◌, inl, inr, arith}
+-- Small changes of a server's own part, and what each leaves of other cells.
+use Rattle.std.proofs.Common.{◌≡◌, ◌≢◌, ℕ, List, Option, Some, None, refl, ap, ◌∙◌}
+use Rattle.busy_marks.specs.Marks.{above, has_mark}
+use Rattle.busy_marks.specs.declared.marks.Mark.{Mark}
+use Rattle.busy_marks.specs.declared.marks.MarkKind.{MarkKind}
+use Rattle.global_tables.specs.declared.link.LinkRow.{LinkRow}
 use Rattle.petal_base.specs.declared.cell.Cell.{Cell}
-use Rattle.petal_msg.specs.Kinds.{about, is_paired, pair_cell, subject_of}
-use Rattle.petal_msg.specs.declared.body.Body.{Body}
-use Rattle.petal_msg.specs.declared.body.Body.TheVariants as body
-use Rattle.petal_rules.specs.Lists.{In, put_at}
-use Rattle.petal_rules.specs.State.{State}
-use Rattle.petal_rules.specs.Server.{Own, Pairs, Post}
-use Rattle.law_state.specs.Steady.{IsSteady}
-use Rattle.law_state.proofs.Alone.{has_secondary}
-use Rattle.petal_rules.proofs.ListLemmas.{put_same, put_apart}
-use Rattle.petal_rules.proofs.Tests.{none_some, same_or_apart, same_some}
-use Rattle.law_copies.specs.Pair.{Pair, pair_of, IsPair, AreTogether, PairOk, Grows, Keeps, Known, SaidOk}
+use Rattle.petal_base.specs.declared.cell.Key.{Key}
+use Rattle.petal_base.specs.Cells.{cell_of}
+use Rattle.petal_table.specs.Table.{at}
+use Rattle.petal_msg.specs.declared.copying.Copying.{Copying}
+use Rattle.petal_msg.specs.declared.copying.LastCopy.{LastCopy}
+use Rattle.petal_msg.specs.declared.operation.Far.{Far}
+use Rattle.petal_msg.specs.declared.operation.Pending.{Pending}
+use Rattle.petal_rules.specs.Copies.{with_copied}
+use Rattle.petal_rules.specs.Progress.{progress_on, with_copying, with_last_copy, with_progress, without_copying}
+use Rattle.petal_rules.specs.Server.{Own}
+use Rattle.petal_rules.specs.Store.{Stored, cell_cmp, chain_in, mark_on, with_entry, without_entry, with_mark_on, without_mark_on}
+use Rattle.petal_rules.specs.Writes.{with_last, with_pending, without_pending}
+use Rattle.petal_rules.proofs.CellTables.{cell_apart, cell_gone_apart}
+use Rattle.petal_rules.proofs.Tests.{by_test}
+use Rattle.law_copies.specs.Steps.{KeepsCell}
+use Rattle.law_copies.proofs.Chains.{chain_apart, drop_apart}
+use Rattle.law_copies.proofs.Marks.{mark_beside, unmark_beside}
 
--- what was known of a letter is known later
-pub known_later : (old new : Pair) → Grows old new → (said : Body) → Known old said → Known new said
-known_later old new grows (body.Reserve number cell) h = let more = grows.higher in omega arith
-known_later old new grows (body.Reserved number cell) h = let more = grows.onward in omega arith
-known_later old new grows (body.PairFull number cell) h = let more = grows.higher in omega arith
-known_later old new grows (body.Replicate number key version bytes) h = elim h [
-  | inl putting ↦ grows.putting number key bytes putting
-  | inr past ↦ let more = grows.onward in inr (omega arith)
-]
-known_later old new grows (body.Replicated number cell) h = let more = grows.onward in omega arith
-known_later old new grows _ h = tt
+-- the same pairs, copies, chains and marks
+pub record IsAlikeOwn (one other : Own) : Type 0 where
+  pub pending : other.pairs.pending ≡ one.pairs.pending
+  pub followed : other.pairs.last ≡ one.pairs.last
+  pub copying : other.copies.pending ≡ one.copies.pending
+  pub last : other.copies.last ≡ one.copies.last
+  pub chains : other.store.chains ≡ one.store.chains
+  pub marks : other.store.marks ≡ one.store.marks
 
--- what speaks of no pair's cell need not be known
-pub unpaired : (said : Body) → is_paired (subject_of said) ≡ false → pair_cell said ≡ None
-unpaired said e = ap (λ b. if b then (about said).cell else None) e
+pub keeps_alike : (q : Cell) (own to : Own) → IsAlikeOwn own to → KeepsCell q own to
+keeps_alike q own to same = record {
+  rest = record {
+    chain = ap (λ t. chain_in t q) same.chains;
+    pending = ap (λ t. at cell_cmp t q) same.pending;
+    copying = ap (λ t. at cell_cmp t q) same.copying;
+    last = ap (λ t. at cell_cmp t q) same.last;
+    followed = ap (λ t. at cell_cmp t q) same.followed;
+  };
+  marks = λ kind. ap (λ (ms : List Mark). has_mark (mark_on kind q) ms) same.marks;
+}
 
-pub no_cell : (state : State) (alone : ℕ → Cell → Bool) (halves : Cell → ℕ → Own) (said : Body) → pair_cell said ≡ None → SaidOk state alone halves said
-no_cell state alone halves said none cell n m is pair together = none_some none is
+pub keeps_itself : (q : Cell) (own : Own) → KeepsCell q own own
+keeps_itself q own = keeps_alike q own own
+    (record { pending = refl; followed = refl; copying = refl; last = refl; chains = refl; marks = refl })
 
--- what a server remembers of a cell after a step: what it has in memory then, where it shares the cell then; or what it
--- remembered
-abbrev pub recalled : (shares : Bool) → Pairs → Pairs → Pairs
-recalled true now before = now
-recalled false now before = before
+pub keeps_on : (q : Cell) (a b c : Own) → KeepsCell q a b → KeepsCell q b c → KeepsCell q a c
+keeps_on q a b c k l = record {
+  rest = record {
+    chain = l.rest.chain ∙ k.rest.chain;
+    pending = l.rest.pending ∙ k.rest.pending;
+    copying = l.rest.copying ∙ k.rest.copying;
+    last = l.rest.last ∙ k.rest.last;
+    followed = l.rest.followed ∙ k.rest.followed;
+  };
+  marks = λ kind. l.marks kind ∙ k.marks kind;
+}
 
--- what holds of each pair of values of two functions, and of the new ones, holds after the change
-pub both_put : {A B : Type 0} (f : ℕ → A) (g : ℕ → B) (i : ℕ) (x : A) (y : B) (P : ℕ → A → B → Type 0) → ((k : ℕ) → P k (f k) (g k)) → P i x y
-    → (k : ℕ) → P k (put_at f i x k) (put_at g i y k)
-both_put f g i x y P old new k = elim (same_or_apart k i) [
-  | inl e ↦ subst (λ (j : ℕ). P j (put_at f i x j) (put_at g i y j)) (sym e)
-      (subst (λ a. P i a (put_at g i y i)) (sym (put_same f i x)) (subst (P i x) (sym (put_same g i y)) new))
-  | inr ne ↦ subst (λ a. P k a (put_at g i y k)) (sym (put_apart f i x k ne)) (subst (P k (f k)) (sym (put_apart g i y k ne)) (old k))
-]
+module _ (own : Own) (cell q : Cell) (ne : q ≢ cell) where
+  pub pending_beside : (op : Pending) → op.cell ≡ cell → KeepsCell q own (with_pending own op)
+  pending_beside op is = record {
+    rest = record {
+      chain = refl;
+      pending = cell_apart own.pairs.pending op.cell op q (λ e. ne (e ∙ is));
+      copying = refl;
+      last = refl;
+      followed = refl;
+    };
+    marks = λ kind. refl;
+  }
 
--- one server's halves are others
-pub record Changes (halves later : Cell → ℕ → Own) (k : ℕ) (new : Cell → Own) : Type 0 where
-  pub here : (cell : Cell) → later cell k ≡ new cell
-  pub others : (cell : Cell) (n : ℕ) → n ≢ k → later cell n ≡ halves cell n
+  pub ended_beside : KeepsCell q own (without_pending own cell)
+  ended_beside = record {
+    rest = record { chain = refl; pending = cell_gone_apart own.pairs.pending cell q ne; copying = refl; last = refl; followed = refl };
+    marks = λ kind. refl;
+  }
 
--- What a step has to show: for the cells that its server is the first of, for those that it is the second of, and of what it
--- sends.
-pub record JobKeeps (state : State) (alone : ℕ → Cell → Bool) (halves : Cell → ℕ → Own) (k : ℕ) (new : Cell → Own) (posts : List Post) : Type 0 where
-  pub as_first : (cell : Cell) (m : ℕ) → IsPair state cell k m → AreTogether alone cell k m
-      → Keeps (pair_of (halves cell k) (halves cell m) cell) (pair_of (new cell) (halves cell m) cell)
-  pub as_second : (cell : Cell) (n : ℕ) → IsPair state cell n k → AreTogether alone cell n k
-      → Keeps (pair_of (halves cell n) (halves cell k) cell) (pair_of (halves cell n) (new cell) cell)
-  pub says : (later : Cell → ℕ → Own) → Changes halves later k new → (post : Post) → In post posts → SaidOk state alone later post.body
+  pub followed_beside : (number : ℕ) (far : Far) → KeepsCell q own (with_last own cell number far)
+  followed_beside number far = record {
+    rest = record {
+      chain = refl;
+      pending = refl;
+      copying = refl;
+      last = refl;
+      followed = cell_apart own.pairs.last cell (record { op = number; far = far }) q ne;
+    };
+    marks = λ kind. refl;
+  }
 
-module _ (state : State) (steady : IsSteady state) where
-  -- the two servers of a cell are two
-  pub apart : (cell : Cell) (n m : ℕ) → IsPair state cell n m → n ≢ m
-  apart cell n m pair e =
-      let two = has_secondary state steady cell n pair.leads in
-      let same : two.0 ≡ m = same_some (sym two.1 ∙ pair.follows) in
-      two.2 (e ∙ sym same)
+  pub copying_beside : (copy : Copying) → KeepsCell q own (with_copying own cell copy)
+  copying_beside copy = record {
+    rest = record { chain = refl; pending = refl; copying = cell_apart own.copies.pending cell copy q ne; last = refl; followed = refl };
+    marks = λ kind. refl;
+  }
 
-  pub same_first : (cell : Cell) (n m i j : ℕ) → IsPair state cell n m → IsPair state cell i j → n ≡ i
-  same_first cell n m i j p q = same_some (sym p.leads ∙ q.leads)
+  pub copied_beside : KeepsCell q own (without_copying own cell)
+  copied_beside = record {
+    rest = record { chain = refl; pending = refl; copying = cell_gone_apart own.copies.pending cell q ne; last = refl; followed = refl };
+    marks = λ kind. refl;
+  }
 
-  pub same_second : (cell : Cell) (n m i j : ℕ) → IsPair state cell n m → IsPair state cell i j → m ≡ j
-  same_second cell n m i j p q = same_some (sym p.follows ∙ q.follows)
+  pub last_beside : (last : LastCopy) → KeepsCell q own (with_last_copy own cell last)
+  last_beside last = record {
+    rest = record { chain = refl; pending = refl; copying = refl; last = cell_apart own.copies.last cell last q ne; followed = refl };
+    marks = λ kind. refl;
+  }
 
-  module _ (alone : ℕ → Cell → Bool) (halves later : Cell → ℕ → Own) (k : ℕ) (new : Cell → Own) (changes : Changes halves later k new) where
-    -- the pair of a cell that the server is the first of
-    pub now_first : (cell : Cell) (m : ℕ) → IsPair state cell k m → pair_of (new cell) (halves cell m) cell ≡ pair_of (later cell k) (later cell m) cell
-    now_first cell m pair =
-        let p : new cell ≡ later cell k = sym (changes.here cell) in
-        let q : halves cell m ≡ later cell m = sym (changes.others cell m (λ e. apart cell k m pair (sym e))) in
-        λ i. pair_of (p i) (q i) cell
+  pub entry_beside : (key : Key) (stored : Stored) → cell_of key ≡ cell
+      → KeepsCell q own (record own { store = with_entry own.store key stored })
+  entry_beside key stored is = record {
+    rest = record {
+      chain = chain_apart own.store.chains (cell_of key) _ q (λ e. ne (e ∙ is));
+      pending = refl;
+      copying = refl;
+      last = refl;
+      followed = refl;
+    };
+    marks = λ kind. refl;
+  }
 
-    pub now_second : (cell : Cell) (n : ℕ) → IsPair state cell n k → pair_of (halves cell n) (new cell) cell ≡ pair_of (later cell n) (later cell k) cell
-    now_second cell n pair =
-        let p : halves cell n ≡ later cell n = sym (changes.others cell n (apart cell n k pair)) in
-        let q : new cell ≡ later cell k = sym (changes.here cell) in
-        λ i. pair_of (p i) (q i) cell
+  pub dropped_beside : (key : Key) → cell_of key ≡ cell → KeepsCell q own (record own { store = without_entry own.store key })
+  dropped_beside key is = record {
+    rest = record { chain = drop_apart own.store key q (λ e. ne (e ∙ is)); pending = refl; copying = refl; last = refl; followed = refl };
+    marks = λ kind. refl;
+  }
 
-    now_other : (cell : Cell) (n m : ℕ) → n ≢ k → m ≢ k → pair_of (halves cell n) (halves cell m) cell ≡ pair_of (later cell n) (later cell m) cell
-    now_other cell n m ne ne' =
-        let p : halves cell n ≡ later cell n = sym (changes.others cell n ne) in
-        let q : halves cell m ≡ later cell m = sym (changes.others cell m ne') in
-        λ i. pair_of (p i) (q i) cell
+  pub marked_beside : (kind : MarkKind) → KeepsCell q own (record own { store = with_mark_on own.store kind cell })
+  marked_beside kind = record {
+    rest = record { chain = refl; pending = refl; copying = refl; last = refl; followed = refl };
+    marks = λ other. mark_beside own.store kind other cell q ne;
+  }
 
-    -- each pair is kept
-    pub pairs_kept : (posts : List Post) → JobKeeps state alone halves k new posts → ((pair : Pair) → PairOk pair → Keeps pair pair)
-        → (cell : Cell) (n m : ℕ) → IsPair state cell n m → AreTogether alone cell n m → PairOk (pair_of (halves cell n) (halves cell m) cell)
-        → Keeps (pair_of (halves cell n) (halves cell m) cell) (pair_of (later cell n) (later cell m) cell)
-    pairs_kept posts keeps same cell n m pair together ok = elim (same_or_apart n k) [
-      | inl e ↦
-          let mine : IsPair state cell k m = subst (λ i. IsPair state cell i m) e pair in
-          let both : AreTogether alone cell k m = subst (λ i. AreTogether alone cell i m) e together in
-          subst (λ i. Keeps (pair_of (halves cell i) (halves cell m) cell) (pair_of (later cell i) (later cell m) cell)) (sym e)
-          (subst (Keeps (pair_of (halves cell k) (halves cell m) cell)) (now_first cell m mine) (keeps.as_first cell m mine both))
-      | inr ne ↦ elim (same_or_apart m k) [
-        | inl e ↦
-            let mine : IsPair state cell n k = subst (λ i. IsPair state cell n i) e pair in
-            let both : AreTogether alone cell n k = subst (λ i. AreTogether alone cell n i) e together in
-            subst (λ i. Keeps (pair_of (halves cell n) (halves cell i) cell) (pair_of (later cell n) (later cell i) cell)) (sym e)
-            (subst (Keeps (pair_of (halves cell n) (halves cell k) cell)) (now_second cell n mine) (keeps.as_second cell n mine both))
-        | inr ne' ↦ subst (Keeps (pair_of (halves cell n) (halves cell m) cell)) (now_other cell n m ne ne') (same (pair_of (halves cell n) (halves cell m) cell) ok)
-      ]
-    ]
+  pub unmarked_beside : (kind : MarkKind) → KeepsCell q own (record own { store = without_mark_on own.store kind cell })
+  unmarked_beside kind = record {
+    rest = record { chain = refl; pending = refl; copying = refl; last = refl; followed = refl };
+    marks = λ other. unmark_beside own.store kind other cell q ne;
+  }
 
-    -- what is known of a letter about a cell that the server is the first of, or the second
-    pub known_first : (said : Body) (cell : Cell) (m : ℕ) → IsPair state cell k m → pair_cell said ≡ Some cell
-        → Known (pair_of (new cell) (halves cell m) cell) said → SaidOk state alone later said
-    known_first said cell m mine is h c n j e pair together =
-        let same : cell ≡ c = same_some (sym is ∙ e) in
-        let pair' : IsPair state cell n j = subst (λ (q : Cell). IsPair state q n j) (sym same) pair in
-        let known : Known (pair_of (later cell k) (later cell m) cell) said = subst (λ p. Known p said) (now_first cell m mine) h in
-        subst (λ (q : Cell). Known (pair_of (later q n) (later q j) q) said) same
-        (subst (λ i. Known (pair_of (later cell i) (later cell j) cell) said) (same_first cell k m n j mine pair')
-        (subst (λ i. Known (pair_of (later cell k) (later cell i) cell) said) (same_second cell k m n j mine pair') known))
-
-    pub known_second : (said : Body) (cell : Cell) (n : ℕ) → IsPair state cell n k → pair_cell said ≡ Some cell
-        → Known (pair_of (halves cell n) (new cell) cell) said → SaidOk state alone later said
-    known_second said cell n mine is h c i j e pair together =
-        let same : cell ≡ c = same_some (sym is ∙ e) in
-        let pair' : IsPair state cell i j = subst (λ (q : Cell). IsPair state q i j) (sym same) pair in
-        let known : Known (pair_of (later cell n) (later cell k) cell) said = subst (λ p. Known p said) (now_second cell n mine) h in
-        subst (λ (q : Cell). Known (pair_of (later q i) (later q j) q) said) same
-        (subst (λ x. Known (pair_of (later cell x) (later cell j) cell) said) (same_first cell n k i j mine pair')
-        (subst (λ x. Known (pair_of (later cell n) (later cell x) cell) said) (same_second cell n k i j mine pair') known))
+-- how far a link is changes no cell
+pub copied_alike : (o : Option LinkRow) (own : Own) (block : ℕ) → IsAlikeOwn own (with_copied o own block)
+copied_alike None own block = record { pending = refl; followed = refl; copying = refl; last = refl; chains = refl; marks = refl }
+copied_alike (Some row) own block =
+    by_test (IsAlikeOwn own) (above (progress_on own row).copied block)
+    (with_progress own row (record (progress_on own row) { copied = Some block })) own
+    (λ t. record { pending = refl; followed = refl; copying = refl; last = refl; chains = refl; marks = refl })
+    (λ t. record { pending = refl; followed = refl; copying = refl; last = refl; chains = refl; marks = refl })

@@ -1,34 +1,64 @@
--- A lead puts only on a block that is marked on its device; its operations find the marks that their stages tell of; and what a
--- holder that is alone leaves unequal is marked.
-use Rattle.std.proofs.Common.{◌≡◌, ◌≢◌, ◌+◌, true, false, Some, refl, ap, sym, ◌∙◌, subst, ◌⊎◌, inl, inr}
+-- A lead puts only on a block that is marked on its device, and its operations find the marks that their stages tell of.
+use Rattle.std.proofs.Common.{◌≡◌, ◌≢◌, ◌+◌, ℕ, List, [], ◌∷◌, true, false, Option, Some, None, refl, ap, sym, ◌∙◌, subst, inl, inr}
+use Rattle.std.specs.Prelude.{◌||◌, Bool, filter, is_some, not}
 use Rattle.busy_marks.specs.Marks.{has_mark}
 use Rattle.busy_marks.specs.declared.marks.MarkKind.{MarkKind}
 use Rattle.busy_marks.specs.declared.marks.MarkKind.TheVariants.{Busy, Stale}
+use Rattle.global_tables.specs.declared.link.LinkRow.{LinkRow}
 use Rattle.petal_base.specs.declared.cell.Cell.{Cell}
-use Rattle.petal_base.specs.Cells.{cell_of}
+use Rattle.petal_base.specs.Cells.{cell_of, key_at}
 use Rattle.petal_table.specs.Table.{Table, at, put, without}
 use Rattle.petal_msg.specs.declared.body.Body.{Body}
+use Rattle.petal_msg.specs.declared.copying.Copying.{Copying}
+use Rattle.petal_msg.specs.declared.copying.LastCopy.{LastCopy}
 use Rattle.petal_msg.specs.declared.operation.Pending.{Pending}
 use Rattle.petal_msg.specs.declared.operation.Stage.{Stage}
-use Rattle.petal_rules.specs.State.{is_lead, is_second, in_both}
-use Rattle.petal_rules.specs.Store.{Store, cell_cmp, chain_in, version_of, is_marked, mark_on, with_mark_on, without_mark_on}
+use Rattle.petal_rules.specs.Copies.{begins_copy, cell_at, cell_holder, closes, idle_mark, marked_blocks, with_page}
+use Rattle.petal_rules.specs.Lists.{In}
+use Rattle.petal_rules.specs.Progress.{copying_on, has_proposed, progress_on}
+use Rattle.petal_rules.specs.State.{State, is_lead, is_second}
+use Rattle.petal_rules.specs.Store.{Store, cell_cmp, chain_in, version_of, is_marked, mark_on, with_mark_on, without_entry, without_mark_on}
 use Rattle.petal_rules.specs.Server.{Own, Here, Done}
-use Rattle.petal_rules.specs.Writes.{operation, opened, marks, puts, unmarks, with_mark_at, with_pending, with_reserved, with_paired, follows}
+use Rattle.petal_rules.specs.Writes.{is_under_way, operation, opened, marks, pending_on, puts, tells, unmarks, with_mark_at, with_pending, with_reserved, with_paired, follows}
 use Rattle.petal_rules.proofs.CellTables.{cell_same, cell_apart, cell_gone, cell_gone_apart}
-use Rattle.petal_rules.proofs.Tests.{same_some, none_some, true_false, is_the_one}
+use Rattle.petal_rules.proofs.Tests.{by_test, not_true, same_some, none_some, some_or_none, true_false, is_the_one}
 use Rattle.petal_history.specs.Claims.{IsMarked}
 use Rattle.law_state.specs.Steady.{IsSteady}
 use Rattle.law_state.proofs.Alone.{lead_first, second_both, first_primary, second_secondary, has_secondary}
 use Rattle.law_steps.specs.DidLead.{DidLead, Asks_for, Repeats, Is_full, Opens, Marks, Puts, Gives_up, Unmarks, Closes, Opens_alone, Marks_alone, Puts_alone, Unmarks_alone, Closes_alone, Taken}
 use Rattle.law_steps.specs.DidSecond.{DidSecond, Sets_apart, Promises, Declines, Follows}
-use Rattle.law_steps.specs.Did.{Did, Ignores, Refuses, By_read, By_lead, By_second}
+use Rattle.law_steps.specs.DidHolder.{DidHolder, CopyStep, Asks_to_trim, Sends, Unmarks_copied, Closes_copy, TakenCopy, Copy_as_is, Copy_trimmed, Copy_synced, first_copy, Asks_page, Turns_page, Begins_copy, Goes_on_copying, Finds_it_full, Tidies}
+use Rattle.law_steps.specs.DidOther.{DidOther, TrimStep, Is_trimmed, Drops_entry, Answers_page, Is_copied_to, Goes_on_trimming, Puts_entry, Has_entry, Has_no_slot}
+use Rattle.law_steps.specs.Did.{Did, Ignores, Refuses, By_read, By_lead, By_second, By_holder, By_other}
 use Rattle.law_steps.specs.Ready.{IsReady}
+use Rattle.law_steps.proofs.Resting.{among_least}
 use Rattle.law_steps.proofs.Staged.{same_cell_or_apart}
 use Rattle.law_steps.proofs.Subjects.{of_read, told_own}
 use Rattle.law_steps.proofs.Taking.{taking}
 use Rattle.law_copies.specs.Pair.{HasMarks, HaveMarks}
-use Rattle.law_copies.proofs.Jobs.{chain_apart}
-use Rattle.law_copies.proofs.Marks.{mark_there, mark_kept, unmark_apart, stale_kept}
+use Rattle.law_copies.proofs.Chains.{chain_apart, closed_pairs, closed_store, drop_apart}
+use Rattle.law_copies.proofs.Marks.{mark_there, mark_kept, unmark_apart, unmark_beside, stale_kept}
+use Rattle.law_copies.proofs.Others.{held_not_lead}
+
+-- ### Old marks
+
+passes : {X : Type 0} (test : X → Bool) (x : X) (xs : List X) → In x (filter test xs) → test x ≡ true
+unfolding In
+passes test x [] h = absurd h
+passes {X} test x (y ∷ xs) h =
+    by_test (λ (ys : List X). In x ys → test x ≡ true) (test y) (y ∷ filter test xs) (filter test xs)
+    (λ t i. elim i [ inl e ↦ ap test e ∙ t | inr j ↦ passes test x xs j ])
+    (λ t i. passes test x xs i) h
+
+-- nothing is under way on the cell whose old mark is taken away
+idle_free : (state : State) (row : LinkRow) (own : Own) (block : ℕ) → idle_mark state row own ≡ Some block → pending_on own (cell_at row block) ≡ None
+idle_free state row own block at =
+    let free : is_under_way own (cell_at row block) ≡ false =
+    not_true _ (passes (λ b. not (is_under_way own (cell_at row b))) block (marked_blocks state row own) (among_least _ block at)) in
+    elim (some_or_none (pending_on own (cell_at row block))) [
+      | inl there ↦ true_false (ap (λ o. is_some o || is_some (copying_on own (cell_at row block))) there.1) free
+      | inr none ↦ none
+    ]
 
 -- ### Marks of operations
 
@@ -105,51 +135,39 @@ unmark_have base op have h q other is = elim (same_cell_or_apart q op.cell) [
       }
 ]
 
--- ### What a job does to blocks
+-- ### What a job does
 
--- the block's copy is as before, and its marks are
-abbrev pub IsKept : Store → Store → Cell → Type 0
-IsKept old new cell = (chain_in new.chains cell ≡ chain_in old.chains cell) × (IsMarked old cell → IsMarked new cell)
-
--- where the busy mark goes from one cell, those of others stay
-unmark_keeps : (store : Store) (cell q : Cell) → q ≢ cell → (kind : MarkKind) → is_marked store kind q ≡ true
-    → is_marked (without_mark_on store Busy cell) kind q ≡ true
-unmark_keeps store cell q ne Busy there = unmark_apart store Busy cell q ne ∙ there
-unmark_keeps store cell q ne Stale there = stale_kept store cell q ∙ there
-
--- operations find their marks; of a cell that is not in Both the server keeps copy and marks, or leaves the block marked; marks on
--- cells that it does not lead stay; and it changed the copy of a cell that it leads only where the block was marked
+-- operations find their marks, and a copy of a cell that the server leads changed only where the block was marked
 pub record KeepsMarks (here : Here) (old new : Own) : Type 0 where
   pub marks : HaveMarks new.pairs.pending new.store
-  pub covers : (cell : Cell) → in_both here.state cell ≡ false → IsKept old.store new.store cell ⊎ IsMarked new.store cell
-  pub stays : (kind : MarkKind) (cell : Cell) → is_lead here.state here.me cell ≡ false → is_marked old.store kind cell ≡ true
-      → is_marked new.store kind cell ≡ true
   pub first : (cell : Cell) → is_lead here.state here.me cell ≡ true → chain_in new.store.chains cell ≢ chain_in old.store.chains cell
       → IsMarked old.store cell
 
-grown_marked : (old new : Store) (cell : Cell) → Grown old new → IsMarked old cell → IsMarked new cell
-grown_marked old new cell grown (inl e) = inl (grown Busy cell e)
-grown_marked old new cell grown (inr e) = inr (grown Stale cell e)
-
--- copies stay, and marks only come
-quiet : (here : Here) (old new : Own) → HaveMarks new.pairs.pending new.store → new.store.chains ≡ old.store.chains → Grown old.store new.store
-    → KeepsMarks here old new
-quiet here old new have chains grown = record {
+-- copies stay, and operations find their marks
+quiet : (here : Here) (old new : Own) → HaveMarks new.pairs.pending new.store → new.store.chains ≡ old.store.chains → KeepsMarks here old new
+quiet here old new have chains = record {
   marks = have;
-  covers = λ cell off. inl (ap (λ c. chain_in c cell) chains, grown_marked old.store new.store cell grown);
-  stays = λ kind cell off there. grown kind cell there;
   first = λ cell lead changed. absurd (changed (ap (λ c. chain_in c cell) chains));
 }
 
-module _ (heard : Body → Type 0) (here : Here) (own : Own) (steady : IsSteady here.state) (ready : IsReady here.state here.me own.pairs.pending)
-    (have : HaveMarks own.pairs.pending own.store) where
+-- marks of a cell without an operation may go
+unmarked_have : (t : Table Cell Pending) (store : Store) (kind : MarkKind) (cell : Cell) → at cell_cmp t cell ≡ None → HaveMarks t store
+    → HaveMarks t (without_mark_on store kind cell)
+unmarked_have t store kind cell none have q op is = elim (same_cell_or_apart q cell) [
+  | inl e ↦ none_some (ap (at cell_cmp t) e ∙ none) is
+  | inr ne ↦
+      let old = have q op is in
+      record { busy = λ e. unmark_beside store kind Busy cell q ne ∙ old.busy e; stale = λ e. unmark_beside store kind Stale cell q ne ∙ old.stale e }
+]
+
+module _ (heard : Body → Type 0) (here : Here) (own : Own) (steady : IsSteady here.state)
+    (ready : IsReady here.state here.me (has_proposed here.state own) own.pairs.pending) (have : HaveMarks own.pairs.pending own.store)
+    (idle : (cell : Cell) (copy : Copying) → copying_on own cell ≡ Some copy → pending_on own cell ≡ None) where
   abbrev M : Own → Type 0
   M new = KeepsMarks here own new
 
   same_store : (new : Own) → HaveMarks new.pairs.pending own.store → new.store.chains ≡ own.store.chains → new.store.marks ≡ own.store.marks → M new
-  same_store new h chains marks =
-      quiet here own new (same_have new.pairs.pending own.store new.store marks h) chains
-      (same_grown own.store new.store marks)
+  same_store new h chains marks = quiet here own new (same_have new.pairs.pending own.store new.store marks h) chains
 
   still : (new : Own) → new ≡ own → M new
   still new same = subst M (sym same) (same_store own have refl refl)
@@ -157,35 +175,11 @@ module _ (heard : Body → Type 0) (here : Here) (own : Own) (steady : IsSteady 
   -- an operation that stands in this part of the server, whose store is as it was
   marking : (base : Own) (op : Pending) (kind : MarkKind) → base.store ≡ own.store → HaveMarks base.pairs.pending base.store → HasMarks op base.store op.cell
       → M (marks base op kind).own
-  marking base op kind store h flags =
-      quiet here own (marks base op kind).own (mark_have base op kind h flags) (ap (λ (s : Store). s.chains) store)
-      (subst (λ (s : Store). Grown s (with_mark_on base.store kind op.cell)) store (λ other cell there. mark_kept base.store kind other op.cell cell there))
+  marking base op kind store h flags = quiet here own (marks base op kind).own (mark_have base op kind h flags) (ap (λ (s : Store). s.chains) store)
 
-  -- the busy mark goes from a cell that the server leads
   unmarking : (base : Own) (op : Pending) → base.store ≡ own.store → HaveMarks base.pairs.pending base.store → HasMarks op base.store op.cell
-      → is_lead here.state here.me op.cell ≡ true → (in_both here.state op.cell ≡ false → op.stage.stale ≡ true) → M (unmarks base op Busy).own
-  unmarking base op store h flags lead stale =
-      let new = without_mark_on base.store Busy op.cell in
-      let chains : new.chains ≡ own.store.chains = ap (λ (s : Store). s.chains) store in
-      record {
-        marks = unmark_have base op h flags;
-        covers = λ cell off. elim (same_cell_or_apart cell op.cell) [
-          | inl e ↦ inr (subst (λ (c : Cell). IsMarked new c) (sym e)
-              (inr (stale_kept base.store op.cell op.cell ∙ flags.stale (stale (subst (λ (c : Cell). in_both here.state c ≡ false) e off)))))
-          | inr ne ↦ inl (
-            ap (λ c. chain_in c cell) chains,
-            subst (λ (s : Store). IsMarked s cell → IsMarked new cell) store (λ m. elim m [
-              | inl busy ↦ inl (unmark_apart base.store Busy op.cell cell ne ∙ busy)
-              | inr old ↦ inr (stale_kept base.store op.cell cell ∙ old)
-            ]),
-          )
-        ];
-        stays = λ kind cell off there. elim (same_cell_or_apart cell op.cell) [
-          | inl e ↦ true_false lead (subst (λ (c : Cell). is_lead here.state here.me c ≡ false) e off)
-          | inr ne ↦ unmark_keeps base.store op.cell cell ne kind (subst (λ (s : Store). is_marked s kind cell ≡ true) (sym store) there)
-        ];
-        first = λ cell led changed. absurd (changed (ap (λ c. chain_in c cell) chains));
-      }
+      → M (unmarks base op Busy).own
+  unmarking base op store h flags = quiet here own (unmarks base op Busy).own (unmark_have base op h flags) (ap (λ (s : Store). s.chains) store)
 
   putting : (base : Own) (op : Pending) → base.store ≡ own.store → HaveMarks base.pairs.pending base.store → HasMarks op base.store op.cell
       → cell_of op.key ≡ op.cell → IsMarked base.store op.cell → M (puts base op).own
@@ -198,11 +192,6 @@ module _ (heard : Body → Type 0) (here : Here) (own : Own) (steady : IsSteady 
       record {
         marks = put_have base.pairs.pending new.store op.cell two (grown_have base.pairs.pending base.store new.store grown h)
             (same_flags op two new.store op.cell refl refl (grown_has base.store new.store op op.cell grown flags));
-        covers = λ cell off. elim (same_cell_or_apart cell op.cell) [
-          | inl e ↦ inr (subst (λ (c : Cell). IsMarked new.store c) (sym e) (grown_marked base.store new.store op.cell grown marked))
-          | inr ne ↦ inl (chain cell ne, subst (λ (s : Store). IsMarked s cell → IsMarked new.store cell) store (grown_marked base.store new.store cell grown))
-        ];
-        stays = λ kind cell off there. grown kind cell (subst (λ (s : Store). is_marked s kind cell ≡ true) (sym store) there);
         first = λ cell lead changed. elim (same_cell_or_apart cell op.cell) [
           | inl e ↦ subst (λ (c : Cell). IsMarked own.store c) (sym e) (subst (λ (s : Store). IsMarked s op.cell) store marked)
           | inr ne ↦ absurd (changed (chain cell ne))
@@ -260,7 +249,7 @@ module _ (heard : Body → Type 0) (here : Here) (own : Own) (steady : IsSteady 
   lead_marked _ (Unmarks op h is both stage) =
       let one = with_paired op in
       let t = told_have op one is refl refl in
-      unmarking (with_pending own one) one refl t.0 t.1 (ready.staged op.cell op is).lead (λ off. true_false both off)
+      unmarking (with_pending own one) one refl t.0 t.1
   lead_marked _ (Closes op is both stage) = same_store _ (gone_have own.pairs.pending own.store op.cell have) refl refl
   lead_marked _ (Opens_alone want new on) =
       let op = operation here own.pairs.next want in
@@ -269,7 +258,7 @@ module _ (heard : Body → Type 0) (here : Here) (own : Own) (steady : IsSteady 
       let table : HaveMarks base.pairs.pending base.store =
       grown_have base.pairs.pending own.store base.store (same_grown own.store base.store refl) (put_have own.pairs.pending own.store want.cell op have flags) in
       let h = mark_have base op Stale table (no_flags op base.store want.cell refl refl) in
-      quiet here own (marks base op Stale).own h refl (λ kind cell there. mark_kept own.store Stale kind want.cell cell there)
+      quiet here own (marks base op Stale).own h refl
   lead_marked _ (Marks_alone now op taken on fresh) =
       let t = taking own now op taken in
       let h = taken_have now op taken in
@@ -281,7 +270,7 @@ module _ (heard : Body → Type 0) (here : Here) (own : Own) (steady : IsSteady 
   lead_marked _ (Unmarks_alone now op taken on stale put busy) =
       let t = taking own now op taken in
       let h = taken_have now op taken in
-      unmarking now op t.store h.0 h.1 (ready.staged op.cell t.old t.was).lead (λ f. stale)
+      unmarking now op t.store h.0 h.1
   lead_marked _ (Closes_alone now op taken on stale put free) =
       let t = taking own now op taken in
       let h = taken_have now op taken in
@@ -301,25 +290,94 @@ module _ (heard : Body → Type 0) (here : Here) (own : Own) (steady : IsSteady 
   second_marked : (done : Done) → DidSecond heard here own done → M done.own
   second_marked _ (Follows number key version bytes h s is) =
       let cell = cell_of key in
-      let both = second_both here.state steady cell here.me (is_the_one _ here.me s) in
       let new = (follows here own number key bytes).own in
-      let grown : Grown own.store new.store = same_grown own.store new.store refl in
-      let chain : (q : Cell) → q ≢ cell → chain_in new.store.chains q ≡ chain_in own.store.chains q = λ q ne. chain_apart own.store.chains cell _ q ne in
       record {
-        marks = grown_have own.pairs.pending own.store new.store grown have;
-        covers = λ q off. elim (same_cell_or_apart q cell) [
-          | inl e ↦ true_false both (subst (λ (c : Cell). in_both here.state c ≡ false) e off)
-          | inr ne ↦ inl (chain q ne, grown_marked own.store new.store q grown)
-        ];
-        stays = λ kind q off there. grown kind q there;
+        marks = grown_have own.pairs.pending own.store new.store (same_grown own.store new.store refl) have;
         first = λ q lead changed. elim (same_cell_or_apart q cell) [
           | inl e ↦ not_lead cell s (subst (λ (c : Cell). is_lead here.state here.me c ≡ true) e lead)
-          | inr ne ↦ absurd (changed (chain q ne))
+          | inr ne ↦ absurd (changed (chain_apart own.store.chains cell _ q ne))
         ];
       }
   second_marked _ (Sets_apart number c tickets h s le) = same_store _ have refl refl
-  second_marked _ (Promises number c how s is) = still _ (told_own here own c number how)
+  second_marked _ (Promises number c how s is) = still (tells here own c number how).own (told_own here own c number how)
   second_marked _ (Declines number c h s no_room) = same_store _ have refl refl
+
+  -- ### Copies
+
+  -- a copy that is taken up leaves the store and the operations
+  pub record IsTakenUp (cell : Cell) (now : Own) : Type 0 where
+    pub store : now.store ≡ own.store
+    pub pending : now.pairs.pending ≡ own.pairs.pending
+    pub free : pending_on own cell ≡ None
+
+  taken_up : (cell : Cell) (now : Own) (copy : Copying) → TakenCopy heard own cell now copy → IsTakenUp cell now
+  taken_up cell _ _ (Copy_as_is copy is) = record { store = refl; pending = refl; free = idle cell copy is }
+  taken_up cell _ _ (Copy_trimmed copy h is fresh) = record { store = refl; pending = refl; free = idle cell copy is }
+  taken_up cell _ _ (Copy_synced copy h is trimmed lt) = record { store = refl; pending = refl; free = idle cell copy is }
+
+  step_marked : (now : Own) (cell : Cell) (copy : Copying) (done : Done) → now.store ≡ own.store → now.pairs.pending ≡ own.pairs.pending
+      → (copy.trimmed ≡ true → pending_on own cell ≡ None) → CopyStep here now cell copy done → M done.own
+  step_marked now cell copy _ store pending free (Asks_to_trim fresh) =
+      same_store now (subst (λ t. HaveMarks t own.store) (sym pending) have) (ap (λ (s : Store). s.chains) store) (ap (λ (s : Store). s.marks) store)
+  step_marked now cell copy _ store pending free (Sends row trimmed is) =
+      same_store now (subst (λ t. HaveMarks t own.store) (sym pending) have) (ap (λ (s : Store). s.chains) store) (ap (λ (s : Store). s.marks) store)
+  step_marked now cell copy _ store pending free (Unmarks_copied kind synced left) =
+      let h : HaveMarks now.pairs.pending (without_mark_on own.store kind cell) =
+      subst (λ t. HaveMarks t (without_mark_on own.store kind cell)) (sym pending)
+      (unmarked_have own.pairs.pending own.store kind cell (free synced.trimmed) have) in
+      quiet here own _ (subst (λ (s : Store). HaveMarks now.pairs.pending (without_mark_on s kind cell)) (sym store) h) (ap (λ (s : Store). s.chains) store)
+  step_marked now cell copy _ store pending free (Closes_copy synced left) =
+      let closed = (closes here now cell).own in
+      let same = closed_store here now cell ∙ store in
+      same_store closed (subst (λ t. HaveMarks t own.store) (sym (ap (λ p. p.pending) (closed_pairs here now cell) ∙ pending)) have)
+      (ap (λ (s : Store). s.chains) same) (ap (λ (s : Store). s.marks) same)
+
+  page_marked : (row : LinkRow) (block : Option ℕ) → M (with_page own row (progress_on own row) block)
+  page_marked row None = same_store _ have refl refl
+  page_marked row (Some block) =
+      quiet here own (with_page own row (progress_on own row) (Some block))
+      (grown_have own.pairs.pending own.store _ (λ kind q there. mark_kept own.store Stale kind (cell_at row block) q there) have) refl
+
+  holder_marked : (done : Done) → DidHolder heard here own done → M done.own
+  holder_marked _ (Asks_page id row other held fresh) = same_store _ have refl refl
+  holder_marked _ (Turns_page id row other after block h held fresh at) = page_marked row block
+  holder_marked done (Begins_copy id row other cell _ held next step) =
+      step_marked (begins_copy own cell) cell (first_copy own.pairs.next) done refl refl (λ f. let g : false ≡ true = f in absurd cc) step
+  holder_marked done (Goes_on_copying cell now copy _ taken step) =
+      let t = taken_up cell now copy taken in step_marked now cell copy done t.store t.pending (λ f. t.free) step
+  holder_marked _ (Finds_it_full cell copy h is trimmed lt) = same_store _ have refl refl
+  holder_marked _ (Tidies id row block kind is both at left) =
+      quiet here own _ (unmarked_have own.pairs.pending own.store kind (cell_at row block) (idle_free here.state row own block at) have) refl
+
+  trim_marked : (now : Own) (cell : Cell) (last : LastCopy) (holder : ℕ) (done : Done) → now.store ≡ own.store → now.pairs ≡ own.pairs
+      → cell_holder here cell ≡ Some holder → TrimStep now cell last holder done → M done.own
+  trim_marked now cell last holder _ store pairs held (Is_trimmed none) =
+      same_store now (subst (λ p. HaveMarks p.pending own.store) (sym pairs) have) (ap (λ (s : Store). s.chains) store) (ap (λ (s : Store). s.marks) store)
+  trim_marked now cell last holder _ store pairs held (Drops_entry epoch epochs is) = record {
+    marks = subst (λ (s : Store). HaveMarks now.pairs.pending (without_entry s (key_at cell epoch))) (sym store)
+        (subst (λ p. HaveMarks p.pending (without_entry own.store (key_at cell epoch))) (sym pairs)
+        (same_have own.pairs.pending own.store (without_entry own.store (key_at cell epoch)) refl have));
+    first = λ q lead changed. elim (same_cell_or_apart q cell) [
+      | inl e ↦ held_not_lead here steady cell holder held (subst (λ (c : Cell). is_lead here.state here.me c ≡ true) e lead)
+      | inr ne ↦ absurd (changed (drop_apart now.store (key_at cell epoch) q (λ e. ne e) ∙ ap (λ (s : Store). chain_in s.chains q) store))
+    ];
+  }
+
+  other_marked : (done : Done) → DidOther heard here own done → M done.own
+  other_marked _ (Answers_page id row after h is) = same_store _ have refl refl
+  other_marked done (Is_copied_to number cell epochs holder _ h held newer step) = trim_marked _ cell _ holder done refl refl held step
+  other_marked done (Goes_on_trimming cell holder last _ held is step) = trim_marked own cell last holder done refl refl held step
+  other_marked _ (Puts_entry entry holder last of_copy at room) =
+      let cell = cell_of entry.key in
+      record {
+        marks = same_have own.pairs.pending own.store _ refl have;
+        first = λ q lead changed. elim (same_cell_or_apart q cell) [
+          | inl e ↦ held_not_lead here steady cell holder of_copy.held (subst (λ (c : Cell). is_lead here.state here.me c ≡ true) e lead)
+          | inr ne ↦ absurd (changed (chain_apart own.store.chains cell _ q ne))
+        ];
+      }
+  other_marked _ (Has_entry entry holder last of_copy lt) = same_store _ have refl refl
+  other_marked _ (Has_no_slot entry holder last of_copy at full) = same_store _ have refl refl
 
   pub job_marked : (done : Done) → Did heard here own done → M done.own
   job_marked _ Ignores = same_store own have refl refl
@@ -327,3 +385,5 @@ module _ (heard : Body → Type 0) (here : Here) (own : Own) (steady : IsSteady 
   job_marked _ (By_read done d) = still done.own (of_read heard here own done d).same
   job_marked _ (By_lead done d) = lead_marked done d
   job_marked _ (By_second done d) = second_marked done d
+  job_marked _ (By_holder done d) = holder_marked done d
+  job_marked _ (By_other done d) = other_marked done d

@@ -14,7 +14,7 @@ same_kind_itself : (kind : MarkKind) → same_kind kind kind ≡ true
 same_kind_itself Busy = refl
 same_kind_itself Stale = refl
 
-same_itself : (mark : Mark) → same_mark mark mark ≡ true
+pub same_itself : (mark : Mark) → same_mark mark mark ≡ true
 same_itself mark = let kind = same_kind_itself mark.kind in grind (arith, nat_tests, kind)
 
 is_kind : (a b : MarkKind) → same_kind a b ≡ true → a ≡ b
@@ -24,7 +24,7 @@ is_kind Busy Stale e = cc
 is_kind Stale Busy e = cc
 
 -- two marks that pass the test are one
-is_mark : (a b : Mark) → same_mark a b ≡ true → a ≡ b
+pub is_mark : (a b : Mark) → same_mark a b ≡ true → a ≡ b
 is_mark a b e =
     let tests = both_true _ (a.cell.block == b.cell.block) e in
     let first = both_true (same_kind a.kind b.kind) (a.cell.map == b.cell.map) tests.0 in
@@ -55,6 +55,15 @@ unset_apart (m ∷ marks) mark other ne = by_bool (same_mark m mark)
 pub mark_there : (store : Store) (kind : MarkKind) (cell : Cell) → is_marked (with_mark_on store kind cell) kind cell ≡ true
 mark_there store kind cell = is_set store.marks (mark_on kind cell)
 
+other_cells : (kind other : MarkKind) (cell q : Cell) → q ≢ cell → same_mark (mark_on kind cell) (mark_on other q) ≡ false
+other_cells kind other cell q ne = by_bool (same_mark (mark_on kind cell) (mark_on other q))
+    (λ e. absurd (ne (sym (ap (λ (m : Mark). m.cell) (is_mark (mark_on kind cell) (mark_on other q) e))))) (λ e. e)
+
+-- marks on another cell stay, of either kind
+pub unmark_beside : (store : Store) (kind other : MarkKind) (cell q : Cell) → q ≢ cell
+    → is_marked (without_mark_on store kind cell) other q ≡ is_marked store other q
+unmark_beside store kind other cell q ne = unset_apart store.marks (mark_on kind cell) (mark_on other q) (other_cells kind other cell q ne)
+
 pub unmark_apart : (store : Store) (kind : MarkKind) (cell q : Cell) → q ≢ cell
     → is_marked (without_mark_on store kind cell) kind q ≡ is_marked store kind q
 unmark_apart store kind cell q ne = unset_apart store.marks (mark_on kind cell) (mark_on kind q) (other_mark kind cell q ne)
@@ -70,3 +79,12 @@ mark_kept store kind other cell q there = set_keeps store.marks (mark_on kind ce
 -- where the busy mark goes, the stale one stays
 pub stale_kept : (store : Store) (cell q : Cell) → is_marked (without_mark_on store Busy cell) Stale q ≡ is_marked store Stale q
 stale_kept store cell q = unset_apart store.marks (mark_on Busy cell) (mark_on Stale q) refl
+
+set_apart : (marks : List Mark) (mark other : Mark) → same_mark mark other ≡ false → has_mark other (with_mark marks mark) ≡ has_mark other marks
+set_apart marks mark other ne = by_test (λ xs. has_mark other xs ≡ has_mark other marks) (has_mark mark marks) _ _ (λ t. refl)
+    (λ new. list_any-append (λ m. same_mark m other) marks (mark ∷ []) ∙ ap (λ b. has_mark other marks || (b || false)) ne ∙ by_bool (has_mark other marks)
+    (λ t. ap (λ b. b || false) t ∙ sym t) (λ t. ap (λ b. b || false) t ∙ sym t))
+
+pub mark_beside : (store : Store) (kind other : MarkKind) (cell q : Cell) → q ≢ cell
+    → is_marked (with_mark_on store kind cell) other q ≡ is_marked store other q
+mark_beside store kind other cell q ne = set_apart store.marks (mark_on kind cell) (mark_on other q) (other_cells kind other cell q ne)

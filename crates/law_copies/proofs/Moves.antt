@@ -1,13 +1,15 @@
 -- What happens to one cell keeps its two copies together.
-use Rattle.std.proofs.Common.{◌≡◌, ℕ, ◌+◌, ◌<◌, ◌≤◌, List, Some, None, true, false, arith}
+use Rattle.std.proofs.Common.{◌≡◌, ℕ, ◌+◌, ◌<◌, ◌≤◌, List, Some, None, true, false, inl, inr, arith}
 use Rattle.std.specs.Ordering.{nat_cmp}
 use Rattle.petal_base.specs.declared.cell.Key.{Key}
 use Rattle.petal_table.specs.Table.{put}
+use Rattle.petal_msg.specs.declared.body.Body.{Body}
+use Rattle.petal_msg.specs.declared.body.Body.TheVariants as body
 use Rattle.petal_msg.specs.declared.operation.Far.TheVariants.{Reserved, Replicated}
 use Rattle.petal_msg.specs.declared.operation.Pending.{Pending}
 use Rattle.petal_rules.specs.Store.{version_of}
 use Rattle.law_steps.specs.Operations.{progress}
-use Rattle.law_copies.specs.Pair.{Pair, far, ceiling, PairOk, IsPutting, Keeps}
+use Rattle.law_copies.specs.Pair.{Pair, far, ceiling, Grows, PairOk, IsPutting, Keeps, Known}
 
 -- nothing happens to the cell, but new numbers may be given to others
 pub stays : (pair : Pair) (next : ℕ) → PairOk pair → pair.next ≤ next → Keeps pair (record pair { next = next })
@@ -60,3 +62,15 @@ pub follows : (pair : Pair) (number : ℕ) (key : Key) (bytes : List ℕ) → Pa
       last = Some (record { op = number; far = Replicated });
     })
 follows pair number key bytes ok at h = grind arith
+
+-- what was known of a letter is known later
+pub known_later : (old new : Pair) → Grows old new → (said : Body) → Known old said → Known new said
+known_later old new grows (body.Reserve number cell) h = let more = grows.higher in omega arith
+known_later old new grows (body.Reserved number cell) h = let more = grows.onward in omega arith
+known_later old new grows (body.PairFull number cell) h = let more = grows.higher in omega arith
+known_later old new grows (body.Replicate number key version bytes) h = elim h [
+  | inl putting ↦ grows.putting number key bytes putting
+  | inr past ↦ let more = grows.onward in inr (omega arith)
+]
+known_later old new grows (body.Replicated number cell) h = let more = grows.onward in omega arith
+known_later old new grows _ h = tt

@@ -1,264 +1,352 @@
--- A job keeps the pairs of its server.
-use Rattle.std.proofs.Common.{◌≡◌, ◌≢◌, ℕ, Bool, true, false, Some, None, refl, ap, sym, ◌∙◌, subst, ◌⊎◌, inl, inr, arith}
-use Rattle.busy_marks.specs.declared.marks.MarkKind.TheVariants.{Busy, Stale}
+-- What a job of a server that is In as itself keeps at the places of its own entries.
+use Rattle.std.proofs.Common.{◌≡◌, ◌≢◌, ◌≤◌, ◌<◌, ℕ, List, true, false, Option, Some, None, is_some, sym, ap, ◌∙◌, subst, inl, inr}
+use Rattle.std.specs.Ordering.{nat_cmp}
+use Rattle.global_tables.specs.Link.{has_server, other_of}
+use Rattle.global_tables.specs.declared.link.LinkRow.{LinkRow}
+use Rattle.global_tables.specs.declared.link.LinkState.TheVariants.{Both, Only}
 use Rattle.petal_base.specs.declared.cell.Cell.{Cell}
+use Rattle.petal_command.specs.declared.command.Command.{Command}
 use Rattle.petal_table.specs.Table.{at}
-use Rattle.petal_msg.specs.declared.letter.Letter.{Letter}
-use Rattle.petal_msg.specs.declared.operation.LastOp.{LastOp}
-use Rattle.petal_msg.specs.declared.operation.Pending.{Pending}
+use Rattle.petal_msg.specs.Kinds.{about, subject_of}
+use Rattle.petal_msg.specs.declared.body.Body.{Body}
+use Rattle.petal_msg.specs.declared.body.Body.TheVariants as body
+use Rattle.petal_history.specs.Claims.{IsMarked}
+use Rattle.petal_history.specs.declared.record.Record.{Record}
 use Rattle.petal_state.specs.CellState.{cell_link}
-use Rattle.petal_state.specs.Command.{state_after}
-use Rattle.petal_history.specs.Claims.{AreCovered}
-use Rattle.petal_rules.specs.Lists.{In, put_at}
+use Rattle.petal_state.specs.Command.{is_alone, state_after}
+use Rattle.petal_rules.specs.Lists.{In}
 use Rattle.petal_rules.specs.Log.{state_in}
-use Rattle.petal_rules.specs.State.{State, in_both, is_lead, is_alone_on}
-use Rattle.petal_rules.specs.Store.{Store, cell_cmp}
-use Rattle.petal_rules.specs.Server.{Own, Pairs, Here, Server, Sender, Done, letters_of}
-use Rattle.petal_rules.specs.Jobs.{Acted}
-use Rattle.petal_rules.specs.World.{Setting, World, acts, server_state, stamped}
-use Rattle.petal_rules.specs.declared.step.Step.{Step}
-use Rattle.petal_rules.proofs.ListLemmas.{put_same, put_apart, in-append}
-use Rattle.petal_rules.proofs.Tests.{all_put, by_bool, true_false, same_or_apart}
-use Rattle.law_state.specs.Steady.{IsSteady}
-use Rattle.law_state.proofs.Alone.{both_not_alone, both_row, lead_alone}
-use Rattle.law_steps.specs.Did.{Did}
-use Rattle.law_steps.specs.Happens.{Handled, IsSeated, own_place}
-use Rattle.law_steps.specs.Ready.{Ready}
-use Rattle.law_steps.proofs.Fronts.{below_on}
-use Rattle.law_steps.proofs.Histories.{own_below, own_steady}
-use Rattle.law_steps.proofs.Letters.{said}
-use Rattle.law_steps.proofs.Staged.{did_ready}
-use Rattle.law_copies.specs.Pair.{pair_of, IsPair, AreTogether, alone_in, Keeps, SaidOk, HasMarks, HaveMarks, IsLast, IsRecalled, Memory, Recalls, half_of, owns_of, shares, Good}
-use Rattle.law_copies.proofs.Copied.{cover_at}
-use Rattle.law_copies.proofs.Frames.{Changes, apart, both_put, known_later, pairs_kept, recalled}
-use Rattle.law_copies.proofs.Jobs as jobs
-use Rattle.law_copies.proofs.Marking.{KeepsMarks, job_marked}
-use Rattle.law_copies.proofs.Moves.{stays}
-use Rattle.law_copies.proofs.Sharing.{IsOneOf, one_before, shared_by, shared_parts, unlinked}
+use Rattle.petal_rules.specs.Server.{Own, Post, Server, Done}
+use Rattle.petal_rules.specs.State.{holder_of, id_of, is_in}
+use Rattle.petal_rules.specs.Store.{Store, cell_cmp, chain_in}
+use Rattle.petal_rules.specs.World.{Setting, World, chosen_log, server_state}
+use Rattle.petal_rules.proofs.Tests.{same_numbers, same_or_apart, same_some}
+use Rattle.law_state.specs.Firm.{Firm}
+use Rattle.law_state.specs.Started.{is_flagged}
+use Rattle.law_state.proofs.Leaves.{other_between}
+use Rattle.law_state.proofs.Roles.{secondary_is_one}
+use Rattle.law_steps.specs.Happens.{Handled, is_between, own_place}
+use Rattle.law_steps.specs.Ready.{IsRising, Rests}
+use Rattle.law_copies.specs.BothSteps.{LeadKeeps, SecondKeeps}
+use Rattle.law_copies.specs.Copied.{AreAlike, AreCopying, IsOfLink, IsPage, IsTold, Is_marked_here}
+use Rattle.law_copies.specs.Good.{AreBeside, AreTwins, Good, IsUnheard, pair_at, store_of}
+use Rattle.law_copies.specs.Pair.{HaveMarks, IsRecalled, Known, PairOk, pair_of}
+use Rattle.law_copies.specs.Steps.{HolderKeeps, IsFollowing, IsHolding, IsMarkedBy, IsNotOf, KeepsCell, OtherKeeps}
+use Rattle.law_copies.specs.Visits.{IsLinked, Visits, half, place_by}
+use Rattle.law_copies.proofs.Framed.{LeavesStore, alike_same, marks_back, store_same}
+use Rattle.law_copies.proofs.Later.{holder_is_one, unseen_beyond}
+use Rattle.law_copies.proofs.Moves.{known_later}
+use Rattle.law_copies.proofs.Others.{other_apart}
+use Rattle.law_copies.proofs.Seated as seated
+use Rattle.law_copies.proofs.Seated.{holder_other, other_back}
+use Rattle.law_copies.proofs.Standing.{other_row}
+use Rattle.law_copies.proofs.Visited.{IsStep, counted, counted_up, later, none_before, visited_apart, visited_here}
 
--- the memory after a step of one server
-pub changed : (memory : Memory) (w : World) (k stamp : ℕ) (what : Step) (acted : Acted) (now : Cell → Pairs) (new : Own) → acted.server.own ≡ new
-    → Changes (half_of memory w) (half_of (put_at memory k now) (acts w k what stamp acted).world) k (λ cell. record { pairs = now cell; store = new.store })
-changed memory w k stamp what acted now new own =
-    let store : (put_at w.servers k acted.server k).own.store ≡ new.store =
-    ap (λ (s : Server). s.own.store) (put_same w.servers k acted.server) ∙ ap (λ (o : Own). o.store) own in
-    record {
-      here = λ cell i. record { pairs = put_same memory k now i cell; store = store i };
-      others = λ cell m ne i. record { pairs = put_apart memory k now m ne i cell; store = (put_apart w.servers k acted.server m ne i).own.store };
-    }
+-- what a job, or a ballot that is started, keeps by itself
+pub record IsKeeping (setting : Setting) (w : World) (k : ℕ) (done : Done) : Type 0 where
+  pub lead : (cell : Cell) (row : LinkRow) (second : Own) → cell_link (server_state setting w k) cell ≡ Some row → row.state ≡ Both → row.primary ≡ k
+      → PairOk (pair_of (w.servers k).own second cell)
+      → ((said : Body) → Handled w k said → (about said).cell ≡ Some cell → Known (pair_of (w.servers k).own second cell) said)
+      → LeadKeeps (w.servers k).own done.own done.posts second cell
+  pub second : (cell : Cell) (row : LinkRow) (first : Own) → cell_link (server_state setting w k) cell ≡ Some row → row.state ≡ Both → row.secondary ≡ k
+      → PairOk (pair_of first (w.servers k).own cell)
+      → ((said : Body) → Handled w k said → (about said).cell ≡ Some cell → Known (pair_of first (w.servers k).own cell) said)
+      → SecondKeeps (w.servers k).own done.own done.posts first cell
+  pub holder : (cell : Cell) (row : LinkRow) (other : Option Own) → IsHolding (Handled w k) (own_place setting w k) row cell (w.servers k).own other
+      → HolderKeeps (Handled w k) row cell (w.servers k).own other done
+  pub other : (cell : Cell) (row : LinkRow) (holder : Option Own) → IsFollowing (Handled w k) (own_place setting w k) row cell holder (w.servers k).own
+      → OtherKeeps row cell holder (w.servers k).own done
+  pub unlinked : (cell : Cell) → cell_link (server_state setting w k) cell ≡ None → KeepsCell cell (w.servers k).own done.own
+  pub silent : (cell : Cell) → IsNotOf (own_place setting w k) cell → (post : Post) → In post done.posts → (about post.body).cell ≡ Some cell
+      → is_between (subject_of post.body) ≡ false
+  pub paged : (cell : Cell) (row : LinkRow) → cell_link (server_state setting w k) cell ≡ Some row → (post : Post) → In post done.posts
+      → (after block : Option ℕ) → post.body ≡ body.Hello row.map row.link after block → (n : ℕ) × (holder_of k row ≡ Some n)
+  pub pages : (post : Post) → In post done.posts → (map link block : ℕ) (after : Option ℕ) → post.body ≡ body.Hello map link after (Some block)
+      → IsOfLink (server_state setting w k) (record { map = map; block = block }) link
+  pub rising : (cell : Cell) → IsRising nat_cmp (chain_in done.own.store.chains cell)
+  pub counts : (w.servers k).own.pairs.next ≤ done.own.pairs.next
+  pub marks : HaveMarks done.own.pairs.pending done.own.store
+  pub unheard : (cell : Cell) → cell_link (server_state setting w k) cell ≡ None → IsUnheard (w.servers k).own cell → IsUnheard done.own cell
 
-turned : (one other : Store) (cell : Cell) → AreCovered one other cell → AreCovered other one cell
-turned one other cell h = elim h [ inl same ↦ inl (sym same) | inr or ↦ elim or [ inl a ↦ inr (inr a) | inr b ↦ inr (inl b) ] ]
+-- a job of a server that runs, and is In as itself: its step applies no entry, and leaves what the job does
+pub record IsJob (setting : Setting) (w v : World) (k : ℕ) (server : Server) (done : Done) : Type 0 where
+  pub step : IsStep setting (chosen_log setting w) w v k server
+  pub firm : Firm setting w
+  pub rests : Rests setting w
+  pub runs : (w.servers k).life.running ≡ true
+  pub seat : is_in (server_state setting w k) k (w.servers k).life.inc ≡ true
+  pub keeping : IsKeeping setting w k done
+  pub own_is : server.own ≡ done.own
+  pub applied : server.log.applied ≡ (w.servers k).log.applied
+  pub inc : server.life.inc ≡ (w.servers k).life.inc
 
-module _ (setting : Setting) (state : State) (steady : IsSteady state) (w : World) (ready : Ready setting state w) (good : Good setting state w)
-    (k stamp : ℕ) (what : Step) (acted : Acted) (runs : (w.servers k).life.running ≡ true) (done : Done)
-    (did : Did (Handled w k) (own_place setting w k) (w.servers k).own done) (seat : IsSeated (own_place setting w k) (w.servers k).own done)
-    (own : acted.server.own ≡ done.own) (inc : acted.server.life.inc ≡ (w.servers k).life.inc) (applied : acted.server.log.applied ≡ (w.servers k).log.applied)
-  where
-    abbrev v : World
-    v = (acts w k what stamp acted).world
+module _ (setting : Setting) (records : List Record) (w v : World) (k : ℕ) (server : Server) (good : Good setting records (chosen_log setting w) w)
+    (done : Done) (job : IsJob setting w v k server done) where
+  abbrev pub top : List Command
+  top = chosen_log setting w
 
-    abbrev alone : ℕ → Cell → Bool
-    alone = alone_in setting w
+  abbrev pub front : List Command
+  front = (w.servers k).log.applied
 
-    abbrev here : Here
-    here = own_place setting w k
+  abbrev pub own : Own
+  own = (w.servers k).own
 
-    abbrev halves : Cell → ℕ → Own
-    halves = half_of good.memory w
+  abbrev pub visits : Visits
+  visits = later setting records top w v k server good job.step
 
-    abbrev shares_here : Cell → Bool
-    shares_here cell = shares here.state k here.inc cell
+  abbrev pub reached : Cell → ℕ
+  reached = counted setting records top w v k server good job.step
 
-    -- what the server remembers then
-    abbrev now : Cell → Pairs
-    now cell = recalled (shares_here cell) done.own.pairs (good.memory k cell)
+  pub up : (cell : Cell) → good.reached cell ≤ reached cell
+  up = counted_up setting records top w v k server good job.step
 
-    abbrev pub later : Memory
-    later = put_at good.memory k now
+  pub nones : (n place : ℕ) (cell : Cell) → visits n place cell ≡ None → good.visits n place cell ≡ None
+  nones = none_before setting records top w v k server good job.step
 
-    old_steady : IsSteady here.state
-    old_steady = own_steady setting w ready.firm k
+  pub own_now : (v.servers k).own ≡ done.own
+  own_now = ap (λ (s : Server). s.own) job.step.here ∙ job.own_is
 
-    keeps : jobs.J setting state steady w ready good k runs done.own done.posts
-    keeps = jobs.job_keeps setting state steady w ready good k runs done did seat
+  pub store_now : store_of v k ≡ done.own.store
+  store_now = ap (λ (o : Own). o.store) own_now
 
-    marked : KeepsMarks here (w.servers k).own done.own
-    marked = job_marked (Handled w k) here (w.servers k).own old_steady (ready.rests.pending k) (good.marks k) done did
+  pub store_apart : (n : ℕ) → n ≢ k → store_of v n ≡ store_of w n
+  store_apart n ne = ap (λ (s : Server). s.own.store) (job.step.others n ne)
 
-    -- ### States
+  pub leaves_apart : (n : ℕ) (cell : Cell) → n ≢ k → LeavesStore (store_of w n) (store_of v n) cell
+  leaves_apart n cell ne = store_same (store_of w n) (store_of v n) cell (store_apart n ne)
 
-    own_state : state_in setting.servers acted.server.log ≡ here.state
-    own_state = ap (state_after setting.servers) applied
+  pub visit_apart : (n place : ℕ) (cell : Cell) → n ≢ k → visits n place cell ≡ good.visits n place cell
+  visit_apart = visited_apart setting records top w v k server good job.step
 
-    state_same : (m : ℕ) → server_state setting v m ≡ server_state setting w m
-    state_same = all_put w.servers k acted.server (λ m (x : Server). state_in setting.servers x.log ≡ server_state setting w m) (λ m. refl) own_state
+  pub visit_now : (cell : Cell) (row : LinkRow) → IsLinked setting front cell row → visits k (place_by setting front row) cell ≡ Some done.own
+  visit_now cell row is =
+      ap (λ f. visits k (place_by setting f row) cell) (sym job.applied)
+      ∙ visited_here setting records top w v k server good job.step cell row (subst (λ f. IsLinked setting f cell row) (sym job.applied) is) seat_now
+      ∙ ap Some job.own_is
+    where
+      seat_now : is_in (state_in setting.servers server.log) k server.life.inc ≡ true
+      seat_now = (λ i. is_in (state_after setting.servers (job.applied i)) k (job.inc i)) ∙ job.seat
 
-    alone_same : alone ≡ alone_in setting v
-    alone_same = λ i m cell. is_alone_on (sym (state_same m) i) m cell
+  module _ (cell : Cell) (row : LinkRow) (is : IsLinked setting front cell row) where
+    abbrev place : ℕ
+    place = place_by setting front row
 
-    was_together : (cell : Cell) (i j : ℕ) → AreTogether (alone_in setting v) cell i j → AreTogether alone cell i j
-    was_together cell i j together = subst (λ f. AreTogether f cell i j) (sym alone_same) together
+    -- ### In Both
 
-    -- ### Pairs
+    -- what is so of the pair then, and what letters tell of it
+    pub record BothNow : Type 0 where
+      pub twins : AreTwins v visits place cell row.primary row.secondary
+      pub known : (said : Body) → Known (pair_at w good.visits place cell row.primary row.secondary) said
+          → Known (pair_at v visits place cell row.primary row.secondary) said
+      pub says : (post : Post) → In post done.posts → (about post.body).cell ≡ Some cell → Known (pair_at v visits place cell row.primary row.secondary) post.body
 
-    changes : Changes halves (half_of later v) k (jobs.after setting state steady w ready good k runs done.own)
-    changes = changed good.memory w k stamp what acted now done.own own
+    apart : row.primary ≢ row.secondary
+    apart = ((seated.steady setting records w k good job.firm job.rests job.runs job.seat).linked cell row is).apart
 
-    kept : (cell : Cell) (i j : ℕ) → IsPair state cell i j → AreTogether (alone_in setting v) cell i j
-        → Keeps (pair_of (halves cell i) (halves cell j) cell) (pair_of (half_of later v cell i) (half_of later v cell j) cell)
-    kept cell i j pair together =
-        let before = was_together cell i j together in
-        pairs_kept state steady alone halves (half_of later v) k (jobs.after setting state steady w ready good k runs done.own) changes done.posts keeps.keeps
-        (λ pair ok. stays pair pair.next ok (omega arith)) cell i j pair before (good.pairs cell i j pair before)
+    abbrev beside : ℕ → Own
+    beside n = half (good.visits n place cell) (store_of w n)
 
-    -- ### Blocks that are not equal
+    beside_now : (n : ℕ) → n ≢ k → beside n ≡ half (visits n place cell) (store_of v n)
+    beside_now n ne = λ i. half (sym (visit_apart n place cell ne) i) (sym (store_apart n ne) i)
 
-    own_now : owns_of v k ≡ done.own
-    own_now = ap (λ (s : Server). s.own) (put_same w.servers k acted.server) ∙ own
+    own_half : done.own ≡ half (visits k place cell) (store_of v k)
+    own_half = λ i. half (sym (visit_now cell row is) i) (sym store_now i)
 
-    own_apart : (m : ℕ) → m ≢ k → owns_of v m ≡ owns_of w m
-    own_apart m ne = ap (λ (s : Server). s.own) (put_apart w.servers k acted.server m ne)
+    both_first : row.state ≡ Both → row.primary ≡ k → BothNow
+    both_first both leads =
+        let m = row.secondary in
+        let ne : m ≢ k = λ f. apart (leads ∙ sym f) in
+        let keeps = job.keeping.lead cell row (beside m) is both leads (seated.first_ok setting records w k good job.firm job.rests job.runs job.seat cell row is both leads)
+        (seated.first_known setting records w k good job.firm job.rests job.runs job.seat cell row is both leads) in
+        let old_at = seated.first_at setting records w k good job.firm job.rests job.runs job.seat cell row is both leads in
+        let new_at : pair_of done.own (beside m) cell ≡ pair_at v visits place cell row.primary m =
+        (λ i. pair_of (own_half i) (beside_now m ne i) cell) ∙ (λ i. pair_at v visits place cell (sym leads i) m) in
+        record {
+          twins = record {
+            pair = subst PairOk new_at keeps.keeps.ok;
+            recalled = λ o op visit there.
+                let same : done.own ≡ o = same_some (sym (visit_now cell row is) ∙ ap (λ n. visits n place cell) (sym leads) ∙ visit) in
+                subst (λ s. IsRecalled op s cell) (sym (ap (store_of v) leads ∙ store_now))
+                (keeps.recalled op (ap (λ (x : Own). at cell_cmp x.pairs.pending cell) same ∙ there));
+          };
+          known = λ said h. subst (λ p. Known p said) new_at
+              (known_later (pair_of own (beside m) cell) (pair_of done.own (beside m) cell) keeps.keeps.grows said (subst (λ p. Known p said) old_at h));
+          says = λ post i of. subst (λ p. Known p post.body) new_at (keeps.says post i of);
+        }
 
-    -- the server is one of the cell's two, of which one holds the cell alone
-    cover_here : (cell : Cell) (m : ℕ) → IsOneOf state cell k → m ≢ k → (alone k cell ≡ true) ⊎ (alone m cell ≡ true)
-        → AreCovered (w.servers k).own.store (owns_of w m).store cell → AreCovered done.own.store (owns_of w m).store cell
-    cover_here cell m one ne which h = by_bool (in_both here.state cell)
-        (λ both. elim seat [
-          | inl so ↦
-              let b = both_row here.state cell both in
-              let mine = one_before here.state state (below_on _ _ _ (own_below setting w ready.firm k) ready.below) cell b.row b.is k one in
-              elim which [
-                | inl on ↦ true_false on (both_not_alone here.state k cell both)
-                | inr on ↦ true_false on (jobs.not_left setting state steady w ready good k runs m cell mine (shared_by here.state k here.inc cell so both) ne)
-              ]
-          | inr kept ↦ subst (λ (o : Own). AreCovered o.store (owns_of w m).store cell) (sym kept) h
-        ])
-        (λ off. elim (marked.covers cell off) [
-          | inl keep ↦ elim h [
-            | inl same ↦ inl (keep.0 ∙ same)
-            | inr or ↦ elim or [ inl a ↦ inr (inl (keep.1 a)) | inr b ↦ inr (inr b) ]
-          ]
-          | inr marks ↦ inr (inl marks)
-        ])
+    both_second : row.state ≡ Both → row.secondary ≡ k → BothNow
+    both_second both follows =
+        let n = row.primary in
+        let ne : n ≢ k = λ f. apart (f ∙ sym follows) in
+        let keeps = job.keeping.second cell row (beside n) is both follows (seated.second_ok setting records w k good job.firm job.rests job.runs job.seat cell row is both follows)
+        (seated.second_known setting records w k good job.firm job.rests job.runs job.seat cell row is both follows) in
+        let old_at = seated.second_at setting records w k good job.firm job.rests job.runs job.seat cell row is both follows in
+        let new_at : pair_of (beside n) done.own cell ≡ pair_at v visits place cell n row.secondary =
+        (λ i. pair_of (beside_now n ne i) (own_half i) cell) ∙ (λ i. pair_at v visits place cell n (sym follows i)) in
+        let twins = seated.twins_here setting records w k good job.firm job.rests job.runs job.seat cell row is both (secondary_is_one row k follows) in
+        record {
+          twins = record {
+            pair = subst PairOk new_at keeps.keeps.ok;
+            recalled = λ o op visit there. subst (λ s. IsRecalled op s cell) (sym (store_apart n ne))
+                (twins.recalled o op (sym (visit_apart n place cell ne) ∙ visit) there);
+          };
+          known = λ said h. subst (λ p. Known p said) new_at
+              (known_later (pair_of (beside n) own cell) (pair_of (beside n) done.own cell) keeps.keeps.grows said (subst (λ p. Known p said) old_at h));
+          says = λ post i of. subst (λ p. Known p post.body) new_at (keeps.says post i of);
+        }
 
-    covered_now : (cell : Cell) (i j : ℕ) → IsPair state cell i j → (alone i cell ≡ true) ⊎ (alone j cell ≡ true)
-        → AreCovered (owns_of v i).store (owns_of v j).store cell
-    covered_now cell i j pair which =
-        let old = cover_at setting state w good cell i j pair in
-        let two = apart state steady cell i j pair in
-        elim (same_or_apart i k) [
-          | inl e ↦
-              let ne : j ≢ k = λ f. two (e ∙ sym f) in
-              let held : (alone k cell ≡ true) ⊎ (alone j cell ≡ true) = elim which [ inl a ↦ inl (subst (λ x. alone x cell ≡ true) e a) | inr b ↦ inr b ] in
-              subst (λ (o : Own). AreCovered (owns_of v i).store o.store cell) (sym (own_apart j ne))
-              (subst (λ (o : Own). AreCovered o.store (owns_of w j).store cell) (sym (ap (owns_of v) e ∙ own_now))
-              (cover_here cell j (inl (pair.leads ∙ ap Some e)) ne held (subst (λ x. AreCovered (owns_of w x).store (owns_of w j).store cell) e old)))
-          | inr ne ↦ elim (same_or_apart j k) [
-            | inl e ↦
-                let held : (alone k cell ≡ true) ⊎ (alone i cell ≡ true) = elim which [ inl a ↦ inr a | inr b ↦ inl (subst (λ x. alone x cell ≡ true) e b) ] in
-                subst (λ (o : Own). AreCovered o.store (owns_of v j).store cell) (sym (own_apart i ne))
-                (subst (λ (o : Own). AreCovered (owns_of w i).store o.store cell) (sym (ap (owns_of v) e ∙ own_now))
-                (turned done.own.store (owns_of w i).store cell
-                (cover_here cell i (inr (pair.follows ∙ ap Some e)) ne held
-                (turned (owns_of w i).store (owns_of w k).store cell (subst (λ x. AreCovered (owns_of w i).store (owns_of w x).store cell) e old)))))
-            | inr ne' ↦
-                subst (λ (o : Own). AreCovered o.store (owns_of v j).store cell) (sym (own_apart i ne))
-                (subst (λ (o : Own). AreCovered (owns_of w i).store o.store cell) (sym (own_apart j ne')) old)
-          ]
-        ]
+    pub both_now : row.state ≡ Both → has_server k row ≡ true → BothNow
+    both_now both has = elim (other_between row k has) [ inl p ↦ both_second both p.1 | inr p ↦ both_first both p.0 ]
 
-    -- ### What is remembered
+    -- ### Alone
 
-    still_marked : (op : Pending) (cell : Cell) → shares_here cell ≡ false → is_alone_on here.state k cell ≡ false → HasMarks op (w.servers k).own.store cell
-        → HasMarks op done.own.store cell
-    still_marked op cell off apart h = by_bool (in_both here.state cell)
-        (λ both. elim seat [
-          | inl so ↦ true_false (shared_by here.state k here.inc cell so both) off
-          | inr kept ↦ subst (λ (o : Own). HasMarks op o.store cell) (sym kept) h
-        ])
-        (λ none.
-        let no_lead : is_lead here.state k cell ≡ false = by_bool (is_lead here.state k cell)
-        (λ lead. true_false (lead_alone here.state old_steady k cell lead none) apart) (λ no. no) in
-        record { busy = λ e. marked.stays Busy cell no_lead (h.busy e); stale = λ e. marked.stays Stale cell no_lead (h.stale e) })
+    -- what is so of the two servers then, and what letters tell
+    pub record AloneNow (holder other : ℕ) : Type 0 where
+      pub copying : AreCopying row cell (visits holder place cell) (visits other place cell)
+      pub told : (said : Body) → (about said).cell ≡ Some cell → IsTold (good.visits holder place cell) (good.visits other place cell) said
+          → IsTold (visits holder place cell) (visits other place cell) said
+      pub says : (post : Post) → In post done.posts → (about post.body).cell ≡ Some cell → IsTold (visits holder place cell) (visits other place cell) post.body
+      pub beside : good.reached cell ≤ place → AreBeside v visits place row cell holder other
+      pub stays : (o : Own) → visits holder place cell ≡ Some o → ((p : ℕ) → place < p → visits other p cell ≡ None) → IsMarked o.store cell
+          → IsMarked (store_of v holder) cell
+      pub page : (after block : Option ℕ) → IsPage cell (store_of w other) (good.visits other place cell) after block
+          → IsPage cell (store_of v other) (visits other place cell) after block
+      pub pages : (post : Post) → In post done.posts → (after block : Option ℕ) → post.body ≡ body.Hello row.map row.link after block
+          → IsPage cell (store_of v other) (visits other place cell) after block
+      pub some : is_some (good.visits other place cell) ≡ true → is_some (visits other place cell) ≡ true
 
-    recalls_now : (cell : Cell) (op : Pending) → is_alone_on here.state k cell ≡ false → at cell_cmp (now cell).pending cell ≡ Some op
-        → IsRecalled op done.own.store cell
-    recalls_now cell op apart is = by_bool (shares_here cell)
-        (λ on.
-        let there : at cell_cmp done.own.pairs.pending cell ≡ Some op =
-        sym (ap (λ b. at cell_cmp (recalled b done.own.pairs (good.memory k cell)).pending cell) on) ∙ is in
-        let staged = (did_ready (Handled w k) here (w.servers k).own (ready.rests.pending k) done did).staged cell op there in
-        record { rests = staged.stage (shared_parts here.state k here.inc cell on).1; marks = marked.marks cell op there })
-        (λ off.
-        let there : at cell_cmp (good.memory k cell).pending cell ≡ Some op =
-        sym (ap (λ b. at cell_cmp (recalled b done.own.pairs (good.memory k cell)).pending cell) off) ∙ is in
-        let old = (good.recalls k).pending cell op apart there in
-        record { rests = old.rests; marks = still_marked op cell off apart old.marks })
+    -- the server's visit was its own part
+    was_here : good.visits k place cell ≡ Some own
+    was_here = seated.here_visit setting records w k good job.firm job.rests job.runs job.seat cell row is
 
-    lasts_now : (cell : Cell) (last : LastOp) → at cell_cmp done.own.pairs.last cell ≡ Some last → IsLast here.state k here.inc cell
-    lasts_now cell last is = record {
-      seated = jobs.seat_last setting state steady w ready good k runs done seat cell last is;
-      linked = elim (keeps.lasts cell last is) [ inl old ↦ ((good.recalls k).lasts cell last runs old).linked | inr there ↦ there ];
-    }
+    is_now : visits k place cell ≡ Some done.own
+    is_now = visit_now cell row is
 
-    shares_same : (cell : Cell) → shares (state_in setting.servers acted.server.log) k acted.server.life.inc cell ≡ shares_here cell
-    shares_same cell = λ i. shares (own_state i) k (inc i) cell
+    module _ (alone : row.state ≡ Only k false) where
+      abbrev o : ℕ
+      o = other_of k row
 
-    recalls_here : Recalls setting k acted.server now
-    recalls_here = record {
-      here = λ cell run on.
-          ap (λ b. recalled b done.own.pairs (good.memory k cell)) (sym (shares_same cell) ∙ on) ∙ sym (ap (λ (o : Own). o.pairs) own);
-      unseen = λ cell none.
-          let gone : cell_link here.state cell ≡ None = sym (ap (λ s. cell_link s cell) own_state) ∙ none in
-          ap (λ b. recalled b done.own.pairs (good.memory k cell)) (unlinked here.state k here.inc cell gone) ∙ (good.recalls k).unseen cell gone;
-      pending = λ cell op off is.
-          subst (λ (o : Own). IsRecalled op o.store cell) (sym own) (recalls_now cell op (sym (ap (λ s. is_alone_on s k cell) own_state) ∙ off) is);
-      lasts = λ cell last run is.
-          subst (λ s. IsLast s k acted.server.life.inc cell) (sym own_state)
-          (subst (λ i. IsLast here.state k i cell) (sym inc) (lasts_now cell last (sym (ap (λ (o : Own). at cell_cmp o.pairs.last cell) own) ∙ is)));
-      counts = let one = (good.recalls k).counts in let more = keeps.onward in let e = ap (λ (o : Own). o.pairs.next) own in omega arith;
-    }
+      abbrev vo : Option Own
+      vo = good.visits o place cell
 
-    -- ### All of it
+      o_apart : o ≢ k
+      o_apart = other_apart row k apart
 
-    -- of what it sends something is known
-    abbrev Sends : Type 0
-    Sends = (letter : Letter) → In letter (stamped stamp acted.letters) → SaidOk state (alone_in setting v) (half_of later v) letter.body
+      o_visit : visits o place cell ≡ vo
+      o_visit = visit_apart o place cell o_apart
 
-    pub job_good : Sends → Good setting state v
-    job_good sends = record {
-      memory = later;
-      recalls = both_put w.servers good.memory k acted.server now (λ m (x : Server) (y : Cell → Pairs). Recalls setting m x y) good.recalls recalls_here;
-      pairs = λ cell i j pair together. (kept cell i j pair together).ok;
-      covered = λ cell i j pair which.
-          covered_now cell i j pair (subst (λ (f : ℕ → Cell → Bool). (f i cell ≡ true) ⊎ (f j cell ≡ true)) (sym alone_same) which);
-      marks = all_put w.servers k acted.server (λ m (x : Server). HaveMarks x.own.pairs.pending x.own.store) good.marks
-          (subst (λ (o : Own). HaveMarks o.pairs.pending o.store) (sym own) marked.marks);
-      letters = λ letter h. elim (in-append letter _ w.sent h) [
-        | inl new ↦ sends letter new
-        | inr old ↦ (λ cell i j is pair together.
-            known_later _ _ (kept cell i j pair together).grows letter.body
-            (good.letters letter old cell i j is pair (was_together cell i j together)))
-      ];
-    }
+      pub keeps_holder : HolderKeeps (Handled w k) row cell own vo done
+      keeps_holder = job.keeping.holder cell row vo (seated.holding setting records w k good job.firm job.rests job.runs job.seat cell row is alone)
 
-    -- of a cell that it shares then the server remembers what it has in memory, and of another one what it remembered; another server
-    -- remembers what it did
-    pub job_memory : (sends : Sends) (cell : Cell) → (job_good sends).memory k cell
-        ≡ recalled (shares (state_in setting.servers acted.server.log) k acted.server.life.inc cell) acted.server.own.pairs (good.memory k cell)
-    unfolding job_good
-    job_memory sends cell =
-        ap (λ (f : Cell → Pairs). f cell) (put_same good.memory k now)
-        ∙ (λ i. recalled (sym (shares_same cell) i) (sym own i).pairs (good.memory k cell))
+      -- the two visits then
+      then_holder : (P : Option Own → Option Own → Type 0) → P (Some done.own) vo → P (visits k place cell) (visits o place cell)
+      then_holder P h = subst (λ x. P x (visits o place cell)) (sym is_now) (subst (P (Some done.own)) (sym o_visit) h)
 
-    pub job_others : (sends : Sends) (m : ℕ) → m ≢ k → (cell : Cell) → (job_good sends).memory m cell ≡ good.memory m cell
-    unfolding job_good
-    job_others sends m ne cell = ap (λ (f : Cell → Pairs). f cell) (put_apart good.memory k now m ne)
+      holder_beside : good.reached cell ≤ place → AreBeside v visits place row cell k o
+      holder_beside last =
+          let old = (seated.alone_here setting records w k good job.firm job.rests job.runs job.seat cell row is k alone).beside last in
+          let alike = keeps_holder.alike (store_of w o) old.still
+          (seated.pages_here setting records w k good job.firm job.rests job.runs job.seat cell row is alone last) (good.rising o cell)
+          (subst (AreAlike row cell own.store (store_of w o)) was_here old.alike) in
+          record {
+            alike = subst (λ x. AreAlike row cell (store_of v k) (store_of v o) x) (sym is_now)
+                (subst (λ a. AreAlike row cell a (store_of v o) (Some done.own)) (sym store_now)
+                (subst (λ b. AreAlike row cell done.own.store b (Some done.own)) (sym (store_apart o o_apart)) alike));
+            still = λ by e. old.still by (sym o_visit ∙ e) ∙ ap (λ (x : Store). chain_in x.chains cell) (sym (store_apart o o_apart));
+          }
 
-    -- its letters tell what is so
-    pub job_sends : (who : Sender) → acted.letters ≡ letters_of who 0 done.posts → Sends
-    job_sends who is letter h =
-        let s = said who stamp 0 done.posts letter (subst (λ letters. In letter (stamped stamp letters)) is h) in
-        subst (SaidOk state (alone_in setting v) (half_of later v)) (sym s.body)
-        (subst (λ f. SaidOk state f (half_of later v) s.post.body) alone_same (keeps.keeps.says (half_of later v) changes s.post s.there))
+      -- the holder sends no page of the link
+      no_page : {B : Type 0} (post : Post) → In post done.posts → (after block : Option ℕ) → post.body ≡ body.Hello row.map row.link after block → B
+      no_page post i after block e =
+          let held = job.keeping.paged cell row is post i after block e in
+          let other = other_row k row held.0 held.1 in
+          absurd (o_apart (sym (same_numbers k o (sym (ap (is_alone o) alone) ∙ other.alone))))
+
+      holder_now : AloneNow k o
+      holder_now = record {
+        copying = then_holder (λ x y. AreCopying row cell x y) keeps_holder.copying;
+        told = λ said of h. then_holder (λ x y. IsTold x y said) (keeps_holder.told said of (subst (λ x. IsTold x vo said) was_here h));
+        says = λ post i of. then_holder (λ x y. IsTold x y post.body) (keeps_holder.says post i of);
+        beside = holder_beside;
+        stays = λ by e beyond marked. subst (λ a. IsMarked a cell) (sym store_now) (subst (λ (x : Own). IsMarked x.store cell) (same_some (sym e ∙ is_now)) marked);
+        page = λ after block page. subst (λ x. IsPage cell (store_of v o) x after block) (sym o_visit)
+            (subst (λ b. IsPage cell b vo after block) (sym (store_apart o o_apart)) page);
+        pages = λ post i after block e. no_page post i after block e;
+        some = λ there. ap is_some o_visit ∙ there;
+      }
+
+    module _ (h : ℕ) (alone : row.state ≡ Only h false) (other : other_of h row ≡ k) (has : has_server k row ≡ true) where
+      abbrev vh : Option Own
+      vh = good.visits h place cell
+
+      h_apart : h ≢ k
+      h_apart e = other_apart row h apart (other ∙ sym e)
+
+      h_visit : visits h place cell ≡ vh
+      h_visit = visit_apart h place cell h_apart
+
+      back : other_of k row ≡ h
+      back = other_back row k h has
+          (holder_is_one (server_state setting w k) (seated.steady setting records w k good job.firm job.rests job.runs job.seat) h cell row is alone) (λ e. h_apart (sym e))
+
+      pub keeps_other : OtherKeeps row cell vh own done
+      keeps_other = job.keeping.other cell row vh (seated.following setting records w k good job.firm job.rests job.runs job.seat cell row is h alone other has back)
+
+      then_other : (P : Option Own → Option Own → Type 0) → P vh (Some done.own) → P (visits h place cell) (visits k place cell)
+      then_other P x = subst (λ a. P a (visits k place cell)) (sym h_visit) (subst (P vh) (sym is_now) x)
+
+      -- the block that the holder had marked is marked there still
+      pub marked_still : IsMarkedBy vh cell → IsMarked (store_of w h) cell
+      marked_still m =
+          (seated.alone_here setting records w k good job.firm job.rests job.runs job.seat cell row is h alone).stays m.by m.met
+          (λ p lt. ap (λ n. good.visits n p cell) other ∙ unseen_beyond setting records w job.firm good k cell row is p lt) m.marked
+
+      -- and then the holder has not started its ballot
+      pub not_caught : {B : Type 0} → IsMarkedBy vh cell → (by : Own) → vh ≡ Some by → is_flagged by (id_of row) ≡ true → B
+      not_caught m by e flagged =
+          let caught = (seated.alone_here setting records w k good job.firm job.rests job.runs job.seat cell row is h alone).copying.caught by e flagged in
+          absurd (caught.unmarked (subst (λ (x : Own). IsMarked x.store cell) (same_some (sym m.met ∙ e)) m.marked))
+
+      other_alike : good.reached cell ≤ place → AreAlike row cell (store_of v h) (store_of v k) vh
+      other_alike last = elim keeps_other.changes [
+        | inl chain ↦
+            alike_same row cell (store_of w h) own.store (store_of v h) (store_of v k) vh (leaves_apart h cell h_apart)
+            (subst (λ b. LeavesStore own.store b cell) (sym store_now) (record { chain = chain; marks = keeps_other.marks }))
+            (subst (λ n. AreAlike row cell (store_of w h) (store_of w n) vh) other
+            ((seated.alone_here setting records w k good job.firm job.rests job.runs job.seat cell row is h alone).beside last).alike)
+        | inr m ↦ record {
+          covered = Is_marked_here (subst (λ a. IsMarked a cell) (sym (store_apart h h_apart)) (marked_still m));
+          caught = λ by e flagged. not_caught m by e flagged;
+        }
+      ]
+
+      other_now : AloneNow h k
+      other_now = record {
+        copying = then_other (λ x y. AreCopying row cell x y) keeps_other.copying;
+        told = λ said of t. then_other (λ x y. IsTold x y said) (keeps_other.told said of (subst (λ y. IsTold vh y said) was_here t));
+        says = λ post i of. then_other (λ x y. IsTold x y post.body) (keeps_other.says post i of);
+        beside = λ last. record {
+          alike = subst (AreAlike row cell (store_of v h) (store_of v k)) (sym h_visit) (other_alike last);
+          still = λ by e. ap (λ (x : Own). chain_in x.store.chains cell) (same_some (sym e ∙ is_now)) ∙ ap (λ (a : Store). chain_in a.chains cell) (sym store_now);
+        };
+        stays = λ by e beyond marked. subst (λ a. IsMarked a cell) (sym (store_apart h h_apart))
+            ((seated.alone_here setting records w k good job.firm job.rests job.runs job.seat cell row is h alone).stays by (sym h_visit ∙ e)
+            (λ p lt. ap (λ n. good.visits n p cell) other ∙ nones k p cell (beyond p lt)) marked);
+        page = λ after block page. record {
+          met = ap is_some is_now;
+          least = λ ahead upto marked. page.least ahead upto
+              (marks_back own.store done.own.store cell keeps_other.marks (subst (λ a. IsMarked a cell) store_now marked));
+        };
+        pages = λ post i after block e. subst (λ x. IsPage cell (store_of v k) x after block) (sym is_now)
+            (subst (λ b. IsPage cell b (Some done.own) after block) (sym store_now) (keeps_other.pages post i after block e));
+        some = λ there. ap is_some is_now;
+      }
+
+    pub alone_now : (h : ℕ) → row.state ≡ Only h false → has_server k row ≡ true → AloneNow h (other_of h row)
+    alone_now h alone has = elim (same_or_apart h k) [
+      | inl e ↦ subst (λ n. AloneNow n (other_of n row)) (sym e) (holder_now (alone ∙ ap (λ n. Only n false) e))
+      | inr ne ↦ (
+          let one = holder_is_one (server_state setting w k) (seated.steady setting records w k good job.firm job.rests job.runs job.seat) h cell row is alone in
+          let other = other_back row h k one has ne in
+          subst (AloneNow h) (sym other) (other_now h alone other has))
+    ]

@@ -1,24 +1,18 @@
 -- One cell as its two servers have it, and what is kept of it.
-use Rattle.std.specs.Prelude.{◌≡◌, ℕ, ◌+◌, ◌≤◌, ◌<◌, ◌⊎◌, ◌&&◌, Bool, true, false, List, Option, Some, None}
+use Rattle.std.specs.Prelude.{◌≡◌, ℕ, ◌+◌, ◌≤◌, ◌<◌, ◌⊎◌, Bool, true, false, List, Option, Some, None}
 use Rattle.busy_marks.specs.declared.marks.MarkKind.TheVariants.{Busy, Stale}
 use Rattle.petal_base.specs.declared.cell.Cell.{Cell}
 use Rattle.petal_base.specs.declared.cell.Key.{Key}
 use Rattle.petal_table.specs.Table.{Table, at}
-use Rattle.petal_msg.specs.Kinds.{pair_cell}
 use Rattle.petal_msg.specs.declared.body.Body.{Body}
 use Rattle.petal_msg.specs.declared.body.Body.TheVariants as body
-use Rattle.petal_msg.specs.declared.letter.Letter.{Letter}
 use Rattle.petal_msg.specs.declared.operation.LastOp.{LastOp}
 use Rattle.petal_msg.specs.declared.operation.Pending.{Pending}
-use Rattle.petal_rules.specs.Lists.{In}
-use Rattle.petal_state.specs.CellState.{cell_link}
-use Rattle.petal_rules.specs.State.{State, primary, secondary, in_both, is_in, is_alone_on}
+use Rattle.petal_rules.specs.State.{State, primary, secondary}
 use Rattle.petal_rules.specs.Store.{Chain, Store, cell_cmp, chain_in, is_marked}
-use Rattle.petal_rules.specs.Log.{state_in}
-use Rattle.petal_rules.specs.Server.{Own, Pairs, Server, no_pairs}
-use Rattle.petal_rules.specs.World.{Setting, World, server_state}
-use Rattle.petal_history.specs.Claims.{one_put_ahead, AreCovered}
-use Rattle.law_state.specs.Steady.{HasLink}
+use Rattle.petal_rules.specs.Server.{Own}
+use Rattle.petal_rules.specs.World.{World}
+use Rattle.petal_history.specs.Claims.{one_put_ahead}
 use Rattle.law_steps.specs.Operations.{AtRest, progress}
 
 -- the two copies, the operation that is pending at the first server and the number of its next one, and the last operation that
@@ -43,15 +37,6 @@ pair_of lead other cell = record {
 pub record IsPair (state : State) (cell : Cell) (n m : ℕ) : Type 0 where
   pub leads : primary state cell ≡ Some n
   pub follows : secondary state cell ≡ Some m
-
--- the server holds the cell alone, by its own state, also that in which it stopped
-abbrev pub alone_in : Setting → World → ℕ → Cell → Bool
-alone_in setting w n cell = is_alone_on (server_state setting w n) n cell
-
--- neither of the two holds the cell alone
-pub record AreTogether (alone : ℕ → Cell → Bool) (cell : Cell) (n m : ℕ) : Type 0 where
-  pub one : alone n cell ≡ false
-  pub other : alone m cell ≡ false
 
 -- above each number that operations on the cell have had
 abbrev pub ceiling_of : Option Pending → ℕ → ℕ
@@ -120,28 +105,8 @@ Known pair (body.Replicate number key version bytes) = IsPutting pair.pending nu
 Known pair (body.Replicated number cell) = number + number + 1 ≤ far pair
 Known pair _ = Unit {0}
 
-abbrev pub SaidOk : State → (ℕ → Cell → Bool) → (Cell → ℕ → Own) → Body → Type 0
-SaidOk state alone halves said =
-    (cell : Cell) (n m : ℕ) → pair_cell said ≡ Some cell → IsPair state cell n m → AreTogether alone cell n m
-    → Known (pair_of (halves cell n) (halves cell m) cell) said
-
 abbrev pub owns_of : World → ℕ → Own
 owns_of w n = (w.servers n).own
-
--- ### Memory
-
--- the server shares the cell with the other one, by this state: it is In as itself, and the link is in Both
-abbrev pub shares : State → (n inc : ℕ) → Cell → Bool
-shares state n inc cell = is_in state n inc && in_both state cell
-
--- of each server, what it had in memory of each cell when it last shared that: a life that ended stays, and so is there while the
--- other server still works on the cell
-abbrev pub Memory : Type 0
-Memory = ℕ → Cell → Pairs
-
--- a server by its store as it is, and by its memory of the cell
-abbrev pub half_of : Memory → World → Cell → ℕ → Own
-half_of memory w cell n = record { pairs = memory n cell; store = (w.servers n).own.store }
 
 -- ### Marks
 
@@ -158,35 +123,3 @@ HaveMarks pending store = (cell : Cell) (op : Pending) → at cell_cmp pending c
 pub record IsRecalled (op : Pending) (store : Store) (cell : Cell) : Type 0 where
   pub rests : AtRest op.stage
   pub marks : HasMarks op store cell
-
--- who has a last operation on a cell is In as itself, and knows the cell's link
-pub record IsLast (state : State) (n inc : ℕ) (cell : Cell) : Type 0 where
-  pub seated : is_in state n inc ≡ true
-  pub linked : HasLink state cell
-
--- what a server remembers: while it runs, a cell that it shares as it has it in memory; of a cell that it has not heard of,
--- nothing; and each operation on a cell that it does not hold alone is at rest and marked. And what it has in memory: while it
--- runs, last operations as itself alone; and numbers count from 1
-pub record Recalls (setting : Setting) (n : ℕ) (server : Server) (memory : Cell → Pairs) : Type 0 where
-  pub here : (cell : Cell) → server.life.running ≡ true → shares (state_in setting.servers server.log) n server.life.inc cell ≡ true
-      → memory cell ≡ server.own.pairs
-  pub unseen : (cell : Cell) → cell_link (state_in setting.servers server.log) cell ≡ None → memory cell ≡ no_pairs
-  pub pending : (cell : Cell) (op : Pending) → is_alone_on (state_in setting.servers server.log) n cell ≡ false
-      → at cell_cmp (memory cell).pending cell ≡ Some op → IsRecalled op server.own.store cell
-  pub lasts : (cell : Cell) (last : LastOp) → server.life.running ≡ true → at cell_cmp server.own.pairs.last cell ≡ Some last
-      → IsLast (state_in setting.servers server.log) n server.life.inc cell
-  pub counts : 1 ≤ server.own.pairs.next
-
--- ### What is kept
-
--- the two copies of each cell while neither of its servers holds it alone, with what the two remember of it, and an unequal block
--- is marked where one does; marks of operations; and the letters that were ever sent
-pub record Good (setting : Setting) (state : State) (w : World) : Type 0 where
-  pub memory : Memory
-  pub recalls : (n : ℕ) → Recalls setting n (w.servers n) (memory n)
-  pub pairs : (cell : Cell) (n m : ℕ) → IsPair state cell n m → AreTogether (alone_in setting w) cell n m
-      → PairOk (pair_of (half_of memory w cell n) (half_of memory w cell m) cell)
-  pub covered : (cell : Cell) (n m : ℕ) → IsPair state cell n m → (alone_in setting w n cell ≡ true) ⊎ (alone_in setting w m cell ≡ true)
-      → AreCovered (w.servers n).own.store (w.servers m).own.store cell
-  pub marks : (n : ℕ) → HaveMarks (w.servers n).own.pairs.pending (w.servers n).own.store
-  pub letters : (letter : Letter) → In letter w.sent → SaidOk state (alone_in setting w) (half_of memory w) letter.body

@@ -3,18 +3,19 @@
 //! holds alone is marked.
 //!
 //! To the laws above it promises this and what goes with it: that a block is marked before its lead puts, how far the second
-//! server is, and what a letter between the two servers tells of that. It knows nothing of clients or of the plain machine.
+//! server of a link in Both is, how far the copies are by which a holder brings the other server up to date, and what a letter between
+//! the two servers tells of that. It knows nothing of clients or of the plain machine.
 #![tactic(auto)]
 
 ghost use Rattle.std.specs.Prelude.{List};
 ghost use Rattle.petal_base.specs.declared.cell.Cell.{Cell};
 ghost use Rattle.script_lines.specs.declared.script.Script.{Script};
-ghost use Rattle.petal_rules.specs.World.{chosen_state, setting_of, start};
+ghost use Rattle.petal_rules.specs.World.{chosen_log, chosen_state, setting_of, start};
 ghost use Rattle.petal_history.specs.Claims.{TwoCopies, Covered, MarksFirst};
 ghost use Rattle.petal_history.specs.Legal.{IsLegal, world_after};
 ghost use Rattle.petal_history.specs.Sound.{IsSound};
 ghost use Rattle.petal_history.specs.declared.record.Record.{Record};
-ghost use Rattle.law_copies.specs.Pair.{Good};
+ghost use Rattle.law_copies.specs.Good.{Good};
 
 /// After every legal history of a sound script, the two copies of each cell in Both keep the rule.
 pub fn two_copies()
@@ -27,11 +28,13 @@ pub fn an_unequal_block_is_marked()
     ensures { (script : Script) (records : List Record) → IsSound script → IsLegal script records → (cell : Cell) → Covered (chosen_state (setting_of script) (world_after (setting_of script) (start (setting_of script)) records)) (world_after (setting_of script) (start (setting_of script)) records) cell }
 {}
 
-/// And what goes with it, by the two stores as they are and by what each server had in memory of the cell when it last shared it:
-/// while neither of a cell's two servers holds it alone by its own state, the second one is no further than the lead has given
-/// numbers out, and each letter that was ever sent between the two tells what is so, or what is past.
+/// And what goes with it, at each front of the chosen log, by the two stores as they are and by what each server was when it last was at
+/// that place of the cell's link: in Both the second server is no further than the lead has given numbers out; where one server holds the
+/// link alone, a block that is not equal is marked at the holder, or at the other server before the holder's pages have passed it, and none
+/// is once the holder has started a ballot for the link's Caught; and each letter that was ever sent between the two tells what is so, or
+/// what is past.
 pub fn letters_between_two_servers()
-    ensures { (script : Script) (records : List Record) → IsSound script → IsLegal script records → Good (setting_of script) (chosen_state (setting_of script) (world_after (setting_of script) (start (setting_of script)) records)) (world_after (setting_of script) (start (setting_of script)) records) }
+    ensures { (script : Script) (records : List Record) → IsSound script → IsLegal script records → Good (setting_of script) records (chosen_log (setting_of script) (world_after (setting_of script) (start (setting_of script)) records)) (world_after (setting_of script) (start (setting_of script)) records) }
 {}
 
 /// In every legal history of a sound script, each put of a lead fell on a block that was marked on its device.

@@ -1,9 +1,9 @@
 -- The chosen log of a world whose steps are those of a schedule.
-use Rattle.std.proofs.Common.{◌≡◌, ◌<◌, ◌≤◌, ◌+◌, ◌⊎◌, inl, inr, ℕ, true, false, List, length, Some, None, subst, arith}
+use Rattle.std.proofs.Common.{◌≡◌, ◌<◌, ◌≤◌, ◌+◌, ◌⊎◌, inl, inr, ℕ, Bool, true, false, List, [], ◌∷◌, ◌++◌, length, Some, None, sym, ap, ◌∙◌, subst, append_assoc, arith}
 use Rattle.std.specs.Prelude.{slice_get}
 use Rattle.std.proofs.lemmas.Bool.Decides.{nat_tests}
 use Rattle.petal_command.specs.declared.command.Command.{Command}
-use Rattle.petal_command.specs.declared.command.Command.TheVariants.{Join, Leave}
+use Rattle.petal_command.specs.declared.command.Command.TheVariants.{Join, Leave, Caught}
 use Rattle.petal_paxos.specs.Chosen.{IsChosenBy, chosen_at}
 use Rattle.petal_paxos.specs.Schedule.{run, begin, IsChosen}
 use Rattle.petal_paxos.specs.Schedule as schedule
@@ -22,16 +22,31 @@ use Rattle.petal_rules.proofs.Tests.{by_bool, none_some, true_false}
 use Rattle.law_state.specs.Firm.{Firm}
 use Rattle.law_state.specs.Plain.{IsPlainLog}
 use Rattle.law_state.proofs.Disks.{who_is_in, who_is_out}
-use Rattle.law_log.specs.Logged.{IsBacked, IsSaidBy, Logged}
-use Rattle.law_log.specs.Requested.{HasStopped, IsCalledFor}
-use Rattle.law_log.proofs.Facts.{IsFair, told_chosen, chosen_wanted, chosen_once, told_wanted, called_plain, join_begun, leave_stopped}
-use Rattle.law_log.proofs.Lists.{at_among}
+use Rattle.law_log.specs.Logged.{IsBacked, IsSaidBy, Logged, Minded, WasMinded}
+use Rattle.law_log.specs.Requested.{CatchesUp, HasBegun, HasCaughtUp, HasStopped, IsCalledFor, IsCaughtAt}
+use Rattle.law_log.proofs.Facts.{IsFair, told_chosen, chosen_wanted, chosen_once, told_wanted, join_begun, leave_stopped, not_called, uncaught, wanted_plain}
+use Rattle.law_log.proofs.Lists.{at_among, at_next, next_at, one_front}
 use Rattle.law_log.proofs.Worlds.{IsGrown}
 
 within_or_past : (i many : ℕ) → (i ≤ many) ⊎ (many < i)
 within_or_past i many = grind (arith, nat_tests)
 
-module _ (setting : Setting) (w : World) (fair : IsFair setting) (l : Logged setting w) where
+-- one command more of a front, and what stands behind it
+next_stands : (front whole : List Command) (c : Command) (i : ℕ) → IsPrefix front whole → length front ≡ i → slice_get whole i ≡ Some c
+    → IsPrefix (front ++ c ∷ []) whole
+next_stands front whole c i prefix many e =
+    let rest = next_at front prefix.later c (ap (λ xs. slice_get xs (length front)) (sym prefix.is) ∙ ap (slice_get whole) many ∙ e) in
+    record { later = rest.0; is = prefix.is ∙ ap (λ xs. front ++ xs) rest.1 ∙ sym (append_assoc front (c ∷ []) rest.0) }
+
+stands_next : (front whole : List Command) (c : Command) → IsPrefix (front ++ c ∷ []) whole → slice_get whole (length front) ≡ Some c
+stands_next front whole c prefix =
+    ap (λ xs. slice_get xs (length front)) (prefix.is ∙ append_assoc front (c ∷ []) prefix.later) ∙ at_next front prefix.later c
+
+same_front : (a b whole : List Command) (c : Command) → IsPrefix a whole → length a ≡ length b → IsPrefix (b ++ c ∷ []) whole → a ≡ b
+same_front a b whole c one many other =
+    one_front a b one.later (c ∷ other.later) many (sym one.is ∙ other.is ∙ append_assoc b (c ∷ []) other.later)
+
+module _ {Was : Minded} (setting : Setting) (w : World) (fair : IsFair setting) (l : Logged Was setting w) where
   abbrev P : schedule.World
   P = run setting.servers l.events begin
 
@@ -72,20 +87,68 @@ module _ (setting : Setting) (w : World) (fair : IsFair setting) (l : Logged set
         record { later = front.0; is = front.1 };
   }
 
-  pub called_for : (c : Command) → Among c (chosen_log setting w) → IsCalledFor setting w c
+  -- a chosen command is called for, or a Caught behind the entries before it
+  called_at : (i : ℕ) (c : Command) → slice_get (chosen_log setting w) i ≡ Some c
+      → IsCalledFor setting w c
+      ⊎ ((front : List Command) × IsPrefix front (chosen_log setting w) × (length front ≡ i) × CatchesUp setting.servers w.servers front c
+      × WasMinded Was front c)
+  called_at i c e =
+      elim (chosen_wanted setting w fair.small l (i + 1) c
+      (by_schedule (i + 1) c (told_is_chosen setting.servers (devices w) (i + 1) c (log_tells setting.servers (devices w) i c e)))).0 [
+        | inl called ↦ inl called
+        | inr caught ↦ (
+            let many = caught.told.many in
+            let front = front_of_log setting.servers (devices w) caught.front (λ j d is. told_at (j + 1) d (caught.told.told j d is)) in
+            inr (caught.front, record { later = front.0; is = front.1 }, omega arith, caught.is, caught.was))
+      ]
+
+  pub called_for : (c : Command) → Among c (chosen_log setting w) → IsCalledFor setting w c ⊎ HasCaughtUp setting w c
   called_for c i =
       let at = at_among c (chosen_log setting w) i in
-      (chosen_wanted setting w fair.small l (at.0 + 1) c
-      (by_schedule (at.0 + 1) c (told_is_chosen setting.servers (devices w) (at.0 + 1) c (log_tells setting.servers (devices w) at.0 c at.1)))).0
+      elim (called_at at.0 c at.1) [
+        | inl called ↦ inl called
+        | inr caught ↦ inr (record { front = caught.0; stands = next_stands caught.0 (chosen_log setting w) c at.0 caught.1 caught.2 at.1; is = caught.3 })
+      ]
+
+  -- what stands behind a front as a Caught is so behind that front
+  pub caught_at : (front : List Command) (of link holder inc other other_inc : ℕ)
+      → IsPrefix (front ++ Caught of link holder inc other other_inc ∷ []) (chosen_log setting w)
+      → IsCaughtAt setting.servers w.servers front of link holder inc other other_inc
+  caught_at front of link holder inc other other_inc prefix =
+      elim (called_at (length front) (Caught of link holder inc other other_inc) (stands_next front (chosen_log setting w) _ prefix)) [
+        | inl called ↦ not_called setting w of link holder inc other other_inc called
+        | inr caught ↦ subst (λ (xs : List Command). IsCaughtAt setting.servers w.servers xs of link holder inc other other_inc)
+            (same_front caught.0 front (chosen_log setting w) (Caught of link holder inc other other_inc) caught.1 caught.2 prefix) caught.3
+      ]
+
+  -- and its holder had it in mind there
+  pub caught_was : (front : List Command) (of link holder inc other other_inc : ℕ)
+      → IsPrefix (front ++ Caught of link holder inc other other_inc ∷ []) (chosen_log setting w)
+      → Was holder inc front (record { map = of; link = link })
+  caught_was front of link holder inc other other_inc prefix =
+      elim (called_at (length front) (Caught of link holder inc other other_inc) (stands_next front (chosen_log setting w) _ prefix)) [
+        | inl called ↦ not_called setting w of link holder inc other other_inc called
+        | inr caught ↦ subst (λ (xs : List Command). Was holder inc xs (record { map = of; link = link }))
+            (same_front caught.0 front (chosen_log setting w) (Caught of link holder inc other other_inc) caught.1 caught.2 prefix) caught.4
+      ]
 
   plain : IsPlainLog setting.servers (chosen_log setting w)
-  plain c i = called_plain setting w fair c (called_for c i)
+  plain c i =
+      let at = at_among c (chosen_log setting w) i in
+      wanted_plain setting w P fair (at.0 + 1) c (chosen_wanted setting w fair.small l (at.0 + 1) c
+      (by_schedule (at.0 + 1) c (told_is_chosen setting.servers (devices w) (at.0 + 1) c (log_tells setting.servers (devices w) at.0 c at.1))))
+
+  pub leave_chosen : (n inc : ℕ) → Among (Leave n inc) (chosen_log setting w) → HasStopped w n inc
+  leave_chosen n inc i = elim (called_for (Leave n inc) i) [ inl called ↦ leave_stopped setting w n inc called | inr caught ↦ absurd caught.is ]
+
+  join_chosen : (n inc : ℕ) (blank : Bool) → Among (Join n inc blank) (chosen_log setting w) → HasBegun w n inc
+  join_chosen n inc blank i = elim (called_for (Join n inc blank) i) [ inl called ↦ (join_begun setting w n inc blank called).1 | inr caught ↦ absurd caught.is ]
 
   -- an incarnation that was In by a front of the log, and is not by the whole, has its Leave chosen, so it has stopped
   pub out_stopped : (n inc : ℕ) (front : List Command) → IsPrefix front (chosen_log setting w) → is_in (state_after setting.servers front) n inc ≡ true
       → is_in (chosen_state setting w) n inc ≡ false → HasStopped w n inc
   out_stopped n inc front prefix was out =
-      leave_stopped setting w n inc (called_for (Leave n inc) (who_is_out setting.servers front (chosen_log setting w) n inc plain prefix was out))
+      leave_chosen n inc (who_is_out setting.servers front (chosen_log setting w) n inc plain prefix was out)
 
   -- a server that runs has no Leave of its incarnation chosen, so where it was In as itself it still is
   pub runs_in : (n : ℕ) (front : List Command) → (w.servers n).life.running ≡ true → IsPrefix front (chosen_log setting w)
@@ -100,11 +163,21 @@ module _ (setting : Setting) (w : World) (fair : IsFair setting) (l : Logged set
   pub in_begun : (n inc : ℕ) → is_in (chosen_state setting w) n inc ≡ true → inc ≤ (w.servers n).life.inc
   in_begun n inc is = elim (who_is_in setting.servers (chosen_log setting w) n inc plain is) [
     | inl one ↦ let low = l.is.first n in omega arith
-    | inr joined ↦ (join_begun setting w n inc joined.0 (called_for (Join n inc joined.0) joined.1)).1
+    | inr joined ↦ join_chosen n inc joined.0 joined.1
   ]
 
   pub firm : Firm setting w
-  firm = record { servers = agrees.servers; clients = agrees.clients; plain = plain; runs = runs_in }
+  firm = record {
+    servers = agrees.servers;
+    clients = agrees.clients;
+    plain = plain;
+    runs = runs_in;
+    started = λ front of link holder inc other other_inc prefix. (caught_at front of link holder inc other other_inc prefix).started;
+    asked = λ n command i. elim i [
+      | inl wanted ↦ uncaught setting w command (l.is.wants n command wanted)
+      | inr leaving ↦ uncaught setting w command (l.is.leaves n command leaving)
+    ];
+  }
 
   news_told : (letter : Letter) → Among letter w.sent → (after : ℕ) (commands : List Command) → letter.body ≡ body.News after commands
       → (i : ℕ) (command : Command) → slice_get commands i ≡ Some command → IsTold P (after + i + 1) command
@@ -129,7 +202,8 @@ module _ (setting : Setting) (w : World) (fair : IsFair setting) (l : Logged set
   }
 
 -- the log at an earlier world is at the front of the log at a later one, in which each vote still stands
-pub grown_log : (setting : Setting) (w v : World) → IsFair setting → Logged setting v → IsGrown w v → IsPrefix (chosen_log setting w) (chosen_log setting v)
+pub grown_log : {Was : Minded} (setting : Setting) (w v : World) → IsFair setting → Logged Was setting v → IsGrown w v
+    → IsPrefix (chosen_log setting w) (chosen_log setting v)
 grown_log setting w v fair l grown =
     let front = front_of_log setting.servers (devices v) (chosen_log setting w)
     (λ i c e.

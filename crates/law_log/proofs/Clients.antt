@@ -1,6 +1,6 @@
 -- Each step of a client keeps what is kept of a world.
 use Rattle.std.proofs.Common.{◌≡◌, ◌<◌, ◌≤◌, ◌+◌, ◌-◌, ◌⊎◌, inl, inr, ℕ, zero, suc, ◌==◌, ◌&&◌, List, [], ◌∷◌, ◌++◌, length, drop, Option, Some, None, refl, sym, ap, ◌∙◌, subst, arith}
-use Rattle.std.specs.Prelude.{slice_get, ⊤, nat_le}
+use Rattle.std.specs.Prelude.{slice_get, ⊤, nat_le, not, map, if◌then◌else◌}
 use Rattle.std.proofs.lemmas.Bool.Decides.{nat_tests}
 use Rattle.petal_base.specs.declared.cell.Cell.{Cell}
 use Rattle.petal_command.specs.declared.command.Command.{Command}
@@ -8,18 +8,22 @@ use Rattle.petal_command.specs.declared.command.Command.TheVariants.{Witness}
 use Rattle.petal_msg.specs.Kinds.{about}
 use Rattle.petal_msg.specs.declared.body.Body.{Body}
 use Rattle.petal_msg.specs.declared.body.Body.TheVariants as body
+use Rattle.petal_msg.specs.declared.letter.Actor.{Actor}
+use Rattle.petal_msg.specs.declared.letter.Actor.TheVariants as actor
 use Rattle.petal_msg.specs.declared.letter.Letter.{Letter}
 use Rattle.script_lines.specs.declared.answer.Answer.{Answer}
+use Rattle.script_lines.specs.declared.answer.Answer.TheVariants as answer
 use Rattle.script_lines.specs.declared.request.Line.{Line}
 use Rattle.script_lines.specs.declared.request.Request.{Request}
 use Rattle.script_lines.specs.declared.request.Request.TheVariants as request
+use Rattle.petal_state.specs.Settled.{is_settled}
 use Rattle.petal_state.specs.State.{latest}
 use Rattle.petal_state.specs.Command.{after}
 use Rattle.petal_state.specs.declared.answer.DiskView.{DiskView}
-use Rattle.petal_rules.specs.Clients.{Client, Asked, Reaction, Learning, rests, in_turn, readers, cell_on, epoch_for, write_posts, read_posts_at, read_posts, posts_for, command_of, refusal, witness_where, or_command, to_propose, post_in_turn, sends_or_proposes, goes_out, goes_out_where, asking, asks_and_sends, called, replies, is_read, is_write, seen_answer, answers, answers_where, hears, hears_of, verdict_for, answered_where, witnessed, is_witness, judged_by, judged, takes_entry, next_entries, takes_all, then_goes_out, takes_entries, hears_any, heard, ticked}
+use Rattle.petal_rules.specs.Clients.{Client, Asked, Reaction, Learning, rests, in_turn, readers, cell_on, epoch_for, write_posts, read_posts_at, read_posts, posts_for, command_of, refusal, witness_where, or_command, to_propose, post_in_turn, sends_or_proposes, goes_out, goes_out_where, asking, asks_and_sends, called, replies, is_read, is_write, first_round, Sight, with_sight, stays_open, rounds, settles, sees_for, sees, sees_from, answers, hears, hears_of, verdict_for, answered_where, witnessed, is_witness, judged_by, judged, takes_entry, next_entries, takes_all, then_goes_out, takes_entries, hears_any, heard, ticked}
 use Rattle.petal_rules.specs.Lists.{In as Among}
 use Rattle.petal_rules.specs.Posts.{Post}
-use Rattle.petal_rules.specs.State.{State, lead}
+use Rattle.petal_rules.specs.State.{State, lead, servers_of}
 use Rattle.petal_rules.specs.World.{lines_of}
 use Rattle.petal_rules.proofs.ListLemmas.{in-append}
 use Rattle.petal_rules.proofs.Tests.{only, by_test, same_some, none_some}
@@ -184,7 +188,16 @@ module _ (Told : ℕ → Command → Type 0) (lines : List Line) (me : ℕ) (sta
   calling client line f is =
       wider (client.seq + 1) client.seq _ (omega arith)
       (goes (record client { seq = client.seq + 1 })
-      (record { line = line.number; seq = client.seq + 1; request = line.request; turn = 0; rev = state.rev; witnesses = 0 }) f.applied
+      (record {
+        line = line.number;
+        seq = client.seq + 1;
+        request = line.request;
+        turn = 0;
+        rev = state.rev;
+        witnesses = 0;
+        round = first_round line.request;
+        seen = [];
+      }) f.applied
       (record { before = client.seq; line = line; is = is; seq = refl; request = refl; past = omega arith }))
 
   -- ### A reply
@@ -199,14 +212,47 @@ module _ (Told : ℕ → Command → Type 0) (lines : List Line) (me : ℕ) (sta
   again : (client : Client) (asked : Asked) → Fine client → client.asked ≡ Some asked → Reacts Told lines me client.seq (asks_and_sends state me client asked)
   again client asked f e = asks_too client client.seq _ (goes client asked f.applied (f.asked asked e))
 
-  seen : (client : Client) (asked : Asked) → Fine client → (o : Option Answer) → Reacts Told lines me client.seq (answers_where client asked o)
-  seen client asked f None = resting client f
-  seen client asked f (Some given) = answering client asked given f
+  -- a settle goes on, with its round as it is then
+  staying : (client : Client) (asked other : Asked) → Fine client → IsOpen lines me client.seq asked → other.seq ≡ asked.seq → other.request ≡ asked.request
+      → Reacts Told lines me client.seq (stays_open client other)
+  staying client asked other f o seq same = record {
+    later = omega arith;
+    fine = record { applied = f.applied; asked = λ third e. open_now client.seq other third e (open_as client.seq asked other seq same o) };
+    posts = λ post i. no_posts post i;
+  }
+
+  round_on : (client : Client) (asked other : Asked) → Fine client → IsOpen lines me client.seq asked → other.seq ≡ asked.seq → other.request ≡ asked.request
+      → Reacts Told lines me client.seq (rounds state client other)
+  round_on client asked other f o seq same =
+      by_test (Reacts Told lines me client.seq) (not (length other.seen == servers_of state)) _ _ (λ _. staying client asked other f o seq same)
+      (λ _. by_test (Reacts Told lines me client.seq) (is_settled state (map (λ row. row.1) other.seen)) _ _ (λ _. answering client other answer.Ok f)
+      (λ _. staying client asked (record other { round = other.round + 1; seen = [] }) f o seq same))
+
+  settling : (client : Client) (asked : Asked) (sight : Sight) → Fine client → IsOpen lines me client.seq asked
+      → Reacts Told lines me client.seq (settles state client asked sight)
+  settling client asked sight f o =
+      by_test (Reacts Told lines me client.seq) sight.full _ _ (λ _. answering client asked answer.NoSpace f)
+      (λ _. by_test (Reacts Told lines me client.seq) (sight.round == asked.round) _ _ (λ _. round_on client asked (with_sight asked sight) f o refl refl)
+      (λ _. resting client f))
+
+  seen_for : (client : Client) (asked : Asked) (sight : Sight) (what : Request) → Fine client → IsOpen lines me client.seq asked
+      → Reacts Told lines me client.seq (sees_for state client asked sight what)
+  seen_for client asked sight (request.Stop server) f o = answering client asked answer.Ok f
+  seen_for client asked sight (request.Start server) f o = answering client asked (if sight.running then answer.Ok else answer.Failed) f
+  seen_for client asked sight request.Settle f o = settling client asked sight f o
+  seen_for client asked sight _ f o = resting client f
+
+  seen : (client : Client) (asked : Option Asked) (sight : Sight) → Fine client → client.asked ≡ asked → Reacts Told lines me client.seq (sees state client asked sight)
+  seen client None sight f e = resting client f
+  seen client (Some asked) sight f e =
+      by_test (Reacts Told lines me client.seq) (sight.line == asked.line) _ _ (λ _. seen_for client asked sight asked.request f (f.asked asked e)) (λ _. resting client f)
+
+  seen_from : (client : Client) (who : Actor) (sight : Sight) → Fine client → Reacts Told lines me client.seq (sees_from state client who sight)
+  seen_from client (actor.Server n) sight f = seen client client.asked (record sight { server = n }) f refl
+  seen_from client (actor.Client c) sight f = resting client f
 
   replied : (client : Client) (asked : Asked) → Fine client → client.asked ≡ Some asked → (rev : ℕ) (what : Body)
       → Reacts Told lines me client.seq (hears state me client asked rev what)
-  replied client asked f e rev (body.Seen line round running inc full) =
-      by_test (Reacts Told lines me client.seq) (line == asked.line) _ _ (λ _. seen client asked f (seen_answer asked.request running)) (λ _. resting client f)
   replied client asked f e rev (body.Data seq bytes) =
       by_test (Reacts Told lines me client.seq) (replies asked rev (about (body.Data seq bytes)) && is_read asked.request) _ _
       (λ _. answering client asked _ f) (λ _. resting client f)
@@ -314,6 +360,7 @@ module _ (Told : ℕ → Command → Type 0) (lines : List Line) (me : ℕ) (sta
       → (what : Body) → letter.body ≡ what → Reacts Told lines me client.seq (hears_any state me client letter what)
   heard_letter client letter f told (body.News after commands) e =
       news_taken client (next_entries client after commands) f (next_told Told client after commands (told after commands e))
+  heard_letter client letter f told (body.Seen line round running inc full) e = seen_from Told lines me state client letter.from _ f
   heard_letter client letter f told _ e = replied_of Told lines me state client client.asked letter f refl
 
 module _ (Told : ℕ → Command → Type 0) (lines : List Line) (me : ℕ) (state : State) (client : Client) (f : IsFine Told lines me client) where

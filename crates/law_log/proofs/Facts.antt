@@ -3,9 +3,10 @@ use Rattle.std.proofs.Common.{◌≡◌, ◌<◌, ◌≤◌, ◌+◌, inl, inr, 
 use Rattle.std.specs.Prelude.{slice_get, ◌==◌}
 use Rattle.petal_base.specs.Tuple.{is_tuple}
 use Rattle.petal_command.specs.declared.command.Command.{Command}
-use Rattle.petal_command.specs.declared.command.Command.TheVariants.{Join, Leave, MakeDisk, Witness}
+use Rattle.petal_command.specs.declared.command.Command.TheVariants.{Join, Leave, Caught, MakeDisk, Witness}
 use Rattle.petal_command.specs.declared.pax.Pax.TheVariants.{Chosen}
 use Rattle.petal_paxos.specs.Schedule.{run, begin, IsChosen}
+use Rattle.petal_paxos.specs.Schedule as schedule
 use Rattle.law_agreement.proofs.Runs.{run_holds, begin_holds, one_chosen}
 use Rattle.law_agreement.proofs.Wants as wants
 use Rattle.petal_rules.specs.Agreement.{IsTold}
@@ -18,11 +19,12 @@ use Rattle.script_lines.specs.declared.request.Line.{Line}
 use Rattle.script_lines.specs.declared.request.Request.{Request}
 use Rattle.script_lines.specs.declared.request.Request.TheVariants as request
 use Rattle.law_state.specs.Plain.{IsPlain, IsPlainLog}
+use Rattle.law_state.specs.Started.{is_caught}
 use Rattle.law_state.proofs.Disks.{log_in}
-use Rattle.law_log.specs.Logged.{Logged}
-use Rattle.law_log.specs.Requested.{HasBegun, HasStopped, IsCalledFor, IsOfLives, IsScripted}
+use Rattle.petal_rules.specs.Server.{Server}
+use Rattle.law_log.specs.Logged.{Logged, MayWant, Minded}
+use Rattle.law_log.specs.Requested.{CatchesUp, HasBegun, HasStopped, IsCalledFor, IsOfLives, IsScripted}
 use Rattle.law_log.proofs.Lists.{among_at, at_among, kept_among}
-use Rattle.law_log.proofs.Worlds.{MayWant}
 
 -- what the laws need of a setting: ballots tell the servers apart, and each disk is made over a tuple of them
 pub record IsFair (setting : Setting) : Type 0 where
@@ -31,13 +33,13 @@ pub record IsFair (setting : Setting) : Type 0 where
 
 -- ### What is told
 
-module _ (setting : Setting) (w : World) (small : setting.servers ≤ 256) (l : Logged setting w) where
+module _ {Was : Minded} (setting : Setting) (w : World) (small : setting.servers ≤ 256) (l : Logged Was setting w) where
   pub told_chosen : (place : ℕ) (c : Command) → IsTold (run setting.servers l.events begin) place c
       → IsChosen setting.servers (run setting.servers l.events begin) place c
   told_chosen place c t = (run_holds setting.servers begin small (begin_holds setting.servers) l.events).backed t.from (Chosen place c) t.is
 
   pub chosen_wanted : (place : ℕ) (c : Command) → IsChosen setting.servers (run setting.servers l.events begin) place c
-      → MayWant setting w (run setting.servers l.events begin) place c
+      → MayWant Was setting w w.servers (run setting.servers l.events begin) place c
   chosen_wanted place c k = l.is.wanted place c (wants.wanted setting.servers l.events place c small k)
 
   pub chosen_once : (place : ℕ) (c d : Command) → IsChosen setting.servers (run setting.servers l.events begin) place c
@@ -51,7 +53,7 @@ module _ (setting : Setting) (w : World) (small : setting.servers ≤ 256) (l : 
   told_once place c d t u = chosen_once place c d (told_chosen place c t) (told_chosen place d u)
 
   pub told_wanted : (place : ℕ) (c : Command) → IsTold (run setting.servers l.events begin) place c
-      → MayWant setting w (run setting.servers l.events begin) place c
+      → MayWant Was setting w w.servers (run setting.servers l.events begin) place c
   told_wanted place c t = chosen_wanted place c (told_chosen place c t)
 
 -- ### Lines of a script
@@ -83,6 +85,17 @@ pub called_plain : (setting : Setting) (w : World) → IsFair setting → (c : C
 called_plain setting w fair c (inl s) = scripted_plain setting w fair c s
 called_plain setting w fair c (inr h) = lives_plain setting.servers w c h
 
+caught_plain : (servers : ℕ) (actors : ℕ → Server) (front : List Command) (c : Command) → CatchesUp servers actors front c → IsPlain servers c
+caught_plain servers actors front (Caught of link holder inc other other_inc) h = tt
+caught_plain servers actors front _ h = absurd h
+
+pub wanted_plain : {Was : Minded} (setting : Setting) (w : World) (p : schedule.World) → IsFair setting → (place : ℕ) (c : Command)
+    → MayWant Was setting w w.servers p place c → IsPlain setting.servers c
+wanted_plain setting w p fair place c h = elim h.0 [
+  | inl called ↦ called_plain setting w fair c called
+  | inr caught ↦ caught_plain setting.servers w.servers caught.front c caught.is
+]
+
 -- no line of a script asks for a Leave
 not_asked : {B : Type 0} (client seq server inc : ℕ) (asked : Request) → command_of client seq asked ≡ Some (Leave server inc) → B
 not_asked client seq server inc (request.Disk name tuple) e =
@@ -95,6 +108,25 @@ leave_stopped setting w server inc (inl s) = elim s.so [
   | inr e ↦ (let f : Leave server inc ≡ Witness s.client (s.before + 1) e.0 = e.1 in absurd cc)
 ]
 leave_stopped setting w server inc (inr h) = h
+
+-- nor for a Caught
+not_asked_caught : {B : Type 0} (client seq of link holder inc other other_inc : ℕ) (asked : Request)
+    → command_of client seq asked ≡ Some (Caught of link holder inc other other_inc) → B
+not_asked_caught client seq of link holder inc other other_inc (request.Disk name tuple) e =
+    let f : MakeDisk client seq name tuple ≡ Caught of link holder inc other other_inc = same_some e in absurd cc
+not_asked_caught client seq of link holder inc other other_inc _ e = none_some refl e
+
+pub not_called : {B : Type 0} (setting : Setting) (w : World) (of link holder inc other other_inc : ℕ)
+    → IsCalledFor setting w (Caught of link holder inc other other_inc) → B
+not_called setting w of link holder inc other other_inc (inl s) = elim s.so [
+  | inl e ↦ not_asked_caught s.client (s.before + 1) of link holder inc other other_inc s.line.request e
+  | inr e ↦ (let f : Caught of link holder inc other other_inc ≡ Witness s.client (s.before + 1) e.0 = e.1 in absurd cc)
+]
+not_called setting w of link holder inc other other_inc (inr h) = absurd h
+
+pub uncaught : (setting : Setting) (w : World) (c : Command) → IsCalledFor setting w c → is_caught c ≡ false
+uncaught setting w (Caught of link holder inc other other_inc) h = not_called setting w of link holder inc other other_inc h
+uncaught setting w _ h = refl
 
 -- nor for a Join
 not_asked_join : {B : Type 0} (client seq server inc : ℕ) (blank : Bool) (asked : Request) → command_of client seq asked ≡ Some (Join server inc blank) → B
@@ -109,12 +141,12 @@ join_begun setting w server inc blank (inl s) = elim s.so [
 ]
 join_begun setting w server inc blank (inr h) = h
 
-module _ (setting : Setting) (w : World) (fair : IsFair setting) (l : Logged setting w) where
+module _ {Was : Minded} (setting : Setting) (w : World) (fair : IsFair setting) (l : Logged Was setting w) where
   pub applied_plain : (n : ℕ) → IsPlainLog setting.servers (w.servers n).log.applied
   applied_plain n c i =
       let at = at_among c (w.servers n).log.applied i in
       let told = (l.is.servers n).told (at.0 + 1) c ((l.is.servers n).applied at.0 c at.1) in
-      called_plain setting w fair c (told_wanted setting w fair.small l (at.0 + 1) c told).0
+      wanted_plain setting w (run setting.servers l.events begin) fair (at.0 + 1) c (told_wanted setting w fair.small l (at.0 + 1) c told)
 
   pub as_many : (n : ℕ) → servers_of (server_state setting w n) ≡ setting.servers
   as_many n = (log_in setting.servers (w.servers n).log.applied (applied_plain n)).many

@@ -1,7 +1,8 @@
 -- The laws, over every legal history of a sound script.
-use Rattle.std.proofs.Common.{◌≡◌, ◌<◌, ◌≤◌, ◌++◌, ℕ, true, false, List, [], ◌∷◌, refl, sym, ap, ◌∙◌, subst}
+use Rattle.std.proofs.Common.{◌≡◌, ◌<◌, ◌≤◌, ◌++◌, ◌⊎◌, ℕ, true, false, List, [], ◌∷◌, refl, sym, ap, ◌∙◌, subst}
+use Rattle.std.specs.Prelude.{⊤}
 use Rattle.petal_command.specs.declared.command.Command.{Command}
-use Rattle.petal_command.specs.declared.command.Command.TheVariants.{Leave}
+use Rattle.petal_command.specs.declared.command.Command.TheVariants.{Leave, Caught}
 use Rattle.petal_msg.specs.declared.body.Body.TheVariants as body
 use Rattle.petal_msg.specs.declared.letter.Letter.{Letter}
 use Rattle.petal_paxos.specs.Schedule.{run, begin}
@@ -17,9 +18,9 @@ use Rattle.petal_rules.specs.World.{Setting, World, start, setting_of, chosen_lo
 use Rattle.petal_paxos.specs.Kept.{inc_of}
 use Rattle.petal_state.specs.Command.{state_after}
 use Rattle.law_state.specs.Firm.{Firm}
-use Rattle.law_log.specs.Logged.{IsBacked, IsSaidBy, Logged}
-use Rattle.law_log.specs.Requested.{HasBegun, HasStopped, IsCalledFor}
-use Rattle.law_log.proofs.Chosen.{agrees, firm, called_for, in_begun, out_stopped, runs_in, has_schedule, grown_log}
+use Rattle.law_log.specs.Logged.{IsBacked, IsSaidBy, Logged, Minded}
+use Rattle.law_log.specs.Requested.{HasBegun, HasCaughtUp, HasStopped, IsCalledFor, IsCaughtAt, WasStarted}
+use Rattle.law_log.proofs.Chosen.{agrees, caught_at, caught_was, firm, called_for, in_begun, leave_chosen, out_stopped, runs_in, has_schedule, grown_log}
 use Rattle.law_log.proofs.Facts.{IsFair, leave_stopped}
 use Rattle.law_log.proofs.Steps.{history_goes, start_logged}
 
@@ -29,9 +30,15 @@ sound_fair script sound = record { small = sound.told_apart; spread = sound.spre
 abbrev At : Script → List Record → World
 At script records = world_after (setting_of script) (start (setting_of script)) records
 
-pub logged : (script : Script) (records : List Record) → IsSound script → IsLegal script records → Logged (setting_of script) (At script records)
+-- what is remembered is what was so in a world on the way
+abbrev pub Past : Script → List Record → Minded
+Past script records holder inc front id = WasStarted (setting_of script) records holder inc front id
+
+pub logged : (script : Script) (records : List Record) → IsSound script → IsLegal script records
+    → Logged (Past script records) (setting_of script) (At script records)
 logged script records sound legal =
-    (history_goes (setting_of script) (sound_fair script sound) records (start (setting_of script)) (start_logged (setting_of script)) legal).logged
+    (history_goes (setting_of script) (sound_fair script sound) records (start (setting_of script)) (start_logged (setting_of script)) legal
+    (λ before later is n id minded. record { before = before; later = later; is = is; lives = refl; at = refl; minded = minded })).logged
 
 pub history_agrees : (script : Script) (records : List Record) → IsSound script → IsLegal script records → Agrees (setting_of script) (At script records)
 history_agrees script records sound legal = agrees (setting_of script) (At script records) (sound_fair script sound) (logged script records sound legal)
@@ -44,9 +51,26 @@ history_has_schedule script records sound legal = has_schedule (setting_of scrip
     (logged script records sound legal)
 
 pub chosen_is_called_for : (script : Script) (records : List Record) → IsSound script → IsLegal script records → (command : Command)
-    → In command (chosen_log (setting_of script) (At script records)) → IsCalledFor (setting_of script) (At script records) command
+    → In command (chosen_log (setting_of script) (At script records))
+    → IsCalledFor (setting_of script) (At script records) command ⊎ HasCaughtUp (setting_of script) (At script records) command
 chosen_is_called_for script records sound legal command i =
     called_for (setting_of script) (At script records) (sound_fair script sound) (logged script records sound legal) command i
+
+-- a Caught that is chosen acts behind the entries before it, and its holder started the ballot there
+pub chosen_caught : (script : Script) (records : List Record) → IsSound script → IsLegal script records → (front : List Command)
+    (of link holder inc other other_inc : ℕ) → IsPrefix (front ++ Caught of link holder inc other other_inc ∷ []) (chosen_log (setting_of script) (At script records))
+    → IsCaughtAt script.servers (At script records).servers front of link holder inc other other_inc
+chosen_caught script records sound legal front of link holder inc other other_inc prefix =
+    caught_at (setting_of script) (At script records) (sound_fair script sound) (logged script records sound legal) front of link holder inc other other_inc prefix
+
+-- and its holder had it in mind there, on the way
+pub chosen_caught_was : (script : Script) (records : List Record) → IsSound script → IsLegal script records → (front : List Command)
+    (of link holder inc other other_inc : ℕ)
+    → IsPrefix (front ++ Caught of link holder inc other other_inc ∷ []) (chosen_log (setting_of script) (At script records))
+    → WasStarted (setting_of script) records holder inc front (record { map = of; link = link })
+chosen_caught_was script records sound legal front of link holder inc other other_inc prefix =
+    caught_was (setting_of script) (At script records) (sound_fair script sound) (logged script records sound legal)
+    front of link holder inc other other_inc prefix
 
 -- a server that runs, and was In as itself, is so by the chosen state
 pub who_runs_is_in : (script : Script) (records : List Record) → IsSound script → IsLegal script records → (n : ℕ) (front : List Command)
@@ -76,7 +100,7 @@ who_runs_is_one script records sound legal n runs = (logged script records sound
 pub chosen_leaves : (script : Script) (records : List Record) → IsSound script → IsLegal script records → (server inc : ℕ)
     → In (Leave server inc) (chosen_log (setting_of script) (At script records)) → HasStopped (At script records) server inc
 chosen_leaves script records sound legal server inc i =
-    leave_stopped (setting_of script) (At script records) server inc (chosen_is_called_for script records sound legal (Leave server inc) i)
+    leave_chosen (setting_of script) (At script records) (sound_fair script sound) (logged script records sound legal) server inc i
 
 pub told_stops : (script : Script) (records : List Record) → IsSound script → IsLegal script records → (letter : Letter) (server inc : ℕ)
     → In letter (At script records).sent → letter.body ≡ body.Down server inc → HasStopped (At script records) server inc
@@ -111,13 +135,19 @@ latter : (setting : Setting) (w : World) (front back : List Record) → IsLegalF
 latter setting w [] back h = h
 latter setting w (own ∷ front) back h = latter setting (stepped setting w own).world front back h.1
 
+-- nothing need be remembered
+abbrev nothing_minded : Minded
+nothing_minded holder inc front id = ⊤
+
 pub history_grows : (script : Script) (records : List Record) → IsSound script → IsLegal script records → Grows script records
 history_grows script records sound legal front back is =
     let setting = setting_of script in
     let fair = sound_fair script sound in
     let whole : IsLegalFrom setting (start setting) (front ++ back) = subst (IsLegalFrom setting (start setting)) is legal in
-    let earlier = history_goes setting fair front (start setting) (start_logged setting) (former setting (start setting) front back whole) in
-    let rest = history_goes setting fair back (At script front) earlier.logged (latter setting (start setting) front back whole) in
+    let earlier = history_goes {Was = nothing_minded} setting fair front (start setting) (start_logged setting)
+    (former setting (start setting) front back whole) (λ before later split n id minded. tt) in
+    let rest = history_goes {Was = nothing_minded} setting fair back (At script front) earlier.logged
+    (latter setting (start setting) front back whole) (λ before later split n id minded. tt) in
     let grown = grown_log setting (At script front) (world_after setting (At script front) back) fair rest.logged rest.grown in
     let same : world_after setting (At script front) back ≡ At script records =
     sym (ap (world_after setting (start setting)) is ∙ world_joins setting (start setting) front back) in

@@ -1,5 +1,5 @@
 -- Each job of the log, as the schedule has it.
-use Rattle.std.proofs.Common.{◌≡◌, ◌<◌, ◌≤◌, ◌+◌, ◌⊎◌, inl, inr, ℕ, zero, suc, Bool, true, false, if◌then◌else◌, ◌||◌, List, [], ◌∷◌, ◌++◌, Option, Some, None, is_some, refl, sym, ap, ◌∙◌, subst, arith}
+use Rattle.std.proofs.Common.{◌≡◌, ◌<◌, ◌≤◌, ◌+◌, ◌⊎◌, inl, inr, ℕ, zero, suc, Bool, true, false, if◌then◌else◌, ◌||◌, List, [], ◌∷◌, ◌++◌, length, Option, Some, None, is_some, refl, sym, ap, ◌∙◌, subst, arith, length-append}
 use Rattle.std.specs.Prelude.{slice_get, nat_lt, fold, not}
 use Rattle.std.proofs.lemmas.Bool.Decides.{nat_tests}
 use Rattle.petal_command.specs.Same.{has_command, same_command}
@@ -103,20 +103,25 @@ pub record Outcome (servers n : ℕ) (log : Log) (own : Job) (p : World) (Good :
   pub leaves : (command : Command) → Among command done.log.leaves → Fine command
   pub follows : (letter : Letter) → Among (job.Letter letter) done.jobs → own ≡ job.Letter letter
   pub incs : told_inc done.log.records ≡ told_inc log.records
+  pub applied : (done.log.applied ≡ log.applied) ⊎ (length log.applied < length done.log.applied)
 
--- the same is wanted, and the incarnation is the same
-record WantsSame (before later : Log) : Type 0 where
-  wants : later.wants ≡ before.wants
-  leaves : later.leaves ≡ before.leaves
-  incs : told_inc later.records ≡ told_inc before.records
+pub one_longer : (entries : List Command) (entry : Command) → length entries < length (entries ++ entry ∷ [])
+one_longer entries entry = simp length-append (omega arith)
+
+-- the same is wanted and applied, and the incarnation is the same
+pub record WantsSame (before later : Log) : Type 0 where
+  pub wants : later.wants ≡ before.wants
+  pub leaves : later.leaves ≡ before.leaves
+  pub incs : told_inc later.records ≡ told_inc before.records
+  pub applied : later.applied ≡ before.applied
 
 -- ### Letters of a ballot
 
 out_wants : (voter : Voter) (log : Log) (step : Step) (said : Heard) → WantsSame log (proposes voter log step said).log
-out_wants voter log step Nothing = record { wants = refl; leaves = refl; incs = refl }
-out_wants voter log step (Send said) = record { wants = refl; leaves = refl; incs = refl }
-out_wants voter log step (Decided place command) = record { wants = refl; leaves = refl; incs = refl }
-out_wants voter log step (Refused promised) = record { wants = refl; leaves = refl; incs = refl }
+out_wants voter log step Nothing = record { wants = refl; leaves = refl; incs = refl; applied = refl }
+out_wants voter log step (Send said) = record { wants = refl; leaves = refl; incs = refl; applied = refl }
+out_wants voter log step (Decided place command) = record { wants = refl; leaves = refl; incs = refl; applied = refl }
+out_wants voter log step (Refused promised) = record { wants = refl; leaves = refl; incs = refl; applied = refl }
 
 out_follows : {A : Type 0} (voter : Voter) (log : Log) (step : Step) (said : Heard) (letter : Letter)
     → Among (job.Letter letter) (proposes voter log step said).jobs → A
@@ -127,7 +132,7 @@ out_follows voter log step (Refused promised) letter h = no_follow letter h
 
 learn_wants : (log : Log) (place : ℕ) (command : Command) → WantsSame log (learns log place command).log
 unfolding learns
-learn_wants log place command = record { wants = refl; leaves = refl; incs = inc_chosen log.records place command }
+learn_wants log place command = record { wants = refl; leaves = refl; incs = inc_chosen log.records place command; applied = refl }
 
 learn_follows : {A : Type 0} (log : Log) (place : ℕ) (command : Command) (letter : Letter) → Among (job.Letter letter) (learns log place command).jobs → A
 unfolding learns
@@ -136,10 +141,10 @@ learn_follows log place command letter h = applies_follow letter (known log plac
 pax_wants : (voter : Voter) (log : Log) (from : ℕ) (said : Pax) → WantsSame log (hears_of_ballot voter log from said).log
 pax_wants voter log from (pax.Prepare place b) =
     by_test (WantsSame log) (is_open (acceptor_of log.records place) b) _ _
-    (λ e. record { wants = refl; leaves = refl; incs = inc_promise log.records place b }) (λ e. record { wants = refl; leaves = refl; incs = refl })
+    (λ e. record { wants = refl; leaves = refl; incs = inc_promise log.records place b; applied = refl }) (λ e. record { wants = refl; leaves = refl; incs = refl; applied = refl })
 pax_wants voter log from (pax.Accept place b command) =
     by_test (WantsSame log) (is_open (acceptor_of log.records place) b) _ _
-    (λ e. record { wants = refl; leaves = refl; incs = inc_accepted log.records place b command }) (λ e. record { wants = refl; leaves = refl; incs = refl })
+    (λ e. record { wants = refl; leaves = refl; incs = inc_accepted log.records place b command; applied = refl }) (λ e. record { wants = refl; leaves = refl; incs = refl; applied = refl })
 pax_wants voter log from (pax.Chosen place command) = learn_wants log place command
 pax_wants voter log from (pax.Promise place b best) = out_wants voter log (hear voter.servers log.phase from (pax.Promise place b best)) _
 pax_wants voter log from (pax.Accepted place b) = out_wants voter log (hear voter.servers log.phase from (pax.Accepted place b)) _
@@ -161,9 +166,9 @@ idle_too : (phase : Phase) (o : Option Phase) → IsProposer true phase o → Is
 idle_too phase None h = h
 idle_too phase (Some there) h = (refl, tt)
 
-start_wants : (voter : Voter) (log : Log) (o : Option Command) → WantsSame log (starts_for voter log o).log
-start_wants voter log (Some want) = record { wants = refl; leaves = refl; incs = inc_promise log.records _ _ }
-start_wants voter log None = record { wants = refl; leaves = refl; incs = refl }
+pub start_wants : (voter : Voter) (log : Log) (o : Option Command) → WantsSame log (starts_for voter log o).log
+start_wants voter log (Some want) = record { wants = refl; leaves = refl; incs = inc_promise log.records _ _; applied = refl }
+start_wants voter log None = record { wants = refl; leaves = refl; incs = refl; applied = refl }
 
 start_follows : {A : Type 0} (voter : Voter) (log : Log) (o : Option Command) (letter : Letter) → Among (job.Letter letter) (starts_for voter log o).jobs → A
 start_follows voter log (Some want) letter h = no_follow letter h
@@ -187,7 +192,7 @@ one_leave (first ∷ xs) leave c h =
     (λ f i. elim i [ inl is ↦ inr is | inr old ↦ inl old ])
     (λ f i. elim i [ inl is ↦ inl (inl is) | inr j ↦ elim (one_leave xs leave c j) [ inl old ↦ inl (inr old) | inr is ↦ inr is ] ])) h
 
-all_leaves : (more xs : List Command) (c : Command) → Among c (fold with_leave xs more) → Among c xs ⊎ Among c more
+pub all_leaves : (more xs : List Command) (c : Command) → Among c (fold with_leave xs more) → Among c xs ⊎ Among c more
 unfolding Among
 all_leaves [] xs c h = inl h
 all_leaves (leave ∷ more) xs c h = elim (all_leaves more (with_leave xs leave) c h) [
@@ -196,7 +201,7 @@ all_leaves (leave ∷ more) xs c h = elim (all_leaves more (with_leave xs leave)
 ]
 
 -- its own Leave is of an earlier incarnation
-own_leaves : {A : Type 0} (me inc : ℕ) (o : Option ℕ) (c : Command) → ((earlier : ℕ) → earlier < inc → c ≡ Leave me earlier → A)
+pub own_leaves : {A : Type 0} (me inc : ℕ) (o : Option ℕ) (c : Command) → ((earlier : ℕ) → earlier < inc → c ≡ Leave me earlier → A)
     → Among c (own_leave me inc o) → A
 unfolding Among
 own_leaves me inc None c so h = absurd h
@@ -230,6 +235,7 @@ module _ (servers n inc : ℕ) (small : servers ≤ 256) (member : n < servers) 
     leaves = leaving;
     follows = λ letter h. no_follow letter h;
     incs = refl;
+    applied = inl refl;
   }
 
   stopped : (own : Job) (server stop : ℕ) → Fine (Leave server stop) → Left own (on_down log server stop)
@@ -240,6 +246,7 @@ module _ (servers n inc : ℕ) (small : servers ≤ 256) (member : n < servers) 
     leaves = λ c h. elim (one_leave log.leaves (Leave server stop) c h) [ inl old ↦ leaving c old | inr is ↦ subst Fine (sym is) f ];
     follows = λ letter h. no_follow letter h;
     incs = refl;
+    applied = inl refl;
   }
 
   proposed : (own : Job) (command : Command) → Fine command → Left own (on_propose log command)
@@ -252,6 +259,7 @@ module _ (servers n inc : ℕ) (small : servers ≤ 256) (member : n < servers) 
         leaves = leaving;
         follows = λ letter h. no_follow letter h;
         incs = refl;
+        applied = inl refl;
       })
 
   told : (own : Job) (who : Actor) (rev : ℕ) → Left own (on_ask log who rev)
@@ -265,6 +273,7 @@ module _ (servers n inc : ℕ) (small : servers ≤ 256) (member : n < servers) 
     leaves = leaving;
     follows = λ letter h. no_follow letter h;
     incs = refl;
+    applied = inl refl;
   }
 
   learnt : (own : Job) (place : ℕ) (c : Command) → IsTold p place c → Left own (learns log place c)
@@ -278,6 +287,7 @@ module _ (servers n inc : ℕ) (small : servers ≤ 256) (member : n < servers) 
         leaves = still_leaving _ (learn_wants log place c);
         follows = λ letter h. learn_follows log place c letter h;
         incs = (learn_wants log place c).incs;
+        applied = inl (learn_wants log place c).applied;
       }
 
   told_first : (letter : Letter) (after : ℕ) (commands : List Command) → ((i : ℕ) (c : Command) → slice_get commands i ≡ Some c → IsTold p (after + i + 1) c)
@@ -303,6 +313,7 @@ module _ (servers n inc : ℕ) (small : servers ≤ 256) (member : n < servers) 
           | inr j ↦ only (λ x. job.Letter letter ≡ x) (job.Letter letter) (job.Letter own) j refl
         ];
         incs = h.incs;
+        applied = h.applied;
       }
 
   news : (letter : Letter) (after : ℕ) (commands : List Command) → ((i : ℕ) (c : Command) → slice_get commands i ≡ Some c → IsTold p (after + i + 1) c)
@@ -320,6 +331,7 @@ module _ (servers n inc : ℕ) (small : servers ≤ 256) (member : n < servers) 
         leaves = still_leaving _ (pax_wants voter log from said);
         follows = λ letter h. pax_follows voter log from said letter h;
         incs = (pax_wants voter log from said).incs;
+        applied = inl (pax_wants voter log from said).applied;
       }
   ballots own (actor.Client c) said i = kept own
 
@@ -343,26 +355,28 @@ module _ (servers n inc : ℕ) (small : servers ≤ 256) (member : n < servers) 
     leaves = leaving;
     follows = λ letter h. applies_follow letter None _ h;
     incs = refl;
+    applied = inr (one_longer log.applied entry);
   }
 
-  pub fine_wanted : (returning : List Command) → ((c : Command) → Among c returning → Fine c) → (c : Command) → Among c (wanted voter log returning) → Fine c
-  fine_wanted returning back c h = elim (in-append c _ log.wants h) [
+  pub fine_wanted : (returning : List Command) (c : Command) → Among c (wanted voter log returning) → Fine c ⊎ Among c returning
+  fine_wanted returning c h = elim (in-append c _ log.wants h) [
     | inl former ↦ elim (in-append c _ returning former) [
       | inl i ↦ elim (all_leaves (own_leave n inc (inc_of (state_in servers log) n)) _ c i) [
-        | inl due ↦ leaving c (kept_among (is_due (state_in servers log)) log.leaves c due)
-        | inr own ↦ own_leaves n inc (inc_of (state_in servers log) n) c (λ earlier lt is. subst Fine (sym is) (own_leaving earlier lt)) own
+        | inl due ↦ inl (leaving c (kept_among (is_due (state_in servers log)) log.leaves c due))
+        | inr own ↦ inl (own_leaves n inc (inc_of (state_in servers log) n) c (λ earlier lt is. subst Fine (sym is) (own_leaving earlier lt)) own)
       ]
-      | inr own ↦ back c own
+      | inr own ↦ inr own
     ]
-    | inr i ↦ fine c i
+    | inr i ↦ inl (fine c i)
   ]
 
   -- a ballot starts for one of these commands
-  pub started : (own : Job) (wants : List Command) → ((c : Command) → Among c wants → Fine c) → Left own (starts voter log wants)
+  pub started : (own : Job) (wants : List Command) → ((c : Command) → first_wanted log.phase (rev_of log) wants ≡ Some c → Good (next_place log) c)
+      → Left own (starts voter log wants)
   unfolding starts
   started own wants all =
       let at = proposer_there log.phase (p.proposers n) busy.proposer in
-      let turn = start_turn servers n inc small member log p low seen busy Good at.0 at.1 wants (λ want i. good want (all want i)) in
+      let turn = start_turn servers n inc small member log p low seen busy Good at.0 at.1 wants all in
       let same = start_wants voter log (first_wanted log.phase (rev_of log) wants) in
       record {
         turn = record { events = turn.events; wanted = turn.wanted; turns = turn.turns };
@@ -370,6 +384,7 @@ module _ (servers n inc : ℕ) (small : servers ≤ 256) (member : n < servers) 
         leaves = still_leaving _ same;
         follows = λ letter h. start_follows voter log (first_wanted log.phase (rev_of log) wants) letter h;
         incs = same.incs;
+        applied = inl same.applied;
       }
 
   pub applied_next : (own : Job) → Left own (applies log)
@@ -392,5 +407,6 @@ module _ (servers n inc : ℕ) (small : servers ≤ 256) (member : n < servers) 
   unfolding log_does
   job_done (job.Letter letter) backed = letter_done letter letter.body (backed letter refl)
   job_done (job.Stage cell) backed = kept (job.Stage cell)
+  job_done (job.Mend link) backed = kept (job.Mend link)
   job_done job.Apply backed = applied_next job.Apply
   job_done job.Start backed = kept job.Start

@@ -8,6 +8,10 @@ pub mod Boots
 pub mod Stores
 pub mod Unbooted
 pub mod Pairs
+pub mod Flags
+pub mod Copying
+pub mod Handling
+pub mod Catching
 pub mod Worlds
 pub mod Facts
 pub mod Servers

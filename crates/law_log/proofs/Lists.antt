@@ -47,6 +47,27 @@ at_last (z ∷ xs) y (suc i) x e = elim (at_last xs y i x e) [
   | inr last ↦ inr (omega (arith, last.0), last.1)
 ]
 
+-- what stands behind a front
+pub next_at : {X : Type 0} (front later : List X) (x : X) → slice_get (front ++ later) (length front) ≡ Some x → (rest : List X) × (later ≡ x ∷ rest)
+next_at [] [] x e = none_some refl e
+next_at [] (y ∷ later) x e = (later, ap (λ z. z ∷ later) (same_some e))
+next_at (y ∷ front) later x e = next_at front later x e
+
+pub at_next : {X : Type 0} (front later : List X) (x : X) → slice_get (front ++ x ∷ later) (length front) ≡ Some x
+at_next [] later x = refl
+at_next (y ∷ front) later x = at_next front later x
+
+-- two fronts of one list that are as long are one
+pub one_front : {X : Type 0} (a b xs ys : List X) → length a ≡ length b → a ++ xs ≡ b ++ ys → a ≡ b
+one_front [] [] xs ys many e = refl
+one_front [] (y ∷ b) xs ys many e = absurd (omega (arith, many))
+one_front (x ∷ a) [] xs ys many e = absurd (omega (arith, many))
+one_front (x ∷ a) (y ∷ b) xs ys many e =
+    let first : x ≡ y = cc in
+    let rest : a ++ xs ≡ b ++ ys = cc in
+    let later = one_front a b xs ys (omega (arith, many)) rest in
+    λ i. first i ∷ later i
+
 -- what a filter keeps was there
 pub kept_among : {X : Type 0} (test : X → Bool) (xs : List X) (x : X) → Among x (filter test xs) → Among x xs
 unfolding Among

@@ -1,4 +1,4 @@
--- Jobs of the pairs say nothing of the log, and put no letter into the queue; neither does what a tick sends for them.
+-- Operations of the pairs say nothing of the log, and put no letter into the queue; neither does what a tick sends for them.
 use Rattle.std.proofs.Common.{◌≡◌, ℕ, Bool, true, false, ◌==◌, ◌&&◌, not, List, [], ◌∷◌, Option, Some, None, inl, inr}
 use Rattle.std.specs.Prelude.{⊤, nat_lt}
 use Rattle.std.specs.List.{flat_map}
@@ -23,13 +23,12 @@ use Rattle.petal_msg.specs.declared.operation.Pending.{Pending}
 use Rattle.petal_msg.specs.declared.operation.Reply.{Reply}
 use Rattle.petal_msg.specs.declared.operation.Reply.TheVariants as reply
 use Rattle.petal_paxos.specs.Schedule.{World}
-use Rattle.petal_rules.specs.Jobs.{handles, wrong_rev, at_other_rev, is_from_in, on_letter, does, awaited, sent_anew, asked_by}
+use Rattle.petal_rules.specs.Jobs.{awaited, sent_anew}
 use Rattle.petal_rules.specs.Lists.{In as Among}
 use Rattle.petal_rules.specs.Reads.{on_read, reply_to, said}
 use Rattle.petal_rules.specs.Server.{Own, Here, Post, Done, post_to, silent, says, says_to}
-use Rattle.petal_rules.specs.State.{is_in, held, is_lead, is_second, readable}
-use Rattle.petal_rules.specs.Writes.{Wanted, Standing, Older, Again, Newer, acts, ended, finishes, goes_on_with, goes_on, pending_on, opens, opened, takes_newer, takes, is_pending_for, is_writes_held, on_write, is_reserving, is_replicating, hears_reserved, on_reserved, hears_pair_full, on_pair_full, hears_replicated, on_replicated, tells, reserves, hears_reserve, on_reserve, follows_once, hears_replicate, on_replicate, last_on}
-use Rattle.petal_rules.specs.declared.job.Job.{Job}
+use Rattle.petal_rules.specs.State.{is_lead, is_second, readable}
+use Rattle.petal_rules.specs.Writes.{Wanted, Standing, Older, Again, Newer, acts, ended, finishes, goes_on_with, goes_on, pending_on, opens, opened, takes_newer, takes, is_pending_for, is_kept_back, is_under_way, on_write, is_reserving, is_replicating, hears_reserved, on_reserved, hears_pair_full, on_pair_full, hears_replicated, on_replicated, tells, reserves, hears_reserve, on_reserve, follows_once, hears_replicate, on_replicate, last_on}
 use Rattle.petal_rules.specs.declared.job.Job.TheVariants as job
 use Rattle.petal_rules.proofs.ListLemmas.{in-append}
 use Rattle.petal_rules.proofs.Tests.{only, by_test}
@@ -55,29 +54,29 @@ pub record IsQuiet (done : Done) : Type 0 where
   pub posts : (post : Post) → Among post done.posts → IsOther post.body
   pub jobs : (letter : Letter) → Among (job.Letter letter) done.jobs → ⊥
 
-no_letter : (letter : Letter) → Among (job.Letter letter) [] → ⊥
+pub no_letter : (letter : Letter) → Among (job.Letter letter) [] → ⊥
 unfolding Among
 no_letter letter h = h
 
-only_stage : (letter : Letter) (cell : Cell) → Among (job.Letter letter) (job.Stage cell ∷ []) → ⊥
+pub only_stage : (letter : Letter) (cell : Cell) → Among (job.Letter letter) (job.Stage cell ∷ []) → ⊥
 unfolding Among
 only_stage letter cell (inl e) = let f : job.Letter letter ≡ job.Stage cell = e in absurd cc
 only_stage letter cell (inr h) = h
 
-quiet_silent : (own : Own) → IsQuiet (silent own)
+pub quiet_silent : (own : Own) → IsQuiet (silent own)
 quiet_silent own = record { posts = λ post i. no_posts post i; jobs = no_letter }
 
 quiet_stage : (own : Own) (cell : Cell) → IsQuiet (record { own = own; posts = []; jobs = job.Stage cell ∷ [] })
 quiet_stage own cell = record { posts = λ post i. no_posts post i; jobs = λ letter i. only_stage letter cell i }
 
-quiet_says : (own : Own) (to : Actor) (what : Body) → IsOther what → IsQuiet (says own to what)
+pub quiet_says : (own : Own) (to : Actor) (what : Body) → IsOther what → IsQuiet (says own to what)
 quiet_says own to what h = record { posts = λ post i. only (λ (x : Post). IsOther x.body) _ post i h; jobs = no_letter }
 
 pub posted_other : (server : Option ℕ) (what : Body) → IsOther what → (post : Post) → Among post (post_to server what) → IsOther post.body
 posted_other None what h post i = no_posts post i
 posted_other (Some n) what h post i = only (λ (x : Post). IsOther x.body) (record { to = actor.Server n; body = what }) post i h
 
-quiet_says_to : (own : Own) (server : Option ℕ) (what : Body) → IsOther what → IsQuiet (says_to own server what)
+pub quiet_says_to : (own : Own) (server : Option ℕ) (what : Body) → IsOther what → IsQuiet (says_to own server what)
 quiet_says_to own server what h = record { posts = posted_other server what h; jobs = no_letter }
 
 quiet_ending : (own : Own) (client seq : ℕ) (what : Ending) → IsQuiet (finishes own client seq what)
@@ -101,7 +100,7 @@ quiet_next : (here : Here) (own : Own) (op : Option Pending) → IsQuiet (goes_o
 quiet_next here own None = quiet_silent own
 quiet_next here own (Some op) = quiet_act here own op _
 
-quiet_goes : (here : Here) (own : Own) (cell : Cell) → IsQuiet (goes_on here own cell)
+pub quiet_goes : (here : Here) (own : Own) (cell : Cell) → IsQuiet (goes_on here own cell)
 unfolding goes_on
 quiet_goes here own cell = quiet_next here own (pending_on own cell)
 
@@ -111,7 +110,7 @@ other_reply seq reply.NotHere = tt
 other_reply seq reply.BlockBusy = tt
 other_reply seq reply.Held = tt
 
-quiet_read : (here : Here) (own : Own) (client seq : ℕ) (cell : Cell) (epoch : ℕ) → IsQuiet (on_read here own client seq cell epoch)
+pub quiet_read : (here : Here) (own : Own) (client seq : ℕ) (cell : Cell) (epoch : ℕ) → IsQuiet (on_read here own client seq cell epoch)
 unfolding on_read
 quiet_read here own client seq cell epoch =
     by_test IsQuiet (readable here.state here.me cell) _ _ (λ e. quiet_says own _ _ (other_reply seq (reply_to here own cell epoch))) (λ e. quiet_silent own)
@@ -120,19 +119,19 @@ quiet_opens : (here : Here) (own : Own) (want : Wanted) (room : Bool) → IsQuie
 quiet_opens here own want false = quiet_ending own want.client want.seq ending.Full
 quiet_opens here own want true = quiet_goes here (opened here own want) want.cell
 
-quiet_newer : (here : Here) (own : Own) (want : Wanted) (fenced : Bool) (op : Option Pending) → IsQuiet (takes_newer here own want fenced op)
-quiet_newer here own want true op = quiet_says own _ _ tt
-quiet_newer here own want false (Some op) = quiet_says own _ _ tt
-quiet_newer here own want false None = quiet_opens here own want _
+quiet_newer : (here : Here) (own : Own) (want : Wanted) (kept_back busy : Bool) → IsQuiet (takes_newer here own want kept_back busy)
+quiet_newer here own want true busy = quiet_says own _ _ tt
+quiet_newer here own want false true = quiet_says own _ _ tt
+quiet_newer here own want false false = quiet_opens here own want _
 
 quiet_takes : (here : Here) (own : Own) (want : Wanted) (how : Standing) → IsQuiet (takes here own want how)
 quiet_takes here own want Older = quiet_silent own
 quiet_takes here own want (Again what) = quiet_says own _ _ (other_ending want.seq what)
 quiet_takes here own want Newer =
     by_test IsQuiet (is_pending_for (pending_on own want.cell) want) _ _ (λ e. quiet_silent own)
-    (λ e. quiet_newer here own want (is_writes_held (held here.state want.cell)) (pending_on own want.cell))
+    (λ e. quiet_newer here own want (is_kept_back here.state own want.cell) (is_under_way own want.cell))
 
-quiet_write : (here : Here) (own : Own) (want : Wanted) → IsQuiet (on_write here own want)
+pub quiet_write : (here : Here) (own : Own) (want : Wanted) → IsQuiet (on_write here own want)
 unfolding on_write
 quiet_write here own want =
     by_test IsQuiet (is_lead here.state here.me want.cell) _ _ (λ e. quiet_takes here own want _) (λ e. quiet_silent own)
@@ -141,7 +140,7 @@ quiet_hears_reserved : (here : Here) (own : Own) (number : ℕ) (o : Option Pend
 quiet_hears_reserved here own number None = quiet_silent own
 quiet_hears_reserved here own number (Some op) = by_test IsQuiet (is_reserving op number) _ _ (λ e. quiet_goes here _ op.cell) (λ e. quiet_silent own)
 
-quiet_reserved : (here : Here) (own : Own) (number : ℕ) (cell : Cell) → IsQuiet (on_reserved here own number cell)
+pub quiet_reserved : (here : Here) (own : Own) (number : ℕ) (cell : Cell) → IsQuiet (on_reserved here own number cell)
 unfolding on_reserved
 quiet_reserved here own number cell = quiet_hears_reserved here own number (pending_on own cell)
 
@@ -149,7 +148,7 @@ quiet_hears_full : (own : Own) (number : ℕ) (o : Option Pending) → IsQuiet (
 quiet_hears_full own number None = quiet_silent own
 quiet_hears_full own number (Some op) = by_test IsQuiet (is_reserving op number && not op.stage.put) _ _ (λ e. quiet_ending _ op.client op.seq ending.Full) (λ e. quiet_silent own)
 
-quiet_pair_full : (own : Own) (number : ℕ) (cell : Cell) → IsQuiet (on_pair_full own number cell)
+pub quiet_pair_full : (own : Own) (number : ℕ) (cell : Cell) → IsQuiet (on_pair_full own number cell)
 unfolding on_pair_full
 quiet_pair_full own number cell = quiet_hears_full own number (pending_on own cell)
 
@@ -157,7 +156,7 @@ quiet_hears_replicated : (here : Here) (own : Own) (number : ℕ) (o : Option Pe
 quiet_hears_replicated here own number None = quiet_silent own
 quiet_hears_replicated here own number (Some op) = by_test IsQuiet (is_replicating op number) _ _ (λ e. quiet_goes here _ op.cell) (λ e. quiet_silent own)
 
-quiet_replicated : (here : Here) (own : Own) (number : ℕ) (cell : Cell) → IsQuiet (on_replicated here own number cell)
+pub quiet_replicated : (here : Here) (own : Own) (number : ℕ) (cell : Cell) → IsQuiet (on_replicated here own number cell)
 unfolding on_replicated
 quiet_replicated here own number cell = quiet_hears_replicated here own number (pending_on own cell)
 
@@ -176,7 +175,7 @@ quiet_hears_reserve here own cell number (Some last) =
     by_test IsQuiet (nat_lt number last.op) _ _ (λ e. quiet_silent own)
     (λ e. by_test IsQuiet (number == last.op) _ _ (λ f. quiet_tells here own cell number last.far) (λ f. quiet_reserves here own cell number _ _))
 
-quiet_reserve : (here : Here) (own : Own) (number : ℕ) (cell : Cell) → IsQuiet (on_reserve here own number cell)
+pub quiet_reserve : (here : Here) (own : Own) (number : ℕ) (cell : Cell) → IsQuiet (on_reserve here own number cell)
 unfolding on_reserve
 quiet_reserve here own number cell =
     by_test IsQuiet (is_second here.state here.me cell) _ _ (λ e. quiet_hears_reserve here own cell number (last_on own cell)) (λ e. quiet_silent own)
@@ -191,43 +190,11 @@ quiet_hears_replicate here own number key bytes None = quiet_silent own
 quiet_hears_replicate here own number key bytes (Some last) =
     by_test IsQuiet (number == last.op) _ _ (λ e. quiet_once here own number key bytes last.far) (λ e. quiet_silent own)
 
-quiet_replicate : (here : Here) (own : Own) (number : ℕ) (key : Key) (bytes : List ℕ) → IsQuiet (on_replicate here own number key bytes)
+pub quiet_replicate : (here : Here) (own : Own) (number : ℕ) (key : Key) (bytes : List ℕ) → IsQuiet (on_replicate here own number key bytes)
 unfolding on_replicate
 quiet_replicate here own number key bytes =
     by_test IsQuiet (is_second here.state here.me (cell_of key)) _ _ (λ e. quiet_hears_replicate here own number key bytes (last_on own (cell_of key)))
     (λ e. quiet_silent own)
-
-quiet_handles : (here : Here) (own : Own) (what : Body) → IsQuiet (handles here own what)
-unfolding handles
-quiet_handles here own (body.Read client seq cell epoch) = quiet_read here own client seq cell epoch
-quiet_handles here own (body.Write client seq cell epoch bytes) = quiet_write here own _
-quiet_handles here own (body.Reserve number cell) = quiet_reserve here own number cell
-quiet_handles here own (body.Reserved number cell) = quiet_reserved here own number cell
-quiet_handles here own (body.PairFull number cell) = quiet_pair_full own number cell
-quiet_handles here own (body.Replicate number key version bytes) = quiet_replicate here own number key bytes
-quiet_handles here own (body.Replicated number cell) = quiet_replicated here own number cell
-quiet_handles here own _ = quiet_silent own
-
-quiet_wrong : (own : Own) (client : ℕ) (o : Option ℕ) → IsQuiet (wrong_rev own client o)
-quiet_wrong own client None = quiet_silent own
-quiet_wrong own client (Some seq) = quiet_says own _ _ tt
-
-quiet_elsewhere : (own : Own) (letter : Letter) (who : Actor) → IsQuiet (at_other_rev own letter who)
-quiet_elsewhere own letter (actor.Server n) = quiet_silent own
-quiet_elsewhere own letter (actor.Client c) = quiet_wrong own c (asked_by letter.body)
-
-quiet_letter : (here : Here) (own : Own) (letter : Letter) → IsQuiet (on_letter here own letter)
-quiet_letter here own letter =
-    by_test IsQuiet (not (is_in here.state here.me here.inc)) _ _ (λ e. quiet_silent own)
-    (λ e. by_test IsQuiet (not (letter.rev == here.state.rev)) _ _ (λ f. quiet_elsewhere own letter letter.from)
-    (λ f. by_test IsQuiet (not (is_from_in here.state letter.inc letter.from)) _ _ (λ g. quiet_silent own) (λ g. quiet_handles here own letter.body)))
-
-pub quiet_job : (here : Here) (own : Own) (what : Job) → IsQuiet (does here own what)
-unfolding does
-quiet_job here own (job.Letter letter) = quiet_letter here own letter
-quiet_job here own (job.Stage cell) = by_test IsQuiet (is_in here.state here.me here.inc) _ _ (λ e. quiet_goes here own cell) (λ e. quiet_silent own)
-quiet_job here own job.Apply = quiet_silent own
-quiet_job here own job.Start = quiet_silent own
 
 -- ### A tick
 

@@ -1,6 +1,6 @@
 -- A proposer: the ballot that it starts, and what it makes of the letters that answer it.
 use Rattle.std.proofs.Common.{◌≡◌, ◌<◌, ◌≤◌, ◌+◌, inl, inr, ℕ, zero, suc, Bool, true, false, not, ◌&&◌, List, [], ◌∷◌, map, set, Option, Some, None, refl, sym, ap, ◌∙◌, subst, arith}
-use Rattle.std.specs.Prelude.{⊤, nat_le, nat_lt}
+use Rattle.std.specs.Prelude.{⊤, nat_le, nat_lt, if◌then◌else◌}
 use Rattle.std.specs.List.{range_with_len}
 use Rattle.std.proofs.lemmas.Bool.Decides.{nat_tests}
 use Rattle.petal_command.specs.declared.ballot.Ballot.{Ballot}
@@ -31,7 +31,7 @@ use Rattle.petal_rules.specs.Entries.{learns}
 use Rattle.petal_rules.specs.Lists.{In as Among}
 use Rattle.petal_rules.specs.Log.{Log, rev_of, next_place, with_phase}
 use Rattle.petal_rules.specs.Server.{Post}
-use Rattle.petal_rules.proofs.Tests.{true_false, by_test, same_some}
+use Rattle.petal_rules.proofs.Tests.{true_false, by_test, none_some, same_some}
 use Rattle.law_log.specs.Logged.{IsSeenAt, AreLow, IsLow, IsBusyAs, IsBacked}
 use Rattle.law_log.proofs.Lists.{put_here}
 use Rattle.law_log.proofs.Taking.{seen_promise, prepare_turn, accept_turn, learn_turn}
@@ -138,9 +138,15 @@ unpromised (Some x) b low lt = let l = low x refl in let h : number x + 1 ≤ nu
 opened : (a : Acceptor) (b : Ballot) → is_unpromised a b ≡ true → is_open a b ≡ true
 opened a b e = grind (arith, nat_tests)
 
-first_among : (want : Command) (wants : List Command) → Among want (want ∷ wants)
+-- what is wanted first is wanted
+pub first_among : (phase : Phase) (rev : ℕ) (wants : List Command) (want : Command) → first_wanted phase rev wants ≡ Some want → Among want wants
 unfolding Among
-first_among want wants = inl refl
+first_among Idle rev (first ∷ wants) want e =
+    by_test (λ (o : Option Command). o ≡ Some want → Among want (first ∷ wants)) (nat_lt rev greatest_place) (Some first) None
+    (λ few f. inl (sym (same_some f))) (λ many f. none_some refl f) e
+first_among Idle rev [] want e = none_some refl e
+first_among (Collecting place ballot command heard best) rev wants want e = none_some refl e
+first_among (Voting place ballot command heard) rev wants want e = none_some refl e
 
 both_so : (a b : Bool) → a ≡ true → b ≡ true → (a && b) ≡ true
 both_so a b e f = cc
@@ -181,7 +187,8 @@ module _ (servers n inc : ℕ) (small : servers ≤ 256) (member : n < servers) 
   good_want place want good j command (inl e) = subst (λ (x : ℕ × Command). Good x.0 x.1) (λ i. (e.0 i, e.1 i)) good
   good_want place want good j command (inr h) = absurd h
 
-  start_for : (phase : Phase) (wants : List Command) → log.phase ≡ phase → ((want : Command) → Among want wants → Good (next_place log) want)
+  start_for : (phase : Phase) (wants : List Command) → log.phase ≡ phase
+      → ((want : Command) → first_wanted phase (rev_of log) wants ≡ Some want → Good (next_place log) want)
       → HasTurn servers n true (starts_for (record { me = n; inc = inc; servers = servers }) log (first_wanted phase (rev_of log) wants)).log
       (starts_for (record { me = n; inc = inc; servers = servers }) log (first_wanted phase (rev_of log) wants)).posts p Good
   start_for Idle (want ∷ wants) e good =
@@ -196,7 +203,7 @@ module _ (servers n inc : ℕ) (small : servers ≤ 256) (member : n < servers) 
       let goes : (nat_lt n servers && is_unpromised (p.acceptors n place) b) ≡ true = both_so (nat_lt n servers) _ (below n servers member) free in
       record {
         events = Starts n place (next_round log) want Goes ∷ [];
-        wanted = good_want place want (good want (first_among want wants));
+        wanted = good_want place want (good want (ap (λ (b : Bool). if b then Some want else None) few));
         turns = rw (is, goes) (ballot_turn place b want refl free);
       })
       (λ many. nothing_happens servers n true log [] p Good low seen busy (λ post i. no_posts post i))
@@ -204,7 +211,7 @@ module _ (servers n inc : ℕ) (small : servers ≤ 256) (member : n < servers) 
   start_for (Collecting place ballot want heard best) wants e good = nothing_happens servers n true log [] p Good low seen busy (λ post i. no_posts post i)
   start_for (Voting place ballot command heard) wants e good = nothing_happens servers n true log [] p Good low seen busy (λ post i. no_posts post i)
 
-  pub start_turn : (wants : List Command) → ((want : Command) → Among want wants → Good (next_place log) want)
+  pub start_turn : (wants : List Command) → ((want : Command) → first_wanted log.phase (rev_of log) wants ≡ Some want → Good (next_place log) want)
       → HasTurn servers n true (starts (record { me = n; inc = inc; servers = servers }) log wants).log
       (starts (record { me = n; inc = inc; servers = servers }) log wants).posts p Good
   unfolding starts

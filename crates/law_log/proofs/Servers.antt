@@ -1,13 +1,16 @@
 -- Each step of a server keeps what is kept of a world.
-use Rattle.std.proofs.Common.{◌≡◌, ◌<◌, ◌≤◌, ◌+◌, ◌==◌, ◌⊎◌, inl, inr, ℕ, true, false, not, if◌then◌else◌, List, [], ◌∷◌, ◌++◌, map, Option, Some, None, refl, sym, ap, ◌∙◌, subst, arith}
+use Rattle.std.proofs.Common.{◌≡◌, ◌<◌, ◌≤◌, ◌+◌, ◌==◌, ◌⊎◌, inl, inr, ℕ, true, false, not, if◌then◌else◌, ◌&&◌, List, [], ◌∷◌, ◌++◌, length, map, Option, Some, None, refl, sym, ap, ◌∙◌, subst, arith}
 use Rattle.std.specs.Prelude.{filter, slice_get}
 use Rattle.std.specs.List.{range_with_len, flat_map}
+use Rattle.std.specs.Option.{option_map_or}
+use Rattle.global_tables.specs.declared.link.LinkRow.{LinkRow}
 use Rattle.petal_base.specs.declared.cell.Cell.{Cell}
 use Rattle.petal_command.specs.declared.command.Command.{Command}
 use Rattle.petal_command.specs.declared.pax.Pax.TheVariants as pax
 use Rattle.petal_msg.specs.declared.body.Body.TheVariants as body
 use Rattle.petal_msg.specs.declared.letter.Actor.TheVariants as actor
 use Rattle.petal_msg.specs.declared.letter.Letter.{Letter}
+use Rattle.petal_msg.specs.declared.copying.LinkId.{LinkId}
 use Rattle.petal_msg.specs.declared.operation.Pending.{Pending}
 use Rattle.petal_paxos.specs.Member.{In}
 use Rattle.petal_paxos.specs.Proposer.{is_in, has_majority}
@@ -20,18 +23,21 @@ use Rattle.petal_command.specs.declared.command.Command.TheVariants.{Join}
 use Rattle.petal_paxos.specs.Kept.{inc_of}
 use Rattle.petal_paxos.proofs.Committed.{inc_committed}
 use Rattle.petal_paxos.specs.declared.record.StateRecord.TheVariants.{Inc}
-use Rattle.petal_rules.specs.Ballots.{ballot_posts, ask_posts, start_jobs, starts, wanted}
+use Rattle.petal_rules.specs.Ballots.{ballot_posts, ask_posts, first_wanted, start_jobs, starts, wanted}
 use Rattle.petal_rules.specs.Boots.{awake, boots, raised, stays, wakes}
-use Rattle.petal_rules.specs.Returns.{own_join, returning}
-use Rattle.petal_state.specs.Command.{may_join}
-use Rattle.petal_rules.specs.Crossing.{crossed_by, stage_jobs_by, touches_cell}
-use Rattle.petal_rules.specs.Entries.{applies}
-use Rattle.petal_rules.specs.Jobs.{Acted, is_log_job, voter_of, here_of, worked, entered, crossing, job_done, down_posts, stops, is_overfull, works, faults, glances, glance_sender, delivered, tick_posts, ticks, log_does, does, sent_anew, wanted_by}
-use Rattle.petal_rules.specs.Lists.{In as Among}
-use Rattle.petal_rules.specs.Log.{LogDone, Voter, known, next_place, rev_of}
+use Rattle.petal_rules.specs.Copies.{mend_jobs, waits_for_job}
+use Rattle.petal_rules.specs.Returns.{caught_links, own_join, proposed, returning}
+use Rattle.petal_state.specs.Command.{after, may_join}
+use Rattle.petal_state.specs.Place.{touches}
+use Rattle.petal_rules.specs.Crossing.{crossed_by, is_mended, jobs_by, link_jobs, stage_jobs, touches_cell}
+use Rattle.petal_rules.specs.Entries.{applies, applies_known}
+use Rattle.petal_rules.specs.Jobs.{Acted, is_log_job, voter_of, here_of, worked, entered, crossing, job_done, down_posts, stops, is_overfull, works, faults, glances, glance_sender, delivered, tick_jobs, tick_posts, ticks, log_does, does, sent_anew, copies_anew, starting, wanted_by}
+use Rattle.petal_rules.specs.Lists.{In as Among, put_at}
+use Rattle.petal_rules.specs.Log.{Log, LogDone, Voter, known, next_place, rev_of}
 use Rattle.petal_rules.specs.Posts.{Post, Sender, letters_of}
 use Rattle.petal_rules.specs.Server.{Life, Server, Own, Here, Done, sender, stopped}
-use Rattle.petal_rules.specs.State.{State, servers_of}
+use Rattle.petal_rules.specs.State.{State, id_of, servers_of}
+use Rattle.petal_rules.specs.State.{is_in as seated}
 use Rattle.petal_rules.specs.World.{Setting, World, MayServer, server_state, server_step, acts}
 use Rattle.petal_rules.specs.declared.job.Job.{Job}
 use Rattle.petal_rules.specs.declared.job.Job.TheVariants as job
@@ -41,24 +47,28 @@ use Rattle.petal_rules.specs.declared.step.Step.{Step}
 use Rattle.petal_rules.specs.declared.step.Step.TheVariants.{Call, Deliver, Tick, Work, Stop, Boot, Glance}
 use Rattle.petal_rules.specs.declared.step.WorkEnd.{WorkEnd}
 use Rattle.petal_rules.specs.declared.step.WorkEnd.TheVariants as work_end
-use Rattle.petal_rules.proofs.ListLemmas.{in-append, put_same}
-use Rattle.petal_rules.proofs.Tests.{only, by_test}
-use Rattle.law_log.specs.Logged.{IsBacked, IsSaidBy, IsReached, IsSeenAt, IsBusyAs, Logged}
-use Rattle.law_log.specs.Requested.{IsCalledFor}
+use Rattle.petal_rules.proofs.ListLemmas.{in-append, put_apart, put_same}
+use Rattle.petal_rules.proofs.Tests.{number_itself, only, by_test, same_or_apart}
+use Rattle.law_log.specs.Logged.{IsBacked, IsSaidBy, IsReached, IsSeenAt, IsBusyAs, Logged, MayWant, Minded, WasMinded}
+use Rattle.law_log.specs.Requested.{CatchesUp, IsCalledFor}
+use Rattle.law_state.specs.Started.{HasFlag, is_flagged}
 use Rattle.global_tables.specs.declared.fence.Member.TheVariants as member
 use Rattle.law_state.specs.Tables.{IsPlainState}
 use Rattle.law_state.proofs.Ages.{may_by}
 use Rattle.law_state.proofs.Entries.{log_plain}
 use Rattle.law_log.proofs.Facts.{IsFair, applied_plain, as_many, told_once}
 use Rattle.law_log.proofs.Boots.{fail_turn, no_proposer, wake_turn}
-use Rattle.law_log.proofs.Stores.{fresh_crossed, fresh_job}
-use Rattle.law_log.proofs.Jobs.{Outcome, applied_next, fine_wanted, started}
+use Rattle.law_log.proofs.Catching.{caught_among, caught_may, caught_minded, kept_proposed}
+use Rattle.law_log.proofs.Copying.{IsCalm, IsKept, kept_itself}
+use Rattle.law_log.proofs.Handling.{calm_job, other_copies_anew}
+use Rattle.law_log.proofs.Stores.{fresh_crossed}
+use Rattle.law_log.proofs.Jobs.{Outcome, applied_next, fine_wanted, one_longer, start_wants, started}
 use Rattle.law_log.proofs.Jobs.{job_done as log_job_done}
 use Rattle.law_log.proofs.Lists.{got}
-use Rattle.law_log.proofs.Pairs.{other_backed, IsQuiet, quiet_job, other_anew}
-use Rattle.law_log.proofs.Proposing.{all_backed, said_to_all}
-use Rattle.law_log.proofs.Turns.{HasTurn, still, no_posts, stop_turn}
-use Rattle.law_log.proofs.Worlds.{Acts, MayWant, Goes, IsLaterLife, same_life, server_goes, server_sends}
+use Rattle.law_log.proofs.Pairs.{other_backed, other_anew}
+use Rattle.law_log.proofs.Proposing.{all_backed, first_among, said_to_all}
+use Rattle.law_log.proofs.Turns.{HasTurn, still, no_posts, stop_turn, turn_more}
+use Rattle.law_log.proofs.Worlds.{Acts, Goes, IsLaterLife, KeepsStarted, Remembers, may_more, same_life, server_goes, server_sends, started_same}
 
 -- ### Queues
 
@@ -82,7 +92,8 @@ letter_is : (a b : Letter) → job.Letter a ≡ job.Letter b → a ≡ b
 letter_is a b e = cc
 
 -- the next place is reached: what is applied before it was told
-reached_next : (setting : Setting) (w : World) (l : Logged setting w) (n : ℕ) → IsReached (run setting.servers l.events begin) (next_place (w.servers n).log)
+reached_next : {Was : Minded} (setting : Setting) (w : World) (l : Logged Was setting w) (n : ℕ)
+    → IsReached (run setting.servers l.events begin) (next_place (w.servers n).log)
 reached_next setting w l n = record {
   starts = omega arith;
   told = λ i lt.
@@ -91,7 +102,7 @@ reached_next setting w l n = record {
 }
 
 -- its own Join is all that a server wants so that it returns
-join_only : {A : Type 0} (state : State) (me inc : ℕ) (fresh : _) (c : Command)
+pub join_only : {A : Type 0} (state : State) (me inc : ℕ) (fresh : _) (c : Command)
     → (may_join (slice_get state.view.members me) inc ≡ true → c ≡ Join me inc fresh → A) → Among c (own_join state me inc fresh) → A
 unfolding Among
 join_only {A} state me inc fresh c so h = by_test (λ (xs : List Command). Among c xs → A) (may_join (slice_get state.view.members me) inc) _ _
@@ -104,6 +115,51 @@ join_later servers state p me inc may =
     let low : 1 ≤ was.0 = p.members me (member.Out was.0) was.1 in
     let lt = was.2 in
     omega arith
+
+-- ### Ballots in mind
+
+-- what a server has in mind of a ballot that an incarnation of it started for a Caught
+abbrev IsMinded : (inc rev : ℕ) → LinkId → Server → Type 0
+IsMinded inc rev id server = (inc < server.life.inc) ⊎ ((inc ≡ server.life.inc) × HasFlag server rev id)
+
+-- it keeps them in mind, where it applies no entry, or else needs to no more
+minds_on : (before to : Server) → before.life.inc ≡ to.life.inc → length before.log.applied < length to.log.applied → KeepsStarted before to
+minds_on before to inc more = inr (
+  inc,
+  λ rev id h. record {
+    reached = (let f = h.reached in omega arith);
+    flagged = λ e. (let f = h.reached in absurd (omega arith));
+  },
+)
+
+minds : (before to : Server) → before.life.inc ≡ to.life.inc → IsKept before.own to.own
+    → (to.log.applied ≡ before.log.applied) ⊎ (length before.log.applied < length to.log.applied) → KeepsStarted before to
+minds before to inc kept (inl same) = inr (
+  inc,
+  λ rev id h. record {
+    reached = subst (λ (xs : List Command). rev ≤ length xs) (sym same) h.reached;
+    flagged = λ e. kept.flags id (h.flagged (sym (ap length same) ∙ e));
+  },
+)
+minds before to inc kept (inr more) = minds_on before to inc more
+
+minds_stopped : (server : Server) (rev : ℕ) (id : LinkId) → HasFlag server rev id → HasFlag (stopped server) rev id
+minds_stopped server rev id h = record { reached = h.reached; flagged = h.flagged }
+
+minds_entry : (state : State) (server : Server) (queue : List Job) (entry : Option Command)
+    → KeepsStarted server (record server { log = (applies_known server.log entry).log; own = crossed_by state entry server.own; queue = queue })
+minds_entry state server queue None = inr (refl, λ rev id h. record { reached = h.reached; flagged = h.flagged })
+minds_entry state server queue (Some entry) = minds_on server _ refl (one_longer server.log.applied entry)
+
+minds_crossed : (state : State) (server : Server) (queue : List Job)
+    → KeepsStarted server (record server { log = (applies server.log).log; own = crossed_by state (known server.log (next_place server.log)) server.own; queue = queue })
+unfolding applies
+minds_crossed state server queue = minds_entry state server queue (known server.log (next_place server.log))
+
+-- a ballot that starts applies nothing
+start_applied : (voter : Voter) (log : Log) (wants : List Command) → (starts voter log wants).log.applied ≡ log.applied
+unfolding starts
+start_applied voter log wants = (start_wants voter log (first_wanted log.phase (rev_of log) wants)).applied
 
 -- ### A tick
 
@@ -119,18 +175,6 @@ ballot_backed p n voter (Voting place ballot command heard) a post i =
     (λ e i. all_backed p (λ c. ⊥) n (pax.Chosen place command) (range_with_len 0 voter.servers) (a.1 e) post i)
     (λ e i. all_backed p (λ c. ⊥) n (pax.Accept place ballot command) (filter (λ n. not (is_in heard n)) (range_with_len 0 voter.servers)) a.0 post i) i
 
--- no letter is among the stages that follow an entry up
-no_stage : {A : Type 0} (rows : List (Cell × Pending)) (letter : Letter) → Among (job.Letter letter) (map (λ (row : Cell × Pending). job.Stage row.0) rows) → A
-unfolding Among
-no_stage [] letter h = absurd h
-no_stage (row ∷ rows) letter (inl e) = let f : job.Letter letter ≡ job.Stage row.0 = e in absurd cc
-no_stage (row ∷ rows) letter (inr h) = no_stage rows letter h
-
-stages_only : {A : Type 0} (state : State) (entry : Option Command) (own : Own) (letter : Letter) → Among (job.Letter letter) (stage_jobs_by state entry own) → A
-unfolding Among
-stages_only state None own letter h = absurd h
-stages_only state (Some entry) own letter h = no_stage (filter (λ row. touches_cell state entry row.0) own.pairs.pending) letter h
-
 no_command : {A : Type 0} (c : Command) → Among c [] → A
 unfolding Among
 no_command c h = absurd h
@@ -139,53 +183,97 @@ no_jobs : {A : Type 0} (letter : Letter) → Among (job.Letter letter) [] → A
 unfolding Among
 no_jobs letter h = absurd h
 
-module _ (setting : Setting) (fair : IsFair setting) (w : World) (l : Logged setting w) (n stamp : ℕ) (what : Step) (member : n < setting.servers) where
+no_mend : {A : Type 0} (rows : List LinkRow) (letter : Letter) → Among (job.Letter letter) (map (λ (row : LinkRow). job.Mend (id_of row)) rows) → A
+unfolding Among
+no_mend [] letter h = absurd h
+no_mend (row ∷ rows) letter (inl e) = let f : job.Letter letter ≡ job.Mend (id_of row) = e in absurd cc
+no_mend (row ∷ rows) letter (inr h) = no_mend rows letter h
+
+-- nor among the jobs of a tick
+tick_only : (here : Here) (server : Server) (letter : Letter) → Among (job.Letter letter) (tick_jobs here server) → ⊥
+tick_only here server letter h =
+    elim (in-append (job.Letter letter) (start_jobs server.log.phase (wanted_by here server)) (if seated here.state here.me here.inc then mend_jobs here server.own else []) h) [
+      | inl start ↦ start_only server.log.phase (wanted_by here server) letter start
+      | inr mend ↦ by_test (λ (xs : List Job). Among (job.Letter letter) xs → ⊥) (seated here.state here.me here.inc) (mend_jobs here server.own) []
+          (λ e i. no_mend (filter (λ row. waits_for_job here server.own row row.state) here.state.links) letter i) (λ e i. no_jobs letter i) mend
+    ]
+
+-- no letter is among the stages that follow an entry up
+no_stage : {A : Type 0} (rows : List (Cell × Pending)) (letter : Letter) → Among (job.Letter letter) (map (λ (row : Cell × Pending). job.Stage row.0) rows) → A
+unfolding Among
+no_stage [] letter h = absurd h
+no_stage (row ∷ rows) letter (inl e) = let f : job.Letter letter ≡ job.Stage row.0 = e in absurd cc
+no_stage (row ∷ rows) letter (inr h) = no_stage rows letter h
+
+stages_only : {A : Type 0} (state : State) (me : ℕ) (entry : Option Command) (own : Own) (letter : Letter) → Among (job.Letter letter) (jobs_by state me entry own) → A
+stages_only state me None own letter h = no_jobs letter h
+stages_only state me (Some entry) own letter h = elim (in-append (job.Letter letter) (stage_jobs state entry own) (link_jobs state entry me) h) [
+  | inl stage ↦ no_stage (filter (λ row. touches_cell state entry row.0) own.pairs.pending) letter stage
+  | inr mend ↦ no_mend (filter (λ row. touches state entry row && is_mended (after state entry) me row row.state) (after state entry).links) letter mend
+]
+
+module _ {Was : Minded} (setting : Setting) (fair : IsFair setting) (w : World) (l : Logged Was setting w) (n stamp : ℕ) (what : Step)
+    (member : n < setting.servers) where
   abbrev P : schedule.World
   P = run setting.servers l.events begin
 
   abbrev here : Here
   here = here_of (server_state setting w n) n (w.servers n)
 
-  abbrev Good : ℕ → Command → Type 0
-  Good = MayWant setting w P
+  -- what may be wanted, where the step leaves the server so
+  abbrev Good : Server → ℕ → Command → Type 0
+  Good to = MayWant Was setting w (put_at w.servers n to) P
 
   abbrev Runs : Type 0
   Runs = (w.servers n).life.running ≡ true
 
   -- the world after the step
   abbrev GoesBy : Acted → Type 0
-  GoesBy acted = Goes setting w (acts w n what stamp acted).world
+  GoesBy acted = Goes Was setting w (acts w n what stamp acted).world
+
+  -- what may be wanted goes on to be, where the server keeps in mind what it has started
+  good_more : (to later : Server) → KeepsStarted to later → (place : ℕ) (c : Command) → Good to place c → Good later place c
+  good_more to later keeps = may_more setting w w (put_at w.servers n to) (put_at w.servers n later) P P (λ c h. h) each (λ x i. i)
+    where
+      each : (s : ℕ) → KeepsStarted (put_at w.servers n to s) (put_at w.servers n later s)
+      each s = elim (same_or_apart s n) [
+        | inl e ↦ subst (λ k. KeepsStarted (put_at w.servers n to k) (put_at w.servers n later k)) (sym e)
+            (subst (λ (x : Server × Server). KeepsStarted x.0 x.1) (λ i. (sym (put_same w.servers n to) i, sym (put_same w.servers n later) i)) keeps)
+        | inr ne ↦ subst (λ (x : Server × Server). KeepsStarted x.0 x.1) (λ i. (sym (put_apart w.servers n to s ne) i, sym (put_apart w.servers n later s ne) i))
+            (started_same (w.servers s))
+      ]
 
   -- ### What a step leaves of the log
 
   -- the log stays as it is, but for which server is asked next
   idle : (to : Server) (posts : List Post) → to.life ≡ (w.servers n).life → to.log.records ≡ (w.servers n).log.records
-      → to.own.store.fresh ≡ (w.servers n).own.store.fresh
+      → IsKept (w.servers n).own to.own
       → to.log.applied ≡ (w.servers n).log.applied
       → to.log.phase ≡ (w.servers n).log.phase → to.log.wants ≡ (w.servers n).log.wants → to.log.leaves ≡ (w.servers n).log.leaves
       → ((letter : Letter) → Among (job.Letter letter) to.queue → Among letter w.sent)
       → ((post : Post) → Among post posts → IsBacked P (λ c. ⊥) (λ said. In (sent n said) P.letters) post.body)
-      → Acts setting w P n to posts
-  idle to posts life records fresh applied phase wants leaves queued posted = record {
+      → Acts Was setting w P n to posts
+  idle to posts life records kept applied phase wants leaves queued posted = record {
     incs = ap inc_of records ∙ l.is.incs n ∙ sym (ap (λ (x : Life). x.inc) life);
-    fresh = fresh ∙ l.is.fresh n;
+    fresh = kept.fresh ∙ l.is.fresh n;
     life = subst (IsLaterLife (w.servers n).life) (sym life) (same_life (w.servers n).life);
+    started = minds (w.servers n) to (sym (ap (λ (x : Life). x.inc) life)) kept (inl applied);
     wants = λ c i. l.is.wants n c (subst (Among c) wants i);
     leaves = λ c i. l.is.leaves n c (subst (Among c) leaves i);
     queued = queued;
-    turn = still setting.servers n to.life.running to.log posts P Good l.is.low
+    turn = still setting.servers n to.life.running to.log posts P (Good to) l.is.low
         (subst (λ (x : _ × _). IsSeenAt n x.0 x.1 P) (λ i. (sym records i, sym applied i)) (l.is.servers n))
         (subst (λ (x : Life × Phase). IsBusyAs setting.servers n x.0.running x.1 P) (λ i. (sym life i, sym phase i)) (l.is.busy n member)) posted;
   }
 
-  unchanged : Acts setting w P n (w.servers n) []
-  unchanged = idle (w.servers n) [] refl refl refl refl refl refl refl (λ other h. l.is.queued n other h) (λ post h. no_posts post h)
+  unchanged : Acts Was setting w P n (w.servers n) []
+  unchanged = idle (w.servers n) [] refl refl (kept_itself (w.servers n).own) refl refl refl refl (λ other h. l.is.queued n other h) (λ post h. no_posts post h)
 
   -- what a job does, and sends at the server's revision
   record Did (acted : Acted) : Type 0 where
     posts : List Post
     letters : acted.letters ≡ letters_of (sender here) 0 posts
-    by : Acts setting w P n acted.server posts
+    by : Acts Was setting w P n acted.server posts
 
   did_goes : (acted : Acted) → Did acted → GoesBy acted
   did_goes acted did = subst (λ letters. GoesBy (record { server = acted.server; letters = letters })) (sym did.letters)
@@ -208,16 +296,19 @@ module _ (setting : Setting) (fair : IsFair setting) (w : World) (l : Logged set
       (inr (subst (λ (x : Server). IsOver x.life) (sym is) over))
 
   -- what the server did stands, and nothing of it is sent
-  stops_after : (to : Server) (posts : List Post) → to.life.running ≡ true → Acts setting w P n to posts → GoesBy (stops here to)
+  stops_after : (to : Server) (posts : List Post) → to.life.running ≡ true → Acts Was setting w P n to posts → GoesBy (stops here to)
   stops_after to posts runs did =
-      let over : Acts setting w P n (stopped to) [] = record {
+      let over : Acts Was setting w P n (stopped to) [] = record {
         life = record { inc = did.life.inc; over = λ e. inl refl };
         incs = did.incs;
         fresh = did.fresh;
         wants = did.wants;
         leaves = did.leaves;
         queued = λ letter h. no_jobs letter h;
-        turn = stop_turn setting.servers n to.log posts P Good (subst (λ b. HasTurn setting.servers n b to.log posts P Good) runs did.turn);
+        started = elim did.started [ inl lt ↦ inl lt | inr h ↦ inr (h.0, λ rev id f. minds_stopped to rev id (h.1 rev id f)) ];
+        turn = stop_turn setting.servers n to.log posts P (Good (stopped to))
+            (turn_more setting.servers n true to.log posts P (Good to) (Good (stopped to)) (good_more to (stopped to) (inr (refl, minds_stopped to)))
+            (subst (λ b. HasTurn setting.servers n b to.log posts P (Good to)) runs did.turn));
       } in
       server_sends setting w l n stamp what (record { from = actor.Server n; inc = here.inc; rev = 0 }) refl member (stopped to)
       (down_posts n here.inc (servers_of here.state)) [] over
@@ -235,7 +326,7 @@ module _ (setting : Setting) (fair : IsFair setting) (w : World) (l : Logged set
         posts = [];
         letters = refl;
         by = idle (record (w.servers n) { queue = (w.servers n).queue ++ job.Letter letter ∷ [] }) []
-            refl refl refl refl refl refl refl
+            refl refl (kept_itself (w.servers n).own) refl refl refl refl
             (λ other h. elim (in-append (job.Letter other) (w.servers n).queue (job.Letter letter ∷ []) h) [
               | inl old ↦ l.is.queued n other old
               | inr new ↦ (let same : job.Letter other ≡ job.Letter letter = only (λ x. x ≡ job.Letter letter) (job.Letter letter) (job.Letter other) new refl in
@@ -253,16 +344,19 @@ module _ (setting : Setting) (fair : IsFair setting) (w : World) (l : Logged set
         posts = tick_posts here (w.servers n);
         letters = refl;
         by =
-            idle (ticks here (w.servers n)).server (tick_posts here (w.servers n)) refl refl refl refl refl refl refl
-            (λ other h. elim (in-append (job.Letter other) (w.servers n).queue (start_jobs (w.servers n).log.phase (wanted_by here (w.servers n))) h) [
+            idle (ticks here (w.servers n)).server (tick_posts here (w.servers n)) refl refl (kept_itself (w.servers n).own) refl refl refl refl
+            (λ other h. elim (in-append (job.Letter other) (w.servers n).queue (tick_jobs here (w.servers n)) h) [
               | inl old ↦ l.is.queued n other old
-              | inr new ↦ absurd (start_only (w.servers n).log.phase (wanted_by here (w.servers n)) other new)
+              | inr new ↦ absurd (tick_only here (w.servers n) other new)
             ])
-            (λ post h. elim (in-append post (ballots ++ pairs) (ask_posts (voter_of here) (w.servers n).log) h) [
-              | inl former ↦ elim (in-append post ballots pairs former) [
-                | inl ballot ↦ ballot_backed P n (voter_of here) (w.servers n).log.phase
-                    (subst (λ k. IsAskedFor P n k (w.servers n).log.phase) (sym (as_many setting w fair l n)) (l.is.busy n member).asked) post ballot
-                | inr pair ↦ other_backed P (λ c. ⊥) (λ said. In (sent n said) P.letters) post.body (other_anew here (w.servers n).own (w.servers n).own.pairs.pending post pair)
+            (λ post h. elim (in-append post (ballots ++ pairs ++ copies_anew here (w.servers n).own) (ask_posts (voter_of here) (w.servers n).log) h) [
+              | inl former ↦ elim (in-append post (ballots ++ pairs) (copies_anew here (w.servers n).own) former) [
+                | inr copy ↦ other_backed P (λ c. ⊥) (λ said. In (sent n said) P.letters) post.body (other_copies_anew here (w.servers n).own post copy)
+                | inl earlier ↦ elim (in-append post ballots pairs earlier) [
+                  | inl ballot ↦ ballot_backed P n (voter_of here) (w.servers n).log.phase
+                      (subst (λ k. IsAskedFor P n k (w.servers n).log.phase) (sym (as_many setting w fair l n)) (l.is.busy n member).asked) post ballot
+                  | inr pair ↦ other_backed P (λ c. ⊥) (λ said. In (sent n said) P.letters) post.body (other_anew here (w.servers n).own (w.servers n).own.pairs.pending post pair)
+                ]
               ]
               | inr ask ↦ only (λ (x : Post). IsBacked P (λ c. ⊥) (λ said. In (sent n said) P.letters) x.body) _ post ask tt
             ]);
@@ -272,7 +366,7 @@ module _ (setting : Setting) (fair : IsFair setting) (w : World) (l : Logged set
   glances_on line round =
       server_goes setting w l n stamp what (glance_sender here (w.servers n))
       (by_test (λ (who : Sender). who.from ≡ actor.Server n) (w.servers n).life.running _ _ (λ e. refl) (λ e. refl)) member (w.servers n) _
-      (idle (w.servers n) _ refl refl refl refl refl refl refl (λ other h. l.is.queued n other h)
+      (idle (w.servers n) _ refl refl (kept_itself (w.servers n).own) refl refl refl refl (λ other h. l.is.queued n other h)
       (λ post h. only (λ (x : Post). IsBacked P (λ c. ⊥) (λ said. In (sent n said) P.letters) x.body) _ post h
       (by_test (IsBacked P (λ c. ⊥) (λ said. In (sent n said) P.letters)) (w.servers n).life.running _ _ (λ e. tt) (λ e. tt))))
 
@@ -282,34 +376,41 @@ module _ (setting : Setting) (fair : IsFair setting) (w : World) (l : Logged set
     was_queued : (letter : Letter) → Among (job.Letter letter) rest → Among letter w.sent
     was_queued letter h = l.is.queued n letter (subst (Among (job.Letter letter)) (sym is) (job_there (job.Letter letter) first rest h))
 
-    -- a job of the log, whatever it does to the pairs
-    logs : (done : LogDone) (own : Own) (queue : List Job) → own.store.fresh ≡ (w.servers n).own.store.fresh → Outcome setting.servers n (w.servers n).log first P Good (IsCalledFor setting w) done
-        → ((letter : Letter) → Among (job.Letter letter) queue → Among (job.Letter letter) (rest ++ done.jobs))
-        → Acts setting w P n (record (w.servers n) { log = done.log; own = own; queue = queue }) done.posts
-    logs done own queue fresh out left = record {
+    -- what a job of the log leaves, whatever it does to the pairs
+    abbrev left : LogDone → Own → List Job → Server
+    left done own queue = record (w.servers n) { log = done.log; own = own; queue = queue }
+
+    abbrev AnyOutcome : Server → LogDone → Type 0
+    AnyOutcome to = Outcome setting.servers n (w.servers n).log first P (Good to) (IsCalledFor setting w)
+
+    logs : (done : LogDone) (own : Own) (queue : List Job) → own.store.fresh ≡ (w.servers n).own.store.fresh
+        → KeepsStarted (w.servers n) (left done own queue) → AnyOutcome (left done own queue) done → ((letter : Letter) → Among (job.Letter letter) queue → Among (job.Letter letter) (rest ++ done.jobs))
+        → Acts Was setting w P n (left done own queue) done.posts
+    logs done own queue fresh started out follows = record {
       incs = out.incs ∙ l.is.incs n;
       fresh = fresh ∙ l.is.fresh n;
       life = same_life (w.servers n).life;
       wants = out.wants;
       leaves = out.leaves;
-      queued = λ other h. elim (in-append (job.Letter other) rest done.jobs (left other h)) [
+      queued = λ other h. elim (in-append (job.Letter other) rest done.jobs (follows other h)) [
         | inl old ↦ was_queued other old
         | inr new ↦ l.is.queued n other (subst (λ x. Among x (w.servers n).queue) (out.follows other new)
             (subst (Among first) (sym is) (job_here first rest)))
       ];
-      turn = subst (λ b. HasTurn setting.servers n b done.log done.posts P Good) (sym runs) out.turn;
+      started = started;
+      turn = subst (λ b. HasTurn setting.servers n b done.log done.posts P (Good (left done own queue))) (sym runs) out.turn;
     }
 
-    pairs_do : (done : Done) → IsQuiet done → done.own.store.fresh ≡ (w.servers n).own.store.fresh → Did (worked here (w.servers n) rest done)
-    pairs_do done quiet fresh = record {
+    pairs_do : (done : Done) → IsCalm (w.servers n).own done → Did (worked here (w.servers n) rest done)
+    pairs_do done calm = record {
       posts = done.posts;
       letters = refl;
-      by = idle (record (w.servers n) { own = done.own; queue = rest ++ done.jobs }) done.posts refl refl fresh refl refl refl refl
+      by = idle (record (w.servers n) { own = done.own; queue = rest ++ done.jobs }) done.posts refl refl calm.kept refl refl refl refl
           (λ other h. elim (in-append (job.Letter other) rest done.jobs h) [
             | inl old ↦ was_queued other old
-            | inr new ↦ absurd (quiet.jobs other new)
+            | inr new ↦ absurd (calm.quiet.jobs other new)
           ])
-          (λ post h. other_backed P (λ c. ⊥) (λ said. In (sent n said) P.letters) post.body (quiet.posts post h));
+          (λ post h. other_backed P (λ c. ⊥) (λ said. In (sent n said) P.letters) post.body (calm.quiet.posts post h));
     }
 
     backed_job : (letter : Letter) → first ≡ job.Letter letter → IsBacked P (IsCalledFor setting w) (IsSaidBy P letter.from) letter.body
@@ -319,94 +420,166 @@ module _ (setting : Setting) (fair : IsFair setting) (w : World) (l : Logged set
     busy_now : IsBusyAs setting.servers n true (w.servers n).log.phase P
     busy_now = subst (λ b. IsBusyAs setting.servers n b (w.servers n).log.phase P) runs (l.is.busy n member)
 
-    abbrev AnyOutcome : LogDone → Type 0
-    AnyOutcome = Outcome setting.servers n (w.servers n).log first P Good (IsCalledFor setting w)
+    called_good : (to : Server) (c : Command) → IsCalledFor setting w c → Good to (next_place (w.servers n).log) c
+    called_good to c s = (inl s, reached_next setting w l n)
 
-    log_outcome : AnyOutcome (log_does (voter_of here) (w.servers n).log first)
-    log_outcome =
-        subst (λ k. AnyOutcome (log_does (record { me = n; inc = here.inc; servers = k }) (w.servers n).log first)) (sym (as_many setting w fair l n))
+    log_outcome : (to : Server) → AnyOutcome to (log_does (voter_of here) (w.servers n).log first)
+    log_outcome to =
+        subst (λ k. AnyOutcome to (log_does (record { me = n; inc = here.inc; servers = k }) (w.servers n).log first)) (sym (as_many setting w fair l n))
         (log_job_done setting.servers n here.inc fair.small member (w.servers n).log P l.is.low (l.is.servers n) busy_now (told_once setting w fair.small l)
-        Good (IsCalledFor setting w) (l.is.wants n) (l.is.leaves n) (λ earlier lt. inr (inr lt)) (λ c s. (s, reached_next setting w l n)) first backed_job)
+        (Good to) (IsCalledFor setting w) (l.is.wants n) (l.is.leaves n) (λ earlier lt. inr (inr lt)) (called_good to) first backed_job)
 
-    apply_outcome : AnyOutcome (applies (w.servers n).log)
-    apply_outcome =
+    apply_outcome : (to : Server) → AnyOutcome to (applies (w.servers n).log)
+    apply_outcome to =
         applied_next setting.servers n here.inc fair.small member (w.servers n).log P l.is.low (l.is.servers n) busy_now (told_once setting w fair.small l)
-        Good (IsCalledFor setting w) (l.is.wants n) (l.is.leaves n) (λ earlier lt. inr (inr lt)) (λ c s. (s, reached_next setting w l n)) first
+        (Good to) (IsCalledFor setting w) (l.is.wants n) (l.is.leaves n) (λ earlier lt. inr (inr lt)) (called_good to) first
 
     crosses : Did (crossing here (w.servers n) rest (known (w.servers n).log (next_place (w.servers n).log)) (applies (w.servers n).log))
     crosses =
         let done = applies (w.servers n).log in
-        let entry = known (w.servers n).log (next_place (w.servers n).log) in record {
+        let entry = known (w.servers n).log (next_place (w.servers n).log) in
+        let queue = rest ++ done.jobs ++ jobs_by here.state n entry (w.servers n).own in record {
           posts = done.posts;
           letters = refl;
-          by = logs done (crossed_by here.state entry (w.servers n).own) (rest ++ done.jobs ++ stage_jobs_by here.state entry (w.servers n).own)
-              (fresh_crossed here.state entry (w.servers n).own) apply_outcome
-              (λ letter h. elim (in-append (job.Letter letter) (rest ++ done.jobs) (stage_jobs_by here.state entry (w.servers n).own) h) [
+          by = logs done (crossed_by here.state entry (w.servers n).own) queue
+              (fresh_crossed here.state entry (w.servers n).own) (minds_crossed here.state (w.servers n) queue)
+              (apply_outcome (left done (crossed_by here.state entry (w.servers n).own) queue))
+              (λ letter h. elim (in-append (job.Letter letter) (rest ++ done.jobs) (jobs_by here.state n entry (w.servers n).own) h) [
                 | inl old ↦ old
-                | inr new ↦ stages_only here.state entry (w.servers n).own letter new
+                | inr new ↦ stages_only here.state n entry (w.servers n).own letter new
               ]);
         }
 
     either : Did (if is_log_job first then entered here (w.servers n) rest (log_does (voter_of here) (w.servers n).log first)
         else worked here (w.servers n) rest (does here (w.servers n).own first))
     either = by_test Did (is_log_job first) _ _
-        (λ e. let done = log_does (voter_of here) (w.servers n).log first in record {
+        (λ e. let done = log_does (voter_of here) (w.servers n).log first in
+        let to = left done (w.servers n).own (rest ++ done.jobs) in
+        let out = log_outcome to in record {
           posts = done.posts;
           letters = refl;
-          by = logs done (w.servers n).own (rest ++ done.jobs) refl log_outcome (λ letter h. h);
+          by = logs done (w.servers n).own (rest ++ done.jobs) refl (minds (w.servers n) to refl (kept_itself (w.servers n).own) out.applied) out (λ letter h. h);
         })
-        (λ e. pairs_do (does here (w.servers n).own first) (quiet_job here (w.servers n).own first) (fresh_job here (w.servers n).own first))
+        (λ e. pairs_do (does here (w.servers n).own first) (calm_job here (w.servers n).own first))
 
-    -- what it wants may be proposed
+    -- ### A ballot starts
+
+    -- what is wanted, by how many servers there are
+    abbrev wants_of : ℕ → List Command
+    wants_of k = wanted (record { me = n; inc = here.inc; servers = k }) (w.servers n).log (returning here (w.servers n).own)
+
     abbrev With : ℕ → LogDone
-    With k = starts (record { me = n; inc = here.inc; servers = k }) (w.servers n).log
-        (wanted (record { me = n; inc = here.inc; servers = k }) (w.servers n).log (returning here (w.servers n).own))
+    With k = starts (record { me = n; inc = here.inc; servers = k }) (w.servers n).log (wants_of k)
 
-    start_outcome : AnyOutcome (starts (voter_of here) (w.servers n).log (wanted_by here (w.servers n)))
-    start_outcome =
-        subst (λ k. AnyOutcome (With k)) (sym (as_many setting w fair l n))
+    -- the command that it starts for
+    abbrev started_for : Option Command
+    started_for = first_wanted (w.servers n).log.phase (rev_of (w.servers n).log) (wanted_by here (w.servers n))
+
+    abbrev starts_to : Server
+    starts_to = let done = starts (voter_of here) (w.servers n).log (wanted_by here (w.servers n)) in
+        left done (proposed here.state (w.servers n).own started_for) (rest ++ done.jobs)
+
+    own_plain : IsPlainState setting.servers here.state
+    own_plain = log_plain setting.servers _ (applied_plain setting w fair l n)
+
+    -- a Caught is behind the entries that it has applied, and it has it in mind
+    good_caught : Remembers Was n starts_to → seated here.state n here.inc ≡ true → (c : Command) → started_for ≡ Some c
+        → Among c (caught_links here (w.servers n).own) → Good starts_to (next_place (w.servers n).log) c
+    good_caught remembers seat c first_is h =
+        let caught = caught_among here (w.servers n).own c h in
+        let found = own_plain.found caught.row caught.there in
+        let flagged : is_flagged (proposed here.state (w.servers n).own started_for) (id_of caught.row) ≡ true =
+        ap (λ o. is_flagged (proposed here.state (w.servers n).own o) (id_of caught.row)) first_is ∙ caught_minded here (w.servers n).own c caught found in (
+          inr (record {
+            front = (w.servers n).log.applied;
+            told = record {
+              many = refl;
+              told = λ i d e. (l.is.servers n).told (i + 1) d ((l.is.servers n).applied i d e);
+            };
+            is = subst (CatchesUp setting.servers (put_at w.servers n starts_to) (w.servers n).log.applied) (sym caught.is) (record {
+              may = caught_may here (w.servers n).own c caught found;
+              holds = seat;
+              joins = ap (λ o. option_map_or (λ present. present == caught.inc) o false) caught.joins ∙ number_itself caught.inc;
+              started = subst (λ (x : Server). IsMinded here.inc (length (w.servers n).log.applied) (id_of caught.row) x) (sym (put_same w.servers n starts_to))
+                  (inr (refl, record { reached = (let e = ap length (start_applied (voter_of here) (w.servers n).log (wanted_by here (w.servers n))) in omega arith); flagged = λ e. flagged }));
+            });
+            was = subst (WasMinded Was (w.servers n).log.applied) (sym caught.is)
+                (subst (λ (front : List Command). Was n here.inc front (id_of caught.row))
+                (start_applied (voter_of here) (w.servers n).log (wanted_by here (w.servers n))) (remembers (id_of caught.row) flagged));
+          }),
+          reached_next setting w l n,
+        )
+
+    -- what it wants so that it, or its links, return
+    good_return : Remembers Was n starts_to → (c : Command) → started_for ≡ Some c → Among c (returning here (w.servers n).own)
+        → Good starts_to (next_place (w.servers n).log) c
+    good_return remembers c first_is h =
+        by_test (λ (xs : List Command). Among c xs → Good starts_to (next_place (w.servers n).log) c) (seated here.state here.me here.inc)
+        (caught_links here (w.servers n).own) (own_join here.state here.me here.inc (w.servers n).own.store.fresh)
+        (λ seat. good_caught remembers seat c first_is)
+        (λ out i. join_only here.state n here.inc (w.servers n).own.store.fresh c
+        (λ may is. called_good starts_to c (subst (IsCalledFor setting w) (sym is)
+        (inr (join_later setting.servers here.state own_plain n here.inc may, omega arith, l.is.fresh n)))) i) h
+
+    start_outcome : Remembers Was n starts_to
+        → AnyOutcome starts_to (starts (voter_of here) (w.servers n).log (wanted_by here (w.servers n)))
+    start_outcome remembers =
+        subst (λ k. AnyOutcome starts_to (With k)) (sym (as_many setting w fair l n))
         (started setting.servers n here.inc fair.small member (w.servers n).log P l.is.low (l.is.servers n) busy_now (told_once setting w fair.small l)
-        Good (IsCalledFor setting w) (l.is.wants n) (l.is.leaves n) (λ earlier lt. inr (inr lt)) (λ c s. (s, reached_next setting w l n)) first _
-        (fine_wanted setting.servers n here.inc fair.small member (w.servers n).log P l.is.low (l.is.servers n) busy_now (told_once setting w fair.small l)
-        Good (IsCalledFor setting w) (l.is.wants n) (l.is.leaves n) (λ earlier lt. inr (inr lt)) (λ c s. (s, reached_next setting w l n))
-        (returning here (w.servers n).own)
-        (λ c i. join_only here.state n here.inc (w.servers n).own.store.fresh c
-        (λ may is. subst (IsCalledFor setting w) (sym is)
-        (inr (join_later setting.servers here.state (log_plain setting.servers _ (applied_plain setting w fair l n)) n here.inc may, omega arith, l.is.fresh n))) i)))
+        (Good starts_to) (IsCalledFor setting w) (l.is.wants n) (l.is.leaves n) (λ earlier lt. inr (inr lt)) (called_good starts_to) first
+        (wants_of setting.servers)
+        (λ c e. elim (fine_wanted setting.servers n here.inc fair.small member (w.servers n).log P l.is.low (l.is.servers n) busy_now (told_once setting w fair.small l)
+        (Good starts_to) (IsCalledFor setting w) (l.is.wants n) (l.is.leaves n) (λ earlier lt. inr (inr lt)) (called_good starts_to)
+        (returning here (w.servers n).own) c (first_among (w.servers n).log.phase (rev_of (w.servers n).log) (wants_of setting.servers) c e)) [
+          | inl called ↦ called_good starts_to c called
+          | inr returns ↦ good_return remembers c
+              (ap (λ k. first_wanted (w.servers n).log.phase (rev_of (w.servers n).log) (wants_of k)) (as_many setting w fair l n) ∙ e) returns
+        ]))
 
-    starts_one : Did (entered here (w.servers n) rest (starts (voter_of here) (w.servers n).log (wanted_by here (w.servers n))))
-    starts_one = let done = starts (voter_of here) (w.servers n).log (wanted_by here (w.servers n)) in record {
-      posts = done.posts;
-      letters = refl;
-      by = logs done (w.servers n).own (rest ++ done.jobs) refl start_outcome (λ letter h. h);
-    }
+    starts_one : Remembers Was n starts_to → Did (starting here (w.servers n) rest (wanted_by here (w.servers n)))
+    starts_one remembers =
+        let done = starts (voter_of here) (w.servers n).log (wanted_by here (w.servers n)) in
+        let kept = kept_proposed here.state (w.servers n).own started_for in
+        let out = start_outcome remembers in record {
+          posts = done.posts;
+          letters = refl;
+          by = logs done (proposed here.state (w.servers n).own started_for) (rest ++ done.jobs) kept.fresh
+              (minds (w.servers n) starts_to refl kept out.applied) out (λ letter h. h);
+        }
 
-  does_job : Runs → (first : Job) (rest : List Job) → (w.servers n).queue ≡ first ∷ rest → Did (job_done here (w.servers n) first rest)
-  does_job runs job.Apply rest is = crosses runs job.Apply rest is
-  does_job runs (job.Letter letter) rest is = either runs (job.Letter letter) rest is
-  does_job runs (job.Stage cell) rest is = either runs (job.Stage cell) rest is
-  does_job runs job.Start rest is = starts_one runs job.Start rest is
+  does_job : Runs → (first : Job) (rest : List Job) → (w.servers n).queue ≡ first ∷ rest
+      → Remembers Was n (job_done here (w.servers n) first rest).server → Did (job_done here (w.servers n) first rest)
+  does_job runs job.Apply rest is remembers = crosses runs job.Apply rest is
+  does_job runs (job.Letter letter) rest is remembers = either runs (job.Letter letter) rest is
+  does_job runs (job.Stage cell) rest is remembers = either runs (job.Stage cell) rest is
+  does_job runs (job.Mend link) rest is remembers = either runs (job.Mend link) rest is
+  does_job runs job.Start rest is remembers = starts_one runs job.Start rest is remembers
 
   life_kept : Runs → (first : Job) (rest : List Job) → (job_done here (w.servers n) first rest).server.life.running ≡ true
   life_kept runs job.Apply rest = runs
   life_kept runs (job.Letter letter) rest = by_test (λ (acted : Acted). acted.server.life.running ≡ true) (is_log_job (job.Letter letter)) _ _ (λ e. runs) (λ e. runs)
   life_kept runs (job.Stage cell) rest = runs
+  life_kept runs (job.Mend link) rest = runs
   life_kept runs job.Start rest = runs
 
-  works_on : Runs → (jobs : List Job) → (w.servers n).queue ≡ jobs → GoesBy (works here (w.servers n) jobs)
-  works_on runs [] is = did_goes _ (record { posts = []; letters = refl; by = unchanged })
-  works_on runs (first ∷ rest) is = by_test GoesBy (is_overfull (job_done here (w.servers n) first rest).server) _ _
-      (λ full. stops_now runs) (λ room. did_goes (job_done here (w.servers n) first rest) (does_job runs first rest is))
+  works_on : Runs → (jobs : List Job) → (w.servers n).queue ≡ jobs → Remembers Was n (works here (w.servers n) jobs).server
+      → GoesBy (works here (w.servers n) jobs)
+  works_on runs [] is remembers = did_goes _ (record { posts = []; letters = refl; by = unchanged })
+  works_on runs (first ∷ rest) is remembers =
+      by_test (λ (acted : Acted). Remembers Was n acted.server → GoesBy acted) (is_overfull (job_done here (w.servers n) first rest).server) _ _
+      (λ full kept. stops_now runs) (λ room kept. did_goes (job_done here (w.servers n) first rest) (does_job runs first rest is kept)) remembers
 
   -- a fault behind the commit leaves what the job commits, and one before it nothing
-  faults_on : Runs → (end : CommitEnd) (jobs : List Job) → (w.servers n).queue ≡ jobs → GoesBy (faults here (w.servers n) jobs end)
-  faults_on runs Before jobs is = stops_now runs
-  faults_on runs After [] is = stops_now runs
-  faults_on runs After (first ∷ rest) is =
-      by_test (λ (acted : Acted). GoesBy (stops here acted.server)) (is_overfull (job_done here (w.servers n) first rest).server) _ _
-      (λ full. stops_now runs)
-      (λ room. let did = does_job runs first rest is in
-      stops_after (job_done here (w.servers n) first rest).server did.posts (life_kept runs first rest) did.by)
+  faults_on : Runs → (end : CommitEnd) (jobs : List Job) → (w.servers n).queue ≡ jobs
+      → Remembers Was n (faults here (w.servers n) jobs end).server → GoesBy (faults here (w.servers n) jobs end)
+  faults_on runs Before jobs is remembers = stops_now runs
+  faults_on runs After [] is remembers = stops_now runs
+  faults_on runs After (first ∷ rest) is remembers =
+      by_test (λ (acted : Acted). Remembers Was n acted.server → GoesBy (stops here acted.server))
+      (is_overfull (job_done here (w.servers n) first rest).server) _ _
+      (λ full kept. stops_now runs)
+      (λ room kept. let did = does_job runs first rest is kept in
+      stops_after (job_done here (w.servers n) first rest).server did.posts (life_kept runs first rest) did.by) remembers
 
   -- ### A boot
 
@@ -421,14 +594,15 @@ module _ (setting : Setting) (fair : IsFair setting) (w : World) (l : Logged set
     wakes_on : GoesBy (wakes here (awake (raised (w.servers n))))
     wakes_on =
         let to = awake (raised (w.servers n)) in
-        let did : Acts setting w P n to [] = record {
+        let did : Acts Was setting w P n to [] = record {
           life = record { inc = omega arith; over = λ e. inr (omega arith) };
           incs = raised_inc;
           fresh = l.is.fresh n;
           wants = λ c i. no_command c i;
           leaves = λ c i. no_command c i;
           queued = λ letter h. no_jobs letter h;
-          turn = wake_turn setting.servers n (w.servers n).log P (w.servers n).life.inc (l.is.incs n) l.is.low (l.is.servers n) asleep Good;
+          started = inl (omega arith);
+          turn = wake_turn setting.servers n (w.servers n).log P (w.servers n).life.inc (l.is.incs n) l.is.low (l.is.servers n) asleep (Good to);
         } in
         server_sends setting w l n stamp what (record { from = actor.Server n; inc = (w.servers n).life.inc + 1; rev = rev_of to.log }) refl member to
         (down_posts n here.inc (servers_of here.state)) [] did
@@ -448,8 +622,9 @@ module _ (setting : Setting) (fair : IsFair setting) (w : World) (l : Logged set
         wants = l.is.wants n;
         leaves = l.is.leaves n;
         queued = l.is.queued n;
-        turn = subst (λ b. HasTurn setting.servers n b (raised (w.servers n)).log [] P Good) (sym rests)
-            (fail_turn setting.servers n (w.servers n).log P (w.servers n).life.inc (l.is.incs n) l.is.low (l.is.servers n) asleep Good
+        started = inl (omega arith);
+        turn = subst (λ b. HasTurn setting.servers n b (raised (w.servers n)).log [] P (Good (raised (w.servers n)))) (sym rests)
+            (fail_turn setting.servers n (w.servers n).log P (w.servers n).life.inc (l.is.incs n) l.is.low (l.is.servers n) asleep (Good (raised (w.servers n)))
             (subst (λ b. IsBusyAs setting.servers n b (w.servers n).log.phase P) rests (l.is.busy n member)));
       };
     })
@@ -460,15 +635,19 @@ module _ (setting : Setting) (fair : IsFair setting) (w : World) (l : Logged set
     boots_on (work_end.Fault After) =
         by_test (λ (to : Server). GoesBy (stays to)) (is_overfull (raised (w.servers n))) _ _ (λ full. stays_on) (λ room. fails_on)
 
-pub server_steps : (setting : Setting) (fair : IsFair setting) (w : World) (l : Logged setting w) (n stamp : ℕ) (member : n < setting.servers) (what : Step)
-    → MayServer what w n → Goes setting w (acts w n what stamp (server_step what (server_state setting w n) n (w.servers n))).world
-server_steps setting fair w l n stamp member (Call line) may = absurd may
-server_steps setting fair w l n stamp member (Deliver letter) may = delivers setting fair w l n stamp (Deliver letter) member letter may.comes.sent
-server_steps setting fair w l n stamp member Tick may = ticks_on setting fair w l n stamp Tick member
-server_steps setting fair w l n stamp member (Work work_end.Done) may =
-    works_on setting fair w l n stamp (Work work_end.Done) member may.acts.runs (w.servers n).queue refl
-server_steps setting fair w l n stamp member (Work (work_end.Fault end)) may =
-    faults_on setting fair w l n stamp (Work (work_end.Fault end)) member may.acts.runs end (w.servers n).queue refl
-server_steps setting fair w l n stamp member Stop may = stops_now setting fair w l n stamp Stop member may.runs
-server_steps setting fair w l n stamp member (Boot end) may = boots_on setting fair w l n stamp (Boot end) member may.rests end
-server_steps setting fair w l n stamp member (Glance line round) may = glances_on setting fair w l n stamp (Glance line round) member line round
+pub server_steps : {Was : Minded} (setting : Setting) (fair : IsFair setting) (w : World) (l : Logged Was setting w) (n stamp : ℕ)
+    (member : n < setting.servers) (what : Step)
+    → MayServer what w n → Remembers Was n (server_step what (server_state setting w n) n (w.servers n)).server
+    → Goes Was setting w (acts w n what stamp (server_step what (server_state setting w n) n (w.servers n))).world
+server_steps setting fair w l n stamp member (Call line) may remembers = absurd may
+server_steps setting fair w l n stamp member (Deliver letter) may remembers =
+    delivers setting fair w l n stamp (Deliver letter) member letter may.comes.sent
+server_steps setting fair w l n stamp member Tick may remembers = ticks_on setting fair w l n stamp Tick member
+server_steps setting fair w l n stamp member (Work work_end.Done) may remembers =
+    works_on setting fair w l n stamp (Work work_end.Done) member may.acts.runs (w.servers n).queue refl remembers
+server_steps setting fair w l n stamp member (Work (work_end.Fault end)) may remembers =
+    faults_on setting fair w l n stamp (Work (work_end.Fault end)) member may.acts.runs end (w.servers n).queue refl remembers
+server_steps setting fair w l n stamp member Stop may remembers = stops_now setting fair w l n stamp Stop member may.runs
+server_steps setting fair w l n stamp member (Boot end) may remembers = boots_on setting fair w l n stamp (Boot end) member may.rests end
+server_steps setting fair w l n stamp member (Glance line round) may remembers =
+    glances_on setting fair w l n stamp (Glance line round) member line round

@@ -1,5 +1,5 @@
 -- Each legal step keeps what is kept, from the start on.
-use Rattle.std.proofs.Common.{◌≡◌, ◌<◌, ◌≤◌, ◌+◌, inl, inr, ℕ, true, List, [], ◌∷◌, Some, refl, sym, ap, subst, arith}
+use Rattle.std.proofs.Common.{◌≡◌, ◌<◌, ◌≤◌, ◌+◌, inl, inr, ℕ, true, List, [], ◌∷◌, ◌++◌, Some, refl, sym, ap, subst, arith}
 use Rattle.std.specs.Prelude.{slice_get, nat_lt}
 use Rattle.std.proofs.lemmas.Bool.Decides.{nat_tests}
 use Rattle.petal_command.specs.declared.ballot.Ballot.{Ballot}
@@ -19,20 +19,20 @@ use Rattle.petal_rules.specs.Agreement.{IsTold}
 use Rattle.petal_rules.specs.Clients.{Client, Asked, Reaction, client_sender}
 use Rattle.petal_rules.specs.Lists.{In as Among}
 use Rattle.petal_rules.specs.Server.{letters_of}
-use Rattle.petal_rules.specs.World.{Setting, World, start, stamped, reacts, step, MayActor, MayClient, client_step, client_state, calls, next_line}
+use Rattle.petal_rules.specs.World.{Setting, World, start, stamped, reacts, step, MayActor, MayClient, client_step, client_state, calls, next_line, server_state, server_step}
 use Rattle.petal_rules.specs.declared.step.Step.{Step}
 use Rattle.petal_rules.specs.declared.step.Step.TheVariants.{Call, Deliver, Tick, Work, Stop, Boot, Glance}
 use Rattle.petal_rules.proofs.ListLemmas.{in-append, in_later, put_same}
 use Rattle.petal_rules.proofs.Tests.{all_put_apart, none_some}
 use Rattle.petal_history.specs.Legal.{IsLegalFrom, stepped, world_after}
 use Rattle.petal_history.specs.declared.record.Record.{Record}
-use Rattle.law_log.specs.Logged.{IsBacked, IsSaidBy, IsOpen, Logged}
+use Rattle.law_log.specs.Logged.{IsBacked, IsSaidBy, IsOpen, Logged, Minded}
 use Rattle.law_log.specs.Requested.{IsCalledFor, IsRequested, calls_in}
 use Rattle.law_log.proofs.Clients.{IsFine, Reacts, IsOf, IsClients, calls_so, hears_so, ticks_so}
 use Rattle.law_log.proofs.Facts.{IsFair}
 use Rattle.law_log.proofs.Servers.{server_steps}
 use Rattle.law_log.proofs.Turns.{backed_more}
-use Rattle.law_log.proofs.Worlds.{Goes, called_more, posted_by, same_life}
+use Rattle.law_log.proofs.Worlds.{AllRemember, Goes, Remembers, called_more, may_more, posted_by, same_life, started_same}
 
 -- ### A client's step
 
@@ -54,7 +54,7 @@ clients_backed p Own Good Said good (body.Pax said) h = absurd h
 clients_backed p Own Good Said good (body.News after commands) h = absurd h
 clients_backed p Own Good Said good _ h = tt
 
-module _ (setting : Setting) (w : World) (l : Logged setting w) (c stamp : ℕ) where
+module _ {Was : Minded} (setting : Setting) (w : World) (l : Logged Was setting w) (c stamp : ℕ) where
   abbrev P : schedule.World
   P = run setting.servers l.events begin
 
@@ -64,7 +64,7 @@ module _ (setting : Setting) (w : World) (l : Logged setting w) (c stamp : ℕ) 
   abbrev After : Reaction → World
   After reacted = (reacts w c stamp reacted).world
 
-  client_goes : (reacted : Reaction) → Reacts Told setting.lines c (w.clients c).seq reacted → Goes setting w (After reacted)
+  client_goes : (reacted : Reaction) → Reacts Told setting.lines c (w.clients c).seq reacted → Goes Was setting w (After reacted)
   client_goes reacted r =
       let called : (d : ℕ) → calls_in w d ≤ calls_in (After reacted) d =
       all_put_apart w.clients c reacted.client (λ d (x : Client). (w.clients d).seq ≤ x.seq) (λ d ne. omega arith) r.later in
@@ -101,7 +101,8 @@ module _ (setting : Setting) (w : World) (l : Logged setting w) (c stamp : ℕ) 
                   subst (IsBacked P (IsCalledFor setting (After reacted)) (IsSaidBy P letter.from)) (sym post.2) backed)
               | inr old ↦ backed_more P P _ _ (IsSaidBy P letter.from) (IsSaidBy P letter.from) (λ x i. i) more (λ said h. h) letter.body (l.is.sent letter old)
             ];
-            wanted = λ place command h. let good = l.is.wanted place command h in (more command good.0, good.1);
+            wanted = λ place command h. may_more setting w (After reacted) w.servers w.servers P P more (λ s. started_same (w.servers s)) (λ x i. i) place command
+                (l.is.wanted place command h);
             wants = λ s command i. more command (l.is.wants s command i);
             leaves = λ s command i. more command (l.is.leaves s command i);
             queued = λ s letter i. in_later letter _ w.sent (l.is.queued s letter i);
@@ -122,7 +123,7 @@ module _ (setting : Setting) (w : World) (l : Logged setting w) (c stamp : ℕ) 
   news_told letter i after commands e = subst (IsBacked P (IsCalledFor setting w) (IsSaidBy P letter.from)) e (l.is.sent letter i)
 
   client_steps : (what : Step) → MayClient what setting w c
-      → Goes setting w (After (client_step what (client_state setting w c) c (w.clients c) (next_line setting.lines c (w.clients c))))
+      → Goes Was setting w (After (client_step what (client_state setting w c) c (w.clients c) (next_line setting.lines c (w.clients c))))
   client_steps (Call number) may =
       client_goes _
       (subst (λ line. Reacts Told setting.lines c (w.clients c).seq (calls (client_state setting w c) c (w.clients c) line)) (sym may.next)
@@ -137,18 +138,23 @@ module _ (setting : Setting) (w : World) (l : Logged setting w) (c stamp : ℕ) 
 
 -- ### A step, and a history
 
-pub step_goes : (setting : Setting) → IsFair setting → (w : World) → Logged setting w → (who : Actor) (what : Step) (stamp : ℕ) → MayActor who what setting w
-    → Goes setting w (step who what setting w stamp).world
+pub step_goes : {Was : Minded} (setting : Setting) → IsFair setting → (w : World) → Logged Was setting w → (who : Actor) (what : Step) (stamp : ℕ)
+    → MayActor who what setting w → AllRemember Was (step who what setting w stamp).world → Goes Was setting w (step who what setting w stamp).world
 unfolding step
-step_goes setting fair w l (actor.Server n) what stamp may = server_steps setting fair w l n stamp may.0 what may.1
-step_goes setting fair w l (actor.Client c) what stamp may = client_steps setting w l c stamp what may.1
+step_goes {Was} setting fair w l (actor.Server n) what stamp may remember =
+    server_steps setting fair w l n stamp may.0 what may.1
+    (subst (Remembers Was n) (put_same w.servers n (server_step what (server_state setting w n) n (w.servers n)).server) (remember n))
+step_goes setting fair w l (actor.Client c) what stamp may remember = client_steps setting w l c stamp what may.1
 
-pub history_goes : (setting : Setting) → IsFair setting → (records : List Record) (w : World) → Logged setting w → IsLegalFrom setting w records
-    → Goes setting w (world_after setting w records)
-history_goes setting fair [] w l legal = record { logged = l; grown = λ s place ballot command i. i }
-history_goes setting fair (own ∷ later) w l legal =
-    let first = step_goes setting fair w l own.actor own.step own.stamp legal.0.may.may in
-    let rest = history_goes setting fair later (stepped setting w own).world first.logged legal.1 in
+-- each world behind a front of the records remembers
+pub history_goes : {Was : Minded} (setting : Setting) → IsFair setting → (records : List Record) (w : World) → Logged Was setting w
+    → IsLegalFrom setting w records → ((before later : List Record) → records ≡ before ++ later → AllRemember Was (world_after setting w before))
+    → Goes Was setting w (world_after setting w records)
+history_goes setting fair [] w l legal remember = record { logged = l; grown = λ s place ballot command i. i }
+history_goes setting fair (own ∷ later) w l legal remember =
+    let first = step_goes setting fair w l own.actor own.step own.stamp legal.0.may.may (remember (own ∷ []) later refl) in
+    let rest = history_goes setting fair later (stepped setting w own).world first.logged legal.1
+    (λ before end is. remember (own ∷ before) end (ap (λ xs. own ∷ xs) is)) in
     record { logged = rest.logged; grown = λ s place ballot command i. rest.grown s place ballot command (first.grown s place ballot command i) }
 
 -- ### The start
@@ -164,7 +170,7 @@ unfolding In
 no_vote place ballot command (inl e) = let f : Accepted place ballot command ≡ Inc 1 = e in absurd cc
 no_vote place ballot command (inr h) = absurd h
 
-pub start_logged : (setting : Setting) → Logged setting (start setting)
+pub start_logged : {Was : Minded} (setting : Setting) → Logged Was setting (start setting)
 unfolding In Among
 start_logged setting = record {
   events = [];

@@ -175,6 +175,12 @@ pub record HasTurn (servers n : ℕ) (running : Bool) (log : Log) (posts : List 
   pub wanted : (place : ℕ) (command : Command) → IsWanted events place command → Good place command
   pub turns : Turns servers n running log posts p (run servers events p)
 
+-- what may be wanted, may also be so in another sense
+pub turn_more : (servers n : ℕ) (running : Bool) (log : Log) (posts : List Post) (p : World) (Good Better : ℕ → Command → Type 0)
+    → ((place : ℕ) (c : Command) → Good place c → Better place c) → HasTurn servers n running log posts p Good → HasTurn servers n running log posts p Better
+turn_more servers n running log posts p Good Better more t =
+    record { events = t.events; wanted = λ place c h. more place c (t.wanted place c h); turns = t.turns }
+
 -- a letter that was sent is handed over
 pub by_letter : (servers n : ℕ) (log : Log) (posts : List Post) (p : World) (Good : ℕ → Command → Type 0) (there : Phase) (from : ℕ) (said : Pax)
     → p.proposers n ≡ Some there → In (sent from said) p.letters → Turns servers n true log posts p (handed servers p n there from said Goes)

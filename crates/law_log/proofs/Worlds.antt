@@ -1,8 +1,8 @@
 -- What is kept of a world is kept by what one server does.
-use Rattle.std.proofs.Common.{◌≡◌, ◌<◌, ◌≤◌, ◌+◌, ◌⊎◌, inl, inr, ℕ, true, false, List, [], ◌∷◌, ◌++◌, refl, sym, ap, ◌∙◌, subst, arith}
+use Rattle.std.proofs.Common.{◌≡◌, ◌<◌, ◌≤◌, ◌+◌, ◌⊎◌, inl, inr, ℕ, true, false, List, [], ◌∷◌, ◌++◌, length, refl, sym, ap, ◌∙◌, subst, arith}
 use Rattle.petal_command.specs.declared.ballot.Ballot.{Ballot}
 use Rattle.petal_command.specs.declared.command.Command.{Command}
-use Rattle.petal_command.specs.declared.command.Command.TheVariants.{Join, Leave}
+use Rattle.petal_command.specs.declared.command.Command.TheVariants.{Join, Leave, Caught}
 use Rattle.petal_command.specs.declared.pax.Pax.{Pax}
 use Rattle.petal_msg.specs.declared.letter.Actor.{Actor}
 use Rattle.petal_msg.specs.declared.letter.Actor.TheVariants as actor
@@ -12,7 +12,8 @@ use Rattle.petal_paxos.specs.Member.{In}
 use Rattle.petal_paxos.specs.Schedule.{Sent, sent, Event, run, begin, happens, IsWanted, Starts, Handed, Stops, Boots}
 use Rattle.petal_paxos.specs.Schedule as schedule
 use Rattle.petal_paxos.specs.declared.record.StateRecord.TheVariants.{Accepted}
-use Rattle.petal_rules.specs.Lists.{In as Among}
+use Rattle.petal_rules.specs.Lists.{In as Among, put_at}
+use Rattle.petal_msg.specs.declared.copying.LinkId.{LinkId}
 use Rattle.petal_rules.specs.Posts.{Post, Sender, letters_of}
 use Rattle.petal_rules.specs.Server.{Life, Server}
 use Rattle.petal_rules.specs.declared.step.Step.{Step}
@@ -20,8 +21,9 @@ use Rattle.petal_rules.specs.World.{Setting, World, devices, stamped, acts}
 use Rattle.petal_rules.specs.declared.job.Job.TheVariants as job
 use Rattle.petal_rules.proofs.ListLemmas.{in-append, in_later}
 use Rattle.petal_rules.proofs.Tests.{all_put_apart}
-use Rattle.law_log.specs.Logged.{IsReached, IsSeenAt, IsBusyAs, IsBacked, IsSaidBy, IsLogged, Logged}
-use Rattle.law_log.specs.Requested.{HasStopped, IsCalledFor, IsOfLives, IsScripted}
+use Rattle.law_log.specs.Logged.{IsSeenAt, IsBusyAs, IsBacked, IsSaidBy, IsLogged, Logged, MayWant, Minded}
+use Rattle.law_log.specs.Requested.{CatchesUp, HasStopped, IsCalledFor, IsOfLives, IsScripted}
+use Rattle.law_state.specs.Started.{HasFlag, is_flagged}
 use Rattle.law_log.proofs.Turns.{Turns, HasTurn, seen_apart, busy_same, told_more, reached_more, backed_more, run_on, wanted_on}
 
 -- ### Letters of a step
@@ -44,13 +46,9 @@ abbrev pub IsGrown : World → World → Type 0
 IsGrown w v = (s place : ℕ) (ballot : Ballot) (command : Command) → In (Accepted place ballot command) (devices w s)
     → In (Accepted place ballot command) (devices v s)
 
-pub record Goes (setting : Setting) (w v : World) : Type 0 where
-  pub logged : Logged setting v
+pub record Goes (Was : Minded) (setting : Setting) (w v : World) : Type 0 where
+  pub logged : Logged Was setting v
   pub grown : IsGrown w v
-
--- what may be wanted: what is called for, at a place up to which all are told
-abbrev pub MayWant : Setting → World → schedule.World → ℕ → Command → Type 0
-MayWant setting w p place command = IsCalledFor setting w command × IsReached p place
 
 -- a life goes on, or is over, or the next one has begun
 pub record IsLaterLife (before later : Life) : Type 0 where
@@ -74,15 +72,65 @@ pub called_more : (setting : Setting) (w v : World) → ((c : Command) → IsScr
 called_more setting w v more later c (inl h) = inl (more c h)
 called_more setting w v more later c (inr h) = inr (lives_more w v later c h)
 
+-- a ballot that a server has started for a Caught it has in mind, or its incarnation is over
+abbrev pub KeepsStarted : (before later : Server) → Type 0
+KeepsStarted before later =
+    (before.life.inc < later.life.inc) ⊎ ((before.life.inc ≡ later.life.inc) × ((rev : ℕ) (id : LinkId) → HasFlag before rev id → HasFlag later rev id))
+
+pub started_same : (server : Server) → KeepsStarted server server
+started_same server = inr (refl, λ rev id h. h)
+
+started_by : (before later : Server) → KeepsStarted before later → (inc rev : ℕ) (id : LinkId)
+    → (inc < before.life.inc) ⊎ ((inc ≡ before.life.inc) × HasFlag before rev id) → (inc < later.life.inc) ⊎ ((inc ≡ later.life.inc) × HasFlag later rev id)
+started_by before later (inl lt) inc rev id (inl h) = inl (omega arith)
+started_by before later (inl lt) inc rev id (inr h) = let e = h.0 in inl (omega arith)
+started_by before later (inr kept) inc rev id (inl h) = let e = kept.0 in inl (omega arith)
+started_by before later (inr kept) inc rev id (inr h) = inr (h.0 ∙ kept.0, kept.1 rev id h.1)
+
+caught_more : (servers : ℕ) (actors later : ℕ → Server) → ((s : ℕ) → KeepsStarted (actors s) (later s)) → (front : List Command) (c : Command)
+    → CatchesUp servers actors front c → CatchesUp servers later front c
+caught_more servers actors later keeps front (Caught of link holder inc other other_inc) h = record {
+  may = h.may;
+  holds = h.holds;
+  joins = h.joins;
+  started = started_by (actors holder) (later holder) (keeps holder) inc (length front) (record { map = of; link = link }) h.started;
+}
+caught_more servers actors later keeps front _ h = absurd h
+
+pub may_more : {Was : Minded} (setting : Setting) (w v : World) (actors later : ℕ → Server) (p q : schedule.World)
+    → ((c : Command) → IsCalledFor setting w c → IsCalledFor setting v c)
+    → ((s : ℕ) → KeepsStarted (actors s) (later s)) → ((x : Sent) → In x p.letters → In x q.letters) → (place : ℕ) (c : Command)
+    → MayWant Was setting w actors p place c → MayWant Was setting v later q place c
+may_more setting w v actors later p q more keeps letters place c h = (
+  elim h.0 [
+    | inl called ↦ inl (more c called)
+    | inr caught ↦ inr (record {
+      front = caught.front;
+      told = record { many = caught.told.many; told = λ i d e. told_more p q letters (i + 1) d (caught.told.told i d e) };
+      is = caught_more setting.servers actors later keeps caught.front c caught.is;
+      was = caught.was;
+    })
+  ],
+  reached_more p q letters place h.1,
+)
+
+-- each ballot for a Caught that the server has in mind is remembered
+abbrev pub Remembers : Minded → ℕ → Server → Type 0
+Remembers Was n server = (id : LinkId) → is_flagged server.own id ≡ true → Was n server.life.inc server.log.applied id
+
+abbrev pub AllRemember : Minded → World → Type 0
+AllRemember Was w = (n : ℕ) → Remembers Was n (w.servers n)
+
 pub same_life : (life : Life) → IsLaterLife life life
 same_life life = record { inc = omega arith; over = λ e. inl e }
 
-module _ (setting : Setting) (w : World) (events : List Event) (p : schedule.World) (l : IsLogged setting w events p) (n stamp : ℕ) (what : Step) (who : Sender)
+module _ {Was : Minded} (setting : Setting) (w : World) (events : List Event) (p : schedule.World) (l : IsLogged Was setting w events p)
+    (n stamp : ℕ) (what : Step) (who : Sender)
     (member : n < setting.servers) (posts others : List Post) (to : Server)
     (own : who.from ≡ actor.Server n) (life : IsLaterLife (w.servers n).life to.life)
     (incs : inc_of to.log.records ≡ to.life.inc) (fresh : to.own.store.fresh ≡ false)
     (wants : (c : Command) → Among c to.log.wants → IsCalledFor setting w c) (leaves : (c : Command) → Among c to.log.leaves → IsCalledFor setting w c)
-    (queued : (letter : Letter) → Among (job.Letter letter) to.queue → Among letter w.sent) where
+    (queued : (letter : Letter) → Among (job.Letter letter) to.queue → Among letter w.sent) (started : KeepsStarted (w.servers n) to) where
   abbrev After : World
   After = (acts w n what stamp (record { server = to; letters = letters_of who 0 posts })).world
 
@@ -92,10 +140,14 @@ module _ (setting : Setting) (w : World) (events : List Event) (p : schedule.Wor
   pub more : (c : Command) → IsCalledFor setting w c → IsCalledFor setting After c
   more = called_more setting w After (λ c h. h) lives
 
-  pub kept_by : (new : List Event) (q : schedule.World) → ((place : ℕ) (c : Command) → IsWanted new place c → MayWant setting w p place c)
+  keeps_started : (s : ℕ) → KeepsStarted (w.servers s) (After.servers s)
+  keeps_started = all_put_apart w.servers n to (λ s (x : Server). KeepsStarted (w.servers s) x) (λ s ne. started_same (w.servers s)) started
+
+  pub kept_by : (new : List Event) (q : schedule.World)
+      → ((place : ℕ) (c : Command) → IsWanted new place c → MayWant Was setting w (put_at w.servers n to) p place c)
       → Turns setting.servers n to.life.running to.log others p q
       → ((post : Post) → Among post posts → IsBacked q (IsCalledFor setting After) (λ said. In (sent n said) q.letters) post.body)
-      → IsLogged setting After (events ++ new) q
+      → IsLogged Was setting After (events ++ new) q
   kept_by new q wanted t posted = record {
     servers = all_put_apart w.servers n to (λ s (x : Server). IsSeenAt s x.log.records x.log.applied q)
         (λ s ne. seen_apart s n (w.servers s).log.records (w.servers s).log.applied p q ne t.apart (l.servers s)) t.seen;
@@ -119,8 +171,8 @@ module _ (setting : Setting) (w : World) (events : List Event) (p : schedule.Wor
           (said_more p q t.apart.letters letter.from) letter.body (l.sent letter old)
     ];
     wanted = λ place c h. elim (wanted_on events new place c h) [
-      | inl old ↦ (let good = l.wanted place c old in (more c good.0, reached_more p q t.apart.letters place good.1))
-      | inr now ↦ (let good = wanted place c now in (more c good.0, reached_more p q t.apart.letters place good.1))
+      | inl old ↦ may_more setting w After w.servers After.servers p q more keeps_started t.apart.letters place c (l.wanted place c old)
+      | inr now ↦ may_more setting w After After.servers After.servers p q more (λ s. started_same (After.servers s)) t.apart.letters place c (wanted place c now)
     ];
     wants = all_put_apart w.servers n to (λ s (x : Server). (c : Command) → Among c x.log.wants → IsCalledFor setting After c)
         (λ s ne c i. more c (l.wants s c i)) (λ c i. more c (wants c i));
@@ -133,42 +185,44 @@ module _ (setting : Setting) (w : World) (events : List Event) (p : schedule.Wor
   }
 
 -- a server after a step, as a schedule has it
-pub record Acts (setting : Setting) (w : World) (p : schedule.World) (n : ℕ) (to : Server) (posts : List Post) : Type 0 where
+pub record Acts (Was : Minded) (setting : Setting) (w : World) (p : schedule.World) (n : ℕ) (to : Server) (posts : List Post) : Type 0 where
   pub life : IsLaterLife (w.servers n).life to.life
   pub incs : inc_of to.log.records ≡ to.life.inc
   pub fresh : to.own.store.fresh ≡ false
   pub wants : (c : Command) → Among c to.log.wants → IsCalledFor setting w c
   pub leaves : (c : Command) → Among c to.log.leaves → IsCalledFor setting w c
   pub queued : (letter : Letter) → Among (job.Letter letter) to.queue → Among letter w.sent
-  pub turn : HasTurn setting.servers n to.life.running to.log posts p (MayWant setting w p)
+  pub started : KeepsStarted (w.servers n) to
+  pub turn : HasTurn setting.servers n to.life.running to.log posts p (MayWant Was setting w (put_at w.servers n to) p)
 
-module _ (setting : Setting) (w : World) (l : Logged setting w) (n stamp : ℕ) (what : Step) (who : Sender) (own : who.from ≡ actor.Server n)
+module _ {Was : Minded} (setting : Setting) (w : World) (l : Logged Was setting w) (n stamp : ℕ) (what : Step) (who : Sender) (own : who.from ≡ actor.Server n)
     (member : n < setting.servers) where
   abbrev P : schedule.World
   P = run setting.servers l.events begin
 
   -- what it sends is backed by the world after the step
-  pub server_sends : (to : Server) (posts others : List Post) → (acted : Acts setting w P n to others)
+  pub server_sends : (to : Server) (posts others : List Post) → (acted : Acts Was setting w P n to others)
       → ((post : Post) → Among post posts → IsBacked (run setting.servers acted.turn.events P)
       (IsCalledFor setting (acts w n what stamp (record { server = to; letters = letters_of who 0 posts })).world)
       (λ said. In (sent n said) (run setting.servers acted.turn.events P).letters) post.body)
-      → Goes setting w (acts w n what stamp (record { server = to; letters = letters_of who 0 posts })).world
+      → Goes Was setting w (acts w n what stamp (record { server = to; letters = letters_of who 0 posts })).world
   server_sends to posts others acted posted =
       let q = run setting.servers acted.turn.events P in
       let kept = kept_by setting w l.events P l.is n stamp what who member posts others to own acted.life acted.incs acted.fresh acted.wants acted.leaves acted.queued
+      acted.started
       acted.turn.events q acted.turn.wanted acted.turn.turns posted in
       record {
         logged = record {
           events = l.events ++ acted.turn.events;
-          is = subst (IsLogged setting (acts w n what stamp (record { server = to; letters = letters_of who 0 posts })).world (l.events ++ acted.turn.events))
+          is = subst (IsLogged Was setting (acts w n what stamp (record { server = to; letters = letters_of who 0 posts })).world (l.events ++ acted.turn.events))
               (sym (run_on setting.servers l.events acted.turn.events begin)) kept;
         };
         grown = λ s place ballot command i.
             ((kept.servers s).votes place ballot command).0 (acted.turn.turns.apart.more _ (((l.is.servers s).votes place ballot command).1 i));
       }
 
-  pub server_goes : (to : Server) (posts : List Post) → Acts setting w P n to posts
-      → Goes setting w (acts w n what stamp (record { server = to; letters = letters_of who 0 posts })).world
+  pub server_goes : (to : Server) (posts : List Post) → Acts Was setting w P n to posts
+      → Goes Was setting w (acts w n what stamp (record { server = to; letters = letters_of who 0 posts })).world
   server_goes to posts acted =
       let q = run setting.servers acted.turn.events P in
       server_sends to posts posts acted (λ post i.

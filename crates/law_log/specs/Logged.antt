@@ -1,12 +1,13 @@
 -- What is kept of the agreed log from step to step: a schedule of agreement that the world is seen as, and what goes with it.
-use Rattle.std.specs.Prelude.{ℕ, ◌+◌, ◌≡◌, ◌↔◌, ◌<◌, ◌≤◌, ⊤, Bool, true, false, List, slice_get, Some}
+use Rattle.std.specs.Prelude.{ℕ, ◌+◌, ◌≡◌, ◌↔◌, ◌⊎◌, ◌<◌, ◌≤◌, ⊤, Bool, true, false, List, length, slice_get, Some}
 use Rattle.petal_command.specs.declared.ballot.Ballot.{Ballot}
 use Rattle.petal_command.specs.declared.command.Command.{Command}
-use Rattle.petal_command.specs.declared.command.Command.TheVariants.{Leave}
+use Rattle.petal_command.specs.declared.command.Command.TheVariants.{Caught, Leave}
 use Rattle.petal_command.specs.declared.pax.Pax.{Pax}
 use Rattle.petal_command.specs.declared.pax.Pax.TheVariants.{Prepare, Accept}
 use Rattle.petal_msg.specs.declared.body.Body.{Body}
 use Rattle.petal_msg.specs.declared.body.Body.TheVariants as body
+use Rattle.petal_msg.specs.declared.copying.LinkId.{LinkId}
 use Rattle.petal_msg.specs.declared.letter.Actor.{Actor}
 use Rattle.petal_msg.specs.declared.letter.Actor.TheVariants as actor
 use Rattle.petal_msg.specs.declared.letter.Letter.{Letter}
@@ -20,9 +21,10 @@ use Rattle.petal_paxos.specs.declared.record.StateRecord.TheVariants.{Accepted}
 use Rattle.petal_rules.specs.Agreement.{IsTold, IsProposer, IsAskedFor}
 use Rattle.petal_rules.specs.Clients.{Asked}
 use Rattle.petal_rules.specs.Lists.{In as Among}
+use Rattle.petal_rules.specs.Server.{Server}
 use Rattle.petal_rules.specs.World.{Setting, World, lines_of}
 use Rattle.petal_rules.specs.declared.job.Job.TheVariants as job
-use Rattle.law_log.specs.Requested.{IsCalledFor}
+use Rattle.law_log.specs.Requested.{CatchesUp, IsCalledFor}
 
 -- ### A schedule
 
@@ -30,6 +32,33 @@ use Rattle.law_log.specs.Requested.{IsCalledFor}
 pub record IsReached (p : schedule.World) (place : ℕ) : Type 0 where
   pub starts : 0 < place
   pub told : (i : ℕ) → i + 1 < place → (command : Command) × IsTold p (i + 1) command
+
+-- these commands were told for the places before this one
+pub record IsToldBefore (p : schedule.World) (place : ℕ) (front : List Command) : Type 0 where
+  pub many : length front + 1 ≡ place
+  pub told : (i : ℕ) (command : Command) → slice_get front i ≡ Some command → IsTold p (i + 1) command
+
+-- what is remembered of a holder, as this incarnation and with these entries applied: that it had in mind to have started a ballot for
+-- the link's Caught
+abbrev pub Minded : Type 1
+Minded = (holder inc : ℕ) (front : List Command) → LinkId → Type 0
+
+-- it is so of the Caught's holder behind these entries
+abbrev pub WasMinded : Minded → (front : List Command) → Command → Type 0
+WasMinded Was front (Caught of link holder inc other other_inc) = Was holder inc front (record { map = of; link = link })
+WasMinded Was front _ = ⊤
+
+-- the command is a Caught behind what was told for the places before this one
+pub record IsCaughtFor (Was : Minded) (servers : ℕ) (actors : ℕ → Server) (p : schedule.World) (place : ℕ) (command : Command) : Type 0 where
+  pub front : List Command
+  pub told : IsToldBefore p place front
+  pub is : CatchesUp servers actors front command
+  pub was : WasMinded Was front command
+
+-- what may be wanted for a place: what is called for, or a Caught
+abbrev pub MayWant : Minded → Setting → World → (actors : ℕ → Server) → schedule.World → ℕ → Command → Type 0
+MayWant Was setting w actors p place command =
+    (IsCalledFor setting w command ⊎ IsCaughtFor Was setting.servers actors p place command) × IsReached p place
 
 -- a ballot that is asked for is of a server whose number is a byte
 abbrev pub IsLow : Pax → Type 0
@@ -87,7 +116,7 @@ pub record IsOpen (lines : List Line) (c called : ℕ) (asked : Asked) : Type 0 
 
 -- ### A world
 
-pub record IsLogged (setting : Setting) (w : World) (events : List schedule.Event) (p : schedule.World) : Type 0 where
+pub record IsLogged (Was : Minded) (setting : Setting) (w : World) (events : List schedule.Event) (p : schedule.World) : Type 0 where
   pub servers : (s : ℕ) → IsSeenAt s (w.servers s).log.records (w.servers s).log.applied p
   pub known : (s : ℕ) → (w.servers s).life.running ≡ true → s < setting.servers
   pub incs : (s : ℕ) → inc_of (w.servers s).log.records ≡ (w.servers s).life.inc
@@ -96,13 +125,13 @@ pub record IsLogged (setting : Setting) (w : World) (events : List schedule.Even
   pub busy : (s : ℕ) → s < setting.servers → IsBusyAs setting.servers s (w.servers s).life.running (w.servers s).log.phase p
   pub low : AreLow p
   pub sent : (letter : Letter) → Among letter w.sent → IsBacked p (IsCalledFor setting w) (IsSaidBy p letter.from) letter.body
-  pub wanted : (place : ℕ) (command : Command) → schedule.IsWanted events place command → IsCalledFor setting w command × IsReached p place
+  pub wanted : (place : ℕ) (command : Command) → schedule.IsWanted events place command → MayWant Was setting w w.servers p place command
   pub wants : (s : ℕ) (command : Command) → Among command (w.servers s).log.wants → IsCalledFor setting w command
   pub leaves : (s : ℕ) (command : Command) → Among command (w.servers s).log.leaves → IsCalledFor setting w command
   pub queued : (s : ℕ) (letter : Letter) → Among (job.Letter letter) (w.servers s).queue → Among letter w.sent
   pub applied : (c i : ℕ) (command : Command) → slice_get (w.clients c).applied i ≡ Some command → IsTold p (i + 1) command
   pub asked : (c : ℕ) (asked : Asked) → (w.clients c).asked ≡ Some asked → IsOpen setting.lines c (w.clients c).seq asked
 
-pub record Logged (setting : Setting) (w : World) : Type 0 where
+pub record Logged (Was : Minded) (setting : Setting) (w : World) : Type 0 where
   pub events : List schedule.Event
-  pub is : IsLogged setting w events (schedule.run setting.servers events schedule.begin)
+  pub is : IsLogged Was setting w events (schedule.run setting.servers events schedule.begin)

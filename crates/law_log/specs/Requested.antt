@@ -1,15 +1,23 @@
--- Which commands a run proposes: those of requests that clients have called, Leaves of incarnations that have stopped, and Joins
--- of incarnations that have begun.
-use Rattle.std.specs.Prelude.{◌≡◌, ◌≢◌, ◌⊎◌, ◌+◌, ◌<◌, ◌≤◌, ℕ, List, false, slice_get, Some}
+-- Which commands a run proposes: those of requests that clients have called, Leaves of incarnations that have stopped, Joins of
+-- incarnations that have begun, and each Caught at its place, of the holder that found nothing left to copy.
+use Rattle.std.specs.Prelude.{◌≡◌, ◌≢◌, ◌⊎◌, ◌+◌, ◌<◌, ◌≤◌, ◌++◌, ℕ, List, [], ◌∷◌, true, false, length, slice_get, Some}
+use Rattle.global_tables.specs.Link.{link_at}
 use Rattle.petal_command.specs.declared.command.Command.{Command}
-use Rattle.petal_command.specs.declared.command.Command.TheVariants.{Join, Leave, Witness}
+use Rattle.petal_command.specs.declared.command.Command.TheVariants.{Join, Leave, Caught, Witness}
 use Rattle.script_lines.specs.declared.request.Line.{Line}
+use Rattle.petal_msg.specs.declared.copying.LinkId.{LinkId}
+use Rattle.petal_history.specs.Claims.{IsPrefix}
+use Rattle.petal_history.specs.Legal.{world_after}
 use Rattle.petal_history.specs.declared.record.Record.{Record}
+use Rattle.law_state.specs.Started.{HasStarted, is_flagged}
+use Rattle.petal_state.specs.Command.{may_catch, state_after}
 use Rattle.petal_rules.specs.Lists.{In}
 use Rattle.petal_rules.specs.declared.step.Step.TheVariants.{Boot}
 use Rattle.petal_rules.specs.declared.step.WorkEnd.{WorkEnd}
 use Rattle.petal_rules.specs.Clients.{command_of}
-use Rattle.petal_rules.specs.World.{Setting, World, lines_of}
+use Rattle.petal_rules.specs.Server.{Server}
+use Rattle.petal_rules.specs.State.{is_in}
+use Rattle.petal_rules.specs.World.{Setting, World, chosen_log, lines_of, start}
 
 -- of how many of its lines each client has called: the command is that of one of them, or a Witness of it. The lines of a
 -- client are its requests, counted from 1
@@ -47,6 +55,36 @@ IsOfLives w _ = ⊥
 -- what may be proposed: what a script asks for, or such a Leave or Join
 abbrev pub IsCalledFor : Setting → World → Command → Type 0
 IsCalledFor setting w command = IsScripted setting w command ⊎ IsOfLives w command
+
+-- ### Caughts
+
+-- behind these entries the Caught acts: the holder has the link alone, and both servers are In; and the holder started its ballot there
+pub record IsCaughtAt (servers : ℕ) (actors : ℕ → Server) (front : List Command) (of link holder inc other other_inc : ℕ) : Type 0 where
+  pub may : may_catch holder other (link_at (state_after servers front).links of link) ≡ true
+  pub holds : is_in (state_after servers front) holder inc ≡ true
+  pub joins : is_in (state_after servers front) other other_inc ≡ true
+  pub started : HasStarted actors holder inc (length front) (record { map = of; link = link })
+
+-- the command is a Caught behind these entries
+abbrev pub CatchesUp : (servers : ℕ) → (actors : ℕ → Server) → (front : List Command) → Command → Type 0
+CatchesUp servers actors front (Caught of link holder inc other other_inc) = IsCaughtAt servers actors front of link holder inc other other_inc
+CatchesUp servers actors front _ = ⊥
+
+-- the command stands in the chosen log as a Caught behind the entries before it
+pub record HasCaughtUp (setting : Setting) (w : World) (command : Command) : Type 0 where
+  pub front : List Command
+  pub stands : IsPrefix (front ++ command ∷ []) (chosen_log setting w)
+  pub is : CatchesUp setting.servers w.servers front command
+
+-- on the way the holder, as this incarnation and with these entries applied, had in mind that it had started a ballot for the link's
+-- Caught
+pub record WasStarted (setting : Setting) (records : List Record) (holder inc : ℕ) (front : List Command) (id : LinkId) : Type 0 where
+  pub before : List Record
+  pub later : List Record
+  pub is : records ≡ before ++ later
+  pub lives : ((world_after setting (start setting) before).servers holder).life.inc ≡ inc
+  pub at : ((world_after setting (start setting) before).servers holder).log.applied ≡ front
+  pub minded : is_flagged ((world_after setting (start setting) before).servers holder).own id ≡ true
 
 -- no record tells of a boot
 abbrev pub NoneBoots : List Record → Type 0

@@ -1,4 +1,4 @@
--- A server says that a block is busy where it found another operation pending.
+-- A server says that a block is busy where it found another operation pending, or a copy under way.
 use Rattle.std.proofs.Common.{◌≡◌, ℕ, Bool, true, false, refl, sym, ap, ◌∙◌}
 use Rattle.petal_msg.specs.declared.body.Body.{Body}
 use Rattle.petal_msg.specs.declared.body.Body.TheVariants as body
@@ -7,10 +7,11 @@ use Rattle.petal_msg.specs.declared.operation.Ending.TheVariants as ending
 use Rattle.petal_rules.specs.Lists.{In}
 use Rattle.petal_rules.specs.Server.{Own, Here, Post, Done}
 use Rattle.petal_rules.specs.Writes.{ended}
-use Rattle.law_steps.specs.DidLead.{DidLead, Asks_for, Repeats, Is_full, Gives_up, Opens, Marks, Puts, Unmarks, Closes, Opens_alone, Marks_alone, Puts_alone, Unmarks_alone, Closes_alone, Asks, A_slot, A_copy, Of_the_log}
-use Rattle.law_steps.specs.Did.{Did, Ignores, Refuses, IsBusy, By_read, By_lead, By_second}
+use Rattle.law_steps.specs.DidLead.{DidLead, Asks_for, Repeats, Is_full, Gives_up, Opens, Marks, Puts, Unmarks, Closes, Opens_alone, Marks_alone, Puts_alone, Unmarks_alone, Closes_alone, Asks, A_slot, A_copy, A_trim, A_copied_entry, A_page, Of_the_log}
+use Rattle.law_steps.specs.Did.{Did, Ignores, Refuses, IsBusy, By_read, By_lead, By_second, By_holder, By_other}
 use Rattle.law_steps.proofs.Letters.{one_post, posted}
 use Rattle.petal_rules.proofs.Tests.{true_false}
+use Rattle.law_steps.proofs.CopyFrames.{of_holder, of_other}
 use Rattle.law_steps.proofs.Subjects.{of_read, of_second}
 use Rattle.petal_msg.specs.Kinds.{is_logged, is_refused, subject_of}
 
@@ -27,6 +28,9 @@ logged_quiet _ e = refl
 asks_quiet : (here : Here) (own : Own) (post : Post) → Asks here own post → is_busy post.body ≡ false
 asks_quiet here own _ (A_slot op to is stage e) = refl
 asks_quiet here own _ (A_copy op to is stage e) = refl
+asks_quiet here own _ (A_trim cell copy to is fresh e) = refl
+asks_quiet here own _ (A_copied_entry cell copy row to is trimmed there e) = refl
+asks_quiet here own _ (A_page row to i other fresh) = refl
 asks_quiet here own _ (Of_the_log post e) = logged_quiet post.body e
 
 ended_quiet : (seq : ℕ) (how : Ending) → is_busy (ended seq how) ≡ false
@@ -66,3 +70,7 @@ did_busy heard here own _ (By_read done d) post seq i e = true_false (ap is_busy
 did_busy heard here own _ (By_lead done d) post seq i e = true_false (ap is_busy e) (lead_quiet heard here own done d post i)
 did_busy heard here own _ (By_second done d) post seq i e =
     true_false (ap is_busy e) (not_refused post.body (ap is_refused ((of_second heard here own done d).says post i)))
+did_busy heard here own _ (By_holder done d) post seq i e =
+    true_false (ap is_busy e) (not_refused post.body (ap is_refused ((of_holder heard here own done d).says post i)))
+did_busy heard here own _ (By_other done d) post seq i e =
+    true_false (ap is_busy e) (not_refused post.body (ap is_refused ((of_other heard here own done d).says post i)))

@@ -1,5 +1,5 @@
 -- What a server's step has to show so that each refusal has its reason.
-use Rattle.std.proofs.Common.{◌≡◌, ◌≢◌, ℕ, true, Some, sym, ap, ◌∙◌, subst, ◌⊎◌, inl, inr}
+use Rattle.std.proofs.Common.{◌≡◌, ◌≤◌, ◌<◌, ℕ, true, length, Some, sym, ◌∙◌, subst, ◌⊎◌, inl, inr, arith}
 use Rattle.std.specs.Ordering.{nat_cmp}
 use Rattle.petal_base.specs.declared.cell.Cell.{Cell}
 use Rattle.petal_table.specs.Table.{at}
@@ -11,53 +11,109 @@ use Rattle.petal_msg.specs.declared.operation.Finished.{Finished}
 use Rattle.petal_msg.specs.declared.operation.Pending.{Pending}
 use Rattle.petal_rules.specs.Lists.{In}
 use Rattle.petal_rules.specs.Store.{cell_cmp}
-use Rattle.petal_rules.specs.Log.{state_in}
-use Rattle.petal_rules.specs.State.{in_both}
+use Rattle.petal_rules.specs.State.{first, is_in}
 use Rattle.petal_rules.specs.Server.{Server}
 use Rattle.petal_rules.specs.Jobs.{Acted}
 use Rattle.petal_rules.specs.World.{Setting, World, acts, chosen_log, server_state, stamped}
 use Rattle.petal_rules.specs.declared.step.Step.{Step}
-use Rattle.petal_rules.proofs.ListLemmas.{put_same, put_apart, in-append}
-use Rattle.petal_rules.proofs.Tests.{same_or_apart}
+use Rattle.petal_rules.proofs.ListLemmas.{put_same, in-append}
+use Rattle.petal_rules.proofs.Tests.{all_put}
 use Rattle.petal_history.specs.Claims.{IsPrefix}
 use Rattle.law_steps.proofs.Fronts.{front_on}
-use Rattle.law_steps.proofs.Restages.{Was}
-use Rattle.law_copies.specs.Pair.{owns_of}
-use Rattle.law_refusals.specs.Reasons.{IsPlaced, Refusals}
+use Rattle.law_steps.proofs.Restages.{Was, was_same}
+use Rattle.law_refusals.specs.Reasons.{IsDeclined, IsNumbered, Refusals}
 
--- no second server told that it has no slot for an operation of this number on the cell
-abbrev pub IsUntold : World → Cell → ℕ → Type 0
-IsUntold w cell number = (letter : Letter) → In letter w.sent → letter.body ≡ body.PairFull number cell → ⊥
+-- an operation was pending on the cell, in whatever stage, or has a number that was not given out before
+abbrev pub IsOldOrNew : Server → Cell → Pending → Type 0
+IsOldOrNew old cell op = Was old.own cell op ⊎ (old.own.pairs.next ≤ op.op)
 
--- the operation was pending on the cell, in whatever stage, where its server runs and the cell is in Both
-pub record WasThere (setting : Setting) (w : World) (n : ℕ) (cell : Cell) (op : Pending) : Type 0 where
-  pub was : Was (owns_of w n) cell op
-  pub runs : (w.servers n).life.running ≡ true
-  pub both : in_both (server_state setting w n) cell ≡ true
+-- what becomes of a server: as long as it is the incarnation that it was, its numbers go on
+pub record GoesOn (old new : Server) : Type 0 where
+  pub life : old.life.inc ≤ new.life.inc
+  pub next : new.life.inc ≡ old.life.inc → old.own.pairs.next ≤ new.own.pairs.next
+  pub pending : (cell : Cell) (op : Pending) → new.life.inc ≡ old.life.inc → at cell_cmp new.own.pairs.pending cell ≡ Some op
+      → IsOldOrNew old cell op
+  pub numbered : (cell : Cell) (op : Pending) → at cell_cmp new.own.pairs.pending cell ≡ Some op → op.op < new.own.pairs.next
+
+-- the lead asks for a slot for an operation of this number, on a cell that it leads in Both
+pub record AsksSlot (setting : Setting) (w : World) (n : ℕ) (acted : Acted) (letter : Letter) (number : ℕ) (cell : Cell) : Type 0 where
+  pub long : length (w.servers n).log.applied ≡ letter.rev
+  pub seated : is_in (server_state setting w n) n (w.servers n).life.inc ≡ true
+  pub leads : first (server_state setting w n) cell ≡ Some n
+  pub same : acted.server.life.inc ≡ (w.servers n).life.inc
+  pub given : number < acted.server.own.pairs.next
 
 -- what a step has to show: of what the server remembers where it runs on, of what is pending then, and of what it sends
 pub record StepRefuses (S : ℕ → ℕ → Type 0) (setting : Setting) (w : World) (n stamp : ℕ) (acted : Acted) : Type 0 where
   pub finished : (c : ℕ) (last : Finished) → acted.server.life.running ≡ true → at nat_cmp acted.server.own.pairs.finished c ≡ Some last
       → last.ending ≡ ending.Full → S c last.seq
-  pub pending : (cell : Cell) (op : Pending) → acted.server.life.running ≡ true → in_both (state_in setting.servers acted.server.log) cell ≡ true
-      → at cell_cmp acted.server.own.pairs.pending cell ≡ Some op → WasThere setting w n cell op ⊎ IsUntold w cell op.op
+  pub onward : GoesOn (w.servers n) acted.server
   pub letters : (letter : Letter) (c seq : ℕ) → In letter (stamped stamp acted.letters) → letter.to ≡ actor.Client c → letter.body ≡ body.Full seq → S c seq
-  pub placed : (letter : Letter) (number : ℕ) (cell : Cell) → In letter (stamped stamp acted.letters) → letter.body ≡ body.PairFull number cell
-      → IsPlaced setting w letter cell
-  pub others : (letter : Letter) (number p : ℕ) (cell : Cell) → In letter (stamped stamp acted.letters) → letter.body ≡ body.PairFull number cell
-      → letter.to ≡ actor.Server p → p ≢ n
-  pub declined : (letter : Letter) (number p : ℕ) (cell : Cell) (op : Pending) → In letter (stamped stamp acted.letters)
-      → letter.body ≡ body.PairFull number cell → letter.to ≡ actor.Server p → at cell_cmp (owns_of w p).pairs.pending cell ≡ Some op → op.op ≡ number
-      → S op.client op.seq
+  pub reserves : (letter : Letter) (number : ℕ) (cell : Cell) → In letter (stamped stamp acted.letters)
+      → letter.body ≡ body.Reserve number cell
+      → AsksSlot setting w n acted letter number cell
+  pub declined : (letter : Letter) (number : ℕ) (cell : Cell) → In letter (stamped stamp acted.letters)
+      → letter.body ≡ body.PairFull number cell
+      → IsDeclined S setting w letter number cell
 
--- what is chosen stays chosen
-pub still_placed : (setting : Setting) (w v : World) → IsPrefix (chosen_log setting w) (chosen_log setting v) → (letter : Letter) (cell : Cell)
-    → IsPlaced setting w letter cell → IsPlaced setting v letter cell
-still_placed setting w v grows letter cell p =
-    record { front = p.front; stands = front_on p.front _ _ p.stands grows; long = p.long; both = p.both }
+-- a server that does nothing
+pub still_on : (R : ℕ → ℕ → Type 0) (setting : Setting) (w : World) → Refusals R setting w → (i : ℕ) → GoesOn (w.servers i) (w.servers i)
+still_on R setting w refusals i = record {
+  life = omega arith;
+  next = λ same. omega arith;
+  pending = λ cell op same is. inl (was_same (w.servers i).own cell op is);
+  numbered = refusals.numbered i;
+}
+
+-- ### The world after a step
+
+-- what a letter says of a number goes on to be so
+pub still_numbered : (setting : Setting) (w v : World) → IsPrefix (chosen_log setting w) (chosen_log setting v)
+    → ((i : ℕ) → GoesOn (w.servers i) (v.servers i)) → (letter : Letter) (number : ℕ) (cell : Cell)
+    → IsNumbered setting w letter number cell
+    → IsNumbered setting v letter number cell
+still_numbered setting w v grows on letter number cell k =
+    let life = (on k.server).life in
+    let begun = k.begun in
+    record {
+      server = k.server;
+      inc = k.inc;
+      front = k.front;
+      stands = front_on k.front _ _ k.stands grows;
+      long = k.long;
+      seated = k.seated;
+      leads = k.leads;
+      begun = omega arith;
+      given = λ same.
+          let was = k.given (omega (arith, same)) in
+          let more = (on k.server).next (omega (arith, same)) in
+          omega arith;
+    }
+
+pub still_declined : (R S : ℕ → ℕ → Type 0) (setting : Setting) (w v : World) → ((c seq : ℕ) → R c seq → S c seq)
+    → IsPrefix (chosen_log setting w) (chosen_log setting v) → ((i : ℕ) → GoesOn (w.servers i) (v.servers i))
+    → (letter : Letter) (number : ℕ) (cell : Cell)
+    → IsDeclined R setting w letter number cell → IsDeclined S setting v letter number cell
+unfolding still_numbered
+still_declined R S setting w v more grows on letter number cell d =
+    let k = d.by in
+    let life = (on k.server).life in
+    let begun = k.begun in
+    record {
+      by = still_numbered setting w v grows on letter number cell k;
+      to = d.to;
+      refused = λ op same is number_is. elim ((on k.server).pending cell op (omega (arith, same)) is) [
+        | inl there ↦
+            let was = there.was in
+            subst (S op.client) there.same.seq (subst (λ c. S c was.seq) there.same.client
+            (more was.client was.seq (d.refused was (omega (arith, same)) there.is (there.same.number ∙ number_is))))
+        | inr new ↦ let old = k.given (omega (arith, same)) in absurd (omega (arith, number_is))
+      ];
+    }
 
 module _ (R S : ℕ → ℕ → Type 0) (setting : Setting) (w : World) (more : (c seq : ℕ) → R c seq → S c seq) (refusals : Refusals R setting w) (n stamp : ℕ)
     (what : Step) (acted : Acted) (step : StepRefuses S setting w n stamp acted)
+    (chosen : IsPrefix (w.servers n).log.applied (chosen_log setting w))
     (grows : IsPrefix (chosen_log setting w) (chosen_log setting (acts w n what stamp acted).world)) where
   abbrev later : World
   later = (acts w n what stamp acted).world
@@ -65,45 +121,24 @@ module _ (R S : ℕ → ℕ → Type 0) (setting : Setting) (w : World) (more : 
   server_now : later.servers n ≡ acted.server
   server_now = put_same w.servers n acted.server
 
-  server_other : (i : ℕ) → i ≢ n → later.servers i ≡ w.servers i
-  server_other i ne = put_apart w.servers n acted.server i ne
+  on : (i : ℕ) → GoesOn (w.servers i) (later.servers i)
+  on = all_put w.servers n acted.server (λ i (x : Server). GoesOn (w.servers i) x) (still_on R setting w refusals) step.onward
 
-  finished : (i c : ℕ) (last : Finished) → (later.servers i).life.running ≡ true → at nat_cmp (owns_of later i).pairs.finished c ≡ Some last
-      → last.ending ≡ ending.Full → S c last.seq
-  finished i c last runs is how = elim (same_or_apart i n) [
-    | inl e ↦
-        let same = ap later.servers e ∙ server_now in
-        step.finished c last (sym (ap (λ (x : Server). x.life.running) same) ∙ runs)
-        (sym (ap (λ (x : Server). at nat_cmp x.own.pairs.finished c) same) ∙ is) how
-    | inr ne ↦
-        let same = server_other i ne in
-        more c last.seq (refusals.finished i c last (sym (ap (λ (x : Server). x.life.running) same) ∙ runs)
-        (sym (ap (λ (x : Server). at nat_cmp x.own.pairs.finished c) same) ∙ is) how)
-  ]
-
-  -- what was declined is the operation that it was
-  old_declined : (letter : Letter) (number p : ℕ) (cell : Cell) (op : Pending) → In letter w.sent → letter.body ≡ body.PairFull number cell
-      → letter.to ≡ actor.Server p → (later.servers p).life.running ≡ true → in_both (server_state setting later p) cell ≡ true
-      → at cell_cmp (owns_of later p).pairs.pending cell ≡ Some op → op.op ≡ number → S op.client op.seq
-  old_declined letter number p cell op h says to runs both is same = elim (same_or_apart p n) [
-    | inl e ↦
-        let now = ap later.servers e ∙ server_now in
-        elim (step.pending cell op (sym (ap (λ (x : Server). x.life.running) now) ∙ runs)
-        (sym (ap (λ (x : Server). in_both (state_in setting.servers x.log) cell) now) ∙ both)
-        (sym (ap (λ (x : Server). at cell_cmp x.own.pairs.pending cell) now) ∙ is)) [
-          | inl there ↦
-              let was = there.was in
-              subst (S op.client) was.same.seq (subst (λ c. S c was.was.seq) was.same.client
-              (more was.was.client was.was.seq
-              (refusals.declined letter number n cell was.was h says (to ∙ ap actor.Server e) there.runs there.both was.is (was.same.number ∙ same))))
-          | inr untold ↦ absurd (untold letter h (says ∙ ap (λ k. body.PairFull k cell) (sym same)))
-        ]
-    | inr ne ↦
-        let now = server_other p ne in
-        more op.client op.seq (refusals.declined letter number p cell op h says to (sym (ap (λ (x : Server). x.life.running) now) ∙ runs)
-        (sym (ap (λ (x : Server). in_both (state_in setting.servers x.log) cell) now) ∙ both)
-        (sym (ap (λ (x : Server). at cell_cmp x.own.pairs.pending cell) now) ∙ is) same)
-  ]
+  asked_now : (letter : Letter) (number : ℕ) (cell : Cell) → AsksSlot setting w n acted letter number cell
+      → IsNumbered setting later letter number cell
+  asked_now letter number cell a =
+      let same = a.same in
+      record {
+        server = n;
+        inc = (w.servers n).life.inc;
+        front = (w.servers n).log.applied;
+        stands = front_on (w.servers n).log.applied _ _ chosen grows;
+        long = a.long;
+        seated = a.seated;
+        leads = a.leads;
+        begun = (on n).life;
+        given = λ e. subst (λ (x : Server). number < x.own.pairs.next) (sym server_now) a.given;
+      }
 
   pub step_refusals : Refusals S setting later
   step_refusals = record {
@@ -111,15 +146,18 @@ module _ (R S : ℕ → ℕ → Type 0) (setting : Setting) (w : World) (more : 
       | inl new ↦ step.letters letter c seq new to says
       | inr old ↦ more c seq (refusals.letters letter c seq old to says)
     ];
-    finished = finished;
-    placed = λ letter number cell h says. still_placed setting w later grows letter cell (elim (in-append letter _ w.sent h) [
-      | inl new ↦ step.placed letter number cell new says
-      | inr old ↦ refusals.placed letter number cell old says
-    ]);
-    declined = λ letter number p cell op h says to runs both is same. elim (in-append letter _ w.sent h) [
-      | inl new ↦
-          let ne = step.others letter number p cell new says to in
-          step.declined letter number p cell op new says to (sym (ap (λ (x : Server). at cell_cmp x.own.pairs.pending cell) (server_other p ne)) ∙ is) same
-      | inr old ↦ old_declined letter number p cell op old says to runs both is same
+    finished = all_put w.servers n acted.server
+        (λ i (x : Server). (c : ℕ) (last : Finished) → x.life.running ≡ true → at nat_cmp x.own.pairs.finished c ≡ Some last
+        → last.ending ≡ ending.Full
+        → S c last.seq)
+        (λ i c last runs is how. more c last.seq (refusals.finished i c last runs is how)) step.finished;
+    numbered = λ i. (on i).numbered;
+    reserves = λ letter number cell h says. elim (in-append letter _ w.sent h) [
+      | inl new ↦ asked_now letter number cell (step.reserves letter number cell new says)
+      | inr old ↦ still_numbered setting w later grows on letter number cell (refusals.reserves letter number cell old says)
+    ];
+    declined = λ letter number cell h says. elim (in-append letter _ w.sent h) [
+      | inl new ↦ still_declined S S setting w later (λ c seq s. s) grows on letter number cell (step.declined letter number cell new says)
+      | inr old ↦ still_declined R S setting w later more grows on letter number cell (refusals.declined letter number cell old says)
     ];
   }

@@ -1,16 +1,18 @@
 -- Over every legal history, each refusal has a reason.
-use Rattle.std.proofs.Common.{◌≡◌, ℕ, List, [], ◌∷◌, ◌++◌, Bool, true, false, Option, Some, None, refl, sym, ap, ◌∙◌, subst, ◌⊎◌, inl, inr, append_assoc}
+use Rattle.std.proofs.Common.{◌≡◌, ◌≤◌, ◌<◌, arith, ℕ, List, [], ◌∷◌, ◌++◌, Bool, true, false, Option, Some, None, refl, sym, ap, ◌∙◌, subst, ◌⊎◌, inl, inr, append_assoc}
 use Rattle.std.proofs.lemmas.List.{append-nil}
 use Rattle.std.specs.Prelude.{if◌then◌else◌, is_some, length, ◌==◌, map}
 use Rattle.std.specs.Ordering.{nat_cmp}
 use Rattle.petal_base.specs.declared.cell.Cell.{Cell}
+use Rattle.global_tables.specs.declared.link.LinkRow.{LinkRow}
 use Rattle.petal_command.specs.declared.command.Command.{Command}
+use Rattle.petal_command.specs.declared.command.Command.TheVariants.{Caught}
 use Rattle.petal_table.specs.Table.{at}
 use Rattle.petal_table.proofs.Rows.{at-empty}
 use Rattle.global_tables.specs.declared.disk.Latest.{Latest}
 use Rattle.global_tables.specs.declared.disk.Verdict.{Verdict}
 use Rattle.global_tables.specs.declared.disk.Verdict.TheVariants as verdict
-use Rattle.petal_msg.specs.Kinds.{Answered, Paired, Logged, Glanced, is_refused, subject_of}
+use Rattle.petal_msg.specs.Kinds.{Subject, Answered, Paired, Logged, Glanced, is_logged, is_refused, subject_of}
 use Rattle.petal_msg.specs.declared.body.Body.{Body}
 use Rattle.petal_msg.specs.declared.body.Body.TheVariants as body
 use Rattle.petal_msg.specs.declared.letter.Actor.{Actor}
@@ -18,7 +20,6 @@ use Rattle.petal_msg.specs.declared.letter.Actor.TheVariants as actor
 use Rattle.petal_msg.specs.declared.letter.Letter.{Letter}
 use Rattle.petal_msg.specs.declared.operation.Ending.TheVariants as ending
 use Rattle.petal_msg.specs.declared.operation.Finished.{Finished}
-use Rattle.petal_msg.specs.declared.operation.Pending.{Pending}
 use Rattle.script_lines.specs.declared.answer.Answer.{Answer}
 use Rattle.script_lines.specs.declared.answer.Answer.TheVariants as answer
 use Rattle.script_lines.specs.declared.request.Request.{Request}
@@ -29,15 +30,16 @@ use Rattle.petal_state.specs.State.{latest}
 use Rattle.petal_state.specs.declared.answer.DiskView.{DiskView}
 use Rattle.petal_rules.specs.Ballots.{post_of}
 use Rattle.petal_rules.specs.Boots.{awake, raised, stays, wakes}
-use Rattle.petal_rules.specs.Clients.{Asked, Reaction, client_sender, cell_on, epoch_for, readers, refusal, read_refusal, read_refusal_at, seen_answer, write_refusal, verdict_answer, verdict_for}
+use Rattle.petal_rules.specs.Clients.{Asked, Reaction, Sight, client_sender, cell_on, epoch_for, readers, refusal, read_refusal, read_refusal_at, write_refusal, verdict_answer, verdict_for}
 use Rattle.petal_rules.specs.Crossing.{crossed}
 use Rattle.petal_rules.specs.Jobs.{Acted, down_posts}
 use Rattle.petal_rules.specs.Lists.{In}
-use Rattle.petal_rules.specs.Log.{Log, state_in}
-use Rattle.petal_rules.specs.Server.{Server, Pairs, Done, Post, Sender, silent, sender, letters_of, no_pairs}
-use Rattle.petal_rules.specs.State.{State, find, in_both, lead, servers_of}
+use Rattle.petal_rules.specs.Log.{Log}
+use Rattle.petal_rules.specs.Returns.{holds_link, proposed}
+use Rattle.petal_rules.specs.Server.{Own, Server, Pairs, Done, Post, Sender, silent, sender, letters_of, no_pairs, stopped}
+use Rattle.petal_rules.specs.State.{State, find, lead, link_named, servers_of}
 use Rattle.petal_rules.specs.Store.{cell_cmp}
-use Rattle.petal_rules.specs.World.{Setting, World, reacts, step, stamped, start, setting_of, client_step, client_state, server_state, chosen_log, chosen_state, next_line, MayActor}
+use Rattle.petal_rules.specs.World.{Setting, World, reacts, step, stamped, start, setting_of, client_step, client_state, server_state, chosen_log, next_line, MayActor}
 use Rattle.petal_rules.specs.declared.job.Job.{Job}
 use Rattle.petal_rules.specs.declared.step.Step.{Step}
 use Rattle.petal_rules.specs.declared.step.Step.TheVariants.{Work}
@@ -48,31 +50,23 @@ use Rattle.petal_history.specs.Claims.{IsPrefix}
 use Rattle.petal_history.specs.Legal.{Follows, IsLegal, IsLegalFrom, stepped, world_after}
 use Rattle.petal_history.specs.Sound.{IsSound}
 use Rattle.petal_history.specs.declared.record.Record.{Record}
-use Rattle.law_state.specs.Below.{IsBelow}
 use Rattle.law_state.specs.Firm.{Firm}
-use Rattle.law_state.specs.Steady.{IsSteady}
-use Rattle.law_state.proofs.Alone.{led_row}
-use Rattle.law_state.proofs.Steady.{front_plain, log_rev}
-use Rattle.law_steps.specs.Happens.{Heard, Handled, IsIdle, Worked, By_job, By_entry, Serving, Goes as Serves_on, Ends as Stops_so, Stays, Wakes, Fails, own_place, without_rev, served_so, stopped_so, shown_so}
-use Rattle.law_steps.specs.Ready.{AreFirm, Ready, Rests}
-use Rattle.law_steps.specs.Turned.{Turned, Goes_on, Begins, Reads, Ends, Shown, Judges, IsReason, By_verdict, By_witness}
-use Rattle.law_steps.proofs.Fronts.{below_itself, below_on}
-use Rattle.law_steps.proofs.Histories.{own_steady, chosen_steady, chosen_below, rests_next, happens, firm_now, front_legal, front_firm, world_more, start_rests}
+use Rattle.law_state.proofs.Steady.{log_rev}
+use Rattle.law_steps.specs.Happens.{Heard, Handled, IsIdle, Worked, By_job, By_ballot, By_entry, Serving, Goes as Serves_on, Ends as Stops_so, Stays, Wakes, Fails, own_place, without_rev, served, served_so, stopped_so, shown_so}
+use Rattle.law_steps.specs.Ready.{AreFirm, Rests}
+use Rattle.law_steps.specs.Turned.{Turned, Goes_on, Begins, Reads, Ends, Shown, Judges, IsReason, By_verdict, By_witness, IsSeenAs, Stops_it, Starts_it, Has_no_space, Is_settled}
+use Rattle.law_steps.proofs.Histories.{own_steady, rests_next, firm_now, front_legal, front_firm, world_more, start_rests}
 use Rattle.law_steps.proofs.Letters.{said}
 use Rattle.law_steps.proofs.Restages.{was_same}
 use Rattle.law_steps.proofs.Sending.{is_ask, turned_asks}
 use Rattle.law_steps.proofs.Serving.{server_serves}
 use Rattle.law_steps.proofs.Turning.{client_turns, is_call}
-use Rattle.law_steps.specs.Waking.{AllMayWake}
-use Rattle.law_copies.specs.Pair.{Good, owns_of}
-use Rattle.law_copies.proofs.Copying.{happens_good, start_good}
-use Rattle.law_copies.proofs.Sharing.{was_both}
-use Rattle.law_steps.specs.Waking.{WakeAlong}
-use Rattle.law_steps.proofs.Waking.{wake_along}
+use Rattle.law_causes.specs.Settles.{HasFoundFull}
+use Rattle.law_causes.proofs.Settled.{shown_full}
 use Rattle.law_refusals.specs.Reasons.{HadNoSlot, WasRefused, HasReason, FoundBusy, Refusals}
 use Rattle.law_refusals.proofs.Busy.{did_busy, is_busy, not_refused}
-use Rattle.law_refusals.proofs.Frames.{StepRefuses, WasThere, step_refusals, still_placed}
-use Rattle.law_refusals.proofs.Jobs.{JobRefuses, Scene, is_full, job_refuses, idle_refuses}
+use Rattle.law_refusals.proofs.Frames.{GoesOn, StepRefuses, still_declined, still_numbered, still_on, step_refusals}
+use Rattle.law_refusals.proofs.Jobs.{JobRefuses, Scene, asks_refuses, is_of_slots, job_refuses, kept_refuses}
 
 -- ### Steps
 
@@ -86,13 +80,16 @@ turn_refusals R S setting w c stamp in_call reacted more refusals turned grows =
     | inr old ↦ more j seq (refusals.letters letter j seq old to says)
   ];
   finished = λ n j last runs is how. more j last.seq (refusals.finished n j last runs is how);
-  placed = λ letter number cell h says. elim (in-append letter _ w.sent h) [
+  numbered = refusals.numbered;
+  reserves = λ letter number cell h says. elim (in-append letter _ w.sent h) [
     | inl new ↦ true_false (asks letter new) (ap is_ask says)
-    | inr old ↦ still_placed setting w (reacts w c stamp reacted).world grows letter cell (refusals.placed letter number cell old says)
+    | inr old ↦ still_numbered setting w (reacts w c stamp reacted).world grows (still_on R setting w refusals) letter number cell
+        (refusals.reserves letter number cell old says)
   ];
-  declined = λ letter number n cell op h says to runs both is same. elim (in-append letter _ w.sent h) [
+  declined = λ letter number cell h says. elim (in-append letter _ w.sent h) [
     | inl new ↦ true_false (asks letter new) (ap is_ask says)
-    | inr old ↦ more op.client op.seq (refusals.declined letter number n cell op old says to runs both is same)
+    | inr old ↦ still_declined R S setting w (reacts w c stamp reacted).world more grows (still_on R setting w refusals) letter number cell
+        (refusals.declined letter number cell old says)
   ];
 }
   where
@@ -101,168 +98,239 @@ turn_refusals R S setting w c stamp in_call reacted more refusals turned grows =
         let s = said (client_sender c reacted.client) stamp 0 reacted.posts letter h in ap is_ask s.body
         ∙ turned_asks _ setting.servers setting.lines c (w.clients c) in_call reacted turned s.post s.there
 
-all_down : (me inc : ℕ) (others : List ℕ) (post : Post) → In post (map (post_of (body.Down me inc)) others) → is_full post.body ≡ false
+all_down : (me inc : ℕ) (others : List ℕ) (post : Post) → In post (map (post_of (body.Down me inc)) others) → is_of_slots post.body ≡ false
 unfolding In
 all_down me inc [] post h = absurd h
-all_down me inc (n ∷ others) post (inl e) = ap (λ (p : Post). is_full p.body) e
+all_down me inc (n ∷ others) post (inl e) = ap (λ (p : Post). is_of_slots p.body) e
 all_down me inc (n ∷ others) post (inr h) = all_down me inc others post h
 
-glanced_not_full : (said : Body) → subject_of said ≡ Glanced → is_full said ≡ false
+glanced_not_full : (said : Body) → subject_of said ≡ Glanced → is_of_slots said ≡ false
 glanced_not_full (body.Full seq) e = absurd (let f : Answered ≡ Glanced = e in cc)
 glanced_not_full (body.PairFull number cell) e = absurd (let f : Paired ≡ Glanced = e in cc)
+glanced_not_full (body.Reserve number cell) e = absurd (let f : Paired ≡ Glanced = e in cc)
 glanced_not_full _ e = refl
 
-module _ (R S : ℕ → ℕ → Type 0) (setting : Setting) (w : World) (firm : Firm setting w) (ready : Ready setting (chosen_state setting w) w)
-    (good : Good setting (chosen_state setting w) w) (more : (c seq : ℕ) → R c seq → S c seq) (refusals : Refusals R setting w) (n stamp : ℕ) where
+link_pairs : (own : Own) (o : Option LinkRow) → (holds_link own o).pairs ≡ own.pairs
+link_pairs own None = refl
+link_pairs own (Some row) = refl
+
+-- a ballot leaves what is pending and finished
+proposed_pairs : (state : State) (own : Own) (o : Option Command) → (proposed state own o).pairs ≡ own.pairs
+proposed_pairs state own (Some (Caught of link holder inc other other_inc)) = link_pairs own
+    (link_named state (record { map = of; link = link }))
+proposed_pairs state own (Some _) = refl
+proposed_pairs state own None = refl
+
+module _ (R S : ℕ → ℕ → Type 0) (setting : Setting) (w : World) (firm : Firm setting w) (rests : Rests setting w)
+    (more : (c seq : ℕ) → R c seq → S c seq) (refusals : Refusals R setting w) (n stamp : ℕ) where
   abbrev scene : (w.servers n).life.running ≡ true → Scene R S
-  scene runs = record {
-    setting = setting;
-    state = chosen_state setting w;
-    steady = chosen_steady setting w firm;
-    w = w;
-    ready = ready;
-    good = good;
-    n = n;
-    runs = runs;
-    more = more;
-    refusals = refusals;
+  scene runs = record { setting = setting; w = w; firm = firm; rests = rests; n = n; runs = runs; more = more; refusals = refusals }
+
+  abbrev here : Server
+  here = w.servers n
+
+  -- a server that is still the incarnation that it was, with what a job leaves
+  job_on : (T : ℕ → ℕ → Type 0) (own : Own) (posts : List Post) → JobRefuses T setting w n own posts → (new : Server) → new.own ≡ own
+      → new.life.inc ≡ here.life.inc
+      → GoesOn here new
+  job_on T own posts job new owns incs = record {
+    life = omega arith;
+    next = λ same. subst (λ (o : Own). here.own.pairs.next ≤ o.pairs.next) (sym owns) job.next;
+    pending = λ cell op same is. elim (job.pending cell op (sym (ap (λ (o : Own). at cell_cmp o.pairs.pending cell) owns) ∙ is)) [
+      | inl was ↦ inl was
+      | inr now ↦ inr now.0
+    ];
+    numbered = λ cell op is.
+        let more_next = job.next in
+        subst (λ (o : Own). op.op < o.pairs.next) (sym owns)
+        (elim (job.pending cell op (sym (ap (λ (o : Own). at cell_cmp o.pairs.pending cell) owns) ∙ is)) [
+          | inl there ↦
+              let old = refusals.numbered n cell there.was there.is in
+              let same = there.same.number in
+              omega arith
+          | inr now ↦ now.1
+        ]);
   }
 
-  -- a job that applies no entry
-  of_job : (log : Log) (done : Done) (queue : List Job) → (w.servers n).life.running ≡ true → log.applied ≡ (w.servers n).log.applied
-      → JobRefuses S setting w n done.own done.posts → StepRefuses S setting w n stamp (served_so setting w n log done queue)
-  of_job log done queue runs same job =
+  -- what a server does that goes on
+  of_job : (log : Log) (done : Done) (queue : List Job) → (w.servers n).life.running ≡ true → JobRefuses S setting w n done.own done.posts
+      → StepRefuses S setting w n stamp (served_so setting w n log done queue)
+  of_job log done queue runs job =
       let who = sender (own_place setting w n) in
+      let rev : (own_place setting w n).state.rev ≡ length here.log.applied = log_rev setting.servers here.log.applied in
       record {
         finished = λ c last on is how. elim (job.finished c last is how) [
           | inl was ↦ more c last.seq (refusals.finished n c last runs was how)
           | inr now ↦ now
         ];
-        pending = λ cell op on both is.
-            let was_both : in_both (server_state setting w n) cell ≡ true = sym (ap (λ applied. in_both (state_after setting.servers applied) cell) same) ∙ both in
-            elim (job.pending cell op is) [
-              | inl was ↦ inl (record { was = was; runs = runs; both = was_both })
-              | inr untold ↦ inr (untold was_both)
-            ];
+        onward = job_on S done.own done.posts job _ refl refl;
         letters = λ letter c seq h to says.
             let s = said who stamp 0 done.posts letter h in
             job.letters s.post c seq s.there (sym s.to ∙ to) (sym s.body ∙ says);
-        placed = λ letter number cell h says.
+        reserves = λ letter number cell h says.
             let s = said who stamp 0 done.posts letter h in
+            let a = job.reserves s.post number cell s.there (sym s.body ∙ says) in
+            record { long = sym (s.rev ∙ rev); seated = a.seated; leads = a.leads; same = refl; given = a.given };
+        declined = λ letter number cell h says.
+            let s = said who stamp 0 done.posts letter h in
+            let t = job.declined s.post number cell s.there (sym s.body ∙ says) in
+            let k = t.asked in
             record {
-              front = (w.servers n).log.applied;
-              stands = firm.servers n;
-              long = sym (s.rev ∙ log_rev setting.servers (w.servers n).log.applied);
-              both = job.placed s.post number cell s.there (sym s.body ∙ says);
+              by = record {
+                server = k.server;
+                inc = k.inc;
+                front = k.front;
+                stands = k.stands;
+                long = k.long ∙ t.revision ∙ sym rev ∙ sym s.rev;
+                seated = k.seated;
+                leads = k.leads;
+                begun = k.begun;
+                given = k.given;
+              };
+              to = s.to ∙ t.to;
+              refused = λ op same is numbered. t.refused op is numbered;
             };
-        others = λ letter number p cell h says to.
-            let s = said who stamp 0 done.posts letter h in
-            job.others s.post number p cell s.there (sym s.body ∙ says) (sym s.to ∙ to);
-        declined = λ letter number p cell op h says to is numbered.
-            let s = said who stamp 0 done.posts letter h in
-            job.declined s.post number p cell op s.there (sym s.body ∙ says) (sym s.to ∙ to) is numbered;
       }
 
-  -- letters that tell of no want of slots
+  -- letters that tell of no slots
   module _ (acted : Acted) (who : Sender) (posts : List Post) (letters : acted.letters ≡ letters_of who 0 posts)
-      (unsaid : (post : Post) → In post posts → is_full post.body ≡ false) where
-    no_full : (letter : Letter) → In letter (stamped stamp acted.letters) → is_full letter.body ≡ false
+      (unsaid : (post : Post) → In post posts → is_of_slots post.body ≡ false) where
+    no_full : (letter : Letter) → In letter (stamped stamp acted.letters) → is_of_slots letter.body ≡ false
     no_full letter h =
-        let s = said who stamp 0 posts letter (subst (λ ls. In letter (stamped stamp ls)) letters h) in ap is_full s.body ∙ unsaid s.post s.there
+        let s = said who stamp 0 posts letter (subst (λ ls. In letter (stamped stamp ls)) letters h) in ap is_of_slots s.body
+        ∙ unsaid s.post s.there
 
     of_quiet : ((c : ℕ) (last : Finished) → acted.server.life.running ≡ true → at nat_cmp acted.server.own.pairs.finished c ≡ Some last
         → last.ending ≡ ending.Full → S c last.seq)
-        → ((cell : Cell) (op : Pending) → acted.server.life.running ≡ true → in_both (state_in setting.servers acted.server.log) cell ≡ true
-        → at cell_cmp acted.server.own.pairs.pending cell ≡ Some op → WasThere setting w n cell op)
-        → StepRefuses S setting w n stamp acted
-    of_quiet finished pending = record {
+        → GoesOn here acted.server → StepRefuses S setting w n stamp acted
+    of_quiet finished onward = record {
       finished = finished;
-      pending = λ cell op on both is. inl (pending cell op on both is);
-      letters = λ letter c seq h to says. true_false (ap is_full says) (no_full letter h);
-      placed = λ letter number cell h says. true_false (ap is_full says) (no_full letter h);
-      others = λ letter number p cell h says to. true_false (ap is_full says) (no_full letter h);
-      declined = λ letter number p cell op h says to is same. true_false (ap is_full says) (no_full letter h);
+      onward = onward;
+      letters = λ letter c seq h to says. true_false (ap is_of_slots says) (no_full letter h);
+      reserves = λ letter number cell h says. true_false (ap is_of_slots says) (no_full letter h);
+      declined = λ letter number cell h says. true_false (ap is_of_slots says) (no_full letter h);
     }
 
-    -- the server does not run: what it remembered is lost
-    of_end : acted.server.life.running ≡ false → StepRefuses S setting w n stamp acted
-    of_end stopped = of_quiet (λ c last on is how. true_false on stopped) (λ cell op on both is. true_false on stopped)
+    -- the server does not run: what it has finished counts no more
+    of_end : acted.server.life.running ≡ false → GoesOn here acted.server → StepRefuses S setting w n stamp acted
+    of_end stopped onward = of_quiet (λ c last on is how. true_false on stopped) onward
 
     -- the server has nothing in memory
-    of_wake : acted.server.own.pairs ≡ no_pairs → StepRefuses S setting w n stamp acted
-    of_wake none = of_quiet
+    of_wake : acted.server.own.pairs ≡ no_pairs → here.life.inc < acted.server.life.inc → StepRefuses S setting w n stamp acted
+    of_wake none rises = of_quiet
         (λ c last on is how. none_some (ap (λ (p : Pairs). at nat_cmp p.finished c) none ∙ at-empty nat_cmp c) is)
-        (λ cell op on both is. none_some (ap (λ (p : Pairs). at cell_cmp p.pending cell) none ∙ at-empty cell_cmp cell) is)
+        (record {
+          life = omega arith;
+          next = λ same. absurd (omega arith);
+          pending = λ cell op same is. none_some (ap (λ (p : Pairs). at cell_cmp p.pending cell) none ∙ at-empty cell_cmp cell) is;
+          numbered = λ cell op is. none_some (ap (λ (p : Pairs). at cell_cmp p.pending cell) none ∙ at-empty cell_cmp cell) is;
+        })
 
-    of_still : acted.server ≡ w.servers n → StepRefuses S setting w n stamp acted
+    of_still : acted.server ≡ here → StepRefuses S setting w n stamp acted
     of_still same = of_quiet
         (λ c last on is how. more c last.seq (refusals.finished n c last (sym (ap (λ (x : Server). x.life.running) same) ∙ on)
         (ap (λ (x : Server). at nat_cmp x.own.pairs.finished c) (sym same) ∙ is) how))
-        (λ cell op on both is. record {
-          was = was_same (owns_of w n) cell op (ap (λ (x : Server). at cell_cmp x.own.pairs.pending cell) (sym same) ∙ is);
-          runs = sym (ap (λ (x : Server). x.life.running) same) ∙ on;
-          both = sym (ap (λ (x : Server). in_both (state_in setting.servers x.log) cell) same) ∙ both;
-        })
+        (subst (GoesOn here) (sym same) (still_on R setting w refusals n))
 
-  -- what an applied entry leaves: an operation on a cell in Both was on a cell in Both
-  of_entry : (log : Log) (entry : Command) (queue : List Job) → (w.servers n).life.running ≡ true → log.applied ≡ (w.servers n).log.applied ++ entry ∷ []
-      → IsPrefix log.applied (chosen_log setting w)
-      → StepRefuses S setting w n stamp (served_so setting w n log (silent (crossed (server_state setting w n) entry (owns_of w n))) queue)
-  unfolding In
-  of_entry log entry queue runs plus front =
-      of_quiet (served_so setting w n log (silent (crossed (server_state setting w n) entry (owns_of w n))) queue) (sender (own_place setting w n)) [] refl
-      (λ post i. absurd i)
-      (λ c last on is how. more c last.seq (refusals.finished n c last runs is how))
-      (λ cell op on both is.
-      let row = led_row (server_state setting w n) (own_steady setting w firm n) n cell ((ready.rests.pending n).staged cell op is).lead in
-      record {
-        was = was_same (owns_of w n) cell op is;
-        runs = runs;
-        both = was_both setting.servers (w.servers n).log.applied log.applied (front_plain setting.servers _ _ firm.plain front)
-            (record { later = entry ∷ []; is = plus }) cell row.0 row.1 both;
-      })
+  -- a server whose boot failed
+  raised_on : GoesOn here (raised here)
+  raised_on = record {
+    life = omega arith;
+    next = λ same. omega arith;
+    pending = λ cell op same is. inl (was_same here.own cell op is);
+    numbered = refusals.numbered n;
+  }
 
   abbrev downs : List Post
   downs = down_posts n (w.servers n).life.inc (servers_of (server_state setting w n))
 
-  downs_not_full : (post : Post) → In post downs → is_full post.body ≡ false
+  downs_not_full : (post : Post) → In post downs → is_of_slots post.body ≡ false
   downs_not_full post h = all_down n (w.servers n).life.inc _ post h
+
+  -- a job that is none of the pairs'
+  ballot_refuses : (runs : (w.servers n).life.running ≡ true) (started : Option Command) (posts : List Post)
+      → ((post : Post) → In post posts → is_logged (subject_of post.body) ≡ true)
+      → JobRefuses S setting w n (proposed (server_state setting w n) here.own started) posts
+  ballot_refuses runs started posts says =
+      let same = proposed_pairs (server_state setting w n) here.own started in
+      kept_refuses R S (scene runs) (proposed (server_state setting w n) here.own started) posts (ap (λ (p : Pairs). p.finished) same)
+      (ap (λ (p : Pairs). p.next) same) (ap (λ (p : Pairs). p.pending) same) says
+
+  entry_refuses : (runs : (w.servers n).life.running ≡ true) (entry : Command)
+      → JobRefuses S setting w n (crossed (server_state setting w n) entry here.own) []
+  unfolding In
+  entry_refuses runs entry = kept_refuses R S (scene runs) (crossed (server_state setting w n) entry here.own) [] refl refl refl
+      (λ post i. absurd i)
+
+  idle_refuses : (runs : (w.servers n).life.running ≡ true) (done : Done) → IsIdle (own_place setting w n) here.own done
+      → JobRefuses S setting w n done.own done.posts
+  idle_refuses runs done idle = subst (λ (h : Own). JobRefuses S setting w n h done.posts) (sym idle.same)
+      (asks_refuses R S (scene runs) done.posts idle.asks)
+
+  -- what a server that stops leaves is no more than a job leaves
+  worked_on : (runs : (w.servers n).life.running ≡ true) (log : Log) (done : Done) → Worked setting w n log done
+      → GoesOn here (stopped (served here log done []))
+  worked_on runs _ _ (By_job log done same did seat) =
+      let either = λ (c seq : ℕ). (S c seq ⊎ HadNoSlot setting w (actor.Server n) (Work work_end.Done) c seq) in
+      job_on either done.own done.posts
+      (job_refuses R either
+      (record {
+        setting = setting;
+        w = w;
+        firm = firm;
+        rests = rests;
+        n = n;
+        runs = runs;
+        more = λ c seq r. inl (more c seq r);
+        refusals =
+            refusals;
+      })
+      (λ c seq h. inr h) done did seat) _ refl refl
+  worked_on runs _ _ (By_ballot log started posts same starts says) =
+      job_on S _ posts (ballot_refuses runs started posts says) _ refl refl
+  worked_on runs _ _ (By_entry log entry plus front) = job_on S _ [] (entry_refuses runs entry) _ refl refl
 
   module _ (what : Step) (now : (c seq : ℕ) → HadNoSlot setting w (actor.Server n) what c seq → S c seq) where
     now_work : what ≡ Work work_end.Done → (c seq : ℕ) → HadNoSlot setting w (actor.Server n) (Work work_end.Done) c seq → S c seq
     now_work works c seq h = now c seq (subst (λ x. HadNoSlot setting w (actor.Server n) x c seq) (sym works) h)
 
     goes_refuse : (log : Log) (done : Done) (queue : List Job) → (w.servers n).life.running ≡ true → Worked setting w n log done
-        → (what ≡ Work work_end.Done) ⊎ IsIdle (own_place setting w n) (owns_of w n) done
+        → (what ≡ Work work_end.Done) ⊎ IsIdle (own_place setting w n) here.own done
         → StepRefuses S setting w n stamp (served_so setting w n log done queue)
     goes_refuse _ _ queue runs (By_job log done same did seat) (inl works) =
-        of_job log done queue runs same (job_refuses R S (scene runs) (now_work works) done did seat)
-    goes_refuse _ _ queue runs (By_job log done same did seat) (inr idle) = of_job log done queue runs same (idle_refuses S setting w n done idle)
-    goes_refuse _ _ queue runs (By_entry log entry plus front) works = of_entry log entry queue runs plus front
+        of_job log done queue runs (job_refuses R S (scene runs) (now_work works) done did seat)
+    goes_refuse _ _ queue runs (By_job log done same did seat) (inr idle) = of_job log done queue runs (idle_refuses runs done idle)
+    goes_refuse _ _ queue runs (By_ballot log started posts same starts says) works =
+        of_job log (record { own = proposed (server_state setting w n) here.own started; posts = posts; jobs = [] }) queue runs
+        (ballot_refuses runs started posts says)
+    goes_refuse _ _ queue runs (By_entry log entry plus front) works =
+        of_job log (silent (crossed (server_state setting w n) entry here.own)) queue runs (entry_refuses runs entry)
 
     serves_refuse : (acted : Acted) → Serving setting w n what acted → StepRefuses S setting w n stamp acted
     unfolding In
     serves_refuse _ (Serves_on log done queue runs worked queued works) = goes_refuse log done queue runs worked works
     serves_refuse _ (Stops_so log done runs worked) =
         of_end (stopped_so setting w n log done) (without_rev (own_place setting w n)) downs refl downs_not_full refl
+        (worked_on runs log done worked)
     serves_refuse _ (Stays who posts from shown) =
         of_still (shown_so w n who posts) who posts refl (λ post i. glanced_not_full post.body (shown post i)) refl
-    serves_refuse _ (Wakes booted asleep) = of_wake (wakes (own_place setting w n) (awake (raised (w.servers n)))) _ downs refl downs_not_full refl
+    serves_refuse _ (Wakes booted asleep) =
+        of_wake (wakes (own_place setting w n) (awake (raised here))) _ downs refl downs_not_full refl (omega arith)
     serves_refuse _ (Fails booted asleep) =
-        of_end (stays (raised (w.servers n))) (sender (own_place setting w n)) [] refl (λ post i. absurd i) asleep
+        of_end (stays (raised here)) (sender (own_place setting w n)) [] refl (λ post i. absurd i) asleep raised_on
 
 module _ (setting : Setting) where
-  step_kept : (R S : ℕ → ℕ → Type 0) (w : World) → Firm setting w → Ready setting (chosen_state setting w) w → Good setting (chosen_state setting w) w
+  step_kept : (R S : ℕ → ℕ → Type 0) (w : World) → Firm setting w → Rests setting w
       → (who : Actor) (what : Step) (stamp : ℕ) → MayActor who what setting w → Firm setting (step who what setting w stamp).world
       → IsPrefix (chosen_log setting w) (chosen_log setting (step who what setting w stamp).world)
       → ((c seq : ℕ) → R c seq → S c seq) → ((c seq : ℕ) → HadNoSlot setting w who what c seq → S c seq)
       → Refusals R setting w → Refusals S setting (step who what setting w stamp).world
   unfolding step
-  step_kept R S w firm ready good (actor.Server n) what stamp may later grows more now refusals =
+  step_kept R S w firm rests (actor.Server n) what stamp may later grows more now refusals =
       step_refusals R S setting w more refusals n stamp what _
-      (serves_refuse R S setting w firm ready good more refusals n stamp what now _
-      (server_serves setting w ready.rests n (own_steady setting w firm n) stamp what may.1 later)) grows
-  step_kept R S w firm ready good (actor.Client c) what stamp may later grows more now refusals =
+      (serves_refuse R S setting w firm rests more refusals n stamp what now _
+      (server_serves setting w rests firm n (own_steady setting w firm n) stamp what may.1 later)) (firm.servers n) grows
+  step_kept R S w firm rests (actor.Client c) what stamp may later grows more now refusals =
       turn_refusals R S setting w c stamp (is_call what)
       (client_step what (client_state setting w c) c (w.clients c) (next_line setting.lines c (w.clients c))) more refusals
       (client_turns setting w c what may.1).turned grows
@@ -285,50 +353,39 @@ module _ (setting : Setting) where
       → WasRefused setting (done ++ own ∷ []) c seq
   refused_now done own c seq h = record { front = done; own = own; behind = []; lies = refl; reason = h }
 
-  -- at every steady state from what is chosen on
-  abbrev pub Above : (State → World → Type 0) → World → Type 0
-  Above P w = (state : State) → IsSteady state → IsBelow (chosen_state setting w) state → P state w
-
   pub record Kept (done : List Record) : Type 0 where
     pub rests : Rests setting (W done)
-    pub good : Above (Good setting) (W done)
     pub refusals : Refusals (WasRefused setting done) setting (W done)
 
-  kept_more : (done : List Record) (own : Record) → AllMayWake setting (W done) → Kept done → Firm setting (W done) → Firm setting (stepped setting (W done) own).world
+  kept_more : (done : List Record) (own : Record) → Kept done → Firm setting (W done) → Firm setting (stepped setting (W done) own).world
       → IsPrefix (chosen_log setting (W done)) (chosen_log setting (stepped setting (W done) own).world) → Follows setting (W done) own
       → Kept (done ++ own ∷ [])
-  kept_more done own wake kept firm later grows follows =
+  kept_more done own kept firm later grows follows =
       let w = W done in
       let v = (stepped setting w own).world in
-      let up = λ (state : State) (below : IsBelow (chosen_state setting v) state). below_on _ _ _ (chosen_below setting w v later grows) below in
-      let ready = λ (state : State) (below : IsBelow (chosen_state setting w) state).
-      let r : Ready setting state w = record { rests = kept.rests; firm = firm; below = below } in r in
       let e = sym (world_more setting (start setting) done own) in
-      let now = below_itself (chosen_state setting w) in
       record {
         rests = subst (Rests setting) e (rests_next setting w own kept.rests firm follows later);
-        good = subst (Above (Good setting)) e (λ state steady below.
-            happens_good setting state steady w v wake (ready state (up state below)) (kept.good state steady (up state below))
-            (happens setting w own kept.rests firm follows later state below));
         refusals = subst (Refusals (WasRefused setting (done ++ own ∷ [])) setting) e
-            (step_kept (WasRefused setting done) (WasRefused setting (done ++ own ∷ [])) w firm (ready (chosen_state setting w) now)
-            (kept.good (chosen_state setting w) (chosen_steady setting w firm) now) own.actor own.step own.stamp follows.may.may later
+            (step_kept (WasRefused setting done)
+            (WasRefused setting (done ++ own ∷ [])) w firm kept.rests own.actor own.step own.stamp follows.may.may later
             grows (refused_more done own)
             (refused_now done own) kept.refusals);
       }
 
-  kept_all : (done later : List Record) → WakeAlong setting (W done) later → Kept done → AreFirm setting (W done) later → IsLegalFrom setting (W done) later
+  kept_all : (done later : List Record) → Kept done → AreFirm setting (W done) later → IsLegalFrom setting (W done) later
       → Kept (done ++ later)
-  kept_all done [] wake kept firm legal = subst Kept (sym (append-nil done)) kept
-  kept_all done (own ∷ later) wake kept firm legal =
+  kept_all done [] kept firm legal = subst Kept (sym (append-nil done)) kept
+  kept_all done (own ∷ later) kept firm legal =
       let e = sym (world_more setting (start setting) done own) in
       subst Kept (append_assoc done (own ∷ []) later)
-      (kept_all (done ++ own ∷ []) later (subst (λ w. WakeAlong setting w later) e wake.1)
-      (kept_more done own wake.0 kept firm.0 (firm_now setting _ later firm.2) firm.1 legal.0)
+      (kept_all (done ++ own ∷ []) later
+      (kept_more done own kept firm.0 (firm_now setting _ later firm.2) firm.1 legal.0)
       (subst (λ w. AreFirm setting w later) e firm.2) (subst (λ w. IsLegalFrom setting w later) e legal.1))
 
-  pub kept_from : Kept [] → (records : List Record) → WakeAlong setting (start setting) records → AreFirm setting (start setting) records → IsLegalFrom setting (start setting) records → Kept records
-  kept_from kept records wake firm legal = kept_all [] records wake kept firm legal
+  pub kept_from : Kept [] → (records : List Record) → AreFirm setting (start setting) records
+      → IsLegalFrom setting (start setting) records → Kept records
+  kept_from kept records firm legal = kept_all [] records kept firm legal
 
   -- ### A refused write
 
@@ -342,12 +399,20 @@ module _ (setting : Setting) where
       let same : one ≡ two = same_some e in
       (ap (λ (p : ℕ × Answer). p.0) same, ap (λ (p : ℕ × Answer). p.1) same)
 
+  -- the client heard of a glance of its settle that found a copy without a slot
+  record HeardSight (w : World) (c : ℕ) (asked : Asked) : Type 0 where
+    settles : asked.request ≡ request.Settle
+    rev : ℕ
+    sight : Sight
+    heard : Heard w (actor.Client c) rev (body.Seen asked.line sight.round sight.running sight.inc sight.full)
+    full : sight.full ≡ true
+
   -- a client that answers so heard of it
   record HeardFull (w : World) (c number : ℕ) : Type 0 where
     asked : Asked
     is : (w.clients c).asked ≡ Some asked
     line : asked.line ≡ number
-    heard : Heard w (actor.Client c) asked.rev (body.Full asked.seq)
+    heard : Heard w (actor.Client c) asked.rev (body.Full asked.seq) ⊎ HeardSight w c asked
 
   -- a state that can't serve a request tells of no want of slots, and no verdict does
   verdict_spaced : (o : Option Latest) (seq : ℕ) → verdict_for seq o ≡ Some answer.NoSpace → ⊥
@@ -391,12 +456,15 @@ module _ (setting : Setting) where
   reason_spaced c asked state entry (By_verdict command own so) = verdict_spaced (latest state c) asked.seq so
   reason_spaced c asked state entry (By_witness none is so) = refusal_spaced state asked.request so
 
-  -- a glance tells of no want of slots
-  glance_spaced : (asked : Request) (running : Bool) → seen_answer asked running ≡ Some answer.NoSpace → ⊥
-  glance_spaced (request.Stop server) running e = let g : answer.Ok ≡ answer.NoSpace = same_some e in cc
-  glance_spaced (request.Start server) true e = let g : answer.Ok ≡ answer.NoSpace = same_some e in cc
-  glance_spaced (request.Start server) false e = let g : answer.Failed ≡ answer.NoSpace = same_some e in cc
-  glance_spaced _ running e = none_some refl e
+  -- a glance tells a settle alone of a want of slots
+  sight_spaced : (state : State) (asked : Asked) (sight : Sight) → IsSeenAs state asked sight answer.NoSpace
+      → (asked.request ≡ request.Settle) × (sight.full ≡ true)
+  sight_spaced state asked sight (Stops_it server is e) = absurd (let g : answer.NoSpace ≡ answer.Ok = e in cc)
+  sight_spaced state asked sight (Starts_it server is e) =
+      by_test (λ a. answer.NoSpace ≡ a → (asked.request ≡ request.Settle) × (sight.full ≡ true)) sight.running answer.Ok answer.Failed
+      (λ on f. absurd (let g : answer.NoSpace ≡ answer.Ok = f in cc)) (λ off f. absurd (let g : answer.NoSpace ≡ answer.Failed = f in cc)) e
+  sight_spaced state asked sight (Has_no_space is full e) = (is, full)
+  sight_spaced state asked sight (Is_settled is round seen all e) = absurd (let g : answer.NoSpace ≡ answer.Ok = e in cc)
 
   heard_full : (w : World) (c : ℕ) (in_call : Bool) (reacted : Reaction)
       → Turned (Heard w (actor.Client c)) setting.servers setting.lines c (w.clients c) in_call reacted → (number : ℕ)
@@ -405,9 +473,16 @@ module _ (setting : Setting) where
   heard_full w c _ _ (Begins reacted line asked is free seq there called only) number e = none_some only.unanswered e
   heard_full w c _ _ (Reads asked bytes h is reads) number e = absurd (let g : answer.Data bytes ≡ answer.NoSpace = (answer_is e).1 in cc)
   heard_full w c _ _ (Ends asked ending.Written h is writes) number e = absurd (let g : answer.Ok ≡ answer.NoSpace = (answer_is e).1 in cc)
-  heard_full w c _ _ (Ends asked ending.Full h is writes) number e = record { asked = asked; is = is; line = (answer_is e).0; heard = h }
-  heard_full w c _ _ (Shown asked rev round inc running full h is given seen) number e =
-      absurd (glance_spaced asked.request running (seen ∙ ap Some (answer_is e).1))
+  heard_full w c _ _ (Ends asked ending.Full h is writes) number e =
+      record { asked = asked; is = is; line = (answer_is e).0; heard = inl h }
+  heard_full w c _ _ (Shown asked rev sight given h is seen) number e =
+      let why = sight_spaced _ asked sight (subst (IsSeenAs _ asked sight) (answer_is e).1 seen) in
+      record {
+        asked = asked;
+        is = is;
+        line = (answer_is e).0;
+        heard = inr (record { settles = why.0; rev = rev; sight = sight; heard = h; full = why.1 });
+      }
   heard_full w c _ _ (Judges after asked given is gone seq judged) number e =
       let at = state_after setting.servers (judged.front ++ judged.entry ∷ []) in
       absurd (reason_spaced c asked at judged.entry (subst (λ (x : Answer). IsReason c asked x at judged.entry) (answer_is e).1 judged.reason))
@@ -424,18 +499,32 @@ module _ (setting : Setting) where
       one_client : {i j : ℕ} → actor.Client i ≡ actor.Client j → i ≡ j
       one_client e = cc
 
-  pub no_space : Kept [] → (front : List Record) (own : Record) → WakeAlong setting (start setting) front → AreFirm setting (start setting) (front ++ own ∷ [])
+  -- what a letter that shows a copy without a slot comes of
+  abbrev pub ShowsFull : List Record → Type 0
+  ShowsFull records =
+      (letter : Letter) (line round : ℕ) (running : Bool) (inc : ℕ) (full : Bool) → In letter (W records).sent
+      → letter.body ≡ body.Seen line round running inc full → full ≡ true → HasFoundFull setting (start setting) records line
+
+  pub no_space : Kept [] → (front : List Record) (own : Record) → ShowsFull front → AreFirm setting (start setting) (front ++ own ∷ [])
       → IsLegalFrom setting (start setting) (front ++ own ∷ []) → (c number : ℕ)
       → own.actor ≡ actor.Client c → own.answer ≡ Some (number, answer.NoSpace) → HasReason setting front c number
-  no_space begun front own wake firm legal c number who given =
+  no_space begun front own shows firm legal c number who given =
       let parts = front_legal setting (start setting) front (own ∷ []) legal in
       let firms = front_firm setting (start setting) front (own ∷ []) firm in
-      let kept = kept_from begun front wake firms.0 parts.0 in
+      let kept = kept_from begun front firms.0 parts.0 in
       let follows = parts.1.0 in
       let h = answer_heard (W front) own.actor own.step own.stamp c number who follows.may.may (sym follows.answer ∙ given) in
       record {
         opened = record { asked = h.asked; is = h.is; number = h.line };
-        refused = kept.refusals.letters h.heard.letter c h.asked.seq h.heard.sent h.heard.own h.heard.is;
+        refused = elim h.heard [
+          | inl full ↦ inl (kept.refusals.letters full.letter c h.asked.seq full.sent full.own full.is)
+          | inr seen ↦ inr (
+            seen.settles,
+            subst (HasFoundFull setting (start setting) front) h.line
+                (shows seen.heard.letter h.asked.line seen.sight.round seen.sight.running seen.sight.inc seen.sight.full seen.heard.sent
+                seen.heard.is seen.full),
+          )
+        ];
       }
 
   -- ### A busy block
@@ -459,6 +548,10 @@ module _ (setting : Setting) where
       true_false (ap is_busy (sym sent.body ∙ says)) (not_refused sent.post.body
       (ap is_refused (all_logged n (w.servers n).life.inc _ sent.post sent.there)))
 
+  logged_refused : (subject : Subject) → is_logged subject ≡ true → is_refused subject ≡ false
+  logged_refused Logged e = refl
+  logged_refused _ e = true_false e refl
+
   serves_busy : (w : World) (n stamp : ℕ) (what : Step) (acted : Acted) → Serving setting w n what acted → (letter : Letter) (seq : ℕ)
       → In letter (stamped stamp acted.letters) → letter.body ≡ body.BlockBusy seq → FoundBusy setting w (actor.Server n) seq
   unfolding In
@@ -469,6 +562,10 @@ module _ (setting : Setting) where
         is = refl;
         busy = did_busy (Handled w n) (own_place setting w n) (w.servers n).own done did sent.post seq sent.there (sym sent.body ∙ says);
       }
+  serves_busy w n stamp what _ (Serves_on _ _ queue runs (By_ballot log started posts same starts logged) queued works) letter seq h says =
+      let sent = said (sender (own_place setting w n)) stamp 0 posts letter h in
+      true_false (ap is_busy (sym sent.body ∙ says))
+      (not_refused sent.post.body (logged_refused (subject_of sent.post.body) (logged sent.post sent.there)))
   serves_busy w n stamp what _ (Serves_on _ _ queue runs (By_entry log entry plus front) queued works) letter seq h says =
       let sent = said (sender (own_place setting w n)) stamp 0 [] letter h in absurd (no_posts sent.post sent.there)
   serves_busy w n stamp what _ (Stops_so log done runs worked) letter seq h says =
@@ -485,20 +582,21 @@ module _ (setting : Setting) where
       → (letter : Letter) (seq : ℕ) → In letter (step who what setting w stamp).letters → letter.body ≡ body.BlockBusy seq → FoundBusy setting w who seq
   unfolding step
   busy_step w firm rests (actor.Server n) what stamp may later letter seq h says =
-      serves_busy w n stamp what _ (server_serves setting w rests n (own_steady setting w firm n) stamp what may.1 later) letter seq h says
+      serves_busy w n stamp what _
+      (server_serves setting w rests firm n (own_steady setting w firm n) stamp what may.1 later) letter seq h says
   busy_step w firm rests (actor.Client c) what stamp may later letter seq h says =
       let reacted = client_step what (client_state setting w c) c (w.clients c) (next_line setting.lines c (w.clients c)) in
       let s = said (client_sender c reacted.client) stamp 0 reacted.posts letter h in
       true_false (ap is_ask s.body ∙ turned_asks _ setting.servers setting.lines c (w.clients c) (is_call what) reacted
       (client_turns setting w c what may.1).turned s.post s.there) (ap is_ask says)
 
-  pub found_busy : Kept [] → (front : List Record) (own : Record) → WakeAlong setting (start setting) front → AreFirm setting (start setting) (front ++ own ∷ [])
+  pub found_busy : Kept [] → (front : List Record) (own : Record) → AreFirm setting (start setting) (front ++ own ∷ [])
       → IsLegalFrom setting (start setting) (front ++ own ∷ [])
       → (letter : Letter) (seq : ℕ) → In letter own.sent → letter.body ≡ body.BlockBusy seq → FoundBusy setting (W front) own.actor seq
-  found_busy begun front own wake firm legal letter seq h says =
+  found_busy begun front own firm legal letter seq h says =
       let parts = front_legal setting (start setting) front (own ∷ []) legal in
       let firms = front_firm setting (start setting) front (own ∷ []) firm in
-      let kept = kept_from begun front wake firms.0 parts.0 in
+      let kept = kept_from begun front firms.0 parts.0 in
       let follows = parts.1.0 in
       busy_step (W front) (firm_now setting (W front) (own ∷ []) firms.1) kept.rests own.actor own.step own.stamp follows.may.may firms.1.2 letter seq
       (subst (In letter) follows.sent h) says
@@ -510,31 +608,26 @@ unfolding In
 start_refusals R script = record {
   letters = λ letter c seq h to says. absurd h;
   finished = λ n c last runs is how. none_some (at-empty nat_cmp c) is;
-  placed = λ letter number cell h says. absurd h;
-  declined = λ letter number n cell op h says to runs both is same. absurd h;
+  numbered = λ n cell op is. none_some (at-empty cell_cmp cell) is;
+  reserves = λ letter number cell h says. absurd h;
+  declined = λ letter number cell h says. absurd h;
 }
 
 start_kept : (script : Script) → Kept (setting_of script) []
 start_kept script = record {
   rests = start_rests script;
-  good = λ state steady below. start_good state script;
   refusals = start_refusals (WasRefused (setting_of script) []) script;
 }
-
-wake_front : (script : Script) (front : List Record) (own : Record) → IsSound script → IsLegal script (front ++ own ∷ [])
-    → WakeAlong (setting_of script) (start (setting_of script)) front
-wake_front script front own sound legal =
-    wake_along script front sound (front_legal (setting_of script) (start (setting_of script)) front (own ∷ []) legal).0
 
 pub no_space_reason : (script : Script) (front : List Record) (own : Record) → IsSound script
     → AreFirm (setting_of script) (start (setting_of script)) (front ++ own ∷ []) → IsLegal script (front ++ own ∷ []) → (client line : ℕ)
     → own.actor ≡ actor.Client client → own.answer ≡ Some (line, answer.NoSpace) → HasReason (setting_of script) front client line
 no_space_reason script front own sound firm legal =
-    no_space (setting_of script) (start_kept script) front own (wake_front script front own sound legal) firm legal
+    no_space (setting_of script) (start_kept script) front own
+    (shown_full script sound front (front_legal (setting_of script) (start (setting_of script)) front (own ∷ []) legal).0) firm legal
 
 pub busy_reason : (script : Script) (front : List Record) (own : Record) → IsSound script
     → AreFirm (setting_of script) (start (setting_of script)) (front ++ own ∷ []) → IsLegal script (front ++ own ∷ [])
     → (letter : Letter) (seq : ℕ) → In letter own.sent → letter.body ≡ body.BlockBusy seq
     → FoundBusy (setting_of script) (world_after (setting_of script) (start (setting_of script)) front) own.actor seq
-busy_reason script front own sound firm legal =
-    found_busy (setting_of script) (start_kept script) front own (wake_front script front own sound legal) firm legal
+busy_reason script front own sound firm legal = found_busy (setting_of script) (start_kept script) front own firm legal

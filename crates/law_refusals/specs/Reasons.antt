@@ -1,5 +1,5 @@
 -- Why a request was refused.
-use Rattle.std.specs.Prelude.{◌≡◌, ◌≤◌, ◌++◌, ℕ, true, List, ◌∷◌, length, Some, None}
+use Rattle.std.specs.Prelude.{◌≡◌, ◌≤◌, ◌<◌, ◌⊎◌, ◌++◌, ℕ, true, List, ◌∷◌, length, Some, None}
 use Rattle.std.specs.Ordering.{nat_cmp}
 use Rattle.petal_base.specs.declared.cell.Cell.{Cell}
 use Rattle.petal_command.specs.declared.command.Command.{Command}
@@ -11,9 +11,10 @@ use Rattle.petal_msg.specs.declared.letter.Letter.{Letter}
 use Rattle.petal_msg.specs.declared.operation.Ending.TheVariants as ending
 use Rattle.petal_msg.specs.declared.operation.Finished.{Finished}
 use Rattle.petal_msg.specs.declared.operation.Pending.{Pending}
+use Rattle.script_lines.specs.declared.request.Request.TheVariants.{Settle}
 use Rattle.petal_rules.specs.Lists.{In}
 use Rattle.petal_state.specs.Command.{state_after}
-use Rattle.petal_rules.specs.State.{first, second, in_both, is_lead}
+use Rattle.petal_rules.specs.State.{first, second, is_in, is_lead}
 use Rattle.petal_rules.specs.Store.{cell_cmp, free_of}
 use Rattle.petal_rules.specs.Writes.{pending_on}
 use Rattle.petal_rules.specs.Clients.{Asked}
@@ -24,6 +25,7 @@ use Rattle.petal_rules.specs.declared.step.WorkEnd.TheVariants as work_end
 use Rattle.petal_history.specs.Claims.{IsPrefix}
 use Rattle.petal_history.specs.Legal.{world_after}
 use Rattle.petal_history.specs.declared.record.Record.{Record}
+use Rattle.law_causes.specs.Settles.{HasFoundFull}
 use Rattle.law_steps.specs.Operations.{done_to}
 use Rattle.law_steps.specs.DidSecond.{FoundNoSlot}
 use Rattle.law_steps.specs.Did.{IsBusy}
@@ -59,14 +61,19 @@ pub record IsOpenFor (w : World) (client line : ℕ) : Type 0 where
   pub is : (w.clients client).asked ≡ Some asked
   pub number : asked.line ≡ line
 
+-- it was refused for want of a slot; or it is a settle, and one of its glances found a server whose last copy had found no slot
+abbrev pub HasNoSpace : Setting → List Record → (client line : ℕ) → Asked → Type 0
+HasNoSpace setting records client line asked =
+    WasRefused setting records client asked.seq ⊎ ((asked.request ≡ Settle) × HasFoundFull setting (start setting) records line)
+
 -- the answer has a reason
 pub record HasReason (setting : Setting) (records : List Record) (client line : ℕ) : Type 0 where
   pub opened : IsOpenFor (world_after setting (start setting) records) client line
-  pub refused : WasRefused setting records client opened.asked.seq
+  pub refused : HasNoSpace setting records client line opened.asked
 
 -- ### A busy block
 
--- a server's step found another operation pending on the block that it leads
+-- a server's step found another operation, or a copy, under way on the block that it leads
 pub record FoundBusy (setting : Setting) (w : World) (who : Actor) (seq : ℕ) : Type 0 where
   pub server : ℕ
   pub is : who ≡ actor.Server server
@@ -74,21 +81,37 @@ pub record FoundBusy (setting : Setting) (w : World) (who : Actor) (seq : ℕ) :
 
 -- ### What is kept
 
--- the letter was sent by a state by which its cell is in Both
-pub record IsPlaced (setting : Setting) (w : World) (letter : Letter) (cell : Cell) : Type 0 where
+-- the letter speaks of the operation of this number of the cell's first server, by the entries that its revision counts: of this
+-- incarnation's, which has given that number out
+pub record IsNumbered (setting : Setting) (w : World) (letter : Letter) (number : ℕ) (cell : Cell) : Type 0 where
+  pub server : ℕ
+  pub inc : ℕ
   pub front : List Command
   pub stands : IsPrefix front (chosen_log setting w)
   pub long : length front ≡ letter.rev
-  pub both : in_both (state_after setting.servers front) cell ≡ true
+  pub seated : is_in (state_after setting.servers front) server inc ≡ true
+  pub leads : first (state_after setting.servers front) cell ≡ Some server
+  pub begun : inc ≤ (w.servers server).life.inc
+  pub given : (w.servers server).life.inc ≡ inc → number < (w.servers server).own.pairs.next
 
--- where R holds of each request that was refused so far: of each that a letter tells of, or a server that runs remembers, and of
--- the operation of which a second server told its lead that it has no slot, while the lead runs and its cell is in Both. Numbers
--- count from 1 in each life, so that such a letter says nothing of the operations of a later one
+-- and R holds of the request of that operation, as long as it is pending there
+pub record IsDeclined (R : ℕ → ℕ → Type 0) (setting : Setting) (w : World) (letter : Letter) (number : ℕ) (cell : Cell) : Type 0 where
+  pub by : IsNumbered setting w letter number cell
+  pub to : letter.to ≡ actor.Server by.server
+  pub refused : (op : Pending) → (w.servers by.server).life.inc ≡ by.inc
+      → at cell_cmp (w.servers by.server).own.pairs.pending cell ≡ Some op
+      → op.op ≡ number → R op.client op.seq
+
+-- where R holds of each request that was refused so far: of each that a letter tells of, or a server that runs remembers, and of the
+-- operation of which a second server told its lead that it has no slot. Numbers count from 1 in each life, so that such a letter says
+-- nothing of the operations of a later one
 pub record Refusals (R : ℕ → ℕ → Type 0) (setting : Setting) (w : World) : Type 0 where
   pub letters : (letter : Letter) (c seq : ℕ) → In letter w.sent → letter.to ≡ actor.Client c → letter.body ≡ body.Full seq → R c seq
   pub finished : (n c : ℕ) (last : Finished) → (w.servers n).life.running ≡ true → at nat_cmp (w.servers n).own.pairs.finished c ≡ Some last
       → last.ending ≡ ending.Full → R c last.seq
-  pub placed : (letter : Letter) (number : ℕ) (cell : Cell) → In letter w.sent → letter.body ≡ body.PairFull number cell → IsPlaced setting w letter cell
-  pub declined : (letter : Letter) (number n : ℕ) (cell : Cell) (op : Pending) → In letter w.sent → letter.body ≡ body.PairFull number cell
-      → letter.to ≡ actor.Server n → (w.servers n).life.running ≡ true → in_both (server_state setting w n) cell ≡ true
-      → at cell_cmp (w.servers n).own.pairs.pending cell ≡ Some op → op.op ≡ number → R op.client op.seq
+  pub numbered : (n : ℕ) (cell : Cell) (op : Pending) → at cell_cmp (w.servers n).own.pairs.pending cell ≡ Some op
+      → op.op < (w.servers n).own.pairs.next
+  pub reserves : (letter : Letter) (number : ℕ) (cell : Cell) → In letter w.sent → letter.body ≡ body.Reserve number cell
+      → IsNumbered setting w letter number cell
+  pub declined : (letter : Letter) (number : ℕ) (cell : Cell) → In letter w.sent → letter.body ≡ body.PairFull number cell
+      → IsDeclined R setting w letter number cell

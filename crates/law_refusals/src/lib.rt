@@ -1,5 +1,6 @@
 //! Why requests are refused: over every legal history, a write is answered `nospace` only where its lead, or its second
-//! server, had no free slot for it, and a client is told that a block is busy only where another operation is pending on it.
+//! server, had no free slot for it, and a settle only where a copy found none; and a client is told that a block is busy only where
+//! another operation is pending on it, or a copy is under way.
 //!
 //! It speaks of definitions alone, and knows nothing of the plain machine.
 #![tactic(auto)]
@@ -19,13 +20,14 @@ ghost use Rattle.law_refusals.specs.Reasons.{FoundBusy, HasReason};
 
 /// Where a client's line is answered `nospace`, an earlier step refused this request since there was no slot: its lead, which
 /// had not finished it and had nothing pending on its cell, had none free when the write came; or the second server had none,
-/// neither free nor left over on the cell, when it was asked for one for this request's operation, which was new to it.
+/// neither free nor left over on the cell, when it was asked for one for this request's operation, which was new to it. Or the line is a
+/// settle, and one of its glances found a server whose last copy had found no slot.
 pub fn nospace_has_a_reason()
     ensures { (script : Script) (front : List Record) (own : Record) → IsSound script → IsLegal script (front ++ own ∷ []) → (client line : ℕ) → own.actor ≡ Client client → own.answer ≡ Some (line, NoSpace) → HasReason (setting_of script) front client line }
 {}
 
 /// A letter that says that a block is busy is sent by the block's lead, in the step that found another operation pending on
-/// it.
+/// it, or a copy of it under way.
 pub fn a_busy_block_has_another_operation()
     ensures { (script : Script) (front : List Record) (own : Record) → IsSound script → IsLegal script (front ++ own ∷ []) → (letter : Letter) (seq : ℕ) → In letter own.sent → letter.body ≡ BlockBusy seq → FoundBusy (setting_of script) (world_after (setting_of script) (start (setting_of script)) front) own.actor seq }
 {}

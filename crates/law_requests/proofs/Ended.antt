@@ -11,10 +11,10 @@ use Rattle.petal_rules.specs.World.{Setting, World}
 use Rattle.petal_rules.proofs.Tests.{none_some}
 use Rattle.law_steps.proofs.Restages.{Was}
 use Rattle.law_requests.specs.Asked.{IsWrite}
-use Rattle.law_requests.specs.Known.{seen, done_by, asked_for, PendingFor, AskingBy}
+use Rattle.law_requests.specs.Known.{done_by, asked_for, AskingBy}
 use Rattle.law_requests.proofs.Frames.{JobTells, Scene, same_want}
 use Rattle.law_requests.proofs.Later.{one_cell, one_open}
-use Rattle.law_requests.proofs.Running.{open_running}
+use Rattle.law_requests.proofs.Running.{PendingHere, open_running, pending_here}
 
 module _ (scene : Scene) (n : ℕ) (new : Own) (tells : JobTells scene.setting scene.state scene.w scene.lives n new) where
   abbrev setting : Setting
@@ -33,7 +33,7 @@ module _ (scene : Scene) (n : ℕ) (new : Own) (tells : JobTells scene.setting s
   old = (w.servers n).own
 
   abbrev P : Cell → Pending → Type 0
-  P cell op = PendingFor setting state (seen scene.lives w) n (scene.lives.ran n) (asked_for cell op) op.rev
+  P cell op = PendingHere setting state w scene.lives n (asked_for cell op) op.rev
 
   -- numbers rise, and stay below the client's next
   pub rises : (c : ℕ) → done_by old c ≤ done_by new c
@@ -49,23 +49,23 @@ module _ (scene : Scene) (n : ℕ) (new : Own) (tells : JobTells scene.setting s
   was_pending : (cell : Cell) (op : Pending) → Was old cell op ⊎ P cell op → P cell op
   was_pending cell op (inr p) = p
   was_pending cell op (inl s) =
-      subst (λ (k : ℕ). PendingFor setting state (seen scene.lives w) n (scene.lives.ran n) (asked_for cell op) k) s.same.rev
-      (subst (λ (want : Wanted). PendingFor setting state (seen scene.lives w) n (scene.lives.ran n) want s.was.rev) (same_want cell s.was op s.same)
-      (asking.pending n cell s.was s.is))
+      subst (λ (k : ℕ). PendingHere setting state w scene.lives n (asked_for cell op) k) s.same.rev
+      (subst (λ (want : Wanted). PendingHere setting state w scene.lives n want s.was.rev) (same_want cell s.was op s.same)
+      (pending_here setting w scene.firm scene.lives state scene.rests asking n cell s.was s.is))
 
   -- and no other that was just finished
   not_past : (cell : Cell) (op : Pending) → at cell_cmp new.pairs.pending cell ≡ Some op → P cell op → done_by new op.client ≤ op.seq
   not_past cell op is p = elim (tells.finished op.client) [
-    | inl same ↦ let u = p.unfinished in let t = asking.lived.tied n op.client in omega arith
+    | inl same ↦ let u = p.known.unfinished in let t = asking.lived.tied n op.client in omega arith
     | inr ends ↦
-        let q : PendingFor setting state (seen scene.lives w) n (w.servers n).life.inc (asked_for cell op) op.rev =
-        subst (λ i. PendingFor setting state (seen scene.lives w) n i (asked_for cell op) op.rev) (asking.lived.ran n ends.runs) p in
-        let still = open_running setting w scene.firm scene.lives state n (asked_for cell op) op.rev q ends.runs in
+        let still = open_running setting w scene.firm scene.lives state n (asked_for cell op) op.rev p
+        (asking.lived.ran n ends.runs) ends.runs in
         let seq : op.seq ≡ ends.seq = one_open (w.clients op.client) op.seq ends.seq still ends.still in
         let write : IsWrite state setting.lines op.client op.seq ends.cell ends.epoch ends.bytes =
         subst (λ i. IsWrite state setting.lines op.client i ends.cell ends.epoch ends.bytes) (sym seq) ends.write in
         let same : cell ≡ ends.cell =
-        one_cell state setting.lines op.client op.seq cell ends.cell op.key.epoch ends.epoch op.bytes ends.bytes p.known.sent.write write in
+        one_cell state setting.lines op.client op.seq cell ends.cell op.key.epoch ends.epoch op.bytes ends.bytes p.known.known.sent.write
+        write in
         none_some ends.gone (subst (λ (q : Cell). at cell_cmp new.pairs.pending q ≡ Some op) same is)
   ]
 

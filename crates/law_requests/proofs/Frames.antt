@@ -19,16 +19,18 @@ use Rattle.petal_rules.specs.Jobs.{Acted}
 use Rattle.petal_rules.specs.World.{Setting, World, acts, server_state, stamped}
 use Rattle.petal_rules.specs.declared.step.Step.{Step}
 use Rattle.petal_rules.proofs.ListLemmas.{put_same, put_apart, in-append}
-use Rattle.petal_rules.proofs.Tests.{same_or_apart, all_put, all_put_apart}
+use Rattle.petal_rules.proofs.Tests.{all_put, all_put_apart}
 use Rattle.law_state.specs.Firm.{Firm}
 use Rattle.law_state.specs.Plain.{IsPlainLog}
-use Rattle.law_steps.proofs.Fronts.{front_itself}
+use Rattle.law_steps.specs.Ready.{Rests}
+use Rattle.law_steps.proofs.Fronts.{front_itself, front_on, front_same}
 use Rattle.law_steps.proofs.Histories.{own_plain}
 use Rattle.law_steps.proofs.Restages.{IsSame, Was}
 use Rattle.law_requests.specs.Asked.{IsWrite, IsOpen}
-use Rattle.law_requests.specs.Known.{Lives, LedBy, lives_after, seen, done_by, EndKnownAt, Known, KnownLetter, asked_for, PendingFor, IsUsed, Has_pending, AskingBy}
-use Rattle.law_requests.proofs.Later.{Later, known_later, pending_later}
+use Rattle.law_requests.specs.Known.{Lives, LedBy, lives_after, seen, done_by, EndKnownAt, Known, KnownLetter, asked_for, IsLedAlong, PendingFor, IsUsed, Has_pending, AskingBy}
+use Rattle.law_requests.proofs.Later.{Later, known_later, pending_further}
 use Rattle.law_requests.proofs.Lives.{Lived, done_now, dones_rise, lived_on, lives_still, ran_same}
+use Rattle.law_requests.proofs.Running.{PendingHere}
 
 -- ### What a job shows
 
@@ -70,7 +72,7 @@ SaysOk setting state w n new to _ = Unit {0}
 pub record JobTells (setting : Setting) (state : State) (w : World) (lives : Lives) (n : ℕ) (new : Own) : Type 0 where
   pub finished : (c : ℕ) → (done_by new c ≡ done_by (w.servers n).own c) ⊎ Ends state setting.lines w n new c
   pub pending : (cell : Cell) (op : Pending) → at cell_cmp new.pairs.pending cell ≡ Some op
-      → Was (w.servers n).own cell op ⊎ PendingFor setting state (seen lives w) n (lives.ran n) (asked_for cell op) op.rev
+      → Was (w.servers n).own cell op ⊎ PendingHere setting state w lives n (asked_for cell op) op.rev
 
 -- the operation was opened for the same
 pub same_want : (cell : Cell) (a b : Pending) → IsSame a b → asked_for cell a ≡ asked_for cell b
@@ -83,6 +85,7 @@ pub record Scene : Type 0 where
   pub w : World
   pub lives : Lives
   pub firm : Firm setting w
+  pub rests : Rests setting w
   pub asking : AskingBy setting state w lives
 
 -- what is pending or was finished is that of the incarnation that ran last, which its own state has In
@@ -90,16 +93,21 @@ pub record IsSettled (scene : Scene) (n : ℕ) (new : Server) : Type 0 where
   pub same : new.life.running ≡ true → new.life.inc ≡ scene.lives.ran n
   pub seated : is_in (state_in scene.setting.servers new.log) n (scene.lives.ran n) ≡ true
 
+-- an operation that a step leaves: the incarnation that ran last leads its cell on, as far as the server has come
+pub record StepPending (scene : Scene) (n : ℕ) (new : Server) (cell : Cell) (op : Pending) : Type 0 where
+  pub was : PendingHere scene.setting scene.state scene.w scene.lives n (asked_for cell op) op.rev
+  pub along : IsLedAlong scene.setting.servers (scene.w.servers n).log.applied new.log.applied n (scene.lives.ran n) cell
+  pub unfinished : done_by new.own op.client ≤ op.seq
+
 -- what a server's step does to it: it goes on, or begins; its entries are more, and plain; and each operation is of a write that
--- it is not past
+-- it is not past, and of a cell that it leads
 pub record IsStepped (scene : Scene) (n : ℕ) (new : Server) : Type 0 where
   pub life : Lived scene.lives n (scene.w.servers n) new
   pub more : IsPrefix (scene.w.servers n).log.applied new.log.applied
   pub plain : IsPlainLog scene.setting.servers new.log.applied
   pub bound : (c : ℕ) → done_by new.own c ≤ (scene.w.clients c).seq + 1
   pub used : IsUsed new.own → IsSettled scene n new
-  pub pending : (cell : Cell) (op : Pending) → at cell_cmp new.own.pairs.pending cell ≡ Some op
-      → PendingFor scene.setting scene.state (seen scene.lives scene.w) n (scene.lives.ran n) (asked_for cell op) op.rev × (done_by new.own op.client ≤ op.seq)
+  pub pending : (cell : Cell) (op : Pending) → at cell_cmp new.own.pairs.pending cell ≡ Some op → StepPending scene n new cell op
 
 -- ### The world after a server's step
 
@@ -155,37 +163,55 @@ module _ (scene : Scene) (n stamp : ℕ) (what : Step) (acted : Acted) (step : I
   done_of : (m : ℕ) → after.ran m ≡ lives.ran m → (c : ℕ) → after.done m (lives.ran m) c ≡ done_by (later.servers m).own c
   done_of m e c = ap (λ i. after.done m i c) (sym e) ∙ done_now lives w later asking.lived steps m c
 
-  -- an operation of the incarnation that ran last
+  -- an operation of the incarnation that ran last, as far as the server has come
+  abbrev PendingUpto : ℕ → Server → Cell → Pending → Type 0
+  PendingUpto m x cell op = (q : PendingFor setting state (seen after later) m (after.ran m) (asked_for cell op) op.rev)
+      × (q.upto ≡ x.log.applied)
+
   goes_pending : (m : ℕ) → after.ran m ≡ lives.ran m → (cell : Cell) (op : Pending)
-      → PendingFor setting state (seen lives w) m (lives.ran m) (asked_for cell op) op.rev → done_by (later.servers m).own op.client ≤ op.seq
-      → PendingFor setting state (seen after later) m (after.ran m) (asked_for cell op) op.rev
-  goes_pending m e cell op p le =
+      → (p : PendingFor setting state (seen lives w) m (lives.ran m) (asked_for cell op) op.rev)
+      → done_by (later.servers m).own op.client ≤ op.seq
+      → (x : Server) → later.servers m ≡ x → IsPrefix p.upto x.log.applied
+      → IsLedAlong setting.servers p.upto x.log.applied m (lives.ran m) cell
+      → PendingUpto m x cell op
+  goes_pending m e cell op p le x same on along =
       let now = done_of m e op.client in
-      subst (λ i. PendingFor setting state (seen after later) m i (asked_for cell op) op.rev) (sym e)
-      (pending_later setting state (seen lives w) (seen after later) goes_on m (lives.ran m) (asked_for cell op) op.rev p (omega arith))
+      subst (λ i. (q : PendingFor setting state (seen after later) m i (asked_for cell op) op.rev) × (q.upto ≡ x.log.applied)) (sym e)
+      (pending_further setting state (seen lives w) (seen after later) goes_on m (lives.ran m) (asked_for cell op) op.rev p
+      (omega arith) x.log.applied on
+      (front_same x.log.applied _ (ap (λ (y : Server). y.log.applied) same)) along)
+
+  -- of the server that took the step
+  pending_acted : (cell : Cell) (op : Pending) → at cell_cmp acted.server.own.pairs.pending cell ≡ Some op
+      → PendingUpto n acted.server cell op
+  pending_acted cell op there =
+      let p = step.pending cell op there in
+      let ran = ran_here (step.used (Has_pending cell op there)).same in
+      let unfinished : done_by (later.servers n).own op.client ≤ op.seq =
+      subst (λ (x : Server). done_by x.own op.client ≤ op.seq) (sym server_now) p.unfinished in
+      goes_pending n ran cell op p.was.known unfinished acted.server server_now
+      (subst (λ own. IsPrefix own acted.server.log.applied) (sym p.was.here) step.more)
+      (subst (λ own. IsLedAlong setting.servers own acted.server.log.applied n (lives.ran n) cell) (sym p.was.here) p.along)
+
+  -- of another one
+  pending_beside : (m : ℕ) → m ≢ n → (cell : Cell) (op : Pending) → at cell_cmp (w.servers m).own.pairs.pending cell ≡ Some op
+      → PendingUpto m (w.servers m) cell op
+  pending_beside m ne cell op there =
+      let server : later.servers m ≡ w.servers m = put_apart w.servers n acted.server m ne in
+      let p = asking.pending m cell op there in
+      let come = asking.come m cell op there in
+      let tied = asking.lived.tied m op.client in
+      let un = p.unfinished in
+      let unfinished : done_by (later.servers m).own op.client ≤ op.seq =
+      subst (λ (x : Server). done_by x.own op.client ≤ op.seq) (sym server) (omega arith) in
+      goes_pending m (ran_beside m ne) cell op p unfinished (w.servers m) server (front_same p.upto (w.servers m).log.applied (sym come))
+      (λ log more lies. p.along log (front_on _ p.upto log p.opened more) (subst (IsPrefix log) (sym come) lies))
 
   pending_now : (m : ℕ) (cell : Cell) (op : Pending) → at cell_cmp (later.servers m).own.pairs.pending cell ≡ Some op
-      → PendingFor setting state (seen after later) m (after.ran m) (asked_for cell op) op.rev
-  pending_now m cell op is = elim (same_or_apart m n) [
-    | inl e ↦
-        let server : later.servers m ≡ acted.server = ap later.servers e ∙ server_now in
-        let there : at cell_cmp acted.server.own.pairs.pending cell ≡ Some op =
-        sym (ap (λ (x : Server). at cell_cmp x.own.pairs.pending cell) server) ∙ is in
-        let p = step.pending cell op there in
-        let ran : after.ran m ≡ lives.ran m =
-        subst (λ i. after.ran i ≡ lives.ran i) (sym e) (ran_here (step.used (Has_pending cell op there)).same) in
-        goes_pending m ran cell op (subst (λ i. PendingFor setting state (seen lives w) i (lives.ran i) (asked_for cell op) op.rev) (sym e) p.0)
-        (subst (λ (x : Server). done_by x.own op.client ≤ op.seq) (sym server) p.1)
-    | inr ne ↦
-        let server : later.servers m ≡ w.servers m = put_apart w.servers n acted.server m ne in
-        let there : at cell_cmp (w.servers m).own.pairs.pending cell ≡ Some op =
-        sym (ap (λ (x : Server). at cell_cmp x.own.pairs.pending cell) server) ∙ is in
-        let p = asking.pending m cell op there in
-        let tied = asking.lived.tied m op.client in
-        let un = p.unfinished in
-        goes_pending m (ran_beside m ne) cell op p
-        (subst (λ (x : Server). done_by x.own op.client ≤ op.seq) (sym server) (omega arith))
-  ]
+      → PendingUpto m (later.servers m) cell op
+  pending_now = all_put_apart w.servers n acted.server
+      (λ m (x : Server). (cell : Cell) (op : Pending) → at cell_cmp x.own.pairs.pending cell ≡ Some op → PendingUpto m x cell op)
+      pending_beside pending_acted
 
   used_now : (m : ℕ) → IsUsed (later.servers m).own → is_in (server_state setting later m) m (after.ran m) ≡ true
   used_now = all_put_apart w.servers n acted.server (λ m (x : Server). IsUsed x.own → is_in (state_in setting.servers x.log) m (after.ran m) ≡ true)
@@ -204,7 +230,8 @@ module _ (scene : Scene) (n stamp : ℕ) (what : Step) (acted : Acted) (step : I
       | inl new ↦ says letter new
       | inr sent ↦ known_later setting state (seen lives w) (seen after later) goes_on letter.from letter.to letter.rev letter.body (asking.letters letter sent)
     ];
-    pending = pending_now;
+    pending = λ m cell op is. (pending_now m cell op is).0;
+    come = λ m cell op is. (pending_now m cell op is).1;
     finished = all_put w.servers n acted.server (λ m (x : Server). (c : ℕ) → done_by x.own c ≤ (w.clients c).seq + 1) asking.finished step.bound;
     used = used_now;
   }

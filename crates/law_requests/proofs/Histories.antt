@@ -23,18 +23,21 @@ use Rattle.petal_history.specs.declared.record.Record.{Record}
 use Rattle.law_state.specs.Below.{IsBelow}
 use Rattle.law_state.specs.Firm.{Firm}
 use Rattle.law_state.specs.Steady.{IsSteady}
+use Rattle.law_state.proofs.Ages.{in_once}
+use Rattle.law_log.proofs.Histories.{out_has_stopped, who_is_in_has_begun}
 use Rattle.law_steps.specs.Operations.{done_to}
 use Rattle.law_steps.specs.Happens.{Happens}
-use Rattle.law_steps.specs.Ready.{AreFirm, Ready}
+use Rattle.law_steps.specs.Ready.{AreFirm, Ready, Rests}
 use Rattle.law_steps.specs.Waking.{AllMayWake}
-use Rattle.law_steps.proofs.Fronts.{below_itself}
-use Rattle.law_steps.proofs.Histories.{chosen_steady, firm_after, start_rests}
+use Rattle.law_steps.proofs.Fronts.{below_itself, front_same}
+use Rattle.law_steps.proofs.Histories.{chosen_steady, firm_after, rests_after, start_rests}
 use Rattle.law_steps.proofs.Waking.{kept_waking, wake_along}
 use Rattle.law_requests.specs.Asked.{IsOpen}
-use Rattle.law_requests.specs.Known.{Lives, LedBy, lives_after, seen, done_by, WriteKnown, Known, PendingFor, IsUsed, Has_pending, Has_finished, asked_for, AskingBy, Asking}
-use Rattle.law_requests.specs.Still.{AreOpen}
-use Rattle.law_requests.proofs.Running.{own_front, runs_past, open_running, open_led, open_in_both, open_secondary}
+use Rattle.law_requests.specs.Known.{Lives, LedBy, lives_after, seen, done_by, WriteKnown, Known, IsUsed, Has_pending, Has_finished, asked_for, AskingBy, Asking}
+use Rattle.law_requests.specs.Still.{AreOpen, IsItself}
+use Rattle.law_requests.proofs.Running.{PendingHere, late_where, own_front, open_running, pending_here}
 use Rattle.law_requests.proofs.Stepping.{happens_asking}
+use Rattle.law_requests.proofs.Stopped.{AreBegun, open_in_both, open_led, open_secondary}
 
 -- each server runs as its first incarnation, which has finished nothing
 abbrev pub first_lives : Lives
@@ -52,6 +55,7 @@ start_asking state script = record {
   asked = λ c asked e. none_some refl e;
   letters = λ letter h. absurd h;
   pending = λ n cell op is. none_some (at-empty cell_cmp cell) is;
+  come = λ n cell op is. none_some (at-empty cell_cmp cell) is;
   finished = λ n c. let e = none n c in omega arith;
   used = λ n u. unused n u;
 }
@@ -96,17 +100,38 @@ has_finished : (o : Option Finished) (seq : ℕ) → seq < done_to o → HasFini
 has_finished None seq lt = absurd (omega arith)
 has_finished (Some last) seq lt = record { last = last; is = refl; past = omega arith }
 
-module _ (setting : Setting) (w : World) (firm : Firm setting w) (state : State) (asks : Asking setting state w) where
+-- whoever is In by a front of what is chosen is so with an incarnation that has begun
+pub begun_after : (script : Script) (records : List Record) → IsSound script → IsLegal script records
+    → AreBegun (setting_of script) (world_after (setting_of script) (start (setting_of script)) records)
+begun_after script records sound legal front n inc lies is =
+    let w = world_after (setting_of script) (start (setting_of script)) records in
+    by_bool (is_in (chosen_state (setting_of script) w) n inc)
+    (λ now. who_is_in_has_begun script records sound legal n inc now)
+    (λ gone. elim (out_has_stopped script records sound legal n inc front lies is gone) [ inl rests ↦ rests.1 | inr past ↦ (omega arith) ])
+
+module _ (setting : Setting) (w : World) (firm : Firm setting w) (rests : Rests setting w) (state : State)
+    (asks : Asking setting state w) where
   abbrev lives : Lives
   lives = asks.lives
 
   abbrev asking : AskingBy setting state w lives
   asking = asks.known
 
-  pending_now : (n : ℕ) (cell : Cell) (op : Pending) → at cell_cmp (w.servers n).own.pairs.pending cell ≡ Some op → (w.servers n).life.running ≡ true
-      → PendingFor setting state (seen lives w) n (w.servers n).life.inc (asked_for cell op) op.rev
-  pending_now n cell op is runs =
-      subst (λ i. PendingFor setting state (seen lives w) n i (asked_for cell op) op.rev) (asking.lived.ran n runs) (asking.pending n cell op is)
+  here : (n : ℕ) (cell : Cell) (op : Pending) → at cell_cmp (w.servers n).own.pairs.pending cell ≡ Some op
+      → PendingHere setting state w lives n (asked_for cell op) op.rev
+  here = pending_here setting w firm lives state rests asking
+
+  running_open : (n : ℕ) (cell : Cell) (op : Pending) → at cell_cmp (w.servers n).own.pairs.pending cell ≡ Some op
+      → (w.servers n).life.running ≡ true
+      → IsOpen (w.clients op.client) op.seq
+  running_open n cell op is runs =
+      open_running setting w firm lives state n (asked_for cell op) op.rev (here n cell op is) (asking.lived.ran n runs) runs
+
+  -- what a server that has not raised its incarnation since has pending is of that one
+  ran_itself : (n : ℕ) (cell : Cell) (op : Pending) → at cell_cmp (w.servers n).own.pairs.pending cell ≡ Some op → IsItself setting w n
+      → lives.ran n ≡ (w.servers n).life.inc
+  ran_itself n cell op is itself = in_once (server_state setting w n) n (lives.ran n) (w.servers n).life.inc
+      (asking.used n (Has_pending cell op is)) itself
 
   -- a server at work at the revision of a Write letter that leads the cell is past it
   late_at : (letter : Letter) (want : Wanted) (n : ℕ) → WriteKnown setting state (seen lives w) want letter.rev → IsOver w want.client want.seq
@@ -120,17 +145,21 @@ module _ (setting : Setting) (w : World) (firm : Firm setting w) (state : State)
         let led : LedBy (state_after setting.servers at.front) n (w.servers n).life.inc want.cell =
         subst (λ log. LedBy (state_after setting.servers log) n (w.servers n).life.inc want.cell) (own_front setting w firm want.client n letter.rev at rev)
         (record { seated = both.1; leads = leads }) in
-        let past = runs_past setting w firm lives want at.front n at.lies led both.0 (late n (w.servers n).life.inc led) in
-        let tied : lives.done n (w.servers n).life.inc want.client ≡ done_by (w.servers n).own want.client =
-        ap (λ i. lives.done n i want.client) (sym (asking.lived.ran n both.0)) ∙ asking.lived.tied n want.client in
-        inl (has_finished _ want.seq (omega arith)))
+        let same : (w.servers n).log.applied ≡ at.front = own_front setting w firm want.client n letter.rev at rev in
+        elim (late_where setting w firm lives n both.0 want.cell (record { seated = both.1; leads = leads }) at.front
+        (front_same (w.servers n).log.applied at.front (sym same)) want.client want.seq (late n (w.servers n).life.inc led)) [
+          | inl past ↦ (
+              let tied : lives.done n (w.servers n).life.inc want.client ≡ done_by (w.servers n).own want.client =
+              ap (λ i. lives.done n i want.client) (sym (asking.lived.ran n both.0)) ∙ asking.lived.tied n want.client in
+              inl (has_finished _ want.seq (omega arith)))
+          | inr kept ↦ inr (inr (inr kept))
+        ])
         (λ none. inr (inl none))
   ]
 
   pub rule : Requests setting w
   rule = record {
-    pending = λ n cell op runs is over.
-        over_open w op.client op.seq over (open_running setting w firm lives state n (asked_for cell op) op.rev (pending_now n cell op is runs) runs);
+    pending = λ n cell op runs is over. over_open w op.client op.seq over (running_open n cell op is runs);
     late = λ letter c seq epoch cell bytes sent is over n.
         let want : Wanted = record { client = c; seq = seq; cell = cell; epoch = epoch; bytes = bytes } in
         let k : WriteKnown setting state (seen lives w) want letter.rev =
@@ -139,17 +168,19 @@ module _ (setting : Setting) (w : World) (firm : Firm setting w) (state : State)
   }
 
   -- the request of a pending operation is open still
-  pub are_open : AreOpen setting w
-  are_open = record {
-    running = λ n cell op is runs. open_running setting w firm lives state n (asked_for cell op) op.rev (pending_now n cell op is runs) runs;
-    led = λ n leader cell op is led still no_other.
-        open_led setting w firm lives state n (lives.ran n) (asked_for cell op) op.rev (asking.pending n cell op is)
-        (asking.used n (Has_pending cell op is)) leader led still no_other;
-    in_both = λ n cell op is both.
-        open_in_both setting w firm lives state n (lives.ran n) (asked_for cell op) op.rev (asking.pending n cell op is) both;
-    beside = λ n m leader cell op is one two led still apart.
-        open_secondary setting w firm lives state n (lives.ran n) (asked_for cell op) op.rev (asking.pending n cell op is)
-        (asking.used n (Has_pending cell op is)) m leader one two led still apart;
+  pub are_open : AreBegun setting w → AreOpen setting w
+  are_open begun = record {
+    running = running_open;
+    led = λ n leader cell op is itself led still no_other.
+        open_led setting w firm begun lives state n (asked_for cell op) op.rev (here n cell op is)
+        (ran_itself n cell op is itself) leader led still no_other;
+    in_both = λ n cell op is itself both.
+        open_in_both setting w firm begun lives state n (asked_for cell op) op.rev (here n cell op is)
+        (ran_itself n cell op is itself) both;
+    beside = λ n m leader cell op is itself one two led still apart.
+        open_secondary setting w firm begun lives state n (asked_for cell op) op.rev (here n cell op is)
+        (ran_itself n cell op is itself) m leader
+        one two led still apart;
   }
 
 pub requests_after : (script : Script) (records : List Record) → IsSound script → AreFirm (setting_of script) (start (setting_of script)) records
@@ -157,11 +188,15 @@ pub requests_after : (script : Script) (records : List Record) → IsSound scrip
     → Requests (setting_of script) (world_after (setting_of script) (start (setting_of script)) records)
 requests_after script records sound firm legal =
     let setting = setting_of script in
-    rule setting _ (firm_after setting (start setting) records firm) _ (asking_after script records sound firm legal)
+    rule setting _ (firm_after setting (start setting) records firm)
+    (rests_after setting (start setting) records firm (start_rests script) legal) _
+    (asking_after script records sound firm legal)
 
 pub open_after : (script : Script) (records : List Record) → IsSound script → AreFirm (setting_of script) (start (setting_of script)) records
     → IsLegal script records
     → AreOpen (setting_of script) (world_after (setting_of script) (start (setting_of script)) records)
 open_after script records sound firm legal =
     let setting = setting_of script in
-    are_open setting _ (firm_after setting (start setting) records firm) _ (asking_after script records sound firm legal)
+    are_open setting _ (firm_after setting (start setting) records firm)
+    (rests_after setting (start setting) records firm (start_rests script) legal) _
+    (asking_after script records sound firm legal) (begun_after script records sound legal)

@@ -1,11 +1,12 @@
 -- Each kind of job keeps what is known of requests.
-use Rattle.std.proofs.Common.{◌≡◌, ◌≢◌, ◌≤◌, ◌+◌, ℕ, List, [], ◌∷◌, true, false, Some, None, refl, ap, sym, ◌∙◌, subst, ◌⊎◌, inl, inr, arith}
+use Rattle.std.proofs.Common.{◌≡◌, ◌≢◌, ◌≤◌, ◌+◌, ℕ, List, [], ◌∷◌, true, false, Some, None, refl, ap, sym, ◌∙◌, subst, inl, inr, arith}
 use Rattle.std.specs.Ordering.{nat_cmp}
 use Rattle.busy_marks.specs.declared.marks.MarkKind.TheVariants.{Stale}
 use Rattle.petal_base.specs.declared.cell.Cell.{Cell}
 use Rattle.petal_table.specs.Table.{Table, at, put, without}
 use Rattle.petal_table.proofs.Rows.{at_same, at_apart}
-use Rattle.petal_msg.specs.Kinds.{subject_of}
+use Rattle.petal_command.specs.declared.command.Command.{Command}
+use Rattle.petal_msg.specs.Kinds.{is_logged, subject_of}
 use Rattle.petal_msg.specs.declared.body.Body.{Body}
 use Rattle.petal_msg.specs.declared.body.Body.TheVariants as body
 use Rattle.petal_msg.specs.declared.letter.Actor.{Actor}
@@ -14,6 +15,7 @@ use Rattle.petal_msg.specs.declared.operation.Ending.{Ending}
 use Rattle.petal_msg.specs.declared.operation.Ending.TheVariants as ending
 use Rattle.petal_msg.specs.declared.operation.Finished.{Finished}
 use Rattle.petal_msg.specs.declared.operation.Pending.{Pending}
+use Rattle.petal_history.specs.Claims.{IsPrefix}
 use Rattle.petal_state.specs.Command.{state_after}
 use Rattle.petal_rules.specs.Lists.{In}
 use Rattle.petal_rules.specs.Log.{rev_of}
@@ -28,21 +30,23 @@ use Rattle.law_state.specs.Firm.{Firm}
 use Rattle.law_state.proofs.Steady.{log_rev}
 use Rattle.law_steps.specs.Operations.{done_to}
 use Rattle.law_steps.specs.DidRead.{DidRead}
-use Rattle.law_steps.specs.DidLead.{DidLead, IsNew, Asks_for, Repeats, Is_full, Gives_up, Opens, Marks, Puts, Unmarks, Closes, Opens_alone, Marks_alone, Puts_alone, Unmarks_alone, Closes_alone, Asks, A_slot, A_copy, Of_the_log}
+use Rattle.law_steps.specs.DidLead.{DidLead, IsNew, Asks_for, Repeats, Is_full, Gives_up, Opens, Marks, Puts, Unmarks, Closes, Opens_alone, Marks_alone, Puts_alone, Unmarks_alone, Closes_alone, Asks, A_slot, A_copy, A_trim, A_copied_entry, A_page, Of_the_log}
 use Rattle.law_steps.specs.DidSecond.{DidSecond}
-use Rattle.law_steps.specs.Did.{Did, Ignores, Refuses, By_read, By_lead, By_second}
+use Rattle.law_steps.specs.Did.{Did, Ignores, Refuses, By_read, By_lead, By_second, By_holder, By_other}
 use Rattle.law_steps.specs.Happens.{Handled, IsSeated, own_place}
 use Rattle.law_steps.specs.Ready.{Rests}
 use Rattle.law_steps.proofs.Letters.{one_post, posted}
 use Rattle.law_steps.proofs.Restages.{Restages, Was, was_same, stood, marked, has_put, unmarked, was_taken, was_before, marked_alone, put_alone, unmarked_alone}
 use Rattle.law_steps.proofs.Staged.{same_cell_or_apart, put_put}
+use Rattle.law_steps.proofs.CopyFrames.{CopyFrame, of_holder, of_other}
+use Rattle.law_steps.proofs.Fronts.{front_itself, front_same}
 use Rattle.law_steps.proofs.Subjects.{of_read, of_second}
 use Rattle.law_steps.proofs.Taking.{taking}
 use Rattle.law_requests.specs.Asked.{IsWrite, IsOpen}
-use Rattle.law_requests.specs.Known.{Lives, LedBy, seen, done_by, WriteKnown, Known, asked_for, PendingFor, IsUsed, Has_pending, Has_finished, AskingBy}
+use Rattle.law_requests.specs.Known.{Lives, LedBy, seen, done_by, WriteKnown, Known, asked_for, IsUsed, Has_pending, Has_finished, AskingBy}
 use Rattle.law_requests.proofs.Frames.{Ends, Tells, SaysOk, JobTells}
-use Rattle.law_requests.proofs.Later.{tells_request, logged_untold}
-use Rattle.law_requests.proofs.Running.{own_front, open_running, runs_past}
+use Rattle.law_requests.proofs.Later.{tells_request, logged_untold, one_log}
+use Rattle.law_requests.proofs.Running.{PendingHere, late_where, own_front, open_running, pending_here}
 
 -- the actor is this one, and the letter says this
 abbrev Says : Actor → Body → Post → Type 0
@@ -92,13 +96,17 @@ module _ (setting : Setting) (state : State) (w : World) (lives : Lives) (firm :
   ran_now : lives.ran n ≡ (w.servers n).life.inc
   ran_now = asking.lived.ran n runs
 
+  abbrev own_log : List Command
+  own_log = (w.servers n).log.applied
+
+  at_own : (want : Wanted) (k : WriteKnown setting state (seen lives w) want here.state.rev) → own_log ≡ k.sent.at.front
+  at_own want k = own_front setting w firm want.client n here.state.rev k.sent.at (sym (log_rev setting.servers own_log))
+
   -- the server leads the cell at that revision
   led_then : (want : Wanted) (k : WriteKnown setting state (seen lives w) want here.state.rev) → IsSeat → is_lead here.state n want.cell ≡ true
       → LedBy (state_after setting.servers k.sent.at.front) n here.inc want.cell
   led_then want k seat lead =
-      subst (λ log. LedBy (state_after setting.servers log) n here.inc want.cell)
-      (own_front setting w firm want.client n here.state.rev k.sent.at (sym (log_rev setting.servers (w.servers n).log.applied)))
-      (record { seated = seat; leads = lead })
+      subst (λ log. LedBy (state_after setting.servers log) n here.inc want.cell) (at_own want k) (record { seated = seat; leads = lead })
 
   -- what has something pending, or has finished something, is In as itself
   used_seat : IsUsed own → IsSeat
@@ -136,6 +144,9 @@ module _ (setting : Setting) (state : State) (w : World) (lives : Lives) (firm :
   asks_says : (post : Post) → Asks here own post → S own post.to post.body
   asks_says _ (A_slot op to is stage e) = tt
   asks_says _ (A_copy op to is stage e) = tt
+  asks_says _ (A_trim cell copy to is fresh e) = tt
+  asks_says _ (A_copied_entry cell copy row to is trimmed there e) = tt
+  asks_says _ (A_page row to i other fresh) = tt
   asks_says _ (Of_the_log post e) = nothing_said own post.to post.body (logged_untold (subject_of post.body) e)
 
   ended_says : (new : Own) (c seq : ℕ) (how : Ending) → Tells setting state w n new c seq → S new (actor.Client c) (ended seq how)
@@ -149,23 +160,37 @@ module _ (setting : Setting) (state : State) (w : World) (lives : Lives) (firm :
       let led = led_then want k seat new.lead in
       elim k.still [
         | inl open_now ↦ open_now.now
-        | inr late ↦
-            let lt = runs_past setting w firm lives want k.sent.at.front n k.sent.at.lies led runs (late n here.inc led) in
-            let newer = new.newer in
-            let tied : lives.done n here.inc want.client ≡ done_by own want.client =
-            ap (λ i. lives.done n i want.client) (sym ran_now) ∙ asking.lived.tied n want.client in
-            absurd (omega arith)
+        | inr late ↦ elim (late_where setting w firm lives n runs want.cell (record { seated = seat; leads = new.lead }) k.sent.at.front
+            (front_same own_log k.sent.at.front (sym (at_own want k))) want.client want.seq (late n here.inc led)) [
+              | inl lt ↦ (
+                  let newer = new.newer in
+                  let tied : lives.done n here.inc want.client ≡ done_by own want.client =
+                  ap (λ i. lives.done n i want.client) (sym ran_now) ∙ asking.lived.tied n want.client in
+                  absurd (omega arith))
+              | inr kept ↦ true_false kept new.unheld
+            ]
       ]
 
-  new_pending : (want : Wanted) → IsSeat → IsNew hears here own want → PendingFor setting state (seen lives w) n (lives.ran n) want here.state.rev
+  new_pending : (want : Wanted) → IsSeat → IsNew hears here own want → PendingHere setting state w lives n want here.state.rev
   new_pending want seat new =
       let k = wanted_known want new.wanted in
       let newer = new.newer in
       let tied = asking.lived.tied n want.client in
+      let at = at_own want k in
       record {
-        known = k;
-        led = subst (λ i. LedBy (state_after setting.servers k.sent.at.front) n i want.cell) (sym ran_now) (led_then want k seat new.lead);
-        unfinished = omega arith;
+        known = record {
+          known = k;
+          upto = own_log;
+          opened = front_same k.sent.at.front own_log at;
+          applied = front_itself own_log;
+          along = λ log more lies.
+              let same : log ≡ own_log = one_log log own_log lies (subst (λ f. IsPrefix f log) (sym at) more) in
+              subst (λ l. LedBy (state_after setting.servers l) n (lives.ran n) want.cell) (sym same)
+              (subst (λ i. LedBy here.state n i want.cell) (sym ran_now) (record { seated = seat; leads = new.lead }));
+          unfinished = omega arith;
+        };
+        here = refl;
+        unheld = new.unheld;
       }
 
   -- the server finishes a request
@@ -223,11 +248,11 @@ module _ (setting : Setting) (state : State) (w : World) (lives : Lives) (firm :
       pending = λ cell o is. elim (same_cell_or_apart cell want.cell) [
         | inl e ↦
             let same : op ≡ o = same_some (sym there ∙ ap (at cell_cmp new.pairs.pending) (sym e) ∙ is) in
-            let p : PendingFor setting state (seen lives w) n (lives.ran n) (asked_for want.cell op) op.rev =
-            subst (λ (r : ℕ). PendingFor setting state (seen lives w) n (lives.ran n) (asked_for want.cell op) r) (sym rev)
-            (subst (λ (x : Wanted). PendingFor setting state (seen lives w) n (lives.ran n) x here.state.rev) (sym for) (new_pending want seat fresh)) in
-            inr (subst (λ (q : Cell). PendingFor setting state (seen lives w) n (lives.ran n) (asked_for q o) o.rev) (sym e)
-            (subst (λ (x : Pending). PendingFor setting state (seen lives w) n (lives.ran n) (asked_for want.cell x) x.rev) same p))
+            let p : PendingHere setting state w lives n (asked_for want.cell op) op.rev =
+            subst (λ (r : ℕ). PendingHere setting state w lives n (asked_for want.cell op) r) (sym rev)
+            (subst (λ (x : Wanted). PendingHere setting state w lives n x here.state.rev) (sym for) (new_pending want seat fresh)) in
+            inr (subst (λ (q : Cell). PendingHere setting state w lives n (asked_for q o) o.rev) (sym e)
+            (subst (λ (x : Pending). PendingHere setting state w lives n (asked_for want.cell x) x.rev) same p))
         | inr ne ↦ inl (was_same own cell o (sym (others cell ne) ∙ is))
       ];
     };
@@ -250,7 +275,7 @@ module _ (setting : Setting) (state : State) (w : World) (lives : Lives) (firm :
       let e = was.same in
       let p = asking.pending n op.cell old was.is in
       let still = open_running setting w firm lives state n (asked_for op.cell old) old.rev
-      (subst (λ i. PendingFor setting state (seen lives w) n i (asked_for op.cell old) old.rev) ran_now p) runs in
+      (pending_here setting w firm lives state rests asking n op.cell old was.is) ran_now runs in
       let led : LedBy here.state n here.inc op.cell = record {
         seated = used_seat (Has_pending op.cell old was.is);
         leads = ((rests.pending n).staged op.cell old was.is).lead;
@@ -272,18 +297,18 @@ module _ (setting : Setting) (state : State) (w : World) (lives : Lives) (firm :
       (ap (λ t. at cell_cmp t op.cell) pending ∙ cell_gone now.pairs.pending op.cell) (finished_here op now new.pairs.pending pending others)
 
   -- a job that finishes a request, or opens an operation, leaves another own
-  open_seat : (want : Wanted) → IsNew hears here own want → (op : Pending) (after : Own) → IsSeat ⊎ (after ≡ own)
-      → at cell_cmp after.pairs.pending want.cell ≡ Some op → IsSeat
-  open_seat want new op after (inl seated) there = seated
-  open_seat want new op after (inr kept) there =
-      none_some new.none (sym (ap (λ (o : Own). at cell_cmp o.pairs.pending want.cell) kept) ∙ there)
+  open_seat : (want : Wanted) → IsNew hears here own want → (op : Pending) (done : Done) → IsSeated here own done
+      → at cell_cmp done.own.pairs.pending want.cell ≡ Some op → IsSeat
+  open_seat want new op done (inl seated) there = seated
+  open_seat want new op done (inr apart) there =
+      none_some new.none (sym (ap (λ (o : Own). at cell_cmp o.pairs.pending want.cell) apart.same) ∙ there)
 
   full_seat : (want : Wanted) → IsNew hears here own want → IsSeated here own (finishes own want.client want.seq ending.Full) → IsSeat
   full_seat want new (inl seated) = seated
-  full_seat want new (inr kept) =
+  full_seat want new (inr apart) =
       let last : Finished = record { seq = want.seq; ending = ending.Full } in
       let now : done_by own want.client ≡ want.seq + 1 =
-      sym (ap (λ (o : Own). done_by o want.client) kept) ∙ ap done_to (at_same own.pairs.finished want.client last) in
+      sym (ap (λ (o : Own). done_by o want.client) apart.same) ∙ ap done_to (at_same own.pairs.finished want.client last) in
       let newer = new.newer in
       absurd (omega arith)
 
@@ -337,6 +362,13 @@ module _ (setting : Setting) (state : State) (w : World) (lives : Lives) (firm :
       let frame = of_read hears here own done d in
       talked done frame.same (λ post i. says_any done.own _ post (frame.says post i).is (λ to. tt))
 
+  -- copies are of no request
+  copied_tells : (done : Done) → CopyFrame own done → J done.own done.posts
+  copied_tells done frame =
+      calm done.own done.posts (λ c. ap (λ t. done_to (at nat_cmp t c)) frame.finished)
+      (λ cell op is. was_same own cell op (ap (λ t. at cell_cmp t cell) (sym frame.pending) ∙ is))
+      (λ post i. nothing_said done.own post.to post.body (ap tells_request (frame.says post i)))
+
   second_tells : (done : Done) → DidSecond hears here own done → J done.own done.posts
   second_tells done d =
       let frame = of_second hears here own done d in
@@ -352,9 +384,12 @@ module _ (setting : Setting) (state : State) (w : World) (lives : Lives) (firm :
   job_tells _ seat (By_read done d) = read_tells done d
   job_tells _ seat (By_lead done d) = lead_tells done seat d
   job_tells _ seat (By_second done d) = second_tells done d
+  job_tells _ seat (By_holder done d) = copied_tells done (of_holder hears here own done d)
+  job_tells _ seat (By_other done d) = copied_tells done (of_other hears here own done d)
 
-  -- an entry that is applied leaves what the server leads
-  pub crossed_tells : (new : Own) → new.pairs.pending ≡ own.pairs.pending → new.pairs.finished ≡ own.pairs.finished → J new []
-  unfolding In
-  crossed_tells new pending finished = calm new [] (λ c. ap (λ t. done_to (at nat_cmp t c)) finished)
-      (λ cell op is. was_same own cell op (ap (λ t. at cell_cmp t cell) (sym pending) ∙ is)) (λ post i. absurd i)
+  -- a ballot, and an entry that is applied, leave what the server leads
+  pub kept_tells : (new : Own) (posts : List Post) → new.pairs.pending ≡ own.pairs.pending → new.pairs.finished ≡ own.pairs.finished
+      → ((post : Post) → In post posts → is_logged (subject_of post.body) ≡ true) → J new posts
+  kept_tells new posts pending finished says = calm new posts (λ c. ap (λ t. done_to (at nat_cmp t c)) finished)
+      (λ cell op is. was_same own cell op (ap (λ t. at cell_cmp t cell) (sym pending) ∙ is))
+      (λ post i. nothing_said new post.to post.body (logged_untold (subject_of post.body) (says post i)))

@@ -1,5 +1,7 @@
 -- What was known of requests is known later.
 use Rattle.std.proofs.Common.{◌≡◌, ◌≤◌, ℕ, Bool, true, false, List, Option, ap, sym, ◌∙◌, ◌⊎◌, inl, inr, arith, refl}
+use Rattle.std.proofs.lemmas.Bool.{cases_lt}
+use Rattle.std.specs.Prelude.{length}
 use Rattle.petal_base.specs.declared.cell.Cell.{Cell}
 use Rattle.petal_command.specs.declared.command.Command.{Command}
 use Rattle.petal_msg.specs.Kinds.{Subject, Answered, Logged, Read_asked, Write_asked, is_logged, subject_of}
@@ -19,10 +21,21 @@ use Rattle.petal_rules.specs.World.{Setting}
 use Rattle.petal_rules.proofs.Tests.{same_some, true_false}
 use Rattle.law_state.specs.Below.{IsBelow}
 use Rattle.law_state.specs.Plain.{IsPlainLog}
-use Rattle.law_steps.proofs.Fronts.{front_on}
+use Rattle.law_steps.proofs.Fronts.{front_itself, front_long, front_on, front_within, one_front}
 use Rattle.law_requests.specs.Asked.{IsWrite, IsOpen, IsOpenFrom}
-use Rattle.law_requests.specs.Known.{Seen, IsLate, Is_past, Had_no_lead, Has_left, Has_another, AreLate, IsSent, WriteKnown, EndKnownAt, Known, PendingFor}
-use Rattle.law_requests.proofs.Leads.{alone_stays}
+use Rattle.law_requests.specs.Known.{Seen, IsLate, Is_past, Had_no_lead, Had_another, IsLedAlong, AreLate, IsSent, WriteKnown, EndKnownAt, Known, PendingFor}
+
+-- of two fronts of one log one stands at the front of the other
+pub either_front : (one two whole : List Command) → IsPrefix one whole → IsPrefix two whole → IsPrefix one two ⊎ IsPrefix two one
+either_front one two whole a b = elim (cases_lt (length two) (length one)) [
+  | inl shorter ↦ inr (front_within two one whole b a (omega arith))
+  | inr longer ↦ inl (front_within one two whole a b (omega arith))
+]
+
+-- two that stand at each other's front are one
+pub one_log : (a b : List Command) → IsPrefix a b → IsPrefix b a → a ≡ b
+one_log a b one two =
+    let le = front_long a b one in let ge = front_long b a two in one_front a b b one (front_itself b) (omega arith)
 
 disk_named : Request → Option (List ℕ)
 disk_named asked = (names asked).disk
@@ -102,9 +115,8 @@ module _ (setting : Setting) (state : State) (v u : Seen) (later : Later setting
       → IsLate setting.servers u front c seq cell n inc
   late_later front c seq cell n inc (Is_past lt) = let le = later.dones n inc c in Is_past (omega arith)
   late_later front c seq cell n inc (Had_no_lead log more lies none) = Had_no_lead log more (front_on log _ _ lies (later.clients c)) none
-  late_later front c seq cell n inc (Has_left log more lies gone alone) = Has_left log more (front_on log _ _ lies (later.logs n)) gone alone
-  late_later front c seq cell n inc (Has_another other ne alone) =
-      Has_another other ne (alone_stays setting.servers (v.logs other) (u.logs other) (later.logs_plain other) (later.logs other) other cell alone)
+  late_later front c seq cell n inc (Had_another log other more lies leads apart) =
+      Had_another log other more (front_on log _ _ lies (later.logs other)) leads apart
 
   sent_later : (want : Wanted) (rev : ℕ) → IsSent setting state v want rev → IsSent setting state u want rev
   sent_later want rev s =
@@ -130,8 +142,35 @@ module _ (setting : Setting) (state : State) (v u : Seen) (later : Later setting
   pub pending_later : (n inc : ℕ) (want : Wanted) (rev : ℕ) → PendingFor setting state v n inc want rev → u.done n inc want.client ≤ want.seq
       → PendingFor setting state u n inc want rev
   unfolding write_later sent_later
-  pending_later n inc want rev p le =
-      record { known = write_later want rev p.known; led = record { seated = p.led.seated; leads = p.led.leads }; unfinished = le }
+  pending_later n inc want rev p le = record {
+    known = write_later want rev p.known;
+    upto = p.upto;
+    opened = p.opened;
+    applied = front_on p.upto _ _ p.applied (later.logs n);
+    along = p.along;
+    unfinished = le;
+  }
+
+  -- the incarnation has come further since, and led the cell
+  pub pending_further : (n inc : ℕ) (want : Wanted) (rev : ℕ) → (p : PendingFor setting state v n inc want rev)
+      → u.done n inc want.client ≤ want.seq
+      → (more : List Command) → IsPrefix p.upto more → IsPrefix more (u.logs n) → IsLedAlong setting.servers p.upto more n inc want.cell
+      → (q : PendingFor setting state u n inc want rev) × (q.upto ≡ more)
+  unfolding write_later sent_later
+  pending_further n inc want rev p le more on applied along = (
+    record {
+      known = write_later want rev p.known;
+      upto = more;
+      opened = front_on p.known.sent.at.front p.upto more p.opened on;
+      applied = applied;
+      along = λ log from lies. elim (either_front log p.upto more lies on) [
+        | inl before ↦ p.along log from before
+        | inr behind ↦ along log behind lies
+      ];
+      unfinished = le;
+    },
+    refl,
+  )
 
   end_later : (seq rev : ℕ) (from to : Actor) → EndKnownAt setting state v seq rev from to → EndKnownAt setting state u seq rev from to
   end_later seq rev (actor.Server n) (actor.Client c) h =

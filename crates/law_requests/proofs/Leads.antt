@@ -1,57 +1,154 @@
 -- Who leads a cell at an earlier and at a later place of the log.
-use Rattle.std.proofs.Common.{◌≡◌, ◌≢◌, ℕ, List, Bool, true, false, Some, None, sym, ap, ◌∙◌, inl, inr}
+use Rattle.std.proofs.Common.{◌≡◌, ◌==◌, ℕ, List, Bool, true, false, Some, None, if◌then◌else◌, sym, ap, ◌∙◌, subst, inl, inr}
+use Rattle.std.specs.Option.{option_map_or}
 use Rattle.petal_base.specs.declared.cell.Cell.{Cell}
+use Rattle.global_tables.specs.Link.{has_server, other_of}
 use Rattle.global_tables.specs.declared.link.LinkRow.{LinkRow}
 use Rattle.global_tables.specs.declared.link.LinkState.TheVariants.{Only}
 use Rattle.petal_command.specs.declared.command.Command.{Command}
 use Rattle.petal_history.specs.Claims.{IsPrefix}
 use Rattle.petal_state.specs.CellState.{cell_link}
 use Rattle.petal_state.specs.Command.{state_after}
-use Rattle.petal_state.specs.State.{is_up}
-use Rattle.petal_rules.specs.State.{State, lead, is_in, is_lead, primary, in_both, is_alone_on}
-use Rattle.petal_rules.proofs.Tests.{by_bool, is_the_one, none_some, same_some, true_false}
+use Rattle.petal_state.specs.Place.{places_from}
+use Rattle.petal_state.specs.State.{inc_of, is_up, start}
+use Rattle.petal_rules.specs.State.{State, lead, is_in, is_lead, is_alone_on}
+use Rattle.petal_rules.proofs.Tests.{by_bool, is_the_one, is_the_so, none_some, same_numbers, same_some, true_false}
 use Rattle.law_state.specs.Below.{IsBelow}
+use Rattle.law_state.specs.Places.{IsCaughtBy, StaysSo}
 use Rattle.law_state.specs.Plain.{IsPlainLog}
-use Rattle.law_state.specs.Rows.{ByBoth, ByOne}
+use Rattle.law_state.specs.Rows.{IsServed, ByBoth, ByOne}
 use Rattle.law_state.specs.Steady.{IsSteady}
-use Rattle.law_state.proofs.Alone.{alone_row, alone_not_both, alone_on, both_before, first_primary, lead_alone, lead_first, led_row, primary_on, so_alone}
-use Rattle.law_state.proofs.Both.{both_seated}
+use Rattle.law_state.proofs.Again.{log_alone}
+use Rattle.law_state.proofs.Ages.{in_up}
+use Rattle.law_state.proofs.Alone.{alone_row, alone_not_both, lead_alone, so_alone}
 use Rattle.law_state.proofs.Cells.{alone_lead, both_lead, led_by}
-use Rattle.law_state.proofs.Roles.{primary_is_one}
+use Rattle.law_state.proofs.Grown.{alone_not_both as alone_row_not_both}
+use Rattle.law_state.proofs.Leaves.{both_up, either_true}
+use Rattle.law_state.proofs.Roles.{primary_is_one, secondary_is_one}
 use Rattle.law_state.proofs.Steady.{front_plain, log_below, log_steady}
+use Rattle.law_state.proofs.Touching.{same_place}
+use Rattle.law_steps.proofs.Fronts.{front_more, front_on}
+use Rattle.law_requests.specs.Known.{LedBy}
 
-same_only : {n m : ℕ} {one other : Bool} → Only n one ≡ Only m other → n ≡ m
+pub same_only : {n m : ℕ} → Only n false ≡ Only m false → n ≡ m
 same_only e = cc
 
--- one server alone holds a link alone
-pub one_holder : (state : State) (n m : ℕ) (cell : Cell) → is_alone_on state n cell ≡ true → is_alone_on state m cell ≡ true → n ≡ m
-one_holder state n m cell one other =
-    let a = alone_row state n cell one in
-    let b = alone_row state m cell other in
-    same_only (sym a.alone ∙ ap (λ (r : LinkRow). r.state) (same_some (sym a.is ∙ b.is)) ∙ b.alone)
+-- ### One state
 
--- and no other one leads then
-pub leader_alone : (state : State) → IsSteady state → (n m : ℕ) (cell : Cell) → is_lead state n cell ≡ true → is_alone_on state m cell ≡ true → n ≡ m
-leader_alone state steady n m cell leads alone =
-    one_holder state n m cell (lead_alone state steady n cell leads (alone_not_both state m cell alone)) alone
+-- one server leads a cell
+pub one_lead : (state : State) (n m : ℕ) (cell : Cell) → is_lead state n cell ≡ true → is_lead state m cell ≡ true → n ≡ m
+one_lead state n m cell one other = same_some (sym (is_the_one (lead state cell) n one) ∙ is_the_one (lead state cell) m other)
 
--- of a cell that has a link and no lead, a server that is Out holds the link alone
-pub record IsHeldOut (state : State) (cell : Cell) : Type 0 where
+-- who holds a link alone is one of its two servers
+pub holder_of_row : (state : State) (row : LinkRow) (n : ℕ) → row.state ≡ Only n false → IsServed state row → has_server n row ≡ true
+holder_of_row state row n only (ByBoth both one other) = alone_row_not_both row n only both
+holder_of_row state row n only (ByOne holder other so (inl pair) out) = primary_is_one row n (pair.0 ∙ same_only (sym so ∙ only))
+holder_of_row state row n only (ByOne holder other so (inr pair) out) = secondary_is_one row n (pair.1 ∙ same_only (sym so ∙ only))
+
+-- the link of a cell that this server leads: it is one of the link's two
+pub record HasOwnLink (state : State) (n : ℕ) (cell : Cell) : Type 0 where
+  pub row : LinkRow
+  pub is : cell_link state cell ≡ Some row
+  pub has : has_server n row ≡ true
+
+pub own_link : (state : State) → IsSteady state → (n : ℕ) (cell : Cell) → is_lead state n cell ≡ true → HasOwnLink state n cell
+own_link state steady n cell leads = elim (led_by state steady cell n (is_the_one (lead state cell) n leads)) [
+  | inl b ↦ record { row = b.0.row; is = b.0.is; has = primary_is_one b.0.row n b.1 }
+  | inr held ↦ record { row = held.row; is = held.is; has = holder_of_row state held.row n held.so held.linked.served }
+]
+
+-- of a link whose cell has no lead, a server that is Out holds it alone
+pub record IsHeldOut (state : State) (row : LinkRow) : Type 0 where
   pub holder : ℕ
-  pub alone : is_alone_on state holder cell ≡ true
+  pub alone : row.state ≡ Only holder false
   pub out : is_up state holder ≡ false
 
 pub held_out : (state : State) → IsSteady state → (cell : Cell) (row : LinkRow) → cell_link state cell ≡ Some row → lead state cell ≡ None
-    → IsHeldOut state cell
+    → IsHeldOut state row
 held_out state steady cell row is none =
     let linked = steady.linked cell row is in
     elim linked.served [
       | ByBoth both one two ↦ none_some none (both_lead state cell row is linked both)
       | ByOne holder other only pair out ↦ record {
         holder = holder;
-        alone = so_alone state holder cell row false is only;
+        alone = only;
         out = by_bool (is_up state holder) (λ up. none_some none (alone_lead state cell row is linked holder false only up)) (λ no. no);
       }
+    ]
+
+-- no other server leads a link that one holds alone
+pub leader_alone : (state : State) → IsSteady state → (n m : ℕ) (cell : Cell) → is_lead state n cell ≡ true
+    → is_alone_on state m cell ≡ true → n ≡ m
+leader_alone state steady n m cell leads alone =
+    let a = alone_row state n cell (lead_alone state steady n cell leads (alone_not_both state m cell alone)) in
+    let b = alone_row state m cell alone in
+    same_held (sym a.alone ∙ ap (λ (r : LinkRow). r.state) (same_some (sym a.is ∙ b.is)) ∙ b.alone)
+  where
+    same_held : {i j : ℕ} {one other : Bool} → Only i one ≡ Only j other → i ≡ j
+    same_held e = cc
+
+-- and who does so leads it, while it is In
+pub alone_leads : (state : State) → IsSteady state → (n : ℕ) (cell : Cell) → is_alone_on state n cell ≡ true → is_up state n ≡ true
+    → lead state cell ≡ Some n
+alone_leads state steady n cell alone up =
+    let a = alone_row state n cell alone in alone_lead state cell a.row a.is (steady.linked cell a.row a.is) n a.whole a.alone up
+
+-- both servers of a link are In where its Caught acts
+pub caught_up : (state : State) (row : LinkRow) (entry : Command) (c : IsCaughtBy state entry row) → IsServed state row → (n : ℕ)
+    → has_server n row ≡ true
+    → is_up state n ≡ true
+caught_up state row entry c served n has =
+    let holder = in_up state c.holder c.inc c.holds in
+    let other = in_up state (other_of c.holder row) c.other_inc c.joins in
+    by_bool (row.primary == c.holder)
+    (λ t.
+    let mine = same_numbers row.primary c.holder t in
+    both_up (is_up state) row n (ap (is_up state) mine ∙ holder)
+    (ap (λ b. is_up state (if b then row.secondary else row.primary)) (sym t) ∙ other) has)
+    (λ f.
+    let mine = same_numbers row.secondary c.holder
+    (either_true (row.primary == c.holder) (row.secondary == c.holder) (holder_of_row state row c.holder c.alone served) f) in
+    both_up (is_up state) row n (ap (λ b. is_up state (if b then row.secondary else row.primary)) (sym f) ∙ other)
+    (ap (is_up state) mine ∙ holder) has)
+
+-- ### A longer log
+
+-- a server of a link at whose place the link still is, is In as before
+seat_stays : (s t : State) (cell : Cell) (row : LinkRow) → StaysSo cell row s t → (n inc : ℕ) → has_server n row ≡ true
+    → is_in s n inc ≡ true
+    → is_in t n inc ≡ true
+seat_stays s t cell row stays n inc has seat = by_bool (row.primary == n)
+    (λ e. by row.primary (same_numbers row.primary n e) stays.primary)
+    (λ f. by row.secondary (same_numbers row.secondary n (either_true (row.primary == n) (row.secondary == n) has f)) stays.secondary)
+  where
+    by : (k : ℕ) → k ≡ n → inc_of t k ≡ inc_of s k → is_in t n inc ≡ true
+    by k e same = subst (λ i. is_in t i inc ≡ true) e
+        (ap (λ o. option_map_or (λ present. present == inc) o false) same ∙ subst (λ i. is_in s i inc ≡ true) (sym e) seat)
+
+-- so is who led its cell, which it leads still
+pub led_while : (s t : State) → IsSteady s → IsSteady t → (cell : Cell) (row : LinkRow) → cell_link s cell ≡ Some row
+    → StaysSo cell row s t → (n inc : ℕ)
+    → LedBy s n inc cell → LedBy t n inc cell
+led_while s t was now cell row is stays n inc led =
+    let linked = now.linked cell row stays.same in
+    elim (led_by s was cell n (is_the_one (lead s cell) n led.leads)) [
+      | inl b ↦ (
+          let same : b.0.row ≡ row = same_some (sym b.0.is ∙ is) in
+          let first : row.primary ≡ n = ap (λ (r : LinkRow). r.primary) (sym same) ∙ b.1 in
+          let both = ap (λ (r : LinkRow). r.state) (sym same) ∙ b.0.so in
+          record {
+            seated = seat_stays s t cell row stays n inc (primary_is_one row n first) led.seated;
+            leads = is_the_so (lead t cell) n (both_lead t cell row stays.same linked both ∙ ap Some first);
+          })
+      | inr held ↦ (
+          let same : held.row ≡ row = same_some (sym held.is ∙ is) in
+          let only : row.state ≡ Only n false = ap (λ (r : LinkRow). r.state) (sym same) ∙ held.so in
+          let has = holder_of_row t row n only linked.served in
+          let seated = seat_stays s t cell row stays n inc has led.seated in
+          record {
+            seated = seated;
+            leads = is_the_so (lead t cell) n (alone_lead t cell row stays.same linked n false only (in_up t n inc seated));
+          })
     ]
 
 module _ (servers : ℕ) (front whole : List Command) (plain : IsPlainLog servers whole) (prefix : IsPrefix front whole) where
@@ -70,38 +167,35 @@ module _ (servers : ℕ) (front whole : List Command) (plain : IsPlainLog server
   below : IsBelow earlier later
   below = log_below servers front whole plain prefix
 
-  -- a cell that was led has a link
-  pub row_on : (n : ℕ) (cell : Cell) → is_lead earlier n cell ≡ true → (row : LinkRow) × (cell_link later cell ≡ Some row)
-  row_on n cell leads =
-      let row = led_row earlier was_steady n cell leads in
-      let now = below.rows cell row.0 row.1 in
-      (now.now, now.is)
+  -- a server of a link is so later
+  pub own_link_on : (n : ℕ) (cell : Cell) → HasOwnLink earlier n cell → HasOwnLink later n cell
+  own_link_on n cell link =
+      let h = below.rows cell link.row link.is in
+      record {
+        row = h.now;
+        is = h.is;
+        has = (λ i. has_server n (record h.now { primary = h.so.primary i; secondary = h.so.secondary i }))
+            ∙ link.has;
+      }
 
-  -- another server that leads it later holds it alone
-  pub left_to : (n m : ℕ) (cell : Cell) → is_lead earlier n cell ≡ true → is_lead later m cell ≡ true → m ≢ n → is_alone_on later m cell ≡ true
-  left_to n m cell was now ne = by_bool (in_both later cell)
-      (λ both.
-      let row = led_row earlier was_steady n cell was in
-      let before : in_both earlier cell ≡ true = both_before earlier later below cell row.0 row.1 both in
-      let first : primary later cell ≡ Some n =
-      primary_on earlier later below cell n (first_primary earlier was_steady cell n (lead_first earlier was_steady n cell was before)) in
-      let other : primary later cell ≡ Some m = first_primary later now_steady cell m (lead_first later now_steady m cell now both) in
-      absurd (ne (same_some (sym other ∙ first))))
-      (λ apart. lead_alone later now_steady m cell now apart)
+  -- at a place of its link who led a cell leads it, and is In as before
+  pub led_at_place : (n inc : ℕ) (cell : Cell) (row : LinkRow) → cell_link earlier cell ≡ Some row
+      → places_from (start servers) whole row ≡ places_from (start servers) front row → LedBy earlier n inc cell → LedBy later n inc cell
+  led_at_place n inc cell row is place led =
+      led_while earlier later was_steady now_steady cell row is (same_place servers front whole cell row plain prefix is place) n inc led
 
-  -- and so does the same one, where it has left and joined again
-  pub came_back : (n inc : ℕ) (cell : Cell) → is_in earlier n inc ≡ true → is_lead earlier n cell ≡ true → is_lead later n cell ≡ true
-      → is_in later n inc ≡ false → is_alone_on later n cell ≡ true
-  came_back n inc cell seat was now gone = by_bool (in_both later cell)
-      (λ both.
-      let row = led_row earlier was_steady n cell was in
-      let before : in_both earlier cell ≡ true = both_before earlier later below cell row.0 row.1 both in
-      elim (led_by earlier was_steady cell n (is_the_one (lead earlier cell) n was)) [
-        | inl b ↦ true_false
-            (both_seated servers front whole plain prefix cell b.0.row n inc b.0.is (primary_is_one b.0.row n b.1) seat both) gone
-        | inr held ↦ true_false before (alone_not_both earlier n cell (so_alone earlier n cell held.row false held.is held.so))
-      ])
-      (λ apart. lead_alone later now_steady n cell now apart)
-
-  pub alone_stays : (n : ℕ) (cell : Cell) → is_alone_on earlier n cell ≡ true → is_alone_on later n cell ≡ true
-  alone_stays = alone_on earlier later below
+  -- a link that one server holds alone stays so while one of its two is Out
+  pub held_while : (n : ℕ) → ((log : List Command) → IsPrefix front log → IsPrefix log whole → is_up (state_after servers log) n ≡ false)
+      → (cell : Cell) (row : LinkRow) (holder : ℕ) → cell_link earlier cell ≡ Some row → has_server n row ≡ true
+      → row.state ≡ Only holder false
+      → is_alone_on later holder cell ≡ true
+  held_while n out cell row holder is has only =
+      let h = below.rows cell row is in
+      elim (log_alone servers front whole plain prefix cell row h.now holder is only h.is) [
+        | inl same ↦ so_alone later holder cell h.now false h.is same
+        | inr c ↦ (
+            let until_whole = front_on c.until _ whole (front_more c.until c.entry) c.stands in
+            let steady = log_steady servers c.until (front_plain servers c.until whole plain until_whole) in
+            true_false (caught_up (state_after servers c.until) row c.entry c.acts (steady.linked cell row c.was).served n has)
+            (out c.until c.behind until_whole))
+      ]

@@ -2,6 +2,8 @@ pub mod Leads
 pub mod Later
 pub mod Lives
 pub mod Running
+pub mod Stopped
+pub mod Beside
 pub mod Frames
 pub mod Ended
 pub mod Jobs

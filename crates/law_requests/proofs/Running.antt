@@ -1,28 +1,47 @@
--- Where the request of a pending operation is open still: an incarnation that runs, or one beside which no other server holds the
--- cell alone, is late for a write only where it is past it.
-use Rattle.std.proofs.Common.{◌≡◌, ◌≢◌, ◌<◌, ℕ, List, true, false, Some, None, length, sym, ◌∙◌, subst, ◌⊎◌, inl, inr, arith}
-use Rattle.std.proofs.lemmas.Bool.{cases_lt}
+-- Where the request of a pending operation is open still: its server has led the cell since it opened it.
+use Rattle.std.proofs.Common.{◌≡◌, ◌<◌, ◌++◌, ℕ, List, ◌∷◌, [], true, false, Some, length, sym, ◌∙◌, subst, ◌⊎◌, inl, inr, arith}
 use Rattle.petal_base.specs.declared.cell.Cell.{Cell}
+use Rattle.global_tables.specs.Link.{other_of}
+use Rattle.global_tables.specs.declared.link.LinkRow.{LinkRow}
 use Rattle.petal_command.specs.declared.command.Command.{Command}
+use Rattle.petal_msg.specs.declared.operation.Pending.{Pending}
+use Rattle.petal_table.specs.Table.{at}
 use Rattle.petal_history.specs.Claims.{IsPrefix}
+use Rattle.petal_state.specs.CellState.{cell_link}
 use Rattle.petal_state.specs.Command.{state_after}
-use Rattle.petal_state.specs.State.{is_up}
-use Rattle.petal_rules.specs.State.{State, lead, is_in, primary, secondary, in_both, is_alone_on}
+use Rattle.petal_state.specs.Place.{places_from}
+use Rattle.petal_state.specs.State.{start}
+use Rattle.petal_rules.specs.Progress.{has_proposed}
+use Rattle.petal_rules.specs.State.{State, id_of, is_in, is_lead}
+use Rattle.petal_rules.specs.Store.{cell_cmp}
 use Rattle.petal_rules.specs.Writes.{Wanted}
 use Rattle.petal_rules.specs.World.{Setting, World, server_state, chosen_log, chosen_state}
-use Rattle.petal_rules.proofs.Tests.{by_bool, is_the_one, is_the_so, none_some, same_or_apart, true_false}
+use Rattle.petal_rules.proofs.Tests.{is_the_one, none_some, true_false}
+use Rattle.law_state.specs.Below.{HasComeSecond}
 use Rattle.law_state.specs.Firm.{Firm}
 use Rattle.law_state.specs.Plain.{IsPlainLog}
-use Rattle.law_state.proofs.Ages.{between, in_up}
-use Rattle.law_state.proofs.Alone.{alone_left, alone_on, both_not_alone}
+use Rattle.law_state.specs.Started.{HasStarted}
+use Rattle.law_state.proofs.Again.{log_alone}
+use Rattle.law_state.proofs.Ages.{between, in_once}
+use Rattle.law_state.proofs.Cells.{second_by}
+use Rattle.law_state.proofs.Grown.{alone_not_both}
 use Rattle.law_state.proofs.Roles.{log_roles}
 use Rattle.law_state.proofs.Steady.{front_plain, log_below, log_steady}
-use Rattle.law_steps.proofs.Fronts.{front_itself, front_on, front_within, one_front}
-use Rattle.law_steps.proofs.Histories.{chosen_steady, own_below, runs_at}
+use Rattle.law_state.proofs.Touching.{places_grow}
+use Rattle.law_steps.specs.Ready.{Rests}
+use Rattle.law_steps.proofs.Fronts.{front_itself, front_long, front_more, front_on, one_front}
+use Rattle.law_steps.proofs.Histories.{runs_now}
+use Rattle.law_steps.proofs.Minds.{held_as_flag}
 use Rattle.law_requests.specs.Asked.{IsOpen}
-use Rattle.law_requests.specs.Known.{Lives, seen, IsAt, LedBy, IsLate, Is_past, Had_no_lead, Has_left, Has_another, PendingFor}
-use Rattle.law_requests.specs.Still.{NoOtherHolds, IsStill}
-use Rattle.law_requests.proofs.Leads.{IsHeldOut, alone_stays, held_out, leader_alone, one_holder, row_on}
+use Rattle.law_requests.specs.Known.{Lives, seen, IsAt, LedBy, IsLate, Is_past, Had_no_lead, Had_another, IsLedAlong, PendingFor, asked_for, AskingBy}
+use Rattle.law_requests.proofs.Later.{either_front}
+use Rattle.law_requests.proofs.Leads.{led_at_place, one_lead, same_only}
+
+-- an operation as its server finds it, which doesn't hold it back
+pub record PendingHere (setting : Setting) (state : State) (w : World) (lives : Lives) (n : ℕ) (want : Wanted) (rev : ℕ) : Type 0 where
+  pub known : PendingFor setting state (seen lives w) n (lives.ran n) want rev
+  pub here : known.upto ≡ (w.servers n).log.applied
+  pub unheld : has_proposed (server_state setting w n) (w.servers n).own want.cell ≡ false
 
 module _ (setting : Setting) (w : World) (firm : Firm setting w) where
   pub client_plain : (c : ℕ) → IsPlainLog setting.servers (w.clients c).applied
@@ -37,13 +56,8 @@ module _ (setting : Setting) (w : World) (firm : Firm setting w) where
   own_front c n rev at long =
       one_front (w.servers n).log.applied at.front (chosen_log setting w) (firm.servers n) (chosen_front c rev at) (long ∙ sym at.long)
 
-  -- who is alone by a front of what is chosen is so by all of it
-  alone_now : (log : List Command) → IsPrefix log (chosen_log setting w) → (n : ℕ) (cell : Cell) → is_alone_on (state_after setting.servers log) n cell ≡ true
-      → is_alone_on (chosen_state setting w) n cell ≡ true
-  alone_now log lies n cell alone = alone_stays setting.servers log (chosen_log setting w) firm.plain lies n cell alone
-
   -- an incarnation that is In by two fronts is so by each between them
-  in_between : (one log two : List Command) → IsPrefix one log → IsPrefix log two → IsPrefix two (chosen_log setting w) → (n inc : ℕ)
+  pub in_between : (one log two : List Command) → IsPrefix one log → IsPrefix log two → IsPrefix two (chosen_log setting w) → (n inc : ℕ)
       → is_in (state_after setting.servers one) n inc ≡ true → is_in (state_after setting.servers two) n inc ≡ true
       → is_in (state_after setting.servers log) n inc ≡ true
   in_between one log two more lies all n inc was now =
@@ -52,154 +66,180 @@ module _ (setting : Setting) (w : World) (firm : Firm setting w) where
       ((log_below setting.servers one log (front_plain setting.servers log two plain lies) more).ages n)
       ((log_below setting.servers log two plain lies).ages n) was now
 
-  -- of two fronts one stands at the front of the other
-  either_front : (one two : List Command) → IsPrefix one (chosen_log setting w) → IsPrefix two (chosen_log setting w) → IsPrefix one two ⊎ IsPrefix two one
-  either_front one two a b = elim (cases_lt (length two) (length one)) [
-    | inl shorter ↦ inr (front_within two one (chosen_log setting w) b a (omega arith))
-    | inr longer ↦ inl (front_within one two (chosen_log setting w) a b (omega arith))
-  ]
+  -- ### From a server's own entries on
 
-  -- who runs is late only where it is past the write
-  pub runs_past : (lives : Lives) (want : Wanted) (front : List Command) (n : ℕ) → IsPrefix front (w.clients want.client).applied
-      → LedBy (state_after setting.servers front) n (w.servers n).life.inc want.cell → (w.servers n).life.running ≡ true
-      → IsLate setting.servers (seen lives w) front want.client want.seq want.cell n (w.servers n).life.inc
-      → want.seq < lives.done n (w.servers n).life.inc want.client
-  runs_past lives want front n lies led runs (Is_past lt) = lt
-  runs_past lives want front n lies led runs (Had_no_lead log more log_lies none) =
-      let all = front_on log _ _ log_lies (firm.clients want.client) in
-      let now = (log_roles setting.servers front log (front_plain setting.servers log _ firm.plain all) more).leads n (w.servers n).life.inc want.cell
-      led.seated (runs_at setting w firm front log more all n runs led.seated) led.leads in
-      none_some none (is_the_one _ n now)
-  runs_past lives want front n lies led runs (Has_left log more log_lies gone alone) =
-      true_false (runs_at setting w firm front log more (front_on log _ _ log_lies (firm.servers n)) n runs led.seated) gone
-  runs_past lives want front n lies led runs (Has_another other ne alone) =
-      let log = chosen_log setting w in
-      let all = front_on front _ log lies (firm.clients want.client) in
-      let now = (log_roles setting.servers front log firm.plain all).leads n (w.servers n).life.inc want.cell
-      led.seated (firm.runs n front runs all led.seated) led.leads in
-      let holds = alone_now (w.servers other).log.applied (firm.servers other) other want.cell alone in
-      absurd (ne (sym (leader_alone (chosen_state setting w) (chosen_steady setting w firm) n other want.cell now holds)))
+  module _ (n : ℕ) (seat : is_in (server_state setting w n) n (w.servers n).life.inc ≡ true) (cell : Cell) (log : List Command)
+      (more : IsPrefix (w.servers n).log.applied log) (all : IsPrefix log (chosen_log setting w))
+      (still : is_in (state_after setting.servers log) n (w.servers n).life.inc ≡ true) where
+    -- it came second by a Caught that it has started a ballot for
+    came_second : HasComeSecond (server_state setting w n) (state_after setting.servers log) n cell
+        → has_proposed (server_state setting w n) (w.servers n).own cell ≡ true
+    came_second second =
+        let row = second.alone.row in
+        let own = (w.servers n).log.applied in
+        let plain = front_plain setting.servers log _ firm.plain all in
+        let later = second_by (state_after setting.servers log) (log_steady setting.servers log plain) cell n
+        (is_the_one _ n second.second) in
+        elim (log_alone setting.servers own log plain more cell row later.0.row n second.alone.is second.alone.alone later.0.is) [
+          | inl same ↦ alone_not_both later.0.row n same later.0.so
+          | inr c ↦ (
+              let acts = c.acts in
+              let stands = front_on (c.until ++ c.entry ∷ []) log _ c.stands all in
+              let until_log = front_on c.until _ log (front_more c.until c.entry) c.stands in
+              let until_chosen = front_on c.until log _ until_log all in
+              let holder : acts.holder ≡ n = same_only (sym acts.alone ∙ second.alone.alone) in
+              let seated = in_between own c.until log c.behind until_log all n (w.servers n).life.inc seat still in
+              let inc_is : acts.inc ≡ (w.servers n).life.inc =
+              in_once (state_after setting.servers c.until) n acts.inc (w.servers n).life.inc
+              (subst (λ k. is_in (state_after setting.servers c.until) k acts.inc ≡ true) holder acts.holds) seated in
+              let told = firm.started c.until row.map row.link acts.holder acts.inc (other_of acts.holder row) acts.other_inc
+              (subst (λ (x : Command). IsPrefix (c.until ++ x ∷ []) (chosen_log setting w)) acts.is stands) in
+              elim (subst (λ k. HasStarted w.servers k acts.inc (length c.until) (id_of row)) holder told) [
+                | inl past ↦ absurd (omega (arith, inc_is))
+                | inr flag ↦ (
+                    let reached = flag.1.reached in
+                    let long = front_long own c.until c.behind in
+                    held_as_flag (server_state setting w n) (w.servers n).own cell row second.alone.is ∙ flag.1.flagged (omega arith))
+              ])
+        ]
 
-  -- of the servers beside one of a cell's two the other one alone may hold it
-  no_other_holds : (n m : ℕ) (cell : Cell) → primary (chosen_state setting w) cell ≡ Some n → secondary (chosen_state setting w) cell ≡ Some m
-      → is_alone_on (server_state setting w m) m cell ≡ false → NoOtherHolds setting w n cell
-  no_other_holds n m cell one two apart other ne = by_bool (is_alone_on (server_state setting w other) other cell)
-      (λ alone.
-      let now = alone_on (server_state setting w other) (chosen_state setting w) (own_below setting w firm other) other cell alone in
-      elim (alone_left (chosen_state setting w) (chosen_steady setting w firm) other cell n m now one two).one_of [
-        | inl same ↦ absurd (ne same)
-        | inr same ↦ subst (λ (k : ℕ). is_alone_on (server_state setting w k) k cell ≡ false) (sym same) apart
-      ])
-      (λ no. no)
+    -- it leads what it led, or it has started the ballot for the Caught of the cell's link
+    pub leads_on : is_lead (server_state setting w n) n cell ≡ true
+        → (is_lead (state_after setting.servers log) n cell ≡ true)
+        ⊎ (has_proposed (server_state setting w n) (w.servers n).own cell ≡ true)
+    leads_on leads =
+        elim ((log_roles setting.servers (w.servers n).log.applied log (front_plain setting.servers log _ firm.plain all) more).leads n
+        (w.servers n).life.inc cell seat still leads) [
+          | inl so ↦ inl so
+          | inr second ↦ inr (came_second second)
+        ]
 
-  -- a server that holds a cell alone by a front by which it is Out, and is In by what is chosen as it is by its own state, knows
-  -- that front
-  knows_alone : (log : List Command) → IsPrefix log (chosen_log setting w) → (cell : Cell) (held : IsHeldOut (state_after setting.servers log) cell)
-      → IsStill setting w held.holder → IsPrefix log (w.servers held.holder).log.applied
-  knows_alone log all cell held still = elim (either_front (w.servers held.holder).log.applied log (firm.servers held.holder) all) [
-    | inl before ↦
-        let now = in_between _ log (chosen_log setting w) before all (front_itself (chosen_log setting w)) held.holder still.inc
-        still.own still.now in
-        true_false (in_up (state_after setting.servers log) held.holder still.inc now) held.out
-    | inr knows ↦ knows
-  ]
+  -- ### Who comes too late
+
+  -- a server that runs, and leads the cell, is late only where it is past the write, or holds it back
+  module _ (lives : Lives) (n : ℕ) (runs : (w.servers n).life.running ≡ true) (cell : Cell)
+      (led : LedBy (server_state setting w n) n (w.servers n).life.inc cell)
+      (front : List Command) (own : IsPrefix (w.servers n).log.applied front) where
+    leads_at : (log : List Command) → IsPrefix front log → IsPrefix log (chosen_log setting w)
+        → LedBy (state_after setting.servers log) n (w.servers n).life.inc cell
+        ⊎ (has_proposed (server_state setting w n) (w.servers n).own cell ≡ true)
+    leads_at log more all =
+        let on = front_on _ front log own more in
+        let still = in_between _ log (chosen_log setting w) on all (front_itself (chosen_log setting w)) n (w.servers n).life.inc led.seated
+        (runs_now setting w firm n runs led.seated) in
+        elim (leads_on n led.seated cell log on all still led.leads) [
+          | inl so ↦ inl (record { seated = still; leads = so })
+          | inr kept ↦ inr kept
+        ]
+
+    pub late_where : (client seq : ℕ) → IsLate setting.servers (seen lives w) front client seq cell n (w.servers n).life.inc
+        → (seq < lives.done n (w.servers n).life.inc client) ⊎ (has_proposed (server_state setting w n) (w.servers n).own cell ≡ true)
+    late_where client seq (Is_past lt) = inl lt
+    late_where client seq (Had_no_lead log more lies none) = elim (leads_at log more (front_on log _ _ lies (firm.clients client))) [
+      | inl now ↦ none_some none (is_the_one _ n now.leads)
+      | inr kept ↦ inr kept
+    ]
+    late_where client seq (Had_another log other more lies leads apart) =
+        elim (leads_at log more (front_on log _ _ lies (firm.servers other))) [
+          | inl now ↦ true_false now.seated (apart (one_lead (state_after setting.servers log) other n cell leads now.leads))
+          | inr kept ↦ inr kept
+        ]
+
+  -- ### The request of an operation
 
   module _ (lives : Lives) (state : State) (n inc : ℕ) (want : Wanted) (rev : ℕ) (p : PendingFor setting state (seen lives w) n inc want rev) where
     abbrev front : List Command
     front = p.known.sent.at.front
 
-    -- by a later front at which the cell has no lead a server that is Out holds it alone
-    unled : (log : List Command) → IsPrefix front log → IsPrefix log (chosen_log setting w) → lead (state_after setting.servers log) want.cell ≡ None
-        → IsHeldOut (state_after setting.servers log) want.cell
-    unled log more all none =
+    pub upto_chosen : IsPrefix p.upto (chosen_log setting w)
+    upto_chosen = front_on p.upto _ _ p.applied (firm.servers n)
+
+    -- it is open, where the incarnation is not late
+    pub open_or : (IsLate setting.servers (seen lives w) front want.client want.seq want.cell n inc → ⊥)
+        → IsOpen (w.clients want.client) want.seq
+    open_or late = elim p.known.still [
+      | inl open_now ↦ open_now.now
+      | inr all ↦ absurd (late (all n inc (p.along front (front_itself front) p.opened)))
+    ]
+
+    module _ (along : IsLedAlong setting.servers p.upto (chosen_log setting w) n inc want.cell) where
+      led_at : (log : List Command) → IsPrefix front log → IsPrefix log (chosen_log setting w)
+          → LedBy (state_after setting.servers log) n inc want.cell
+      led_at log more all = elim (either_front log p.upto (chosen_log setting w) all upto_chosen) [
+        | inl before ↦ p.along log more before
+        | inr behind ↦ along log behind all
+      ]
+
+      not_late : IsLate setting.servers (seen lives w) front want.client want.seq want.cell n inc → ⊥
+      not_late (Is_past lt) = let u = p.unfinished in omega arith
+      not_late (Had_no_lead log more lies none) =
+          none_some none (is_the_one _ n (led_at log more (front_on log _ _ lies (firm.clients want.client))).leads)
+      not_late (Had_another log other more lies leads apart) =
+          let now = led_at log more (front_on log _ _ lies (firm.servers other)) in
+          true_false now.seated (apart (one_lead (state_after setting.servers log) other n want.cell leads now.leads))
+
+    -- so where the incarnation leads the cell up to what is chosen
+    pub open_along : IsLedAlong setting.servers p.upto (chosen_log setting w) n inc want.cell → IsOpen (w.clients want.client) want.seq
+    open_along along = open_or (not_late along)
+
+    -- as it does while nothing touches the cell's link
+    pub open_at_place : (row : LinkRow) → cell_link (state_after setting.servers p.upto) want.cell ≡ Some row
+        → places_from (start setting.servers) (chosen_log setting w) row ≡ places_from (start setting.servers) p.upto row
+        → IsOpen (w.clients want.client) want.seq
+    open_at_place row is place = open_along (λ log more all.
         let plain = front_plain setting.servers log _ firm.plain all in
-        let row = row_on setting.servers front log plain more n want.cell p.led.leads in
-        held_out (state_after setting.servers log) (log_steady setting.servers log plain) want.cell row.0 row.1 none
+        let one = places_grow setting.servers p.upto log row more in
+        let two = places_grow setting.servers log (chosen_log setting w) row all in
+        led_at_place setting.servers p.upto log plain more n inc want.cell row is (omega arith)
+        (p.along p.upto p.opened (front_itself p.upto)))
 
-    client_front : (log : List Command) → IsPrefix log (w.clients want.client).applied → IsPrefix log (chosen_log setting w)
-    client_front log lies = front_on log _ _ lies (firm.clients want.client)
+  -- ### A server that runs
 
-    -- the request is open, where the incarnation is not late
-    open_or : (IsLate setting.servers (seen lives w) front want.client want.seq want.cell n inc → ⊥) → IsOpen (w.clients want.client) want.seq
-    open_or late = elim p.known.still [ inl open_now ↦ open_now.now | inr all ↦ absurd (late (all n inc p.led)) ]
+  pub here_led : (lives : Lives) (state : State) (n : ℕ) (want : Wanted) (rev : ℕ) → (p : PendingHere setting state w lives n want rev)
+      → LedBy (server_state setting w n) n (lives.ran n) want.cell
+  here_led lives state n want rev p =
+      let k = p.known in
+      subst (λ log. LedBy (state_after setting.servers log) n (lives.ran n) want.cell) p.here
+      (k.along k.upto k.opened (front_itself k.upto))
 
-    pub open_in_both : in_both (chosen_state setting w) want.cell ≡ true → IsOpen (w.clients want.client) want.seq
-    open_in_both both = open_or by
-      where
-        not_alone : (log : List Command) → IsPrefix log (chosen_log setting w) → (k : ℕ) → is_alone_on (state_after setting.servers log) k want.cell ≡ true → ⊥
-        not_alone log all k alone = true_false (alone_now log all k want.cell alone) (both_not_alone (chosen_state setting w) k want.cell both)
+  -- by each front of what is chosen by which it is In still, it leads the cell
+  pub here_along : (lives : Lives) (state : State) (n : ℕ) (want : Wanted) (rev : ℕ) → PendingHere setting state w lives n want rev
+      → lives.ran n ≡ (w.servers n).life.inc
+      → (log : List Command) → IsPrefix (w.servers n).log.applied log → IsPrefix log (chosen_log setting w)
+      → is_in (state_after setting.servers log) n (lives.ran n) ≡ true → LedBy (state_after setting.servers log) n (lives.ran n) want.cell
+  here_along lives state n want rev p ran log more all still =
+      let led = here_led lives state n want rev p in
+      elim (leads_on n (subst (λ i. is_in (server_state setting w n) n i ≡ true) ran led.seated) want.cell log more all
+      (subst (λ i. is_in (state_after setting.servers log) n i ≡ true) ran still) led.leads) [
+        | inl so ↦ record { seated = still; leads = so }
+        | inr kept ↦ true_false kept p.unheld
+      ]
 
-        by : IsLate setting.servers (seen lives w) front want.client want.seq want.cell n inc → ⊥
-        by (Is_past lt) = let u = p.unfinished in omega arith
-        by (Had_no_lead log more lies none) =
-            let held = unled log more (client_front log lies) none in not_alone log (client_front log lies) held.holder held.alone
-        by (Has_left log more lies gone alone) = not_alone log (front_on log _ _ lies (firm.servers n)) n alone
-        by (Has_another other ne alone) = not_alone (w.servers other).log.applied (firm.servers other) other alone
+  -- so where it is In by what is chosen
+  pub open_still : (lives : Lives) (state : State) (n : ℕ) (want : Wanted) (rev : ℕ) → PendingHere setting state w lives n want rev
+      → lives.ran n ≡ (w.servers n).life.inc
+      → is_in (chosen_state setting w) n (lives.ran n) ≡ true → IsOpen (w.clients want.client) want.seq
+  open_still lives state n want rev p ran still =
+      open_along lives state n (lives.ran n) want rev p.known (λ log more all.
+      let on = subst (λ own. IsPrefix own log) p.here more in
+      here_along lives state n want rev p ran log on all
+      (in_between _ log (chosen_log setting w) on all (front_itself (chosen_log setting w)) n (lives.ran n)
+      (here_led lives state n want rev p).seated still))
 
-    -- where its own state has the incarnation In
-    module _ (seat : is_in (server_state setting w n) n inc ≡ true) where
-      pub open_led : (leader : ℕ) → lead (chosen_state setting w) want.cell ≡ Some leader → IsStill setting w leader → NoOtherHolds setting w n want.cell
-          → IsOpen (w.clients want.client) want.seq
-      open_led leader led still no_other = open_or by
-        where
-          was_in : (log : List Command) → IsPrefix front log → IsPrefix log (w.servers n).log.applied → is_in (state_after setting.servers log) n inc ≡ true
-          was_in log more lies = in_between front log (w.servers n).log.applied more lies (firm.servers n) n inc p.led.seated seat
+  pub open_running : (lives : Lives) (state : State) (n : ℕ) (want : Wanted) (rev : ℕ) → PendingHere setting state w lives n want rev
+      → lives.ran n ≡ (w.servers n).life.inc
+      → (w.servers n).life.running ≡ true → IsOpen (w.clients want.client) want.seq
+  open_running lives state n want rev p ran runs =
+      let seat = subst (λ i. is_in (server_state setting w n) n i ≡ true) ran (here_led lives state n want rev p).seated in
+      open_still lives state n want rev p ran
+      (subst (λ i. is_in (chosen_state setting w) n i ≡ true) (sym ran) (runs_now setting w firm n runs seat))
 
-          by : IsLate setting.servers (seen lives w) front want.client want.seq want.cell n inc → ⊥
-          by (Is_past lt) = let u = p.unfinished in omega arith
-          by (Had_no_lead log more lies none) =
-              let all = client_front log lies in
-              let held = unled log more all none in
-              let same : leader ≡ held.holder = leader_alone (chosen_state setting w) (chosen_steady setting w firm) leader held.holder want.cell
-              (is_the_so _ leader led) (alone_now log all held.holder want.cell held.alone) in
-              let knows = knows_alone log all want.cell held (subst (IsStill setting w) same still) in
-              elim (same_or_apart held.holder n) [
-                | inl e ↦ true_false
-                    (in_up (state_after setting.servers log) n inc (was_in log more (subst (λ k. IsPrefix log (w.servers k).log.applied) e knows)))
-                    (subst (λ k. is_up (state_after setting.servers log) k ≡ false) e held.out)
-                | inr ne ↦ true_false
-                    (alone_stays setting.servers log (w.servers held.holder).log.applied
-                    (front_plain setting.servers _ _ firm.plain (firm.servers held.holder)) knows held.holder want.cell held.alone)
-                    (no_other held.holder ne)
-              ]
-          by (Has_left log more lies gone alone) = true_false (was_in log more lies) gone
-          by (Has_another other ne alone) = true_false alone (no_other other ne)
-
-      pub open_secondary : (m leader : ℕ) → primary (chosen_state setting w) want.cell ≡ Some n → secondary (chosen_state setting w) want.cell ≡ Some m
-          → lead (chosen_state setting w) want.cell ≡ Some leader → IsStill setting w leader → is_alone_on (server_state setting w m) m want.cell ≡ false
-          → IsOpen (w.clients want.client) want.seq
-      open_secondary m leader one two led still apart = open_led leader led still (no_other_holds n m want.cell one two apart)
-
-    -- another server, which is still In as it was when it knew the cell in Both, is alone by what is chosen
-    pub open_beside : (m : ℕ) → n ≢ m → is_alone_on (chosen_state setting w) m want.cell ≡ true → IsStill setting w m
-        → in_both (server_state setting w m) want.cell ≡ true → IsOpen (w.clients want.client) want.seq
-    open_beside m ne alone still both = open_or by
-      where
-        is_it : (log : List Command) → IsPrefix log (chosen_log setting w) → (k : ℕ) → is_alone_on (state_after setting.servers log) k want.cell ≡ true → k ≡ m
-        is_it log all k holds = one_holder (chosen_state setting w) k m want.cell (alone_now log all k want.cell holds) alone
-
-        not_alone : (k : ℕ) → k ≡ m → is_alone_on (server_state setting w k) k want.cell ≡ true → ⊥
-        not_alone k e holds = true_false (subst (λ j. is_alone_on (server_state setting w j) j want.cell ≡ true) e holds)
-            (both_not_alone (server_state setting w m) m want.cell both)
-
-        by : IsLate setting.servers (seen lives w) front want.client want.seq want.cell n inc → ⊥
-        by (Is_past lt) = let u = p.unfinished in omega arith
-        by (Had_no_lead log more lies none) =
-            let all = client_front log lies in
-            let held = unled log more all none in
-            let e = is_it log all held.holder held.alone in
-            let knows = knows_alone log all want.cell held (subst (IsStill setting w) (sym e) still) in
-            not_alone held.holder e (alone_stays setting.servers log (w.servers held.holder).log.applied
-            (front_plain setting.servers _ _ firm.plain (firm.servers held.holder)) knows held.holder want.cell held.alone)
-        by (Has_left log more lies gone holds) = ne (is_it log (front_on log _ _ lies (firm.servers n)) n holds)
-        by (Has_another other apart holds) =
-            not_alone other (is_it (w.servers other).log.applied (firm.servers other) other holds) holds
-
-  pub open_running : (lives : Lives) (state : State) (n : ℕ) (want : Wanted) (rev : ℕ)
-      → PendingFor setting state (seen lives w) n (w.servers n).life.inc want rev → (w.servers n).life.running ≡ true
-      → IsOpen (w.clients want.client) want.seq
-  open_running lives state n want rev p runs = open_or lives state n (w.servers n).life.inc want rev p
-      (λ late.
-      let lt = runs_past lives want p.known.sent.at.front n p.known.sent.at.lies p.led runs late in
-      let u = p.unfinished in
-      omega arith)
+  -- what is pending is found so
+  pub pending_here : (lives : Lives) (state : State) → Rests setting w → (asking : AskingBy setting state w lives)
+      → (n : ℕ) (cell : Cell) (op : Pending)
+      → at cell_cmp (w.servers n).own.pairs.pending cell ≡ Some op → PendingHere setting state w lives n (asked_for cell op) op.rev
+  pending_here lives state rests asking n cell op is = record {
+    known = asking.pending n cell op is;
+    here = asking.come n cell op is;
+    unheld = ((rests.pending n).staged cell op is).unheld;
+  }

@@ -1,12 +1,14 @@
 -- What is known of requests is kept by each step.
-use Rattle.std.proofs.Common.{◌≡◌, ◌≢◌, ◌≤◌, ◌<◌, ◌+◌, ◌==◌, ℕ, List, [], ◌∷◌, true, false, Some, length, refl, ap, sym, ◌∙◌, subst, inl, inr, arith}
+use Rattle.std.proofs.Common.{◌≡◌, ◌≢◌, ◌≤◌, ◌<◌, ◌+◌, ◌==◌, ℕ, List, [], ◌∷◌, true, false, Option, Some, None, length, refl, ap, sym, ◌∙◌, subst, inl, inr, arith}
 use Rattle.std.specs.Prelude.{filter, not}
 use Rattle.std.specs.List.{range_with_len}
 use Rattle.std.specs.Ordering.{nat_cmp}
 use Rattle.petal_base.specs.declared.cell.Cell.{Cell}
 use Rattle.petal_table.specs.Table.{at}
 use Rattle.petal_table.proofs.Rows.{at-empty}
+use Rattle.global_tables.specs.declared.link.LinkRow.{LinkRow}
 use Rattle.petal_command.specs.declared.command.Command.{Command}
+use Rattle.petal_command.specs.declared.command.Command.TheVariants.{Caught}
 use Rattle.petal_msg.specs.Kinds.{subject_of}
 use Rattle.petal_msg.specs.declared.body.Body.{Body}
 use Rattle.petal_msg.specs.declared.body.Body.TheVariants as body
@@ -22,29 +24,31 @@ use Rattle.petal_rules.specs.Jobs.{Acted, down_posts}
 use Rattle.petal_rules.specs.Lists.{In}
 use Rattle.petal_rules.specs.Log.{Log, rev_of, state_in}
 use Rattle.petal_rules.specs.Server.{Own, Pairs, Post, Sender, Server, Done, no_pairs, sender, letters_of}
-use Rattle.petal_rules.specs.State.{State, is_in, servers_of}
+use Rattle.petal_rules.specs.Returns.{holds_link, proposed}
+use Rattle.petal_rules.specs.State.{State, is_in, link_named, servers_of}
 use Rattle.petal_rules.specs.Store.{cell_cmp}
 use Rattle.petal_rules.specs.Writes.{Wanted}
-use Rattle.petal_rules.specs.World.{Setting, World, acts, server_state, stamped}
+use Rattle.petal_rules.specs.World.{Setting, World, acts, chosen_log, server_state, stamped}
 use Rattle.petal_rules.specs.declared.step.Step.{Step}
 use Rattle.petal_rules.proofs.Tests.{none_some, true_false}
 use Rattle.law_log.proofs.Proposing.{said_to_all}
 use Rattle.law_state.specs.Plain.{IsPlainLog}
 use Rattle.law_state.specs.Steady.{IsSteady}
 use Rattle.law_state.proofs.Steady.{log_rev, front_plain}
-use Rattle.law_steps.specs.Happens.{Happens, Serves, Turns, Serving, Goes, Ends, Stays, Wakes, Fails, Worked, By_job, By_entry, served_so, stopped_so, shown_so, without_rev, own_place}
+use Rattle.law_steps.specs.Happens.{Happens, Serves, Turns, Serving, Goes, Ends, Stays, Wakes, Fails, Worked, By_job, By_ballot, By_entry, served_so, stopped_so, shown_so, without_rev, own_place}
 use Rattle.law_steps.specs.Operations.{done_to}
 use Rattle.law_steps.specs.Ready.{Ready}
 use Rattle.law_steps.specs.Waking.{AllMayWake}
-use Rattle.law_steps.proofs.Fronts.{front_itself, front_same}
+use Rattle.law_steps.proofs.Fronts.{front_itself, front_on, front_same}
 use Rattle.law_steps.proofs.Histories.{own_plain, runs_at}
 use Rattle.law_steps.proofs.Letters.{said}
-use Rattle.law_requests.specs.Known.{Seen, Lives, AreLives, lives_after, seen, done_by, Known, KnownLetter, PendingFor, IsUsed, Has_pending, Has_finished, AskingBy}
+use Rattle.law_requests.specs.Known.{Seen, Lives, AreLives, LedBy, lives_after, seen, done_by, Known, KnownLetter, IsLedAlong, PendingFor, asked_for, IsUsed, Has_pending, Has_finished, AskingBy}
 use Rattle.law_requests.proofs.Ended.{bound_now, pending_new, rises}
 use Rattle.law_requests.proofs.Frames.{Scene, IsSettled, IsStepped, goes_on, says_known, step_asking, steps}
-use Rattle.law_requests.proofs.Jobs.{Shows, job_tells, crossed_tells}
-use Rattle.law_requests.proofs.Later.{Later, pending_later, tells_request, untold}
+use Rattle.law_requests.proofs.Jobs.{Shows, job_tells, kept_tells}
+use Rattle.law_requests.proofs.Later.{Later, one_log, pending_later, tells_request, untold}
 use Rattle.law_requests.proofs.Lives.{Lived, Goes_on, Begins, done_beside, lives_still}
+use Rattle.law_requests.proofs.Running.{PendingHere, here_along, here_led, pending_here}
 use Rattle.law_requests.proofs.Turning.{turn_ok}
 use Rattle.law_requests.proofs.Turns.{turn_asking, turn_later}
 
@@ -62,6 +66,17 @@ ended_later setting state w v lives known on n inc want rev lt p =
     let same = done_beside lives w v known on.steps n inc want.client apart in
     let un = p.unfinished in
     pending_later setting state (seen lives w) (seen (lives_after lives v) v) on.later n inc want rev p (omega arith)
+
+-- a ballot leaves what is pending and finished
+link_pairs : (own : Own) (o : Option LinkRow) → (holds_link own o).pairs ≡ own.pairs
+link_pairs own None = refl
+link_pairs own (Some row) = refl
+
+pub proposed_pairs : (state : State) (own : Own) (o : Option Command) → (proposed state own o).pairs ≡ own.pairs
+proposed_pairs state own (Some (Caught of link holder inc other other_inc)) = link_pairs own
+    (link_named state (record { map = of; link = link }))
+proposed_pairs state own (Some _) = refl
+proposed_pairs state own None = refl
 
 -- letters that tell of no request
 all_untold : (setting : Setting) (state : State) (v : Seen) (who : Sender) (stamp : ℕ) (posts : List Post)
@@ -97,36 +112,71 @@ module _ (scene : Scene) (ready : Ready scene.setting scene.state scene.w) (n st
 
   worked_shows : (w.servers n).life.running ≡ true → (log : Log) (done : Done) → Worked setting w n log done
       → Shows setting state w lives n done.own done.posts
+  unfolding In
   worked_shows runs _ _ (By_job log done same did seat) = job_tells setting state w lives scene.firm asking n runs ready.rests done seat did
-  worked_shows runs _ _ (By_entry log entry more front) = crossed_tells setting state w lives scene.firm asking n runs ready.rests _ refl refl
+  worked_shows runs _ _ (By_ballot log started posts same starts says) =
+      kept_tells setting state w lives scene.firm asking n runs ready.rests _ posts
+      (ap (λ (p : Pairs). p.pending) (proposed_pairs (server_state setting w n) (w.servers n).own started))
+      (ap (λ (p : Pairs). p.finished) (proposed_pairs (server_state setting w n) (w.servers n).own started)) says
+  worked_shows runs _ _ (By_entry log entry more front) =
+      kept_tells setting state w lives scene.firm asking n runs ready.rests _ [] refl refl (λ post i. absurd i)
 
-  worked_grows : (log : Log) (done : Done) → Worked setting w n log done → IsPrefix (w.servers n).log.applied log.applied × IsPlainLog setting.servers log.applied
-  worked_grows _ _ (By_job log done same did seat) = (
+  own_grows : (log : Log) → log.applied ≡ (w.servers n).log.applied
+      → IsPrefix (w.servers n).log.applied log.applied × IsPrefix log.applied (chosen_log setting w)
+  own_grows log same = (
     front_same (w.servers n).log.applied log.applied same,
-    subst (IsPlainLog setting.servers) (sym same) (own_plain setting w scene.firm n),
+    subst (λ own. IsPrefix own (chosen_log setting w)) (sym same)
+        (scene.firm.servers n),
   )
-  worked_grows _ _ (By_entry log entry more front) =
-      (record { later = entry ∷ []; is = more }, front_plain setting.servers log.applied _ scene.firm.plain front)
+
+  worked_grows : (log : Log) (done : Done) → Worked setting w n log done
+      → IsPrefix (w.servers n).log.applied log.applied × IsPrefix log.applied (chosen_log setting w)
+  worked_grows _ _ (By_job log done same did seat) = own_grows log same
+  worked_grows _ _ (By_ballot log started posts same starts says) = own_grows log same
+  worked_grows _ _ (By_entry log entry more front) = (record { later = entry ∷ []; is = more }, front)
+
+  worked_plain : (log : Log) → IsPrefix log.applied (chosen_log setting w) → IsPlainLog setting.servers log.applied
+  worked_plain log chosen = front_plain setting.servers log.applied _ scene.firm.plain chosen
 
   -- what is used stands where the server is In as itself
   crossed_used : (entry : Command) → IsUsed (crossed (server_state setting w n) entry (w.servers n).own) → IsUsed (w.servers n).own
   crossed_used entry (Has_pending cell op is) = Has_pending cell op is
   crossed_used entry (Has_finished c le) = Has_finished c le
 
+  used_by : (new old : Own) → new.pairs ≡ old.pairs → IsUsed new → IsUsed old
+  used_by new old same (Has_pending cell op is) = Has_pending cell op (sym (ap (λ (p : Pairs). at cell_cmp p.pending cell) same) ∙ is)
+  used_by new old same (Has_finished c le) =
+      let e : done_by new c ≡ done_by old c = ap (λ (p : Pairs). done_to (at nat_cmp p.finished c)) same in Has_finished c (omega arith)
+
   worked_used : (w.servers n).life.running ≡ true → (log : Log) (done : Done) → Worked setting w n log done → IsUsed done.own
       → is_in (state_in setting.servers log) n (lives.ran n) ≡ true
   worked_used runs _ _ (By_job log done same did seat) u =
       let now : is_in (server_state setting w n) n (lives.ran n) ≡ true = elim seat [
         | inl so ↦ subst (λ i. is_in (server_state setting w n) n i ≡ true) (sym (asking.lived.ran n runs)) so
-        | inr kept ↦ asking.used n (subst IsUsed kept u)
+        | inr apart ↦ asking.used n (subst IsUsed apart.same u)
       ] in
       subst (λ applied. is_in (state_after setting.servers applied) n (lives.ran n) ≡ true) (sym same) now
+  worked_used runs _ _ (By_ballot log started posts same starts says) u =
+      let own = (w.servers n).own in
+      subst (λ applied. is_in (state_after setting.servers applied) n (lives.ran n) ≡ true) (sym same)
+      (asking.used n (used_by _ own (proposed_pairs (server_state setting w n) own started) u))
   worked_used runs _ _ (By_entry log entry more front) u =
       let ran = asking.lived.ran n runs in
       let was : is_in (server_state setting w n) n (w.servers n).life.inc ≡ true =
       subst (λ i. is_in (server_state setting w n) n i ≡ true) ran (asking.used n (crossed_used entry u)) in
       subst (λ i. is_in (state_in setting.servers log) n i ≡ true) (sym ran)
       (runs_at setting w scene.firm (w.servers n).log.applied log.applied (record { later = entry ∷ []; is = more }) front n runs was)
+
+  -- while it runs it leads the cell of its operation
+  worked_along : (w.servers n).life.running ≡ true → (want : Wanted) (rev : ℕ) → PendingHere setting state w lives n want rev
+      → IsLedAlong setting.servers (w.servers n).log.applied (chosen_log setting w) n (lives.ran n) want.cell
+  worked_along runs want rev p log more all =
+      let ran = asking.lived.ran n runs in
+      let led = here_led setting w scene.firm lives state n want rev p in
+      here_along setting w scene.firm lives state n want rev p ran log more all
+      (subst (λ i. is_in (state_after setting.servers log) n i ≡ true) (sym ran)
+      (runs_at setting w scene.firm (w.servers n).log.applied log more all n runs
+      (subst (λ i. is_in (server_state setting w n) n i ≡ true) ran led.seated)))
 
   -- a server that does its work
   worked_stepped : (runs : (w.servers n).life.running ≡ true) (log : Log) (done : Done) → Worked setting w n log done → (new : Server)
@@ -139,7 +189,7 @@ module _ (scene : Scene) (ready : Ready scene.setting scene.state scene.w) (n st
         life = Goes_on (λ on. ran) (omega arith)
             (λ c. subst (λ (o : Own). done_by (w.servers n).own c ≤ done_by o c) (sym owns) (rises scene n done.own shows.tells c));
         more = subst (λ (l : Log). IsPrefix (w.servers n).log.applied l.applied) (sym logs) grows.0;
-        plain = subst (λ (l : Log). IsPlainLog setting.servers l.applied) (sym logs) grows.1;
+        plain = subst (λ (l : Log). IsPlainLog setting.servers l.applied) (sym logs) (worked_plain log grows.1);
         bound = λ c. subst (λ (o : Own). done_by o c ≤ (w.clients c).seq + 1) (sym owns) (bound_now scene n done.own shows.tells c);
         used = λ u. record {
           same = λ on. ran;
@@ -148,7 +198,13 @@ module _ (scene : Scene) (ready : Ready scene.setting scene.state scene.w) (n st
         };
         pending = λ cell op is.
             let p = pending_new scene n done.own shows.tells cell op (sym (ap (λ (o : Own). at cell_cmp o.pairs.pending cell) owns) ∙ is) in
-            (p.0, subst (λ (o : Own). done_by o op.client ≤ op.seq) (sym owns) p.1);
+            record {
+              was = p.0;
+              along = λ before more lies.
+                  worked_along runs (asked_for cell op) op.rev p.0 before more
+                  (front_on before log.applied _ (subst (λ (l : Log). IsPrefix before l.applied) logs lies) grows.1);
+              unfinished = subst (λ (o : Own). done_by o op.client ≤ op.seq) (sym owns) p.1;
+            };
       }
 
   -- a server whose own part and entries stay as they are
@@ -164,10 +220,18 @@ module _ (scene : Scene) (ready : Ready scene.setting scene.state scene.w) (n st
       seated = subst (λ applied. is_in (state_after setting.servers applied) n (lives.ran n) ≡ true) (sym logs) (asking.used n (subst IsUsed owns u));
     };
     pending = λ cell op is.
-        let p = asking.pending n cell op (sym (ap (λ (o : Own). at cell_cmp o.pairs.pending cell) owns) ∙ is) in
+        let p = pending_here setting w scene.firm lives state ready.rests asking n cell op
+        (sym (ap (λ (o : Own). at cell_cmp o.pairs.pending cell) owns) ∙ is) in
         let tied = asking.lived.tied n op.client in
-        let un = p.unfinished in
-        (p, subst (λ (o : Own). done_by o op.client ≤ op.seq) (sym owns) (omega arith));
+        let un = p.known.unfinished in
+        record {
+          was = p;
+          along = λ log more lies.
+              let same = one_log log (w.servers n).log.applied (subst (IsPrefix log) logs lies) more in
+              subst (λ l. LedBy (state_after setting.servers l) n (lives.ran n) cell) (sym same)
+              (here_led setting w scene.firm lives state n (asked_for cell op) op.rev p);
+          unfinished = subst (λ (o : Own). done_by o op.client ≤ op.seq) (sym owns) (omega arith);
+        };
   }
 
   -- a server that boots has nothing pending, and has finished nothing
@@ -250,17 +314,53 @@ module _ (scene : Scene) (ready : Ready scene.setting scene.state scene.w) (n st
 pub happens_asking : (setting : Setting) (state : State) → IsSteady state → (w v : World) (lives : Lives) → Ready setting state w → AllMayWake setting w
     → AskingBy setting state w lives → Happens setting state w v → AskingBy setting state v (lives_after lives v)
 happens_asking setting state steady w _ lives ready wake asking (Serves n stamp what acted lt member serving) =
-    serves_asking (record { setting = setting; state = state; w = w; lives = lives; firm = ready.firm; asking = asking }) ready n stamp what wake acted serving
+    serves_asking (record {
+      setting = setting;
+      state = state;
+      w = w;
+      lives = lives;
+      firm = ready.firm;
+      rests = ready.rests;
+      asking =
+          asking;
+    }) ready n stamp what wake acted serving
 happens_asking setting state steady w _ lives ready wake asking (Turns c stamp in_call reacted lt within turned onward) =
-    let scene : Scene = record { setting = setting; state = state; w = w; lives = lives; firm = ready.firm; asking = asking } in
+    let scene : Scene = record {
+      setting = setting;
+      state = state;
+      w = w;
+      lives = lives;
+      firm = ready.firm;
+      rests = ready.rests;
+      asking =
+          asking;
+    } in
     turn_asking scene c stamp reacted (turn_ok setting state w lives ready.firm asking c within in_call reacted onward turned) onward
 
 pub happens_later : (setting : Setting) (state : State) → IsSteady state → (w v : World) (lives : Lives) → Ready setting state w → AllMayWake setting w
     → AskingBy setting state w lives → Happens setting state w v → GoesOn setting state w v lives
 happens_later setting state steady w _ lives ready wake asking (Serves n stamp what acted lt member serving) =
-    serves_later (record { setting = setting; state = state; w = w; lives = lives; firm = ready.firm; asking = asking }) ready n stamp what wake acted serving
+    serves_later (record {
+      setting = setting;
+      state = state;
+      w = w;
+      lives = lives;
+      firm = ready.firm;
+      rests = ready.rests;
+      asking =
+          asking;
+    }) ready n stamp what wake acted serving
 happens_later setting state steady w _ lives ready wake asking (Turns c stamp in_call reacted lt within turned onward) =
-    let scene : Scene = record { setting = setting; state = state; w = w; lives = lives; firm = ready.firm; asking = asking } in
+    let scene : Scene = record {
+      setting = setting;
+      state = state;
+      w = w;
+      lives = lives;
+      firm = ready.firm;
+      rests = ready.rests;
+      asking =
+          asking;
+    } in
     record {
       later = turn_later scene c stamp reacted (turn_ok setting state w lives ready.firm asking c within in_call reacted onward turned) onward;
       steps = lives_still lives w asking.lived;

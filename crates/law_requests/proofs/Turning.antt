@@ -1,5 +1,5 @@
 -- Each kind of step of a client keeps what is known of requests.
-use Rattle.std.proofs.Common.{◌≡◌, ◌≤◌, ◌<◌, ◌+◌, ◌-◌, ◌++◌, ℕ, List, [], ◌∷◌, Bool, true, Option, Some, None, length, refl, ap, sym, ◌∙◌, subst, inl, inr, arith, append_assoc}
+use Rattle.std.proofs.Common.{◌≡◌, ◌≤◌, ◌<◌, ◌+◌, ◌-◌, ◌++◌, ℕ, List, [], ◌∷◌, Bool, true, false, Option, Some, None, length, refl, ap, sym, ◌∙◌, subst, inl, inr, arith, append_assoc}
 use Rattle.std.specs.Prelude.{slice_get, if◌then◌else◌, is_some}
 use Rattle.petal_base.specs.declared.cell.Cell.{Cell}
 use Rattle.petal_msg.specs.Kinds.{subject_of}
@@ -22,7 +22,7 @@ use Rattle.petal_command.specs.declared.command.Command.{Command}
 use Rattle.petal_rules.specs.State.{State, find, lead, is_in, is_lead}
 use Rattle.petal_rules.specs.Server.{Post}
 use Rattle.petal_rules.specs.Writes.{ended}
-use Rattle.petal_rules.specs.Clients.{Client, Asked, Reaction, epoch_for, cell_on, is_read, seen_answer, command_of, refusal, write_refusal}
+use Rattle.petal_rules.specs.Clients.{Client, Asked, Reaction, Sight, epoch_for, cell_on, is_read, is_write, command_of, refusal, write_refusal}
 use Rattle.petal_rules.specs.World.{Setting, World, lines_of, chosen_log}
 use Rattle.petal_rules.proofs.ListLemmas.{put_same}
 use Rattle.petal_rules.proofs.Tests.{by_bool, same_or_apart, same_some, some_or_none, none_some, true_false}
@@ -31,14 +31,12 @@ use Rattle.law_state.specs.Steady.{IsSteady}
 use Rattle.law_state.proofs.Ages.{in_once}
 use Rattle.law_state.proofs.Steady.{log_below, log_rev, log_steady, front_plain}
 use Rattle.law_steps.specs.Happens.{Heard, IsOnward}
-use Rattle.law_steps.specs.Turned.{Turned, Says, Of_the_log, A_write, A_read, OnlySays, IsSame, StaysOpen, IsCalled, IsReason, By_verdict, By_witness, IsJudged, Goes_on, Begins, Reads, Shown, Judges, line_by}
+use Rattle.law_steps.specs.Turned.{Turned, Says, Of_the_log, A_write, A_read, OnlySays, IsSame, StaysOpen, IsCalled, IsReason, By_verdict, By_witness, IsJudged, IsSeenAs, Stops_it, Starts_it, Has_no_space, Is_settled, Goes_on, Begins, Reads, Shown, Judges, line_by}
 use Rattle.law_steps.specs.Turned as turns
 use Rattle.law_steps.proofs.Fronts.{front_itself, front_long, front_more, front_on, front_within}
-use Rattle.law_steps.proofs.Histories.{own_plain}
 use Rattle.law_requests.specs.Asked.{IsWrite, IsAsked, IsOpenFrom}
-use Rattle.law_requests.specs.Known.{Lives, Seen, seen, Is_past, Had_no_lead, Has_left, Has_another, IsSent, EndKnown, EndKnownAt, Known, AskingBy}
+use Rattle.law_requests.specs.Known.{Lives, Seen, seen, Is_past, Had_no_lead, Had_another, IsSent, EndKnown, EndKnownAt, Known, AskingBy}
 use Rattle.law_requests.proofs.Later.{one_cell, write_up, logged_untold, untold}
-use Rattle.law_requests.proofs.Leads.{alone_stays, came_back, left_to}
 use Rattle.law_requests.proofs.Lives.{dones_rise, lives_still}
 use Rattle.law_requests.proofs.Running.{chosen_front}
 use Rattle.law_requests.proofs.Turns.{Closed, TurnOk, seen_with}
@@ -68,6 +66,9 @@ module _ (setting : Setting) (state : State) (w : World) (lives : Lives) (firm :
 
   abbrev client : Client
   client = w.clients c
+
+  abbrev own_state : State
+  own_state = state_after setting.servers client.applied
 
   abbrev T : Client → List Post → Type 0
   T to posts = TurnOk setting state w lives (seen_with lives w c to) c to posts
@@ -227,10 +228,16 @@ module _ (setting : Setting) (state : State) (w : World) (lives : Lives) (firm :
   read_closed to asked is reads rev le cell epoch bytes sent =
       true_false reads (ap is_read (write_asked asked is state cell epoch bytes sent.write))
 
-  seen_closed : (to : Client) (asked : Asked) → client.asked ≡ Some asked → (running : Bool) (given : Answer)
-      → seen_answer asked.request running ≡ Some given → Closes to asked
-  seen_closed to asked is running given shown rev le cell epoch bytes sent =
-      none_some (ap (λ r. seen_answer r running) (write_asked asked is state cell epoch bytes sent.write)) shown
+  seen_closed : (to : Client) (asked : Asked) → client.asked ≡ Some asked → (sight : Sight) (given : Answer)
+      → IsSeenAs own_state asked sight given → Closes to asked
+  seen_closed to asked is sight given shown rev le cell epoch bytes sent =
+      true_false (ap is_write (write_asked asked is state cell epoch bytes sent.write)) (no_write shown)
+    where
+      no_write : IsSeenAs own_state asked sight given → is_write asked.request ≡ false
+      no_write (Stops_it server so e) = ap is_write so
+      no_write (Starts_it server so e) = ap is_write so
+      no_write (Has_no_space so full e) = ap is_write so
+      no_write (Is_settled so round seen all e) = ap is_write so
 
   -- an entry that answers a write finds its cell without a lead
   record HadNoLead (front applied : List Command) (cell : Cell) : Type 0 where
@@ -275,13 +282,11 @@ module _ (setting : Setting) (state : State) (w : World) (lives : Lives) (firm :
       let h = judged_unled to onward asked given is judged rev cell epoch bytes sent in
       Had_no_lead h.log h.more (subst (λ (x : Client). IsPrefix h.log x.applied) (sym (put_same w.clients c to)) h.lies) h.unled
 
-  -- by a reply: its sender is past the write as the incarnation that it was then; or it has left since, or another server leads
+  -- by a reply: its sender is past the write as the incarnation that it was then, and led the cell as none but that one
   end_closed : (to : Client) (asked : Asked) (server : ℕ) → EndKnown setting state (seen lives w) c asked.seq server asked.rev → Closes to asked
   end_closed to asked server end rev le cell epoch bytes sent n inc led =
       let same : end.cell ≡ cell = one_cell state lines c asked.seq end.cell cell end.epoch epoch end.bytes bytes end.write sent.write in
       let own = (w.servers server).log.applied in
-      let plain = own_plain setting w firm server in
-      let end_plain = front_plain setting.servers end.at.front own plain end.at.lies in
       let end_leads : is_lead (state_after setting.servers end.at.front) server cell ≡ true =
       subst (λ (q : Cell). is_lead (state_after setting.servers end.at.front) server q ≡ true) same end.led.leads in
       let one = sent.at.long in
@@ -299,13 +304,8 @@ module _ (setting : Setting) (state : State) (w : World) (lives : Lives) (firm :
             subst (λ i. asked.seq < lives.done n i c) one_inc (subst (λ i. asked.seq < lives.done i end.inc c) e end.past) in
             let more = dones_rise lives w w asking.lived (lives_still lives w asking.lived) n inc c in
             Is_past (omega arith))
-            (λ gone.
-            Has_left end.at.front before (subst (λ i. IsPrefix end.at.front (w.servers i).log.applied) e end.at.lies) gone
-            (came_back setting.servers sent.at.front end.at.front end_plain before n inc cell led.seated led.leads
-            (subst (λ i. is_lead (state_after setting.servers end.at.front) i cell ≡ true) e end_leads) gone))
-        | inr ne ↦ Has_another server ne
-            (alone_stays setting.servers end.at.front own plain end.at.lies server cell
-            (left_to setting.servers sent.at.front end.at.front end_plain before n server cell led.leads end_leads ne))
+            (λ gone. Had_another end.at.front server before end.at.lies end_leads (λ same. gone))
+        | inr ne ↦ Had_another end.at.front server before end.at.lies end_leads (λ same. absurd (ne same))
       ]
 
   known_end : (seq rev : ℕ) (from : Actor) → EndKnownAt setting state (seen lives w) seq rev from (actor.Client c)
@@ -332,7 +332,6 @@ module _ (setting : Setting) (state : State) (w : World) (lives : Lives) (firm :
   turn_ok _ _ onward (Reads asked bytes h is reads) = answers_ok asked is _ (read_closed _ asked is reads) refl refl
   turn_ok _ _ onward (turns.Ends asked how h is writes) =
       let end = ended_known asked.seq asked.rev how h in answers_ok asked is _ (end_closed _ asked end.0 end.1) refl refl
-  turn_ok _ _ onward (Shown asked rev round inc running full h is given shown) =
-      answers_ok asked is _ (seen_closed _ asked is running given shown) refl refl
+  turn_ok _ _ onward (Shown asked rev sight given h is shown) = answers_ok asked is _ (seen_closed _ asked is sight given shown) refl refl
   turn_ok _ _ onward (Judges after asked given is gone seq judged) =
       answers_ok asked is after (judged_closed after onward asked given is judged) seq gone

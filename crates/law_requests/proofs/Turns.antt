@@ -1,25 +1,28 @@
 -- A step of a client keeps what is known of requests.
 use Rattle.std.proofs.Common.{◌≡◌, ◌≤◌, ℕ, true, List, Some, length, sym, ap, ◌∙◌, subst, ◌⊎◌, inl, inr, arith}
 use Rattle.petal_base.specs.declared.cell.Cell.{Cell}
+use Rattle.petal_table.specs.Table.{at}
 use Rattle.petal_msg.specs.declared.body.Body.{Body}
+use Rattle.petal_msg.specs.declared.operation.Pending.{Pending}
 use Rattle.petal_msg.specs.declared.letter.Actor.{Actor}
 use Rattle.petal_history.specs.Claims.{IsPrefix}
 use Rattle.petal_rules.specs.Lists.{In, put_at}
 use Rattle.petal_rules.specs.State.{State, is_in}
 use Rattle.petal_rules.specs.Server.{Post}
+use Rattle.petal_rules.specs.Store.{cell_cmp}
 use Rattle.petal_rules.specs.Writes.{Wanted}
 use Rattle.petal_rules.specs.Clients.{Client, Asked, Reaction, client_sender}
 use Rattle.petal_rules.specs.World.{Setting, World, reacts, server_state}
 use Rattle.petal_rules.proofs.ListLemmas.{in-append}
 use Rattle.petal_rules.proofs.Tests.{all_put}
 use Rattle.law_steps.specs.Happens.{IsOnward}
-use Rattle.law_steps.proofs.Fronts.{front_itself, front_long}
+use Rattle.law_steps.proofs.Fronts.{front_itself, front_long, front_on, front_same}
 use Rattle.law_steps.proofs.Histories.{own_plain}
 use Rattle.law_steps.proofs.Letters.{said}
 use Rattle.law_requests.specs.Asked.{IsAsked, IsOpenFrom}
 use Rattle.law_requests.specs.Known.{Lives, Seen, lives_after, seen, done_by, AreLate, IsSent, Known, PendingFor, asked_for, AskingBy}
 use Rattle.law_requests.proofs.Frames.{Scene}
-use Rattle.law_requests.proofs.Later.{Later, known_later, pending_later}
+use Rattle.law_requests.proofs.Later.{Later, known_later, pending_further}
 use Rattle.law_requests.proofs.Lives.{Lived, done_now, dones_rise, lived_on, lives_still, ran_same}
 
 -- a write that the client has sent under this number comes too late
@@ -96,6 +99,24 @@ module _ (scene : Scene) (c stamp : ℕ) (reacted : Reaction)
               (λ i client. (seq rev : ℕ) → rev ≤ length (w.clients i).applied → IsOpenFrom (w.clients i) seq rev
               → IsOpenFrom client seq rev ⊎ Closed setting state w lives (seen after later) i seq rev) (λ i seq rev le is. inl is) turn.closes
 
+  -- an operation, as far as its server has come
+  pending_now : (n : ℕ) (cell : Cell) (op : Pending) → at cell_cmp (w.servers n).own.pairs.pending cell ≡ Some op
+      → (q : PendingFor setting state (seen after later) n (after.ran n) (asked_for cell op) op.rev) × (q.upto ≡ (w.servers n).log.applied)
+  pending_now n cell op is =
+      let p = asking.pending n cell op is in
+      let come = asking.come n cell op is in
+      let e = ran_still n in
+      let now : after.done n (lives.ran n) op.client ≡ done_by (w.servers n).own op.client =
+      ap (λ i. after.done n i op.client) (sym e) ∙ done_now lives w later asking.lived steps n op.client in
+      let tied = asking.lived.tied n op.client in
+      let un = p.unfinished in
+      let own = (w.servers n).log.applied in
+      subst (λ i. (q : PendingFor setting state (seen after later) n i (asked_for cell op) op.rev) × (q.upto ≡ own)) (sym e)
+      (pending_further setting state (seen lives w) (seen after later) turn_later n (lives.ran n) (asked_for cell op) op.rev p
+      (omega arith) own
+      (front_same p.upto own (sym come)) (front_itself own)
+      (λ log more lies. p.along log (front_on _ p.upto log p.opened more) (subst (IsPrefix log) (sym come) lies)))
+
   pub turn_asking : AskingBy setting state later after
   turn_asking = record {
     lived = lived_on lives w later asking.lived steps;
@@ -111,15 +132,8 @@ module _ (scene : Scene) (c stamp : ℕ) (reacted : Reaction)
       | inr sent ↦
           known_later setting state (seen lives w) (seen after later) turn_later letter.from letter.to letter.rev letter.body (asking.letters letter sent)
     ];
-    pending = λ n cell op is.
-        let p = asking.pending n cell op is in
-        let e = ran_still n in
-        let now : after.done n (lives.ran n) op.client ≡ done_by (w.servers n).own op.client =
-        ap (λ i. after.done n i op.client) (sym e) ∙ done_now lives w later asking.lived steps n op.client in
-        let tied = asking.lived.tied n op.client in
-        let un = p.unfinished in
-        subst (λ i. PendingFor setting state (seen after later) n i (asked_for cell op) op.rev) (sym e)
-        (pending_later setting state (seen lives w) (seen after later) turn_later n (lives.ran n) (asked_for cell op) op.rev p (omega arith));
+    pending = λ n cell op is. (pending_now n cell op is).0;
+    come = λ n cell op is. (pending_now n cell op is).1;
     finished = λ n j. let b = asking.finished n j in let up = turn_later.seqs j in omega arith;
     used = λ n u. subst (λ i. is_in (server_state setting w n) n i ≡ true) (sym (ran_still n)) (asking.used n u);
   }

@@ -1,5 +1,5 @@
 -- What is kept of requests: of those that are open, pending or finished, and of the letters that speak of them.
-use Rattle.std.specs.Prelude.{◌≡◌, ◌≢◌, ◌≤◌, ◌<◌, ◌⊎◌, ◌+◌, ◌==◌, ℕ, true, false, if◌then◌else◌, List, Some, None, length}
+use Rattle.std.specs.Prelude.{◌≡◌, ◌≤◌, ◌<◌, ◌⊎◌, ◌+◌, ◌==◌, ℕ, true, false, if◌then◌else◌, List, Some, None, length}
 use Rattle.std.specs.Ordering.{nat_cmp}
 use Rattle.petal_base.specs.declared.cell.Cell.{Cell}
 use Rattle.petal_command.specs.declared.command.Command.{Command}
@@ -13,7 +13,7 @@ use Rattle.petal_msg.specs.declared.operation.Pending.{Pending}
 use Rattle.petal_history.specs.Claims.{IsPrefix}
 use Rattle.petal_state.specs.Command.{state_after}
 use Rattle.petal_rules.specs.Lists.{In}
-use Rattle.petal_rules.specs.State.{State, lead, is_in, is_lead, is_alone_on}
+use Rattle.petal_rules.specs.State.{State, lead, is_in, is_lead}
 use Rattle.petal_rules.specs.Store.{cell_cmp}
 use Rattle.petal_rules.specs.Server.{Own}
 use Rattle.petal_rules.specs.Writes.{Wanted}
@@ -71,15 +71,13 @@ pub record IsAt (log : List Command) (rev : ℕ) : Type 0 where
 -- ### Writes
 
 -- why an incarnation that led the cell by these entries can't take a client's write any more: it is past it; or the cell had
--- no lead by a later state of the client; or the server has left, and holds the cell's link alone as another incarnation; or
--- another server holds it alone, by that one's own state
+-- no lead by a later state of the client; or another server, or this one as another incarnation, led it by a later state of its own
 pub data IsLate (servers : ℕ) (v : Seen) (front : List Command) (client seq : ℕ) (cell : Cell) (n inc : ℕ) : Type 0 where
   Is_past : seq < v.done n inc client → IsLate servers v front client seq cell n inc
   Had_no_lead : (log : List Command) → IsPrefix front log → IsPrefix log (v.clients client).applied → lead (state_after servers log) cell ≡ None
       → IsLate servers v front client seq cell n inc
-  Has_left : (log : List Command) → IsPrefix front log → IsPrefix log (v.logs n) → is_in (state_after servers log) n inc ≡ false
-      → is_alone_on (state_after servers log) n cell ≡ true → IsLate servers v front client seq cell n inc
-  Has_another : (other : ℕ) → other ≢ n → is_alone_on (state_after servers (v.logs other)) other cell ≡ true
+  Had_another : (log : List Command) (other : ℕ) → IsPrefix front log → IsPrefix log (v.logs other)
+      → is_lead (state_after servers log) other cell ≡ true → (other ≡ n → is_in (state_after servers log) n inc ≡ false)
       → IsLate servers v front client seq cell n inc
 
 -- whoever leads the cell by the state that these entries make can't take the write any more
@@ -135,11 +133,19 @@ KnownLetter setting state v letter = Known setting state v letter.from letter.to
 abbrev pub asked_for : Cell → Pending → Wanted
 asked_for cell op = record { client = op.client; seq = op.seq; cell = cell; epoch = op.key.epoch; bytes = op.bytes }
 
--- a write that is pending at this incarnation was sent at the revision at which it was opened, when that one led the cell, and
--- it is not past it
+-- by these entries, and by all from there to those, this incarnation is In and leads the cell
+abbrev pub IsLedAlong : (servers : ℕ) → (front whole : List Command) → (n inc : ℕ) → Cell → Type 0
+IsLedAlong servers front whole n inc cell = (log : List Command) → IsPrefix front log → IsPrefix log whole
+    → LedBy (state_after servers log) n inc cell
+
+-- a write that is pending at this incarnation was sent at the revision at which it was opened; from there on the incarnation has led the
+-- cell, as far as it had come while the write was pending; and it is not past it
 pub record PendingFor (setting : Setting) (state : State) (v : Seen) (n inc : ℕ) (want : Wanted) (rev : ℕ) : Type 0 where
   pub known : WriteKnown setting state v want rev
-  pub led : LedBy (state_after setting.servers known.sent.at.front) n inc want.cell
+  pub upto : List Command
+  pub opened : IsPrefix known.sent.at.front upto
+  pub applied : IsPrefix upto (v.logs n)
+  pub along : IsLedAlong setting.servers known.sent.at.front upto n inc want.cell
   pub unfinished : v.done n inc want.client ≤ want.seq
 
 -- something is pending or was finished
@@ -153,6 +159,8 @@ pub record AskingBy (setting : Setting) (state : State) (w : World) (lives : Liv
   pub letters : (letter : Letter) → In letter w.sent → KnownLetter setting state (seen lives w) letter
   pub pending : (n : ℕ) (cell : Cell) (op : Pending) → at cell_cmp (w.servers n).own.pairs.pending cell ≡ Some op
       → PendingFor setting state (seen lives w) n (lives.ran n) (asked_for cell op) op.rev
+  pub come : (n : ℕ) (cell : Cell) (op : Pending) (is : at cell_cmp (w.servers n).own.pairs.pending cell ≡ Some op)
+      → (pending n cell op is).upto ≡ (w.servers n).log.applied
   pub finished : (n c : ℕ) → done_by (w.servers n).own c ≤ (w.clients c).seq + 1
   pub used : (n : ℕ) → IsUsed (w.servers n).own → is_in (server_state setting w n) n (lives.ran n) ≡ true
 

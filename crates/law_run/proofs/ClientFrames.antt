@@ -68,7 +68,7 @@ pub record ClientStep : Type 0 where
   pub m : Plain
   pub along : Along setting state w
   pub ground : Ground setting state w
-  pub follow : Follow setting state (rows_in setting w) w m
+  pub follow : Follow setting (rows_in setting w) w m
   pub c : ℕ
   pub stamp : ℕ
   pub later : List Record
@@ -159,7 +159,7 @@ module _ (this : ClientStep) where
         (λ is still. held_still last.seq (finished_old n last is) still (this.follow.finished n this.c last on is how)) j is
 
     pending : (n : ℕ) (cell : Cell) (op : Pending) → (this.w.servers n).life.running ≡ true → at cell_cmp (owns_of this.w n).pairs.pending cell ≡ Some op
-        → HasCounted this.setting this.state this.w n cell op (chain_in (owns_of this.w n).store.chains cell)
+        → HasCounted this.setting this.w n cell op (chain_in (owns_of this.w n).store.chains cell)
         → IsOpen ((after_turn reacted).clients op.client) op.seq → is_held k op.client ≡ true
     pending n cell op on is counted still =
         all_put_apart this.w.clients this.c reacted.client
@@ -173,15 +173,14 @@ module _ (this : ClientStep) where
         op.client refl still
 
     -- the servers' part is as before, and so is what is chosen
-    counted_back : (n : ℕ) (cell : Cell) (op : Pending) (chain : Chain) → HasCounted this.setting this.state (after_turn reacted) n cell op chain
-        → HasCounted this.setting this.state this.w n cell op chain
+    counted_back : (n : ℕ) (cell : Cell) (op : Pending) (chain : Chain) → HasCounted this.setting (after_turn reacted) n cell op chain
+        → HasCounted this.setting this.w n cell op chain
     counted_back n cell op chain (Is_told off paired) = Is_told off paired
-    counted_back n cell op chain (Is_followed q pair together put same) =
-        Is_followed q pair (record { one = together.one; other = together.other }) put same
+    counted_back n cell op chain (Is_followed row linked both put same) = Is_followed row linked both put same
     counted_back n cell op chain (Is_counted put here) = Is_counted put here
 
     pub turn_follow : ((post : Post) → In post reacted.posts → (seq : ℕ) → post.body ≢ body.Written seq)
-        → Follow this.setting this.state rows (after_turn reacted) k
+        → Follow this.setting rows (after_turn reacted) k
     turn_follow unwritten = record {
       stores = record {
         known = λ row h.

@@ -12,6 +12,7 @@ use Rattle.petal_msg.specs.declared.letter.Actor.TheVariants as actor
 use Rattle.petal_msg.specs.declared.operation.Ending.{Ending}
 use Rattle.petal_msg.specs.declared.operation.Ending.TheVariants as ending
 use Rattle.petal_command.specs.declared.command.Command.{Command}
+use Rattle.petal_state.specs.Command.{state_after}
 use Rattle.petal_state.specs.declared.answer.DiskView.{DiskView}
 use Rattle.script_lines.specs.declared.answer.Answer.{Answer}
 use Rattle.script_lines.specs.declared.answer.Answer.TheVariants as answer
@@ -20,13 +21,13 @@ use Rattle.script_lines.specs.declared.request.Request.{Request}
 use Rattle.script_lines.specs.declared.request.Request.TheVariants as request
 use Rattle.petal_rules.specs.State.{State, find, lead}
 use Rattle.petal_rules.specs.Writes.{ended}
-use Rattle.petal_rules.specs.Clients.{Client, Asked, Reaction, answers, is_read, seen_answer, is_write, cell_on, command_of, refusal, write_refusal}
+use Rattle.petal_rules.specs.Clients.{Client, Asked, Reaction, answers, Sight, is_read, is_write, cell_on, command_of, refusal, write_refusal}
 use Rattle.petal_rules.specs.World.{World, reacts, next_line}
 use Rattle.petal_rules.proofs.ListLemmas.{put_same}
 use Rattle.petal_history.specs.Events as events
 use Rattle.petal_history.specs.Events.{open_write, write_asked, write_by, begun, end_of, change_by, takes, makes, looks, told_with}
 use Rattle.law_steps.specs.Happens.{Heard}
-use Rattle.law_steps.specs.Turned.{StaysOpen, IsCalled, OnlySays, IsReason, By_verdict, By_witness, IsJudged, Goes_on, Begins, Reads, Ends, Shown, Judges, answer_of}
+use Rattle.law_steps.specs.Turned.{StaysOpen, IsCalled, OnlySays, IsReason, By_verdict, By_witness, IsJudged, Goes_on, Begins, Reads, Ends, Shown, Judges, IsSeenAs, Stops_it, Starts_it, Has_no_space, Is_settled, answer_of}
 use Rattle.petal_rules.proofs.Tests.{by_bool, same_some, none_some}
 use Rattle.law_requests.specs.Asked.{IsOpen}
 use Rattle.law_run.specs.Onward.{held_in, is_held, Seat}
@@ -41,9 +42,12 @@ not_write : (c seq : ℕ) (asked : Request) → is_read asked ≡ true → write
 not_write c seq (request.Write name block pattern) e = let f : false ≡ true = e in absurd cc
 not_write c seq _ e = refl
 
-seen_no_write : (c seq : ℕ) (asked : Request) (running : Bool) (given : Answer) → seen_answer asked running ≡ Some given → write_by c seq asked ≡ None
-seen_no_write c seq (request.Write name block pattern) running given e = none_some refl e
-seen_no_write c seq _ running given e = refl
+seen_no_write : (state : State) (c seq : ℕ) (asked : Asked) (sight : Sight) (given : Answer) → IsSeenAs state asked sight given
+    → write_by c seq asked.request ≡ None
+seen_no_write state c seq asked sight given (Stops_it server is gives) = ap (write_by c seq) is
+seen_no_write state c seq asked sight given (Starts_it server is gives) = ap (write_by c seq) is
+seen_no_write state c seq asked sight given (Has_no_space is full gives) = ap (write_by c seq) is
+seen_no_write state c seq asked sight given (Is_settled is round all settled gives) = ap (write_by c seq) is
 
 a_write : (c seq : ℕ) (asked : Request) → is_write asked ≡ true → (write : Write) × (write_by c seq asked ≡ Some write)
 a_write c seq (request.Write name block pattern) e = (_, refl)
@@ -105,7 +109,7 @@ module _ (this : ClientStep) where
         (makes (change_by this.setting this.w (after_turn this reacted)) ++ looks lines this.later (reacts this.w this.c this.stamp reacted).letters
         ++ events.ended (open_write this.w this.c) reacted.answer) ≡ Some es
     pub may : Obeys this.m es
-    pub follows : Follow this.setting this.state (rows_in this.setting this.w) (after_turn this reacted) (replay this.m es)
+    pub follows : Follow this.setting (rows_in this.setting this.w) (after_turn this reacted) (replay this.m es)
 
   ended_none : (o : Option Write) → events.ended o None ≡ []
   ended_none None = refl
@@ -197,12 +201,13 @@ module _ (this : ClientStep) where
       (quiet_turn (answers client asked (answer.Data bytes)).client (empty_seat none) (λ seq o. none_some refl o.is))
 
   -- a line of the operator is no write
-  shown_told : (asked : Asked) (rev round inc : ℕ) (running full : Bool)
-      (h : Heard this.w (actor.Client this.c) rev (body.Seen asked.line round running inc full)) (is : client.asked ≡ Some asked)
-      (given : Answer) (shown : seen_answer asked.request running ≡ Some given) → ClientTold false (answers client asked given)
-  shown_told asked rev round inc running full h is given shown =
-      let none : open_write this.w this.c ≡ None = ap (write_asked this.c) is ∙ seen_no_write this.c asked.seq asked.request running given shown in
-      silent false (answers client asked given) (Shown asked rev round inc running full h is given shown) refl
+  shown_told : (asked : Asked) (rev : ℕ) (sight : Sight) (given : Answer)
+      (h : Heard this.w (actor.Client this.c) rev (body.Seen asked.line sight.round sight.running sight.inc sight.full))
+      (is : client.asked ≡ Some asked)
+      (shown : IsSeenAs (state_after this.setting.servers client.applied) asked sight given) → ClientTold false (answers client asked given)
+  shown_told asked rev sight given h is shown =
+      let none : open_write this.w this.c ≡ None = ap (write_asked this.c) is ∙ seen_no_write _ this.c asked.seq asked sight given shown in
+      silent false (answers client asked given) (Shown asked rev sight given h is shown) refl
       (ap (λ o. events.ended o (Some (asked.line, given))) none)
       (quiet_turn (answers client asked given).client (empty_seat none) (λ seq o. none_some refl o.is))
 
@@ -296,5 +301,5 @@ module _ (this : ClientStep) where
   turn_told _ _ (Begins reacted line asked is free seq there called only) = begins_told reacted line asked is free seq there called only
   turn_told _ _ (Reads asked bytes h is reads) = reads_told asked bytes h is reads
   turn_told _ _ (Ends asked how h is writes) = ends_told asked how h is writes
-  turn_told _ _ (Shown asked rev round inc running full h is given shown) = shown_told asked rev round inc running full h is given shown
+  turn_told _ _ (Shown asked rev sight given h is shown) = shown_told asked rev sight given h is shown
   turn_told _ _ (Judges later asked given is gone seq judged) = judges_told later asked given is gone seq judged

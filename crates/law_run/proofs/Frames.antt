@@ -1,6 +1,8 @@
 -- What a server's step has to show so that servers and clients stay tied to the plain machine.
 use Rattle.std.proofs.Common.{◌≡◌, ◌≢◌, ℕ, true, Some, refl, sym, ap, ◌∙◌, subst, ◌⊎◌, inl, inr}
 use Rattle.std.specs.Ordering.{nat_cmp}
+use Rattle.global_tables.specs.declared.link.LinkRow.{LinkRow}
+use Rattle.global_tables.specs.declared.link.LinkState.TheVariants.{Both}
 use Rattle.petal_base.specs.declared.cell.Cell.{Cell}
 use Rattle.petal_table.specs.Table.{at}
 use Rattle.petal_table.proofs.Rows.{at-empty}
@@ -12,21 +14,28 @@ use Rattle.petal_msg.specs.declared.operation.Ending.TheVariants as ending
 use Rattle.petal_msg.specs.declared.operation.Finished.{Finished}
 use Rattle.petal_msg.specs.declared.operation.Pending.{Pending}
 use Rattle.petal_rules.specs.Lists.{In}
-use Rattle.petal_rules.specs.State.{authority}
+use Rattle.petal_rules.specs.Log.{state_in}
+use Rattle.petal_rules.specs.State.{authority, in_both}
 use Rattle.petal_rules.specs.Store.{Chain, cell_cmp, chain_in}
 use Rattle.petal_rules.specs.Server.{Own, Pairs, Server, no_pairs}
-use Rattle.petal_rules.specs.World.{World, chosen_state}
+use Rattle.petal_rules.specs.World.{World, chosen_log, chosen_state, server_state}
 use Rattle.petal_rules.proofs.ListLemmas.{in-append, put_same, put_apart}
-use Rattle.petal_rules.proofs.Tests.{none_some, same_or_apart}
+use Rattle.petal_rules.proofs.Tests.{none_some, same_or_apart, same_some}
+use Rattle.petal_history.specs.Claims.{IsPrefix}
 use Rattle.petal_history.specs.Events.{open_write}
-use Rattle.law_copies.specs.Pair.{IsPair, AreTogether, alone_in, owns_of}
-use Rattle.law_copies.proofs.Frames.{apart}
+use Rattle.law_state.proofs.Alone.{both_row, so_both}
+use Rattle.law_steps.proofs.Histories.{own_steady}
+use Rattle.law_copies.specs.Pair.{owns_of}
+use Rattle.law_copies.specs.Visits.{IsLinked}
+use Rattle.law_copies.proofs.Places.{rows_later}
 use Rattle.law_requests.specs.Asked.{IsOpen}
 use Rattle.law_run.specs.Onward.{is_held, Onward}
 use Rattle.law_run.specs.Follow.{HasCounted, Is_told, Is_followed, Is_counted, Follow, Stores}
+use Rattle.law_run.proofs.Leaving.{Leaves, As_it_was, In_place, Goes_further, Boots, serves_leaves}
+use Rattle.law_run.proofs.Seats.{IsSharing, op_shared, shared_before}
 use Rattle.law_run.proofs.Along.{rows_in}
 use Rattle.law_run.proofs.Machine.{seat_onward, held_onward}
-use Rattle.law_run.proofs.Steps.{ServerStep, new, later_world, letters, own_now, own_other, alone_before}
+use Rattle.law_run.proofs.Steps.{ServerStep, new, later_world, letters, logs_grow, logs_within, own_now, own_other}
 
 -- the server runs after the step
 abbrev pub Runs : ServerStep → Type 0
@@ -50,10 +59,11 @@ module _ (this : ServerStep) (k : Plain) where
     pub finished : (c : ℕ) (last : Finished) → Runs this → at nat_cmp after.pairs.finished c ≡ Some last → last.ending ≡ ending.Written
         → IsOpen (this.w.clients c) last.seq → is_held k c ≡ true
     pub as_lead : (cell : Cell) (op : Pending) → Runs this → at cell_cmp after.pairs.pending cell ≡ Some op
-        → HasCounted this.setting this.state this.w this.n cell op (chain_in after.store.chains cell) → IsOpen (this.w.clients op.client) op.seq
+        → HasCounted this.setting this.w this.n cell op (chain_in after.store.chains cell) → IsOpen (this.w.clients op.client) op.seq
         → is_held k op.client ≡ true
-    pub as_second : (cell : Cell) (p : ℕ) (op : Pending) → (this.w.servers p).life.running ≡ true → IsPair this.state cell p this.n
-        → AreTogether (alone_in this.setting this.w) cell p this.n → at cell_cmp (owns_of this.w p).pairs.pending cell ≡ Some op → op.stage.put ≡ true
+    pub as_second : (cell : Cell) (p : ℕ) (op : Pending) (row : LinkRow)
+        → IsSharing this.setting this.state this.w this.along.firm this.ground p cell row
+        → row.primary ≡ p → row.secondary ≡ this.n → at cell_cmp (owns_of this.w p).pairs.pending cell ≡ Some op → op.stage.put ≡ true
         → IsOpen (this.w.clients op.client) op.seq → chain_in (owns_of this.w p).store.chains cell ≡ chain_in after.store.chains cell
         → (chain_in (owns_of this.w p).store.chains cell ≡ chain_in own.store.chains cell) ⊎ (is_held k op.client ≡ true)
 
@@ -88,8 +98,47 @@ module _ (this : ServerStep) (k : Plain) where
           (this.follow.finished i c last (ran_other i ne on) (sym (ap (λ (h : Own). at nat_cmp h.pairs.finished c) (own_other this i ne)) ∙ is) how still)
     ]
 
-    together_before : (cell : Cell) (i j : ℕ) → AreTogether (alone_in this.setting v) cell i j → AreTogether (alone_in this.setting this.w) cell i j
-    together_before cell i j t = record { one = alone_before this i cell t.one; other = alone_before this j cell t.other }
+    -- a server whose operation is pending, and that has the cell's link in Both then, had it so before
+    record WasShared (cell : Cell) (row : LinkRow) : Type 0 where
+      old : LinkRow
+      linked : IsLinked this.setting (this.w.servers this.n).log.applied cell old
+      both : old.state ≡ Both
+      second : row.secondary ≡ old.secondary
+
+    same_before : (cell : Cell) (row : LinkRow) → this.acted.server.log.applied ≡ (this.w.servers this.n).log.applied
+        → IsLinked this.setting this.acted.server.log.applied cell row → row.state ≡ Both → WasShared cell row
+    same_before cell row applied linked both =
+        record { old = row; linked = subst (λ front. IsLinked this.setting front cell row) applied linked; both = both; second = refl }
+
+    was_shared : (cell : Cell) (op : Pending) (row : LinkRow) → Leaves this.setting this.n (this.w.servers this.n) this.acted.server
+        → at cell_cmp (new this).pairs.pending cell ≡ Some op → IsLinked this.setting this.acted.server.log.applied cell row
+        → row.state ≡ Both
+        → WasShared cell row
+    was_shared cell op row (As_it_was pending applied) is linked both = same_before cell row applied linked both
+    was_shared cell op row (In_place applied seat) is linked both = same_before cell row applied linked both
+    was_shared cell op row (Boots runs inc none) is linked both =
+        none_some (ap (λ (p : Pairs). at cell_cmp p.pending cell) none ∙ at-empty cell_cmp cell) is
+    was_shared cell op row (Goes_further runs inc pending) is linked both =
+        let firm = this.along.firm in
+        let grows : IsPrefix (this.w.servers this.n).log.applied this.acted.server.log.applied =
+        subst (λ (x : Server). IsPrefix (this.w.servers this.n).log.applied x.log.applied) server_now (logs_grow this this.n) in
+        let within : IsPrefix this.acted.server.log.applied (chosen_log this.setting this.w) =
+        subst (λ (x : Server). IsPrefix x.log.applied (chosen_log this.setting this.w)) server_now (logs_within this this.n) in
+        let s = shared_before this.setting this.state this.w firm this.ground this.n cell op runs
+        (ap (λ t. at cell_cmp t cell) (sym pending) ∙ is)
+        this.acted.server.log.applied row grows within linked both in
+        let old = s.first in
+        record {
+          old = old.row;
+          linked = old.shares.linked;
+          both = old.shares.both;
+          second = (rows_later this.setting (chosen_log this.setting this.w) firm.plain
+              (this.w.servers this.n).log.applied this.acted.server.log.applied cell
+              old.row row grows within old.shares.linked linked).secondary;
+        }
+
+    leaves : Leaves this.setting this.n (this.w.servers this.n) this.acted.server
+    leaves = serves_leaves this.setting this.state this.w this.n this.what this.acted this.serving
 
     abbrev chain_now : ℕ → Cell → Chain
     chain_now i cell = chain_in (owns_of v i).store.chains cell
@@ -103,9 +152,22 @@ module _ (this : ServerStep) (k : Plain) where
     new_chain : (cell : Cell) → chain_now this.n cell ≡ chain_in (new this).store.chains cell
     new_chain cell = ap (λ (h : Own). chain_in h.store.chains cell) (own_now this)
 
+    -- a server that leads a cell in Both is not its second one
+    not_second : {B : Type 0} (cell : Cell) (op : Pending) → (v.servers this.n).life.running ≡ true
+        → at cell_cmp (owns_of v this.n).pairs.pending cell ≡ Some op
+        → (row : LinkRow) → IsLinked this.setting (v.servers this.n).log.applied cell row → row.state ≡ Both → row.secondary ≡ this.n → B
+    not_second cell op on there row linked both mine =
+        let state_now = server_state this.setting v this.n in
+        let steady = own_steady this.setting v this.next.firm this.n in
+        let f = op_shared this.setting this.state v this.next.firm this.onward this.n cell op on there
+        (so_both state_now cell row linked both) in
+        let one : f.row ≡ row = same_some (sym f.shares.linked ∙ linked) in
+        absurd ((steady.linked cell row linked).apart (ap (λ (r : LinkRow). r.primary) (sym one) ∙ f.first ∙ sym mine))
+
     -- the operations of this server
     mine : (cell : Cell) (op : Pending) → (v.servers this.n).life.running ≡ true → at cell_cmp (owns_of v this.n).pairs.pending cell ≡ Some op
-        → HasCounted this.setting this.state v this.n cell op (chain_now this.n cell) → IsOpen (this.w.clients op.client) op.seq → is_held k op.client ≡ true
+        → HasCounted this.setting v this.n cell op (chain_now this.n cell) → IsOpen (this.w.clients op.client) op.seq
+        → is_held k op.client ≡ true
     mine cell op on there counted still = by counted
       where
         runs : Runs this
@@ -114,11 +176,23 @@ module _ (this : ServerStep) (k : Plain) where
         is : at cell_cmp (new this).pairs.pending cell ≡ Some op
         is = sym (ap (λ (h : Own). at cell_cmp h.pairs.pending cell) (own_now this)) ∙ there
 
-        by : HasCounted this.setting this.state v this.n cell op (chain_now this.n cell) → is_held k op.client ≡ true
-        by (Is_told off paired) = job.as_lead cell op runs is (Is_told (alone_before this this.n cell off) paired) still
-        by (Is_followed q pair together put same) =
-            let ne : q ≢ this.n = λ e. apart this.state this.along.steady cell this.n q pair (sym e) in
-            job.as_lead cell op runs is (Is_followed q pair (together_before cell this.n q together) put (sym (new_chain cell) ∙ same ∙ same_chain q cell ne)) still
+        to_here : (row : LinkRow) → IsLinked this.setting (v.servers this.n).log.applied cell row
+            → IsLinked this.setting this.acted.server.log.applied cell row
+        to_here row = subst (λ (x : Server). IsLinked this.setting x.log.applied cell row) server_now
+
+        by : HasCounted this.setting v this.n cell op (chain_now this.n cell) → is_held k op.client ≡ true
+        by (Is_told both paired) =
+            let b = both_row (server_state this.setting v this.n) cell both in
+            let was = was_shared cell op b.row leaves is (to_here b.row b.is) b.both in
+            job.as_lead cell op runs is (Is_told (so_both
+            (server_state this.setting this.w this.n) cell was.old was.linked was.both) paired) still
+        by (Is_followed row linked both put same) =
+            let was = was_shared cell op row leaves is (to_here row linked) both in
+            elim (same_or_apart row.secondary this.n) [
+              | inl mine ↦ not_second cell op on there row linked both mine
+              | inr ne ↦ job.as_lead cell op runs is (Is_followed was.old was.linked was.both put
+                  (sym (new_chain cell) ∙ same ∙ same_chain row.secondary cell ne ∙ ap (λ q. chain_then q cell) was.second)) still
+            ]
         by (Is_counted put here) = elim (counts this.n cell op on there put here still) [
           | inl before ↦ job.as_lead cell op runs is (Is_counted put before) still
           | inr held ↦ held
@@ -126,7 +200,7 @@ module _ (this : ServerStep) (k : Plain) where
 
     -- those of another server
     theirs : (i : ℕ) → i ≢ this.n → (cell : Cell) (op : Pending) → (v.servers i).life.running ≡ true → at cell_cmp (owns_of v i).pairs.pending cell ≡ Some op
-        → HasCounted this.setting this.state v i cell op (chain_now i cell) → IsOpen (this.w.clients op.client) op.seq → is_held k op.client ≡ true
+        → HasCounted this.setting v i cell op (chain_now i cell) → IsOpen (this.w.clients op.client) op.seq → is_held k op.client ≡ true
     theirs i ne cell op on there counted still = by counted
       where
         runs : (this.w.servers i).life.running ≡ true
@@ -135,40 +209,49 @@ module _ (this : ServerStep) (k : Plain) where
         is : at cell_cmp (owns_of this.w i).pairs.pending cell ≡ Some op
         is = sym (ap (λ (h : Own). at cell_cmp h.pairs.pending cell) (own_other this i ne)) ∙ there
 
-        was : HasCounted this.setting this.state this.w i cell op (chain_then i cell) → is_held k op.client ≡ true
+        was : HasCounted this.setting this.w i cell op (chain_then i cell) → is_held k op.client ≡ true
         was h = held_onward this.m k op.client onward (this.follow.pending i cell op runs is h still)
 
-        by : HasCounted this.setting this.state v i cell op (chain_now i cell) → is_held k op.client ≡ true
-        by (Is_told off paired) = was (Is_told (alone_before this i cell off) paired)
-        by (Is_followed q pair together put same) = elim (same_or_apart q this.n) [
-          | inl e ↦
-              let pair' : IsPair this.state cell i this.n = subst (IsPair this.state cell i) e pair in
-              let together' : AreTogether (alone_in this.setting this.w) cell i this.n =
-              subst (AreTogether (alone_in this.setting this.w) cell i) e (together_before cell i q together) in
-              let same' : chain_then i cell ≡ chain_in (new this).store.chains cell =
-              sym (same_chain i cell ne) ∙ same ∙ ap (λ j. chain_now j cell) e ∙ new_chain cell in
-              elim (job.as_second cell i op runs pair' together' is put still same') [
-                | inl before ↦ was (Is_followed this.n pair' together' put before)
-                | inr held ↦ held
-              ]
-          | inr ne' ↦ was (Is_followed q pair (together_before cell i q together) put (sym (same_chain i cell ne) ∙ same ∙ same_chain q cell ne'))
-        ]
+        -- the server is as before
+        same_server : v.servers i ≡ this.w.servers i
+        same_server = put_apart this.w.servers this.n this.acted.server i ne
+
+        by : HasCounted this.setting v i cell op (chain_now i cell) → is_held k op.client ≡ true
+        by (Is_told both paired) =
+            was (Is_told (subst (λ (x : Server). in_both (state_in this.setting.servers x.log) cell ≡ true) same_server both) paired)
+        by (Is_followed row linked both put same) =
+            let there : IsLinked this.setting (this.w.servers i).log.applied cell row =
+            subst (λ (x : Server). IsLinked this.setting x.log.applied cell row) same_server linked in
+            elim (same_or_apart row.secondary this.n) [
+              | inl e ↦
+                  let own_state = server_state this.setting this.w i in
+                  let f = op_shared this.setting this.state this.w this.along.firm this.ground i cell op runs is
+                  (so_both own_state cell row there both) in
+                  let one : f.row ≡ row = same_some (sym f.shares.linked ∙ there) in
+                  let same' : chain_then i cell ≡ chain_in (new this).store.chains cell =
+                  sym (same_chain i cell ne) ∙ same ∙ ap (λ j. chain_now j cell) e ∙ new_chain cell in
+                  elim (job.as_second cell i op f.row f.shares f.first (ap (λ (r : LinkRow). r.secondary) one ∙ e) is put still same') [
+                    | inl before ↦ was (Is_followed row there both put (before ∙ ap (λ j. chain_then j cell) (sym e)))
+                    | inr held ↦ held
+                  ]
+              | inr ne' ↦ was (Is_followed row there both put (sym (same_chain i cell ne) ∙ same ∙ same_chain row.secondary cell ne'))
+            ]
         by (Is_counted put here) = elim (counts i cell op on there put here still) [
           | inl before ↦ was (Is_counted put before)
           | inr held ↦ held
         ]
 
     pending : (i : ℕ) (cell : Cell) (op : Pending) → (v.servers i).life.running ≡ true → at cell_cmp (owns_of v i).pairs.pending cell ≡ Some op
-        → HasCounted this.setting this.state v i cell op (chain_now i cell) → IsOpen (this.w.clients op.client) op.seq → is_held k op.client ≡ true
+        → HasCounted this.setting v i cell op (chain_now i cell) → IsOpen (this.w.clients op.client) op.seq → is_held k op.client ≡ true
     pending i cell op on is counted still = elim (same_or_apart i this.n) [
       | inl e ↦ subst (λ j. (v.servers j).life.running ≡ true → at cell_cmp (owns_of v j).pairs.pending cell ≡ Some op
-          → HasCounted this.setting this.state v j cell op (chain_now j cell) → is_held k op.client ≡ true) (sym e)
+          → HasCounted this.setting v j cell op (chain_now j cell) → is_held k op.client ≡ true) (sym e)
           (λ on is counted. mine cell op on is counted still) on is counted
       | inr ne ↦ theirs i ne cell op on is counted still
     ]
 
     pub own_follow : SaysOk → Stores (chosen_state this.setting v) (rows_in this.setting this.w) v k
-        → Follow this.setting this.state (rows_in this.setting this.w) v k
+        → Follow this.setting (rows_in this.setting this.w) v k
     own_follow says stores = record {
       stores = stores;
       seats = λ c. seat_onward this.m k c (open_write this.w c) onward (this.follow.seats c);
@@ -189,17 +272,17 @@ module _ (this : ServerStep) (k : Plain) where
 
     pub kept_pending : (this.w.servers this.n).life.running ≡ true → (after : Own) → after.pairs.pending ≡ own.pairs.pending
         → (cell : Cell) → chain_in after.store.chains cell ≡ chain_in own.store.chains cell → (op : Pending)
-        → at cell_cmp after.pairs.pending cell ≡ Some op → HasCounted this.setting this.state this.w this.n cell op (chain_in after.store.chains cell)
+        → at cell_cmp after.pairs.pending cell ≡ Some op → HasCounted this.setting this.w this.n cell op (chain_in after.store.chains cell)
         → IsOpen (this.w.clients op.client) op.seq → is_held k op.client ≡ true
     kept_pending runs after pending cell chain op is counted still =
         held_onward this.m k op.client onward (this.follow.pending this.n cell op runs (ap (λ t. at cell_cmp t cell) (sym pending) ∙ is)
-        (subst (HasCounted this.setting this.state this.w this.n cell op) chain counted) still)
+        (subst (HasCounted this.setting this.w this.n cell op) chain counted) still)
 
     pub kept_own : (new this).store.chains ≡ own.store.chains → (Runs this → AreKept this) → OwnFollow (new this)
     kept_own chains kept = record {
       finished = λ c last on is how still. fin c last is how still (kept on);
       as_lead = λ cell op on is counted still. lead cell op is counted still (kept on);
-      as_second = λ cell p op runs pair together is put still same. inl (same ∙ ap (λ c. chain_in c cell) chains);
+      as_second = λ cell p op row shares first second is put still same. inl (same ∙ ap (λ c. chain_in c cell) chains);
     }
       where
         fin : (c : ℕ) (last : Finished) → at nat_cmp (new this).pairs.finished c ≡ Some last → last.ending ≡ ending.Written
@@ -209,7 +292,8 @@ module _ (this : ServerStep) (k : Plain) where
             none_some (ap (λ (p : Pairs). at nat_cmp p.finished c) none ∙ at-empty nat_cmp c) is
 
         lead : (cell : Cell) (op : Pending) → at cell_cmp (new this).pairs.pending cell ≡ Some op
-            → HasCounted this.setting this.state this.w this.n cell op (chain_in (new this).store.chains cell) → IsOpen (this.w.clients op.client) op.seq
+            → HasCounted this.setting this.w this.n cell op (chain_in (new this).store.chains cell)
+            → IsOpen (this.w.clients op.client) op.seq
             → AreKept this → is_held k op.client ≡ true
         lead cell op is counted still (As_before runs finished pending) =
             kept_pending runs (new this) pending cell (ap (λ c. chain_in c cell) chains) op is counted still

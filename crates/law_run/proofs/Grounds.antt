@@ -1,43 +1,45 @@
 -- Every step keeps the ground on which the run stands.
-use Rattle.std.proofs.Common.{◌≡◌, ◌+◌, ℕ, List, [], true, false, Some, refl, sym, ap, ◌∙◌, subst, inl, inr, arith}
-use Rattle.std.specs.Prelude.{max, unwrap_or}
+use Rattle.std.proofs.Common.{◌≡◌, ◌+◌, ℕ, List, [], true, false, Some, refl, sym, ap, ◌∙◌, subst, inl, inr, arith, ◌≢◌, ◌<◌, Bool, ◌∷◌, Option, None}
+use Rattle.std.specs.BTreeMap.{is_at}
+use Rattle.std.specs.Prelude.{max, unwrap_or, filter, not}
 use Rattle.std.specs.Ordering.{nat_cmp}
+use Rattle.global_tables.specs.declared.link.LinkRow.{LinkRow}
 use Rattle.petal_base.specs.declared.cell.Cell.{Cell}
 use Rattle.petal_base.specs.declared.cell.Key.{Key}
-use Rattle.petal_base.specs.Cells.{cell_of}
-use Rattle.petal_table.specs.Table.{Table, at, put}
+use Rattle.petal_base.specs.Cells.{cell_of, key_at}
+use Rattle.petal_command.specs.declared.command.Command.{Command}
+use Rattle.petal_command.specs.declared.command.Command.TheVariants.{Caught}
+use Rattle.petal_table.specs.Table.{Table, at, put, without}
 use Rattle.petal_table.proofs.Rows.{at-empty}
 use Rattle.petal_msg.specs.declared.body.Body.{Body}
-use Rattle.petal_msg.specs.declared.operation.LastOp.{LastOp}
+use Rattle.petal_msg.specs.declared.body.Body.TheVariants as body
+use Rattle.petal_msg.specs.declared.copying.LinkId.{LinkId}
+use Rattle.petal_msg.specs.declared.operation.Far.TheVariants as far
 use Rattle.petal_msg.specs.declared.operation.Pending.{Pending}
 use Rattle.script_lines.specs.declared.request.Line.{Line}
-use Rattle.script_lines.specs.declared.script.Script.{Script}
-use Rattle.petal_rules.specs.State.{State, in_both, is_in, is_second}
-use Rattle.petal_rules.specs.Store.{Chain, Stored, cell_cmp, chain_in, entry_at, version_of}
-use Rattle.petal_rules.specs.Server.{Own, Pairs, Here, Done}
+use Rattle.petal_rules.specs.Returns.{holds_link, proposed}
+use Rattle.petal_rules.specs.State.{State, link_named}
+use Rattle.petal_rules.specs.Store.{Chain, Store, Stored, cell_cmp, chain_in, chains_at, entry_at, version_of, without_entry}
+use Rattle.petal_rules.specs.Server.{Own, Here, Done}
 use Rattle.petal_rules.specs.Jobs.{Acted}
 use Rattle.petal_rules.specs.Log.{Log}
-use Rattle.petal_rules.specs.World.{Setting, World, server_state, start, setting_of}
+use Rattle.petal_rules.specs.World.{Setting, World}
 use Rattle.petal_rules.specs.declared.step.Step.{Step}
-use Rattle.petal_rules.proofs.Tests.{all_put, by_bool, is_the_one, none_some, same_some, true_false}
+use Rattle.petal_rules.proofs.Tests.{all_put, by_test, none_some, same_some}
 use Rattle.law_state.specs.Firm.{Firm}
 use Rattle.law_state.specs.Steady.{IsSteady}
-use Rattle.law_state.proofs.Alone.{lead_alone, second_both}
-use Rattle.law_steps.specs.Happens.{Handled, Happens, Serves, Turns, Worked, By_job, By_entry, Serving, Goes, Ends, Stays, Wakes, Fails, own_place}
-use Rattle.law_steps.specs.Ready.{Ready}
-use Rattle.law_steps.proofs.Histories.{own_steady}
+use Rattle.law_steps.specs.Happens.{Handled, Happens, Serves, Turns, Worked, By_job, By_ballot, By_entry, Serving, Goes, Ends, Stays, Wakes, Fails, own_place}
+use Rattle.law_steps.specs.Operations.{progress}
 use Rattle.law_steps.proofs.Staged.{same_cell_or_apart}
-use Rattle.law_steps.specs.Waking.{AllMayWake}
-use Rattle.law_copies.specs.Pair.{Memory, pair_of, IsPair, IsPutting, AreTogether, alone_in, half_of, owns_of, shares, Good}
-use Rattle.law_copies.proofs.Jobs.{chain_put, chain_apart, asked, heard_second, second_pair, second_together}
-use Rattle.law_copies.proofs.Copying.{start_good, start_remembers}
-use Rattle.law_copies.proofs.Sharing.{shared_by}
+use Rattle.law_copies.specs.Good.{store_of}
+use Rattle.law_copies.specs.Pair.{IsPutting, owns_of}
+use Rattle.law_copies.specs.Visits.{IsLinked, half, place_by}
+use Rattle.law_copies.proofs.Chains.{chain_apart, chain_put, gone_apart, gone_chain}
 use Rattle.law_requests.specs.Asked.{IsWrite}
-use Rattle.law_requests.specs.Known.{Lives, PendingFor, asked_for, seen, AskingBy}
-use Rattle.law_requests.proofs.Histories.{first_lives, start_asking}
-use Rattle.law_run.specs.Follow.{IsRemembered, Is_pending, Was_pending, IsShort, Ground}
-use Rattle.law_run.proofs.Chains.{PutsAsked, StoresSo, Nothing_new, An_own, An_asked, did_stores}
-use Rattle.law_run.proofs.Names.{start_named}
+use Rattle.law_requests.specs.Known.{AskingBy, Lives, PendingFor, asked_for, seen}
+use Rattle.law_run.specs.Follow.{Ground, IsRemembered, IsShort, IsShortSync, Is_pending, Was_pending}
+use Rattle.law_run.proofs.Chains.{CopiesSo, Is_put, Is_dropped, Is_dropped_first, PutsAsked, StoresSo, Nothing_new, An_own, An_asked, A_copy, did_stores}
+use Rattle.law_run.proofs.Seats.{IsSharing, heard_shared, second_shares, sharing_last, visit_here}
 
 short_put : (chain : Chain) (epoch : ℕ) (entry : Stored) → epoch ≡ 0 → IsShort chain → IsShort (put nat_cmp chain epoch entry)
 unfolding put
@@ -69,34 +71,43 @@ pub write_epoch : (state : State) → IsSteady state → (lines : List Line) (cl
     → IsWrite state lines client seq cell epoch bytes → epoch ≡ 0
 write_epoch state steady lines client seq cell epoch bytes w = w.epoch_is ∙ steady.newest w.name w.disk w.found
 
--- what a server that runs has pending on a cell that it doesn't hold alone, it remembers
-pub own_recalled : (setting : Setting) (state : State) (w : World) → Firm setting w → (ground : Ground setting state w) → (p : ℕ) (cell : Cell) (op : Pending)
-    → (w.servers p).life.running ≡ true → alone_in setting w p cell ≡ false → at cell_cmp (owns_of w p).pairs.pending cell ≡ Some op
-    → at cell_cmp (ground.good.memory p cell).pending cell ≡ at cell_cmp (owns_of w p).pairs.pending cell
-own_recalled setting state w firm ground p cell op runs off is =
-    let rests = ground.ready.rests in
-    let there = server_state setting w p in
-    let s = (rests.pending p).staged cell op is in
-    let seat = rests.seated p cell op runs is in
-    let both : in_both there cell ≡ true = by_bool (in_both there cell) (λ on. on)
-    (λ apart. true_false (lead_alone there (own_steady setting w firm p) p cell s.lead apart) off) in
-    ap (λ (m : Pairs). at cell_cmp m.pending cell) ((ground.good.recalls p).here cell runs (shared_by there p (w.servers p).life.inc cell seat both))
+link_store : (mine : Own) (o : Option LinkRow) → (holds_link mine o).store ≡ mine.store
+link_store mine None = refl
+link_store mine (Some row) = refl
 
--- an operation that a server remembers is of a write that is known of
-pub remembered : (setting : Setting) (state : State) (w : World) (lives : Lives) → AskingBy setting state w lives → (n : ℕ) (cell : Cell) (op : Pending)
-    → IsRemembered setting state w lives n cell op
-    → (inc : ℕ) × PendingFor setting state (seen lives w) n inc (asked_for cell op) op.rev
-remembered setting state w lives asking n cell op (Is_pending is) = (lives.ran n, asking.pending n cell op is)
-remembered setting state w lives asking n cell op (Was_pending inc lt p) = (inc, p)
+-- a ballot that starts leaves the store as it is
+pub proposed_store : (at : State) (mine : Own) (started : Option Command) → (proposed at mine started).store ≡ mine.store
+proposed_store at mine (Some (Caught of link holder inc other other_inc)) = link_store mine
+    (link_named at (record { map = of; link = link }))
+proposed_store at mine (Some _) = refl
+proposed_store at mine None = refl
 
--- a second server that follows was asked to by an operation that the first one remembers
-pub record Followed (setting : Setting) (state : State) (w : World) (memory : Memory) (n number : ℕ) (key : Key) (bytes : List ℕ) : Type 0 where
-  pub p : ℕ
-  pub pair : IsPair state (cell_of key) p n
-  pub together : AreTogether (alone_in setting w) (cell_of key) p n
-  pub putting : IsPutting (at cell_cmp (memory p (cell_of key)).pending (cell_of key)) number key bytes
+-- ### Operations that are remembered
 
-module _ (setting : Setting) (state : State) (steady : IsSteady state) (w : World) (ground : Ground setting state w) (n : ℕ) where
+-- it is of a write that is known of at an incarnation, up to this place
+pub record IsKnownUpTo (setting : Setting) (state : State) (w : World) (lives : Lives) (n place : ℕ) (cell : Cell)
+    (op : Pending) : Type 0 where
+  pub inc : ℕ
+  pub known : PendingFor setting state (seen lives w) n inc (asked_for cell op) op.rev
+  pub row : LinkRow
+  pub linked : IsLinked setting known.upto cell row
+  pub at : place_by setting known.upto row ≡ place
+
+pub remembered : (setting : Setting) (state : State) (w : World) (lives : Lives) → AskingBy setting state w lives
+    → (n place : ℕ) (cell : Cell) (op : Pending)
+    → IsRemembered setting state w lives n place cell op → IsKnownUpTo setting state w lives n place cell op
+remembered setting state w lives asking n place cell op (Is_pending is row linked spot) = record {
+  inc = lives.ran n;
+  known = asking.pending n cell op is;
+  row = row;
+  linked = subst (λ log. IsLinked setting log cell row) (sym (asking.come n cell op is)) linked;
+  at = ap (λ log. place_by setting log row) (asking.come n cell op is) ∙ spot;
+}
+remembered setting state w lives asking n place cell op (Was_pending inc lt p row linked spot) =
+    record { inc = inc; known = p; row = row; linked = linked; at = spot }
+
+module _ (setting : Setting) (state : State) (steady : IsSteady state) (w : World) (firm : Firm setting w)
+    (ground : Ground setting state w) (n : ℕ) where
   abbrev here : Here
   here = own_place setting w n
 
@@ -106,51 +117,72 @@ module _ (setting : Setting) (state : State) (steady : IsSteady state) (w : Worl
   abbrev hears : Body → Type 0
   hears = Handled w n
 
-  abbrev good : Good setting state w
-  good = ground.good
-
-  abbrev ready : Ready setting state w
-  ready = ground.ready
+  abbrev pub IsRecalledAt : (p place : ℕ) → Cell → Pending → Type 0
+  IsRecalledAt p place cell op = IsRemembered setting state w ground.lives p place cell op
 
   -- the write of an operation that a server remembers
-  pub write_of : (p : ℕ) (cell : Cell) (op : Pending) → IsRemembered setting state w ground.lives p cell op
+  pub write_of : (p place : ℕ) (cell : Cell) (op : Pending) → IsRecalledAt p place cell op
       → IsWrite state setting.lines op.client op.seq cell op.key.epoch op.bytes
-  write_of p cell op r = (remembered setting state w ground.lives ground.asking p cell op r).1.known.sent.write
+  write_of p place cell op r = (remembered setting state w ground.lives ground.asking p place cell op r).known.known.sent.write
 
-  pub pending_epoch : (p : ℕ) (cell : Cell) (op : Pending) → IsRemembered setting state w ground.lives p cell op → op.key.epoch ≡ 0
-  pending_epoch p cell op r = write_epoch state steady setting.lines op.client op.seq cell op.key.epoch op.bytes (write_of p cell op r)
+  pub recalled_epoch : (p place : ℕ) (cell : Cell) (op : Pending) → IsRecalledAt p place cell op → op.key.epoch ≡ 0
+  recalled_epoch p place cell op r = write_epoch state steady setting.lines op.client op.seq cell op.key.epoch op.bytes
+      (write_of p place cell op r)
 
-  -- who is the second server of a cell, and set a slot apart for it, shares it
-  pub second_shares : (w.servers n).life.running ≡ true → (cell : Cell) (last : LastOp) → at cell_cmp own.pairs.last cell ≡ Some last
-      → is_second here.state n cell ≡ true
-      → (is_in here.state n here.inc ≡ true) × (in_both here.state cell ≡ true) × (shares here.state n here.inc cell ≡ true)
-  second_shares runs cell last is s =
-      let seat = ((good.recalls n).lasts cell last runs is).seated in
-      let both = second_both here.state (own_steady setting w ready.firm n) cell n (is_the_one _ n s) in
-      (seat, both, shared_by here.state n here.inc cell seat both)
+  pub pending_epoch : (p : ℕ) (cell : Cell) (op : Pending) → at cell_cmp (owns_of w p).pairs.pending cell ≡ Some op → op.key.epoch ≡ 0
+  pending_epoch p cell op is =
+      write_epoch state steady setting.lines op.client op.seq cell op.key.epoch op.bytes
+      (ground.asking.pending p cell op is).known.sent.write
 
-  pub followed : (w.servers n).life.running ≡ true → (new : Own) (a : PutsAsked hears here own new)
-      → Followed setting state w good.memory n a.number a.key a.bytes
+  -- ### A second server that follows
+
+  -- it was asked to by an operation that the first one had pending at the place
+  pub record Followed (number : ℕ) (key : Key) (bytes : List ℕ) : Type 0 where
+    pub row : LinkRow
+    pub shares : IsSharing setting state w firm ground n (cell_of key) row
+    pub second : row.secondary ≡ n
+    pub own : Own
+    pub visited : ground.good.visits row.primary (place_by setting (w.servers n).log.applied row) (cell_of key) ≡ Some own
+    pub putting : IsPutting (at cell_cmp own.pairs.pending (cell_of key)) number key bytes
+
+  -- by its letter, and the slot that is set apart here
+  putting_there : (visit : Option Own) (store : Store) (cell : Cell) (number : ℕ) (key : Key) (bytes : List ℕ)
+      → IsPutting (at cell_cmp (half visit store).pairs.pending cell) number key bytes
+      → (own : Own) × (visit ≡ Some own) × IsPutting (at cell_cmp own.pairs.pending cell) number key bytes
+  putting_there None store cell number key bytes p = none_some (at-empty cell_cmp cell) p.is
+  putting_there (Some own) store cell number key bytes p = (own, refl, p)
+
+  pub followed : (w.servers n).life.running ≡ true → (new : Own) (a : PutsAsked hears here own new) → Followed a.number a.key a.bytes
   followed runs new a =
       let cell = cell_of a.key in
-      let pair = second_pair setting state steady w ready good n runs cell a.seconds in
-      let on = second_shares runs cell _ a.last a.seconds in
-      let together = second_together setting state steady w ready good n runs cell pair.0 pair.1 on.0 on.1 in
-      record {
-        p = pair.0;
-        pair = pair.1;
-        together = together;
-        putting = asked setting state steady w ready good n runs a.number a.key a.bytes (pair_of (half_of good.memory w cell pair.0) own cell) a.last
-            (heard_second setting state steady w ready good n runs _ a.asked cell pair.0 on.2 refl pair.1 together);
-      }
+      let s = second_shares setting state w firm ground n cell runs a.seat a.seconds in
+      let place = place_by setting (w.servers n).log.applied s.row in
+      let last : at cell_cmp (half (ground.good.visits s.row.secondary place cell) (store_of w s.row.secondary)).pairs.last cell
+      ≡ Some (record { op = a.number; far = far.Reserved }) =
+      ap (λ k. at cell_cmp (half (ground.good.visits k place cell) (store_of w k)).pairs.last cell) s.second
+      ∙ ap (λ o. at cell_cmp (half o (store_of w n)).pairs.last cell)
+      (visit_here setting state w firm ground n cell s.row a.seat s.shares.linked) ∙ a.last in
+      let there = putting_there (ground.good.visits s.row.primary place cell) (store_of w s.row.primary) cell a.number a.key a.bytes
+      (elim (heard_shared setting state w firm ground n cell s.row s.shares
+      (body.Replicate a.number a.key a.version a.bytes) a.asked refl) [
+        | inl putting ↦ putting
+        | inr past ↦ (let at : progress _ ≡ a.number + a.number = ap progress last in absurd (omega arith))
+      ]) in
+      record { row = s.row; shares = s.shares; second = s.second; own = there.0; visited = there.1; putting = there.2 }
 
-  module _ (number : ℕ) (key : Key) (bytes : List ℕ) (f : Followed setting state w good.memory n number key bytes) where
-    -- it is remembered, since the first server doesn't hold the cell alone
-    pub followed_recalled : IsRemembered setting state w ground.lives f.p (cell_of key) f.putting.op
-    followed_recalled = ground.recalled f.p (cell_of key) f.putting.op f.together.one f.putting.is
+  module _ (number : ℕ) (key : Key) (bytes : List ℕ) (f : Followed number key bytes) where
+    -- it is remembered, since no server that serves the link has been further
+    pub followed_recalled : IsRecalledAt f.row.primary (place_by setting (w.servers n).log.applied f.row) (cell_of key) f.putting.op
+    followed_recalled =
+        ground.recalled (w.servers n).log.applied (cell_of key) f.row f.row.primary f.own f.putting.op
+        (firm.servers n) f.shares.linked f.shares.both
+        (sharing_last setting state w firm ground n (cell_of key) f.row f.shares) f.visited f.putting.is
 
     pub followed_epoch : key.epoch ≡ 0
-    followed_epoch = ap (λ (k : Key). k.epoch) (sym f.putting.key_is) ∙ pending_epoch f.p (cell_of key) f.putting.op followed_recalled
+    followed_epoch = ap (λ (k : Key). k.epoch) (sym f.putting.key_is)
+        ∙ recalled_epoch f.row.primary (place_by setting (w.servers n).log.applied f.row) (cell_of key) f.putting.op followed_recalled
+
+  -- ### Short chains
 
   short_at : (chains : Table Cell Chain) (cell q : Cell) (chain : Chain) → IsShort chain → IsShort (chain_in chains q)
       → IsShort (chain_in (put cell_cmp chains cell chain) q)
@@ -159,12 +191,45 @@ module _ (setting : Setting) (state : State) (steady : IsSteady state) (w : Worl
     | inr ne ↦ subst IsShort (sym (chain_apart chains cell chain q ne)) old
   ]
 
+  short_one : (keeps : ℕ × Stored → Bool) (entry : Stored) → IsShort (filter keeps ((0, entry) ∷ []))
+  short_one keeps entry = by_test IsShort (keeps (0, entry)) ((0, entry) ∷ []) [] (λ t. inr (entry, refl)) (λ t. inl refl)
+
+  short_without : (chain : Chain) (epoch : ℕ) → IsShort chain → IsShort (without nat_cmp chain epoch)
+  unfolding without
+  short_without chain epoch (inl e) = inl (ap (λ c. without nat_cmp c epoch) e)
+  short_without chain epoch (inr h) = subst (λ c. IsShort (without nat_cmp c epoch)) (sym h.1)
+      (short_one (λ row. not (is_at (nat_cmp epoch) row.0)) h.0)
+
+  short_set : (chains : Table Cell Chain) (cell q : Cell) (chain : Chain) → IsShort chain → IsShort (chain_in chains q)
+      → IsShort (chain_in (chains_at chains cell chain) q)
+  short_set chains cell q [] new old = elim (same_cell_or_apart q cell) [
+    | inl e ↦ inl (ap (chain_in (without cell_cmp chains cell)) e ∙ gone_chain chains cell)
+    | inr ne ↦ subst IsShort (sym (gone_apart chains cell q ne)) old
+  ]
+  short_set chains cell q (row ∷ later) new old = short_at chains cell q (row ∷ later) new old
+
+  short_drop : (cell q : Cell) (epoch : ℕ) → IsShort (chain_in (without_entry own.store (key_at cell epoch)).chains q)
+  short_drop cell q epoch =
+      short_set own.store.chains cell q _ (short_without (chain_in own.store.chains cell) epoch (ground.short n cell)) (ground.short n q)
+
+  copied_short : (cell : Cell) (chains : Table Cell Chain) → CopiesSo hears own cell chains → (q : Cell) → IsShort (chain_in chains q)
+  copied_short cell chains (Is_put entry last e h is number at_index same) q =
+      let epoch : entry.key.epoch ≡ 0 = subst IsShortSync h.is (ground.copied h.letter h.sent) in
+      subst (λ c. IsShort (chain_in c q)) (sym same)
+      (short_at own.store.chains (cell_of entry.key) q _
+      (short_put (chain_in own.store.chains (cell_of entry.key)) entry.key.epoch entry.stored epoch
+      (ground.short n (cell_of entry.key))) (ground.short n q))
+  copied_short cell chains (Is_dropped_first number epochs epoch h newer same) q = subst (λ c. IsShort (chain_in c q)) (sym same)
+      (short_drop cell q epoch)
+  copied_short cell chains (Is_dropped last epoch epochs is beyond same) q = subst (λ c. IsShort (chain_in c q)) (sym same)
+      (short_drop cell q epoch)
+
   stored_short : (w.servers n).life.running ≡ true → (new : Own) → StoresSo hears here own new → (cell : Cell) → IsShort (chain_in new.store.chains cell)
   stored_short runs new (Nothing_new same) cell = subst (λ c. IsShort (chain_in c cell)) (sym same) (ground.short n cell)
   stored_short runs new (An_own p) cell =
       subst (λ c. IsShort (chain_in c cell)) (sym p.chains)
       (short_at own.store.chains (cell_of p.op.key) cell _
-      (short_put (chain_in own.store.chains (cell_of p.op.key)) p.op.key.epoch p.entry (pending_epoch n p.op.cell p.op (Is_pending p.is))
+      (short_put (chain_in own.store.chains (cell_of p.op.key)) p.op.key.epoch p.entry (pending_epoch n p.op.cell p.op p.is)
       (ground.short n (cell_of p.op.key)))
       (ground.short n cell))
   stored_short runs new (An_asked p) cell =
@@ -173,10 +238,13 @@ module _ (setting : Setting) (state : State) (steady : IsSteady state) (w : Worl
       (short_put (chain_in own.store.chains (cell_of p.key)) p.key.epoch p.entry
       (followed_epoch p.number p.key p.bytes (followed runs new p)) (ground.short n (cell_of p.key)))
       (ground.short n cell))
+  stored_short runs new (A_copy p) cell = copied_short p.cell new.store.chains p.how cell
 
   worked_short : (w.servers n).life.running ≡ true → (log : Log) (done : Done) → Worked setting w n log done → (cell : Cell)
       → IsShort (chain_in done.own.store.chains cell)
-  worked_short runs _ _ (By_job log done same did seat) cell = stored_short runs done.own (did_stores hears here own done did) cell
+  worked_short runs _ _ (By_job log done same did seat) cell = stored_short runs done.own (did_stores hears here own done seat did) cell
+  worked_short runs _ _ (By_ballot log started posts same starts says) cell =
+      subst (λ (s : Store). IsShort (chain_in s.chains cell)) (sym (proposed_store here.state own started)) (ground.short n cell)
   worked_short runs _ _ (By_entry log entry more front) cell = ground.short n cell
 
   pub serves_short : (what : Step) (acted : Acted) → Serving setting w n what acted → (cell : Cell) → IsShort (chain_in acted.server.own.store.chains cell)
@@ -186,24 +254,10 @@ module _ (setting : Setting) (state : State) (steady : IsSteady state) (w : Worl
   serves_short what _ (Wakes booted asleep) cell = ground.short n cell
   serves_short what _ (Fails booted asleep) cell = ground.short n cell
 
-pub short_later : (setting : Setting) (state : State) → IsSteady state → (w v : World) → Ground setting state w → Happens setting state w v
+pub short_later : (setting : Setting) (state : State) → IsSteady state → (w v : World) → Firm setting w → Ground setting state w
+    → Happens setting state w v
     → (n : ℕ) (cell : Cell) → IsShort (chain_in (owns_of v n).store.chains cell)
-short_later setting state steady w _ ground (Serves n stamp what acted lt within serving) =
+short_later setting state steady w _ firm ground (Serves n stamp what acted lt within serving) =
     all_put w.servers n acted.server (λ k server. (cell : Cell) → IsShort (chain_in server.own.store.chains cell)) ground.short
-    (serves_short setting state steady w ground n what acted serving)
-short_later setting state steady w _ ground (Turns c stamp in_call reacted lt within turned onward) = ground.short
-
-pub start_ground : (state : State) (script : Script) → Ready (setting_of script) state (start (setting_of script))
-    → AllMayWake (setting_of script) (start (setting_of script)) → Ground (setting_of script) state (start (setting_of script))
-start_ground state script ready wake = record {
-  ready = ready;
-  wake = wake;
-  good = start_good state script;
-  lives = first_lives;
-  asking = start_asking state script;
-  recalled = λ n cell op off is.
-      none_some (ap (λ (p : Pairs). at cell_cmp p.pending cell) (start_remembers state script n cell) ∙ at-empty cell_cmp cell) is;
-  named = start_named script;
-  short = λ n cell. inl (ap (λ o. unwrap_or {T = Chain} o []) (at-empty cell_cmp cell));
-  born = λ n cell none. ap (λ o. unwrap_or {T = Chain} o []) (at-empty cell_cmp cell);
-}
+    (serves_short setting state steady w firm ground n what acted serving)
+short_later setting state steady w _ firm ground (Turns c stamp in_call reacted lt within turned onward) = ground.short

@@ -5,8 +5,12 @@ pub mod Names
 pub mod Takes
 pub mod ReadScripts
 pub mod Chains
+pub mod Leaving
+pub mod Seats
+pub mod Copies
 pub mod Grounds
 pub mod Born
+pub mod Synced
 pub mod Looks
 pub mod Along
 pub mod Makes

@@ -5,7 +5,7 @@ use Rattle.petal_command.specs.declared.command.Command.{Command}
 use Rattle.petal_msg.specs.Kinds.{is_ending, subject_of}
 use Rattle.petal_msg.specs.declared.letter.Actor.TheVariants as actor
 use Rattle.petal_msg.specs.declared.letter.Letter.{Letter}
-use Rattle.petal_rules.specs.Ballots.{starts}
+use Rattle.petal_rules.specs.Ballots.{first_wanted, starts}
 use Rattle.petal_rules.specs.Boots.{awake, boots, raised, stays, wakes}
 use Rattle.petal_rules.specs.Entries.{applies}
 use Rattle.petal_rules.specs.Lists.{In}
@@ -24,12 +24,14 @@ use Rattle.petal_rules.specs.declared.step.WorkEnd.TheVariants as work_end
 use Rattle.petal_rules.proofs.Tests.{by_test}
 use Rattle.law_steps.specs.Happens.{without_rev}
 use Rattle.law_steps.proofs.LogJobs.{LogFrame, letter_frame_of, start_frame_of, applied_entry, applied_none}
+use Rattle.law_requests.proofs.Stepping.{proposed_pairs}
+use Rattle.law_run.proofs.Grounds.{proposed_store}
 use Rattle.law_run.proofs.Says.{logged_unended, downs_unended}
 use Rattle.law_steps.proofs.Letters.{said}
 
 -- what the step has done
 pub data IsOfKind (server : Server) (acted : Acted) : Type 0 where
-  Of_the_log : acted.server.own ≡ server.own
+  Of_the_log : acted.server.own.store ≡ server.own.store → acted.server.own.pairs ≡ server.own.pairs
       → ((stamp : ℕ) (letter : Letter) → In letter (stamped stamp acted.letters) → is_ending (subject_of letter.body) ≡ false)
       → IsOfKind server acted
   Of_a_boot : acted.server.own.store.chains ≡ server.own.store.chains → acted.server.own.pairs ≡ no_pairs
@@ -46,7 +48,7 @@ module _ (state : State) (me : ℕ) (server : Server) where
 
   entered_kind : (what : Job) (rest : List Job) (done : LogDone) → LogFrame server.log what done → K (entered here server rest done)
   entered_kind what rest done frame =
-      Of_the_log refl (λ stamp letter h. let s = said (sender here) stamp 0 done.posts letter h in
+      Of_the_log refl refl (λ stamp letter h. let s = said (sender here) stamp 0 done.posts letter h in
       ap (λ b. is_ending (subject_of b)) s.body ∙ logged_unended s.post.body (frame.says s.post s.there))
 
   applied_kind : (rest : List Job) (o : Option Command) → known server.log (next_place server.log) ≡ o → K (crossing here server rest o (applies server.log))
@@ -61,8 +63,15 @@ module _ (state : State) (me : ℕ) (server : Server) where
       (λ t. Of_the_rest refl)
   job_kind (job.Stage cell) rest = Of_the_rest refl
   job_kind job.Apply rest = applied_kind rest (known server.log (next_place server.log)) refl
+  job_kind (job.Mend id) rest = Of_the_rest refl
   job_kind job.Start rest =
-      entered_kind job.Start rest (starts (voter_of here) server.log (wanted_by here server)) (start_frame_of (voter_of here) server.log (wanted_by here server))
+      let wants = wanted_by here server in
+      let first = first_wanted server.log.phase (rev_of server.log) wants in
+      let done = starts (voter_of here) server.log wants in
+      let frame = start_frame_of (voter_of here) server.log wants in
+      Of_the_log (proposed_store here.state server.own first) (proposed_pairs here.state server.own first)
+      (λ stamp letter h. let s = said (sender here) stamp 0 done.posts letter h in
+      ap (λ b. is_ending (subject_of b)) s.body ∙ logged_unended s.post.body (frame.says s.post s.there))
 
   works_kind : (queue : List Job) → K (works here server queue)
   works_kind [] = Of_the_rest refl
@@ -80,7 +89,7 @@ module _ (state : State) (me : ℕ) (server : Server) where
   stopped_kind : (acted : Acted) → K acted → K (stops here acted.server)
   stopped_kind acted (Of_the_rest same) = Of_the_rest same
   stopped_kind acted (Of_a_boot chains none quiet) = Of_a_boot chains none (downs_quiet (without_rev here))
-  stopped_kind acted (Of_the_log same quiet) = Of_the_log same (downs_quiet (without_rev here))
+  stopped_kind acted (Of_the_log store pairs quiet) = Of_the_log store pairs (downs_quiet (without_rev here))
 
   boots_kind : (end : WorkEnd) → K (boots here server end)
   unfolding In
@@ -88,7 +97,7 @@ module _ (state : State) (me : ℕ) (server : Server) where
       (λ t. Of_a_boot refl refl (downs_quiet (record { from = actor.Server me; inc = server.life.inc + 1; rev = rev_of (awake (raised server)).log })))
   boots_kind (work_end.Fault Before) = Of_the_rest refl
   boots_kind (work_end.Fault After) = by_test (λ (x : Server). K (stays x)) (is_overfull (raised server)) server (raised server) (λ t. Of_the_rest refl)
-      (λ t. Of_the_log refl (λ stamp letter h. absurd h))
+      (λ t. Of_the_log refl refl (λ stamp letter h. absurd h))
 
   pub step_kind : (what : Step) → K (server_step what state me server)
   step_kind (Call line) = Of_the_rest refl

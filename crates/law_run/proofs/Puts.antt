@@ -26,20 +26,24 @@ use Rattle.law_state.proofs.Alone.{led_row, second_both, so_alone}
 use Rattle.law_state.proofs.Cells.{both_authority, alone_authority, second_by}
 use Rattle.law_state.proofs.Roles.{log_roles}
 use Rattle.law_steps.specs.Happens.{Handled, own_place}
+use Rattle.law_steps.proofs.Fronts.{front_on}
 use Rattle.law_steps.proofs.Histories.{chosen_steady, own_steady, runs_now}
 use Rattle.law_copies.specs.Pair.{owns_of}
-use Rattle.law_copies.proofs.Frames.{apart}
-use Rattle.law_copies.proofs.Jobs.{chain_put, chain_apart}
+use Rattle.law_copies.specs.Visits.{IsLinked, place_by}
+use Rattle.law_copies.proofs.Chains.{chain_apart, chain_put}
+use Rattle.law_copies.proofs.Places.{one_row}
 use Rattle.law_requests.specs.Asked.{IsOpen}
 use Rattle.law_requests.specs.Known.{PendingFor, asked_for, seen}
-use Rattle.law_requests.proofs.Running.{open_beside, open_in_both, open_running}
+use Rattle.law_requests.proofs.Beside.{open_beside}
+use Rattle.law_requests.proofs.Running.{open_running, pending_here}
 use Rattle.law_run.specs.Onward.{is_held, Onward}
-use Rattle.law_run.specs.Follow.{Is_pending, kept_at}
+use Rattle.law_run.specs.Follow.{kept_at}
 use Rattle.law_run.proofs.Along.{own_link, same_row}
-use Rattle.law_run.proofs.Chains.{StoresSo, Nothing_new, An_own, An_asked, PutsAsked}
+use Rattle.law_run.proofs.Chains.{StoresSo, Nothing_new, An_own, An_asked, A_copy, PutsAsked, PutsCopy, copied_apart}
+use Rattle.law_run.proofs.Copies.{copied_uncounted}
 use Rattle.law_run.proofs.Contents.{IsGiven, AreGiven, Taken, all_given, given_held, takes_of, was_kept, now_kept}
 use Rattle.law_run.proofs.Frames.{OwnFollow, SaysOk, CountsOk}
-use Rattle.law_run.proofs.Grounds.{Followed, followed, followed_epoch, followed_recalled, pending_epoch, put_first, remembered, second_shares, write_of}
+use Rattle.law_run.proofs.Grounds.{Followed, followed, followed_epoch, followed_recalled, pending_epoch, put_first, remembered, write_of}
 use Rattle.law_run.proofs.Placed.{Placed, placed}
 use Rattle.law_run.proofs.ServerJobs.{PutHeld}
 use Rattle.law_run.proofs.Steps.{ServerStep, TakesTold, new, later_world, own_now, same_content}
@@ -147,9 +151,9 @@ module _ (this : ServerStep) (same : chosen_log this.setting (later_world this) 
       → (is_second chosen this.n (cell_of a.key) ≡ true) ⊎ HoldsAlone chosen this.n (cell_of a.key)
   after_second runs a =
       let firm = this.along.firm in
-      let on = second_shares this.setting this.state this.along.steady this.w this.ground this.n runs (cell_of a.key) _ a.last a.seconds in
       let roles = log_roles this.setting.servers (this.w.servers this.n).log.applied (chosen_log this.setting this.w) firm.plain (firm.servers this.n) in
-      roles.seconds this.n (this.w.servers this.n).life.inc (cell_of a.key) on.0 (runs_now this.setting this.w firm this.n runs on.0) a.seconds
+      roles.seconds this.n (this.w.servers this.n).life.inc (cell_of a.key) a.seat
+      (runs_now this.setting this.w firm this.n runs a.seat) a.seconds
 
   -- its copy is the one that counts, of a cell that has a link
   pub record IsServing (cell : Cell) : Type 0 where
@@ -175,27 +179,29 @@ module _ (this : ServerStep) (same : chosen_log this.setting (later_world this) 
         }
       ]
 
-  asked_open : (runs : (this.w.servers this.n).life.running ≡ true) (a : PutsAsked hears here own (new this))
-      (f : Followed this.setting this.state this.w this.ground.good.memory this.n a.number a.key a.bytes)
+  abbrev FollowedHere : PutsAsked hears here own (new this) → Type 0
+  FollowedHere a = Followed this.setting this.state this.along.steady this.w this.along.firm this.ground this.n a.number a.key a.bytes
+
+  -- the place at which it was asked
+  abbrev spot : (a : PutsAsked hears here own (new this)) → FollowedHere a → ℕ
+  spot a f = place_by this.setting (this.w.servers this.n).log.applied f.row
+
+  asked_open : (runs : (this.w.servers this.n).life.running ≡ true) (a : PutsAsked hears here own (new this)) (f : FollowedHere a)
       → IsOpen (this.w.clients f.putting.op.client) f.putting.op.seq
   asked_open runs a f =
       let cell = cell_of a.key in
       let firm = this.along.firm in
-      let steady = chosen_steady this.setting this.w firm in
-      let on = second_shares this.setting this.state this.along.steady this.w this.ground this.n runs cell _ a.last a.seconds in
-      let known = remembered this.setting this.state this.w this.ground.lives this.ground.asking f.p cell f.putting.op
-      (followed_recalled this.setting this.state this.along.steady this.w this.ground this.n a.number a.key a.bytes f) in
-      let want = asked_for cell f.putting.op in
-      elim (after_second runs a) [
-        | inl still ↦
-            open_in_both this.setting this.w firm this.ground.lives this.state f.p known.0 want f.putting.op.rev known.1
-            (second_both chosen steady cell this.n (is_the_one _ this.n still))
-        | inr alone ↦
-            open_beside this.setting this.w firm this.ground.lives this.state f.p known.0 want f.putting.op.rev known.1 this.n
-            (apart this.state this.along.steady cell f.p this.n f.pair)
-            (so_alone chosen this.n cell alone.row false alone.is alone.alone)
-            (record { inc = (this.w.servers this.n).life.inc; own = on.0; now = runs_now this.setting this.w firm this.n runs on.0 }) on.1
-      ]
+      let known = remembered this.setting this.state this.w this.ground.lives this.ground.asking f.row.primary (spot a f) cell f.putting.op
+      (followed_recalled this.setting this.state this.along.steady this.w firm this.ground this.n a.number a.key a.bytes f) in
+      let upto = front_on known.known.upto _ _ known.known.applied (firm.servers f.row.primary) in
+      let one : known.row ≡ f.row = one_row this.setting (chosen_log this.setting this.w) firm.plain
+      (this.w.servers this.n).log.applied known.known.upto cell
+      f.row known.row (firm.servers this.n) upto f.shares.linked known.linked (sym known.at) in
+      open_beside this.setting this.w firm this.ground.lives this.state f.row.primary known.inc
+      (asked_for cell f.putting.op) f.putting.op.rev known.known
+      this.n runs a.seat f.row f.shares.linked f.shares.has f.shares.both
+      (subst (λ r. IsLinked this.setting known.known.upto cell r) one known.linked)
+      (sym known.at ∙ ap (place_by this.setting known.known.upto) one)
 
   -- ### What is told
 
@@ -236,12 +242,11 @@ module _ (this : ServerStep) (same : chosen_log this.setting (later_world this) 
             let firm = this.along.firm in
             let row = led_row here.state (own_steady this.setting this.w firm this.n) this.n op.cell staged.lead in
             let link = own_link this.setting this.w firm this.n op.cell row.0 row.1 in
-            let epoch = pending_epoch this.setting this.state this.along.steady this.w this.ground this.n this.n op.cell op (Is_pending is) in
+            let epoch = pending_epoch this.setting this.state this.along.steady this.w firm this.ground this.n this.n op.cell op is in
             let known = this.ground.asking.pending this.n op.cell op is in
             let still = open_running this.setting this.w firm lives this.state this.n (asked_for op.cell op) op.rev
-            (subst (λ i. PendingFor this.setting this.state (seen lives this.w) this.n i (asked_for op.cell op) op.rev)
-            (this.ground.asking.lived.ran this.n runs) known)
-            runs in
+            (pending_here this.setting this.w firm lives this.state this.ground.ready.rests this.ground.asking this.n op.cell op is)
+            (this.ground.asking.lived.ran this.n runs) runs in
             let place : Placed this op (cell_of op.key) =
             subst (Placed this op) (sym keyed) (placed this op.cell op link.0 link.1 known.known.sent.write still) in
             let here_mine : authority chosen (cell_of op.key) ≡ Some this.n = ap (authority chosen) keyed ∙ counted in
@@ -251,24 +256,42 @@ module _ (this : ServerStep) (same : chosen_log this.setting (later_world this) 
 
     asked_told : (a : PutsAsked hears here own (new this)) → Jobs (An_asked a) → TakesTold this
     asked_told a job =
-        let f = followed this.setting this.state this.along.steady this.w this.ground this.n runs (new this) a in
-        let recalled = followed_recalled this.setting this.state this.along.steady this.w this.ground this.n a.number a.key a.bytes f in
-        let epoch = followed_epoch this.setting this.state this.along.steady this.w this.ground this.n a.number a.key a.bytes f in
+        let firm = this.along.firm in
+        let f = followed this.setting this.state this.along.steady this.w firm this.ground this.n runs (new this) a in
+        let recalled = followed_recalled this.setting this.state this.along.steady this.w firm this.ground this.n a.number a.key
+        a.bytes f in
+        let epoch = followed_epoch this.setting this.state this.along.steady this.w firm this.ground this.n a.number a.key a.bytes f in
         let serves = serving (cell_of a.key) (after_second runs a) in
         let bytes : a.entry.bytes ≡ f.putting.op.bytes = a.put ∙ sym f.putting.bytes_is in
         let still = asked_open runs a f in
         let place = placed this (cell_of a.key) f.putting.op serves.link serves.linked
-        (write_of this.setting this.state this.along.steady this.w this.ground this.n f.p (cell_of a.key) f.putting.op recalled) still in
+        (write_of this.setting this.state this.along.steady this.w firm this.ground this.n f.row.primary (spot a f)
+        (cell_of a.key) f.putting.op recalled) still in
         let taken = all_given this (given_put a.key a.entry epoch a.chains serves.counts f.putting.op bytes place) in
         told_of taken (An_asked a) job (λ g.
-        let one : f.p ≡ g.p = same_some (sym f.pair.leads ∙ g.pair.leads) in
-        let op : f.putting.op ≡ g.putting.op =
-        same_some (sym f.putting.is ∙ ap (λ i. at cell_cmp (this.ground.good.memory i (cell_of a.key)).pending (cell_of a.key)) one ∙ g.putting.is) in
-        ap (λ (o : Pending). is_held (replay this.m taken.es) o.client) (sym op)
+        ap (λ (o : Pending). is_held (replay this.m taken.es) o.client) (sym (same_op a f g))
         ∙ put_held a.key a.entry epoch a.chains serves.counts f.putting.op bytes place taken)
+      where
+        same_op : (a : PutsAsked hears here own (new this)) (f g : FollowedHere a) → f.putting.op ≡ g.putting.op
+        same_op a f g =
+            let row : f.row ≡ g.row = same_some (sym f.shares.linked ∙ g.shares.linked) in
+            let own : f.own ≡ g.own = same_some (sym f.visited
+            ∙ (λ i. this.ground.good.visits (row i).primary (place_by this.setting (this.w.servers this.n).log.applied (row i))
+            (cell_of a.key)) ∙ g.visited) in
+            same_some (sym f.putting.is ∙ (λ i. at cell_cmp (own i).pairs.pending (cell_of a.key)) ∙ g.putting.is)
+
+    -- a copy is to a server whose copy doesn't count
+    copy_told : (c : PutsCopy hears here own (new this)) → Jobs (A_copy c) → TakesTold this
+    copy_told c job =
+        let taken = all_given this (calm_given (λ row b. unchanged row b
+        (λ mine. copied_apart hears own c.cell (new this).store.chains c.how (cell_of_block row b)
+        (λ e. copied_uncounted this.setting this.state this.w this.along.firm this.ground this.n (new this) c
+        (ap (authority chosen) (sym e) ∙ mine))))) in
+        told_of taken (A_copy c) job tt
 
     -- a job that changes at most one chain
     pub stored_told : (s : StoresSo hears here own (new this)) → Jobs s → TakesTold this
     stored_told (Nothing_new chains) job = calm_told chains (λ k onward. job k onward tt) says
     stored_told (An_own p) job = own_told p.op p.is p.entry p.bytes p.chains job
     stored_told (An_asked a) job = asked_told a job
+    stored_told (A_copy c) job = copy_told c job

@@ -1,174 +1,205 @@
--- What a server remembers of a cell that it doesn't hold alone is pending there still, or was so at an incarnation that has ended.
-use Rattle.std.proofs.Common.{◌≡◌, ◌≢◌, ◌<◌, ◌+◌, ◌&&◌, ℕ, Bool, true, false, Some, refl, sym, ap, ◌∙◌, subst, inl, inr, arith}
+-- Of what a server has had at the places that count, each operation that was pending is so still, or was known of at an incarnation
+-- that has ended.
+use Rattle.std.proofs.Common.{◌≡◌, ◌≢◌, ◌<◌, ◌+◌, ℕ, true, false, Some, refl, sym, ap, ◌∙◌, subst, inl, inr, arith, ◌≤◌, List, ◌∷◌, [], Option, None, ◌⊎◌}
+use Rattle.global_tables.specs.declared.link.LinkRow.{LinkRow}
+use Rattle.global_tables.specs.declared.link.LinkState.TheVariants.{Both}
 use Rattle.petal_base.specs.declared.cell.Cell.{Cell}
+use Rattle.petal_command.specs.declared.command.Command.{Command}
 use Rattle.petal_table.specs.Table.{at}
 use Rattle.petal_msg.specs.declared.operation.Pending.{Pending}
+use Rattle.petal_state.specs.CellState.{cell_link, lead, serves}
 use Rattle.petal_state.specs.Command.{state_after}
+use Rattle.petal_history.specs.Claims.{IsPrefix}
+use Rattle.petal_history.specs.declared.record.Record.{Record}
 use Rattle.petal_rules.specs.Jobs.{Acted}
 use Rattle.petal_rules.specs.Log.{Log, state_in}
-use Rattle.petal_rules.specs.Server.{Own, Pairs, Server, Done}
-use Rattle.petal_rules.specs.State.{State, in_both}
+use Rattle.petal_rules.specs.Server.{Own, Pairs, Server, Done, stopped}
+use Rattle.petal_rules.specs.State.{State, is_in, is_lead}
 use Rattle.petal_rules.specs.Store.{cell_cmp}
-use Rattle.petal_rules.specs.World.{Setting, World, acts, server_state}
+use Rattle.petal_rules.specs.World.{Setting, World, acts, chosen_log, server_state}
 use Rattle.petal_rules.specs.declared.step.Step.{Step}
 use Rattle.petal_rules.proofs.ListLemmas.{put_same, put_apart}
-use Rattle.petal_rules.proofs.Tests.{by_bool, same_or_apart, true_false}
+use Rattle.petal_rules.proofs.Tests.{all_put_apart, by_test, is_the_one, number_itself, same_some}
 use Rattle.law_state.specs.Firm.{Firm}
 use Rattle.law_state.specs.Steady.{IsSteady}
-use Rattle.law_state.proofs.Alone.{lead_alone, not_alone_before}
-use Rattle.law_state.proofs.Steady.{log_below}
-use Rattle.law_steps.specs.Happens.{Happens, Serves, Turns, Serving, Goes, Ends, Stays, Wakes, Fails, Worked, By_job, By_entry}
+use Rattle.law_state.proofs.Cells.{led_by}
+use Rattle.law_state.proofs.Roles.{primary_is_one}
+use Rattle.law_steps.specs.Ready.{Rests}
+use Rattle.law_steps.proofs.Fronts.{front_itself, front_on}
 use Rattle.law_steps.proofs.Histories.{own_steady}
-use Rattle.law_copies.specs.Pair.{Memory, alone_in, owns_of, shares}
-use Rattle.law_copies.proofs.Copying.{IsRemembering, happens_good, serves_remember, turns_remember, works_in}
-use Rattle.law_copies.proofs.Frames.{recalled}
-use Rattle.law_copies.proofs.Sharing.{shared_by}
-use Rattle.law_requests.specs.Known.{lives_after}
+use Rattle.law_copies.specs.Good.{Good}
+use Rattle.law_copies.specs.Pair.{owns_of}
+use Rattle.law_copies.specs.Visits.{IsLast, IsLinked, place_by}
+use Rattle.law_copies.proofs.Later.{been_below}
+use Rattle.law_copies.proofs.Places.{fronts_meet, linked_on, one_row, places_up}
+use Rattle.law_requests.specs.Known.{AskingBy, Has_pending, Lives, PendingFor, asked_for, lives_after, seen}
+use Rattle.law_requests.proofs.Later.{pending_further}
 use Rattle.law_requests.proofs.Lives.{no_earlier, ran_now}
-use Rattle.law_requests.proofs.Stepping.{GoesOn, ended_later, happens_later}
-use Rattle.law_run.specs.Follow.{IsRemembered, Is_pending, Was_pending, Ground}
+use Rattle.law_requests.proofs.Stepping.{GoesOn, ended_later}
+use Rattle.law_run.proofs.Leaving.{Leaves, As_it_was, In_place, Goes_further, Boots}
+use Rattle.law_run.specs.Follow.{AreRemembered, IsRemembered, Is_pending, Was_pending, Ground}
 
-module _ (setting : Setting) (state : State) (steady : IsSteady state) (w : World) (firm : Firm setting w) (ground : Ground setting state w) where
-  abbrev R : World → ℕ → Cell → Pending → Type 0
-  R v n cell op = IsRemembered setting state v (lives_after ground.lives v) n cell op
+-- the visit of a step's server is what it is now at its own place
+pub record IsVisit (setting : Setting) (v : World) (n place : ℕ) (cell : Cell) (own : Own) : Type 0 where
+  pub same : own ≡ owns_of v n
+  pub row : LinkRow
+  pub linked : IsLinked setting (v.servers n).log.applied cell row
+  pub at : place ≡ place_by setting (v.servers n).log.applied row
 
-  module _ (v : World) (on : GoesOn setting state w v ground.lives) where
-    -- what was so at an incarnation that had ended stays so
-    ended : (n : ℕ) (cell : Cell) (op : Pending) → IsRemembered setting state w ground.lives n cell op
-        → (at cell_cmp (owns_of w n).pairs.pending cell ≡ Some op → R v n cell op) → R v n cell op
-    ended n cell op (Is_pending is) still = still is
-    ended n cell op (Was_pending inc lt p) still =
-        let up = no_earlier ground.lives w v ground.asking.lived on.steps n in
-        let later : inc < (lives_after ground.lives v).ran n = omega arith in
-        Was_pending inc later (ended_later setting state w v ground.lives ground.asking.lived on n inc _ op.rev later p)
+-- what a step keeps of where servers have been
+pub record GoesOnFrom (setting : Setting) (records more : List Record) (w v : World) (good : Good setting records (chosen_log setting w) w)
+    (next : Good setting more (chosen_log setting v) v) : Type 0 where
+  pub visits : (n place : ℕ) (cell : Cell) (own : Own) → next.visits n place cell ≡ Some own
+      → (good.visits n place cell ≡ Some own) ⊎ IsVisit setting v n place cell own
+  pub reached : (cell : Cell) → good.reached cell ≤ next.reached cell
 
-    -- who is alone stays so
-    alone_then : (n : ℕ) (cell : Cell) → alone_in setting v n cell ≡ false → alone_in setting w n cell ≡ false
-    alone_then n cell off =
-        not_alone_before (server_state setting w n) (server_state setting v n) (log_below setting.servers _ _ (on.later.logs_plain n) (on.later.logs n)) n
-        cell off
+-- who leads a cell serves its link
+lead_serves : (state : State) → IsSteady state → (n : ℕ) (cell : Cell) → is_lead state n cell ≡ true → (row : LinkRow)
+    → cell_link state cell ≡ Some row
+    → serves n row row.state ≡ true
+lead_serves state steady n cell leads row is = elim (led_by state steady cell n (is_the_one (lead state cell) n leads)) [
+  | inl b ↦ subst (λ (r : LinkRow). serves n r r.state ≡ true) (same_some (sym b.0.is ∙ is))
+      (ap (serves n b.0.row) b.0.so ∙ primary_is_one b.0.row n b.1)
+  | inr held ↦ subst (λ (r : LinkRow). serves n r r.state ≡ true) (same_some (sym held.is ∙ is))
+      (ap (serves n held.row) held.so ∙ number_itself n)
+]
 
-  module _ (n stamp : ℕ) (what : Step) (acted : Acted) where
-    abbrev v : World
-    v = (acts w n what stamp acted).world
+module _ (setting : Setting) (state : State) (w : World) (firm : Firm setting w) (ground : Ground setting state w) (v : World)
+    (then : Firm setting v)
+    (grows : IsPrefix (chosen_log setting w) (chosen_log setting v)) (more : List Record)
+    (next : Good setting more (chosen_log setting v) v)
+    (from : GoesOnFrom setting ground.records more w v ground.good next) (on : GoesOn setting state w v ground.lives)
+    (rests : Rests setting v) (asking : AskingBy setting state v (lives_after ground.lives v)) where
+  logs : (n : ℕ) → IsPrefix (w.servers n).log.applied (v.servers n).log.applied
+  logs = on.later.logs
 
-    server_now : v.servers n ≡ acted.server
-    server_now = put_same w.servers n acted.server
+  abbrev R : (n place : ℕ) → Cell → Pending → Type 0
+  R n place cell op = IsRemembered setting state v (lives_after ground.lives v) n place cell op
 
-    own_now : owns_of v n ≡ acted.server.own
-    own_now = ap (λ (x : Server). x.own) server_now
+  -- ### Before the step
 
-    -- an operation that is pending in what the server has in memory then
-    there : (cell : Cell) (op : Pending) → at cell_cmp acted.server.own.pairs.pending cell ≡ Some op → R v n cell op
-    there cell op is = Is_pending (ap (λ (o : Own). at cell_cmp o.pairs.pending cell) own_now ∙ is)
+  -- a place that counts then is one of what was chosen before the step, where a server had been there
+  was_there : (front : List Command) (cell : Cell) (row : LinkRow) (n : ℕ) (own : Own) → IsPrefix front (chosen_log setting v)
+      → IsLinked setting front cell row
+      → row.state ≡ Both → IsLast ground.good.reached setting front cell row
+      → ground.good.visits n (place_by setting front row) cell ≡ Some own
+      → (op : Pending) → at cell_cmp own.pairs.pending cell ≡ Some op
+      → IsRemembered setting state w ground.lives n (place_by setting front row) cell op
+  was_there front cell row n own prefix is both last visit op there =
+      elim (fronts_meet front (chosen_log setting w) (chosen_log setting v) prefix grows) [
+        | inl before ↦ ground.recalled front cell row n own op before is both last visit there
+        | inr behind ↦
+            let been = ground.good.been n (place_by setting front row) cell own visit in
+            let old = linked_on setting (chosen_log setting w) firm.plain (w.servers n).log.applied
+            (chosen_log setting w) cell been.row (firm.servers n)
+            (front_itself (chosen_log setting w)) been.linked in
+            let up = places_up setting (chosen_log setting w) firm.plain (w.servers n).log.applied
+            (chosen_log setting w) cell been.row old.0 (firm.servers n)
+            (front_itself (chosen_log setting w)) been.linked old.1 in
+            let on_row = places_up setting (chosen_log setting v) then.plain
+            (chosen_log setting w) front cell old.0 row behind prefix old.1 is in
+            let past = been.past in
+            let same : place_by setting front row ≡ place_by setting (chosen_log setting w) old.0 = omega arith in
+            let one : old.0 ≡ row = one_row setting (chosen_log setting v) then.plain front
+            (chosen_log setting w) cell row old.0 prefix grows is old.1 same in
+            let place : place_by setting front row ≡ place_by setting (chosen_log setting w) row = same
+            ∙ ap (place_by setting (chosen_log setting w)) one in
+            subst (λ p. IsRemembered setting state w ground.lives n p cell op) (sym place)
+            (ground.recalled (chosen_log setting w) cell row n own op (front_itself (chosen_log setting w))
+            (subst (IsLinked setting (chosen_log setting w) cell) one old.1) both
+            (subst (λ p. ground.good.reached cell ≤ p) place last) (subst (λ p. ground.good.visits n p cell ≡ Some own) place visit) there)
+      ]
 
-    -- a server that has an operation pending on a cell that it doesn't hold alone shares it
-    shares_op : (cell : Cell) (op : Pending) → (w.servers n).life.running ≡ true → alone_in setting w n cell ≡ false
-        → at cell_cmp (owns_of w n).pairs.pending cell ≡ Some op → shares (server_state setting w n) n (w.servers n).life.inc cell ≡ true
-    shares_op cell op runs off is =
-        let own_state = server_state setting w n in
-        let rests = ground.ready.rests in
-        let both : in_both own_state cell ≡ true = by_bool (in_both own_state cell) (λ on. on)
-        (λ apart. true_false (lead_alone own_state (own_steady setting w firm n) n cell ((rests.pending n).staged cell op is).lead apart) off) in
-        shared_by own_state n (w.servers n).life.inc cell (rests.seated n cell op runs is) both
+  -- what was known of at an incarnation that has ended is known of later
+  ended_so : (n place : ℕ) (cell : Cell) (op : Pending) (inc : ℕ) → inc < (lives_after ground.lives v).ran n
+      → (p : PendingFor setting state (seen ground.lives w) n inc (asked_for cell op) op.rev) → (row : LinkRow)
+      → IsLinked setting p.upto cell row
+      → place_by setting p.upto row ≡ place → R n place cell op
+  ended_so n place cell op inc later p row linked at =
+      let un = (ended_later setting state w v ground.lives ground.asking.lived on n inc (asked_for cell op) op.rev later p).unfinished in
+      let q = pending_further setting state (seen ground.lives w) (seen (lives_after ground.lives v) v) on.later n inc
+      (asked_for cell op) op.rev p un p.upto
+      (front_itself p.upto) (front_on p.upto _ _ p.applied (on.later.logs n))
+      (λ log more lies. p.along log (front_on _ p.upto log p.opened more) lies) in
+      Was_pending inc later q.0 row (subst (λ log. IsLinked setting log cell row) (sym q.1) linked)
+      (ap (λ log. place_by setting log row) q.1 ∙ at)
 
-    module _ (on : GoesOn setting state w v ground.lives) where
-      abbrev shared_then : Cell → Bool
-      shared_then cell = shares (state_in setting.servers acted.server.log) n acted.server.life.inc cell
+  -- what was so at an incarnation that had ended stays so
+  ended : (n place : ℕ) (cell : Cell) (op : Pending) → IsRemembered setting state w ground.lives n place cell op
+      → (at cell_cmp (owns_of w n).pairs.pending cell ≡ Some op → (row : LinkRow) → IsLinked setting (w.servers n).log.applied cell row
+      → place_by setting (w.servers n).log.applied row ≡ place → R n place cell op)
+      → R n place cell op
+  ended n place cell op (Is_pending is row linked at) still = still is row linked at
+  ended n place cell op (Was_pending inc lt p row linked at) still =
+      let up = no_earlier ground.lives w v ground.asking.lived on.steps n in
+      ended_so n place cell op inc (omega arith) p row linked at
 
-      -- the server does its work
-      worked : (w.servers n).life.running ≡ true → (log : Log) (done : Done) → Worked setting w n log done → acted.server.log ≡ log
-          → acted.server.own ≡ done.own → acted.server.life.inc ≡ (w.servers n).life.inc → (cell : Cell) (op : Pending) → alone_in setting w n cell ≡ false
-          → at cell_cmp (recalled (shared_then cell) acted.server.own.pairs (ground.good.memory n cell)).pending cell ≡ Some op → R v n cell op
-      worked runs log done how logs owns incs cell op off is = by_bool (shared_then cell)
-          (λ shared. there cell op (sym (ap (λ b. at cell_cmp (recalled b acted.server.own.pairs (ground.good.memory n cell)).pending cell) shared) ∙ is))
-          (λ apart.
-          let old : at cell_cmp (ground.good.memory n cell).pending cell ≡ Some op =
-          sym (ap (λ b. at cell_cmp (recalled b acted.server.own.pairs (ground.good.memory n cell)).pending cell) apart) ∙ is in
-          ended v on n cell op (ground.recalled n cell op off old) (λ pending. still log done how logs owns pending apart))
-        where
-          still : (log : Log) (done : Done) → Worked setting w n log done → acted.server.log ≡ log → acted.server.own ≡ done.own
-              → at cell_cmp (owns_of w n).pairs.pending cell ≡ Some op → shared_then cell ≡ false → R v n cell op
-          still _ _ (By_job log done applied did seat) logs owns pending apart =
-              let state_is : state_in setting.servers acted.server.log ≡ server_state setting w n =
-              ap (state_in setting.servers) logs ∙ ap (state_after setting.servers) applied in
-              true_false (shares_op cell op runs off pending) ((λ i. shares (sym state_is i) n (sym incs i) cell) ∙ apart)
-          still _ _ (By_entry log entry more front) logs owns pending apart =
-              there cell op (ap (λ (o : Own). at cell_cmp o.pairs.pending cell) owns ∙ pending)
+  -- ### The server's own part
 
-      -- it remembers what it did
-      rested : acted.server.own.pairs ≡ (owns_of w n).pairs → (cell : Cell) (op : Pending) → alone_in setting w n cell ≡ false
-          → at cell_cmp (ground.good.memory n cell).pending cell ≡ Some op → R v n cell op
-      rested pairs cell op off is =
-          ended v on n cell op (ground.recalled n cell op off is)
-          (λ pending. there cell op (ap (λ (p : Pairs). at cell_cmp p.pending cell) pairs ∙ pending))
+  -- where its place counts still, it is the same place
+  pending_still : (front : List Command) (cell : Cell) (row : LinkRow) (n : ℕ) (op : Pending) → IsLast next.reached setting front cell row
+      → at cell_cmp (owns_of v n).pairs.pending cell ≡ Some op → is_in (server_state setting v n) n (v.servers n).life.inc ≡ true
+      → (old : LinkRow) → IsLinked setting (w.servers n).log.applied cell old
+      → place_by setting (w.servers n).log.applied old ≡ place_by setting front row
+      → R n (place_by setting front row) cell op
+  pending_still front cell row n op last there seat old linked at =
+      let top = chosen_log setting v in
+      let applied = (v.servers n).log.applied in
+      let now = linked_on setting top then.plain (w.servers n).log.applied applied cell old (logs n) (then.servers n) linked in
+      let up = places_up setting top then.plain (w.servers n).log.applied applied cell old now.0 (logs n) (then.servers n) linked now.1 in
+      let lead = ((rests.pending n).staged cell op there).lead in
+      let here = next.here n cell now.0 now.1 seat in
+      let le = next.reaching.below applied cell now.0 n here.own (then.servers n) now.1
+      (lead_serves (server_state setting v n) (own_steady setting v then n) n cell lead now.0 now.1) here.is in
+      Is_pending there now.0 now.1 (omega arith)
 
-      -- it runs as a new incarnation
-      woken : acted.server.life.running ≡ true → (w.servers n).life.inc < acted.server.life.inc → (cell : Cell) (op : Pending) → alone_in setting w n cell ≡ false
-          → at cell_cmp (ground.good.memory n cell).pending cell ≡ Some op → R v n cell op
-      woken runs rises cell op off is =
-          ended v on n cell op (ground.recalled n cell op off is)
-          (λ pending.
-          let lives = ground.lives in
-          let known = ground.asking.lived in
-          let now : (lives_after lives v).ran n ≡ acted.server.life.inc =
-          ran_now lives w v known on.steps n (ap (λ (x : Server). x.life.running) server_now ∙ runs) ∙ ap (λ (x : Server). x.life.inc) server_now in
-          let begun = known.begun n in
-          let later : lives.ran n < (lives_after lives v).ran n = omega arith in
-          Was_pending (lives.ran n) later
-          (ended_later setting state w v lives known on n (lives.ran n) _ op.rev later (ground.asking.pending n cell op pending)))
+  -- who runs, or did so before the step, has run last as the incarnation that it is
+  ran_as : (n : ℕ) → (w.servers n).life.running ≡ true → (v.servers n).life.inc ≡ (w.servers n).life.inc
+      → (lives_after ground.lives v).ran n ≡ (v.servers n).life.inc
+  ran_as n runs same = by_test (λ (i : ℕ). i ≡ (v.servers n).life.inc) (v.servers n).life.running (v.servers n).life.inc
+      (ground.lives.ran n)
+      (λ t. refl) (λ f. ground.asking.lived.ran n runs ∙ sym same)
 
-      by_serving : (serving : Serving setting w n what acted) → (cell : Cell) (op : Pending) → alone_in setting w n cell ≡ false
-          → at cell_cmp (recalled (works_in serving && shared_then cell) acted.server.own.pairs (ground.good.memory n cell)).pending cell ≡ Some op
-          → R v n cell op
-      by_serving serving cell op off is = kinds acted serving refl is
-        where
-          kinds : (a : Acted) (s : Serving setting w n what a) → a ≡ acted
-              → at cell_cmp (recalled (works_in s && shared_then cell) acted.server.own.pairs (ground.good.memory n cell)).pending cell ≡ Some op → R v n cell op
-          kinds _ (Goes log done queue runs how queued works) e =
-              worked runs log done how (ap (λ (a : Acted). a.server.log) (sym e)) (ap (λ (a : Acted). a.server.own) (sym e))
-              (ap (λ (a : Acted). a.server.life.inc) (sym e)) cell op off
-          kinds _ (Ends log done runs how) e =
-              worked runs log done how (ap (λ (a : Acted). a.server.log) (sym e)) (ap (λ (a : Acted). a.server.own) (sym e))
-              (ap (λ (a : Acted). a.server.life.inc) (sym e)) cell op off
-          kinds _ (Stays who posts from shown) e = rested (ap (λ (a : Acted). a.server.own.pairs) (sym e)) cell op off
-          kinds _ (Wakes booted asleep) e =
-              let inc : acted.server.life.inc ≡ (w.servers n).life.inc + 1 = ap (λ (a : Acted). a.server.life.inc) (sym e) in
-              woken (ap (λ (a : Acted). a.server.life.running) (sym e)) (omega arith) cell op off
-          kinds _ (Fails booted asleep) e = rested (ap (λ (a : Acted). a.server.own.pairs) (sym e)) cell op off
+  still : (front : List Command) (cell : Cell) (row : LinkRow) (n : ℕ) (own : Own) (op : Pending)
+      → IsLast next.reached setting front cell row
+      → next.visits n (place_by setting front row) cell ≡ Some own → at cell_cmp own.pairs.pending cell ≡ Some op
+      → Leaves setting n (w.servers n) (v.servers n) → at cell_cmp (owns_of w n).pairs.pending cell ≡ Some op
+      → (old : LinkRow) → IsLinked setting (w.servers n).log.applied cell old
+      → place_by setting (w.servers n).log.applied old ≡ place_by setting front row
+      → R n (place_by setting front row) cell op
+  still front cell row n own op last visit there (As_it_was pending applied) was old linked spot =
+      Is_pending (ap (λ t. at cell_cmp t cell) pending ∙ was) old (subst (λ log. IsLinked setting log cell old) (sym applied) linked)
+      (ap (λ log. place_by setting log old) applied ∙ spot)
+  still front cell row n own op last visit there (In_place applied seat) was old linked spot =
+      let linked' = subst (λ log. IsLinked setting log cell old) (sym applied) linked in
+      let at' : place_by setting (v.servers n).log.applied old ≡ place_by setting front row = ap
+      (λ log. place_by setting log old) applied ∙ spot in
+      let here = next.here n cell old linked' seat in
+      let same : own ≡ owns_of v n = same_some (sym visit ∙ ap (λ p. next.visits n p cell) (sym at') ∙ here.is) ∙ here.same in
+      Is_pending (ap (λ (o : Own). at cell_cmp o.pairs.pending cell) (sym same) ∙ there) old linked' at'
+  still front cell row n own op last visit there (Goes_further runs inc pending) was old linked spot =
+      let is : at cell_cmp (owns_of v n).pairs.pending cell ≡ Some op = ap (λ t. at cell_cmp t cell) pending ∙ was in
+      pending_still front cell row n op last is
+      (subst (λ i. is_in (server_state setting v n) n i ≡ true) (ran_as n runs inc)
+      (asking.used n (Has_pending cell op is))) old linked spot
+  still front cell row n own op last visit there (Boots runs inc none) was old linked spot =
+      let known = ground.asking.lived in
+      let now : (lives_after ground.lives v).ran n ≡ (v.servers n).life.inc = ran_now ground.lives w v known on.steps n runs in
+      let begun = known.begun n in
+      let later : ground.lives.ran n < (lives_after ground.lives v).ran n = omega arith in
+      let come = ground.asking.come n cell op was in
+      ended_so n (place_by setting front row) cell op (ground.lives.ran n) later (ground.asking.pending n cell op was) old
+      (subst (λ log. IsLinked setting log cell old) (sym come) linked) (ap (λ log. place_by setting log old) come ∙ spot)
 
-      -- another server has what it had, and remembers what it did
-      beside : (m : ℕ) → m ≢ n → (cell : Cell) (op : Pending) → alone_in setting w m cell ≡ false
-          → at cell_cmp (ground.good.memory m cell).pending cell ≡ Some op → R v m cell op
-      beside m ne cell op off is =
-          ended v on m cell op (ground.recalled m cell op off is)
-          (λ pending. Is_pending (ap (λ (x : Server). at cell_cmp x.own.pairs.pending cell) (put_apart w.servers n acted.server m ne) ∙ pending))
+  -- ### After the step
 
-      serves_recalled : (serving : Serving setting w n what acted) → (memory : Memory)
-          → IsRemembering setting n (works_in serving) acted.server ground.good.memory memory
-          → (m : ℕ) (cell : Cell) (op : Pending) → alone_in setting v m cell ≡ false → at cell_cmp (memory m cell).pending cell ≡ Some op → R v m cell op
-      serves_recalled serving memory r m cell op off is =
-          let before = alone_then v on m cell off in
-          elim (same_or_apart m n) [
-            | inl e ↦
-                subst (λ i. R v i cell op) (sym e)
-                (by_serving serving cell op (subst (λ i. alone_in setting w i cell ≡ false) e before)
-                (sym (ap (λ (p : Pairs). at cell_cmp p.pending cell) (r.here cell)) ∙ subst (λ i. at cell_cmp (memory i cell).pending cell ≡ Some op) e is))
-            | inr ne ↦ beside m ne cell op before (sym (ap (λ (p : Pairs). at cell_cmp p.pending cell) (r.others m ne cell)) ∙ is)
-          ]
-
-pub happens_recalled : (setting : Setting) (state : State) (steady : IsSteady state) (w v : World) → Firm setting w
-    → (ground : Ground setting state w) → (h : Happens setting state w v) → (n : ℕ) (cell : Cell) (op : Pending) → alone_in setting v n cell ≡ false
-    → at cell_cmp ((happens_good setting state steady w v ground.wake ground.ready ground.good h).memory n cell).pending cell ≡ Some op
-    → IsRemembered setting state v (lives_after ground.lives v) n cell op
-happens_recalled setting state steady w _ firm ground (Serves k stamp what acted lt within serving) n cell op off is =
-    let on = happens_later setting state steady w _ ground.lives ground.ready ground.wake ground.asking
-    (Serves k stamp what acted lt within serving) in
-    serves_recalled setting state steady w firm ground k stamp what acted on serving _
-    (serves_remember setting state steady w ground.wake ground.ready ground.good k stamp what acted lt within serving) n cell op off is
-happens_recalled setting state steady w _ firm ground (Turns c stamp in_call reacted lt within turned onward) n cell op off is =
-    let h = Turns c stamp in_call reacted lt within turned onward in
-    let on = happens_later setting state steady w _ ground.lives ground.ready ground.wake ground.asking h in
-    let same = turns_remember setting state steady w ground.wake ground.ready ground.good c stamp in_call reacted lt within turned onward in
-    ended setting state steady w firm ground _ on n cell op
-    (ground.recalled n cell op off (sym (ap (λ (m : Memory). at cell_cmp (m n cell).pending cell) same) ∙ is)) (λ pending. Is_pending pending)
+  pub remembered_next : ((n : ℕ) → Leaves setting n (w.servers n) (v.servers n))
+      → AreRemembered setting state v (lives_after ground.lives v) next.visits next.reached
+  remembered_next leaves front cell row n own op prefix is both last visit there =
+      elim (from.visits n (place_by setting front row) cell own visit) [
+        | inl old ↦
+            let up = from.reached cell in
+            ended n (place_by setting front row) cell op (was_there front cell row n own prefix is both (omega arith) old op there)
+            (λ was row' linked at. still front cell row n own op last visit there (leaves n) was row' linked at)
+        | inr now ↦ Is_pending (ap (λ (o : Own). at cell_cmp o.pairs.pending cell) (sym now.same) ∙ there) now.row now.linked (sym now.at)
+      ]

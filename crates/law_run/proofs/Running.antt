@@ -1,12 +1,13 @@
 -- Every legal history is a run of the plain machine.
-use Rattle.std.proofs.Common.{◌≡◌, ℕ, List, [], ◌∷◌, ◌++◌, Option, Some, None, refl, sym, ap, ◌∙◌, subst}
-use Rattle.std.specs.Prelude.{max, fold, map}
+use Rattle.std.proofs.Common.{◌≡◌, ℕ, List, [], ◌∷◌, ◌++◌, Option, Some, None, refl, sym, ap, ◌∙◌, subst, true, false, ◌⊎◌, inl, inr, append_assoc}
+use Rattle.std.specs.Prelude.{max, fold, map, unwrap_or}
 use Rattle.std.specs.List.{flat_map, range_with_len}
 use Rattle.std.specs.Ordering.{nat_cmp}
 use Rattle.petal_base.specs.declared.cell.Cell.{Cell}
 use Rattle.petal_table.proofs.Rows.{at-empty}
 use Rattle.global_tables.specs.declared.disk.DiskRow.{DiskRow}
 use Rattle.petal_command.specs.declared.command.Command.{Command}
+use Rattle.petal_command.specs.declared.command.Command.TheVariants.{Caught}
 use Rattle.petal_machine.specs.declared.event.Event.{Event}
 use Rattle.petal_machine.specs.Machine.{Plain, blank}
 use Rattle.petal_machine.specs.Run.{Obeys, replay}
@@ -19,12 +20,13 @@ use Rattle.script_lines.specs.declared.script.Script.{Script}
 use Rattle.petal_state.specs.CellState.{cell_link}
 use Rattle.petal_rules.specs.Lists.{In}
 use Rattle.petal_rules.specs.State.{State}
-use Rattle.petal_rules.specs.Store.{cell_cmp, chain_in}
+use Rattle.petal_rules.specs.Server.{Own}
+use Rattle.petal_rules.specs.Store.{Chain, cell_cmp, chain_in}
 use Rattle.petal_rules.specs.World.{Setting, World, acts, reacts, step, start, setting_of, server_step, client_step, next_line, server_state, client_state, chosen_log, chosen_state, devices, MayActor}
 use Rattle.petal_rules.specs.declared.step.Step.{Step}
 use Rattle.petal_rules.specs.declared.step.Step.TheVariants.{Call}
-use Rattle.petal_rules.proofs.Tests.{none_some}
-use Rattle.petal_history.specs.Claims.{AreHeld, IsPrefix, Law, machine_after}
+use Rattle.petal_rules.proofs.Tests.{by_test, none_some, same_some}
+use Rattle.petal_history.specs.Claims.{AreHeld, IsPrefix, Law, Requests, machine_after}
 use Rattle.petal_history.specs.Events.{begins, ended, ends, open_write, change_by, takes, makes, looks, told, told_from, told_with, joined, events_of, IsRunOf}
 use Rattle.petal_history.specs.Legal.{Follows, IsLegal, IsLegalFrom, stepped, world_after}
 use Rattle.petal_history.specs.Sound.{IsSound}
@@ -38,36 +40,46 @@ use Rattle.law_state.proofs.Steady.{log_steady, log_below, log_grown}
 use Rattle.law_steps.specs.Happens.{Happens}
 use Rattle.law_steps.specs.Ready.{AreFirm, Ready}
 use Rattle.law_steps.proofs.Fronts.{front_itself, front_on}
-use Rattle.law_steps.proofs.Histories.{own_steady, rests_next, happens, firm_now, firm_after, firm_way, start_rests}
+use Rattle.law_steps.proofs.Histories.{own_steady, rests_next, happens, firm_now, firm_after, firm_way, front_legal, start_rests, world_more}
 use Rattle.law_steps.proofs.Serving.{server_serves}
 use Rattle.law_steps.proofs.Turning.{is_call, client_turns}
 use Rattle.law_steps.specs.Waking.{AllMayWake}
+use Rattle.law_copies.specs.Good.{Good}
 use Rattle.law_copies.specs.Pair.{owns_of}
-use Rattle.law_copies.proofs.Copying.{copies_after, covered_after, happens_good}
+use Rattle.law_copies.specs.Visits.{is_at, place_by}
 use Rattle.law_copies.proofs.First.{marks_first}
+use Rattle.law_copies.proofs.Histories.{start_good, start_visits, step_goes}
+use Rattle.law_copies.proofs.Later.{AllStarted}
+use Rattle.law_copies.proofs.Rules.{copies_after, covered_after}
+use Rattle.law_copies.proofs.Stepping.{GoesOn}
+use Rattle.law_copies.proofs.Visited.{at_by, seen}
 use Rattle.law_steps.specs.Waking.{WakeAlong}
 use Rattle.law_steps.proofs.Waking.{wake_along}
 use Rattle.law_requests.specs.Known.{lives_after}
-use Rattle.law_requests.proofs.Histories.{requests_after}
-use Rattle.law_requests.proofs.Stepping.{happens_asking}
-use Rattle.law_log.proofs.Histories.{history_agrees, history_is_firm, history_grows}
+use Rattle.law_requests.proofs.Histories.{first_lives, requests_after, start_asking}
+use Rattle.law_requests.proofs.Stepping.{happens_asking, happens_later}
+use Rattle.law_log.proofs.Histories.{chosen_caught_was, history_agrees, history_is_firm, history_grows}
 use Rattle.law_run.specs.Follow.{Ground, Follow}
 use Rattle.law_run.proofs.Along.{Along, rows_in, content_number}
 use Rattle.law_run.proofs.ClientFrames.{ClientStep}
 use Rattle.law_run.proofs.ClientSteps.{begins_by, turn_told}
-use Rattle.law_run.proofs.Grounds.{short_later, start_ground}
+use Rattle.law_run.proofs.Grounds.{short_later}
+use Rattle.law_run.proofs.Leaving.{happens_leaves}
 use Rattle.law_run.proofs.LogSteps.{step_kind}
 use Rattle.law_run.proofs.Looks.{AreGrounded, who_accepts}
 use Rattle.law_run.proofs.Machine.{Obeys-append, replay-append}
-use Rattle.law_run.proofs.Names.{happens_named}
-use Rattle.law_run.proofs.Recalled.{happens_recalled}
+use Rattle.law_run.proofs.Names.{happens_named, start_named}
+use Rattle.law_run.proofs.Recalled.{GoesOnFrom, IsVisit, remembered_next}
 use Rattle.law_run.proofs.ServerSteps.{ServesAt, step_told}
 use Rattle.law_run.proofs.Steps.{born_kept}
+use Rattle.law_run.proofs.Synced.{happens_short}
 
 -- ### Steps, where the chosen logs are fronts of one
 
-module _ (setting : Setting) (whole : List Command) (all : IsPlainLog setting.servers whole)
-    (numbered : (one other : Line) → In one setting.lines → In other setting.lines → one.number ≡ other.number → one ≡ other) where
+module _ (script : Script) (sound : IsSound script) (whole : List Command) (all : IsPlainLog (setting_of script).servers whole) where
+  abbrev setting : Setting
+  setting = setting_of script
+
   abbrev state : State
   state = state_after setting.servers whole
 
@@ -94,29 +106,82 @@ module _ (setting : Setting) (whole : List Command) (all : IsPlainLog setting.se
   unfolding step
   born_at w along ground (actor.Server n) what stamp may next grown =
       let acted = server_step what (server_state setting w n) n (w.servers n) in
-      let serving = server_serves setting w ground.ready.rests n (own_steady setting w along.firm n) stamp what may.1 next.firm in
+      let serving = server_serves setting w ground.ready.rests along.firm n
+      (own_steady setting w along.firm n) stamp what may.1 next.firm in
       born_kept setting w ground.wake along.firm ground.ready.rests ground.born n stamp what acted serving next.firm
   born_at w along ground (actor.Client c) what stamp may next grown = ground.born
 
-  -- the ground is kept
-  ground_next : (w : World) (own : Record) → Ground setting state w → Along setting state w → Along setting state (stepped setting w own).world
-      → IsGrown (chosen_state setting w) (chosen_state setting (stepped setting w own).world) → AllMayWake setting (stepped setting w own).world
-      → Follows setting w own → Ground setting state (stepped setting w own).world
-  ground_next w own ground along next grown wake follows =
-      let v = (stepped setting w own).world in
-      let h : Happens setting state w v = happens setting w own ground.ready.rests along.firm follows next.firm state next.below in
-      let asking = happens_asking setting state steady w v ground.lives ground.ready ground.wake ground.asking h in
-      record {
-        ready = record { rests = rests_next setting w own ground.ready.rests along.firm follows next.firm; firm = next.firm; below = next.below };
-        wake = wake;
-        good = happens_good setting state steady w v ground.wake ground.ready ground.good h;
-        lives = lives_after ground.lives v;
-        asking = asking;
-        recalled = happens_recalled setting state steady w v along.firm ground h;
-        named = happens_named setting state w ground.named v h;
-        short = short_later setting state steady w v ground h;
-        born = born_at w along ground own.actor own.step own.stamp follows.may.may next grown;
-      }
+  -- ### The ground is kept
+
+  module _ (w : World) (own : Record) (ground : Ground setting state w) (legal : IsLegal script (ground.records ++ own ∷ [])) where
+    abbrev v : World
+    v = (stepped setting w own).world
+
+    abbrev records : List Record
+    records = ground.records ++ own ∷ []
+
+    then_is : world_after setting (start setting) records ≡ v
+    then_is = world_more setting (start setting) ground.records own ∙ ap (λ u. (stepped setting u own).world) ground.come
+
+    -- two copies, one record on
+    goes_from : GoesOn setting ground.records (chosen_log setting w) (chosen_log setting v) w v ground.good own
+    goes_from =
+        subst (λ u. GoesOn setting ground.records (chosen_log setting w) (chosen_log setting u) w u ground.good own) then_is
+        (subst (λ x. (good : Good setting ground.records (chosen_log setting x) x)
+        → GoesOn setting ground.records (chosen_log setting x) (chosen_log setting (world_after setting (start setting) records)) x
+        (world_after setting (start setting) records) good own) ground.come
+        (λ good. step_goes script ground.records own sound legal good) ground.good)
+
+    -- where servers have been is as before, or what they are now
+    from_there : GoesOnFrom setting ground.records records w v ground.good goes_from.good
+    from_there = record {
+      visits = λ n place cell visit is. now_or_then n place cell visit (sym (goes_from.visits n place cell) ∙ is);
+      reached = goes_from.reached;
+    }
+      where
+        now_or_then : (n place : ℕ) (cell : Cell) (visit : Own) → seen setting ground.good.visits v n place cell ≡ Some visit
+            → (ground.good.visits n place cell ≡ Some visit) ⊎ IsVisit setting v n place cell visit
+        now_or_then n place cell visit =
+            by_test (λ (o : Option Own). o ≡ Some visit
+            → (ground.good.visits n place cell ≡ Some visit) ⊎ IsVisit setting v n place cell visit)
+            (is_at setting n (v.servers n) place cell) (Some (v.servers n).own) (ground.good.visits n place cell)
+            (λ t is.
+            let there = at_by setting n (v.servers n) place cell t in
+            inr (record { same = same_some (sym is); row = there.row; linked = there.linked; at = there.at }))
+            (λ f is. inl is)
+
+    module _ (along : Along setting state w) (next : Along setting state v) (grows : IsPrefix (chosen_log setting w) (chosen_log setting v))
+        (wake : AllMayWake setting v) (follows : Follows setting w own) where
+      ground_next : Ground setting state v
+      ground_next =
+          let h : Happens setting state w v = happens setting w own ground.ready.rests along.firm follows next.firm state next.below in
+          let asking = happens_asking setting state steady w v ground.lives ground.ready ground.wake ground.asking h in
+          let on = happens_later setting state steady w v ground.lives ground.ready ground.wake ground.asking h in
+          let rests = rests_next setting w own ground.ready.rests along.firm follows next.firm in
+          record {
+            ready = record { rests = rests; firm = next.firm; below = next.below };
+            wake = wake;
+            records = records;
+            come = then_is;
+            good = goes_from.good;
+            started = subst (λ u. AllStarted setting records u) then_is (chosen_caught_was script records sound legal);
+            lives = lives_after ground.lives v;
+            asking = asking;
+            recalled = remembered_next setting state w along.firm ground v next.firm grows records goes_from.good from_there on rests asking
+                (happens_leaves setting state w v h);
+            named = happens_named setting state w ground.named v h;
+            short = short_later setting state steady w v along.firm ground h;
+            copied = happens_short setting state w ground v h;
+            born = born_at w along ground own.actor own.step own.stamp follows.may.may next (grown_at w v next.firm grows);
+          }
+
+      pub record NextGround : Type 0 where
+        pub now : Ground setting state v
+        pub records_are : now.records ≡ records
+
+      pub next_ground : NextGround
+      unfolding ground_next
+      next_ground = record { now = ground_next; records_are = refl }
 
   -- what is chosen on the way is at the front of what is chosen at the end
   reaches : (w : World) (records : List Record) → AreFirm setting w records → IsPrefix (chosen_log setting (world_after setting w records)) whole
@@ -129,24 +194,46 @@ module _ (setting : Setting) (whole : List Command) (all : IsPlainLog setting.se
   wake_now w [] wakes = wakes
   wake_now w (own ∷ later) wakes = wakes.0
 
+  -- the records so far and one more
+  one_more : (done later : List Record) (own : Record) → IsLegal script (done ++ own ∷ later) → IsLegal script (done ++ own ∷ [])
+  one_more done later own legal =
+      (front_legal setting (start setting) (done ++ own ∷ []) later
+      (subst (IsLegal script) (sym (append_assoc done (own ∷ []) later)) legal)).0
+
+  legal_on : (done now later : List Record) (own : Record) → now ≡ done ++ own ∷ [] → IsLegal script (done ++ own ∷ later)
+      → IsLegal script (now ++ later)
+  legal_on done now later own e legal =
+      subst (λ ds. IsLegal script (ds ++ later)) (sym e) (subst (IsLegal script) (sym (append_assoc done (own ∷ []) later)) legal)
+
   grounded : (w : World) (records : List Record) → AreFirm setting w records → WakeAlong setting w records
-      → IsPrefix (chosen_log setting (world_after setting w records)) whole → Ground setting state w → IsLegalFrom setting w records
+      → IsPrefix (chosen_log setting (world_after setting w records)) whole → (ground : Ground setting state w)
+      → IsLegal script (ground.records ++ records)
+      → IsLegalFrom setting w records
       → AreGrounded setting state w records
-  grounded w [] firm wakes end ground legal = ground
-  grounded w (own ∷ later) firm wakes end ground legal =
+  grounded w [] firm wakes end ground all_legal legal = ground
+  grounded w (own ∷ later) firm wakes end ground all_legal legal =
       let v = (stepped setting w own).world in
       let then = firm_now setting v later firm.2 in
       let front = reaches v later firm.2 end in
-      let next = ground_next w own ground (along_at w firm.0 (front_on _ _ _ firm.1 front)) (along_at v then front) (grown_at w v then firm.1)
-      (wake_now v later wakes.1) legal.0 in
-      (ground, grounded v later firm.2 wakes.1 end next legal.1)
+      let next = next_ground w own ground (one_more ground.records later own all_legal)
+      (along_at w firm.0 (front_on _ _ _ firm.1 front)) (along_at v then front) firm.1
+      (wake_now v later wakes.1) legal.0 in (
+        ground,
+        grounded v later firm.2 wakes.1 end next.now
+            (legal_on ground.records next.now.records later own next.records_are all_legal) legal.1,
+      )
+
+  -- the ground at the first of these worlds
+  ground_at : (w : World) (records : List Record) → AreGrounded setting state w records → Ground setting state w
+  ground_at w [] ground = ground
+  ground_at w (own ∷ later) grounds = grounds.0
 
   -- what is told is allowed, and keeps the machine tied to the world
   pub record Tells (m : Plain) (next : World) (told_now : Option (List Event)) : Type 0 where
     pub es : List Event
     pub is : told_now ≡ Some es
     pub may : Obeys m es
-    pub follows : Follow setting state (rows_in setting next) next (replay m es)
+    pub follows : Follow setting (rows_in setting next) next (replay m es)
 
   server_begins : (what : Step) (n : ℕ) (next : World) → begins what (actor.Server n) next ≡ []
   server_begins (Call line) n next = refl
@@ -156,12 +243,14 @@ module _ (setting : Setting) (whole : List Command) (all : IsPlainLog setting.se
   client_begins c (Call line) next = refl
   client_begins c _ next = refl
 
-  module _ (w : World) (m : Plain) (along : Along setting state w) (ground : Ground setting state w) (follow : Follow setting state (rows_in setting w) w m)
+  module _ (w : World) (m : Plain) (along : Along setting state w) (ground : Ground setting state w)
+      (follow : Follow setting (rows_in setting w) w m)
       (stamp : ℕ) (later : List Record) where
     -- of the world after the step: what is chosen there, and that the ground holds from there on
     abbrev Onwards : World → Type 0
     Onwards v =
-        Along setting state v × IsGrown (chosen_state setting w) (chosen_state setting v) × AreGrounded setting state v later × IsLegalFrom setting v later
+        Along setting state v × IsPrefix (chosen_log setting w) (chosen_log setting v) × AreGrounded setting state v later
+        × IsLegalFrom setting v later
 
     -- a step of an actor, with the letters that it sent and the answer that it gave
     step_tells : (who : Actor) (what : Step) → MayActor who what setting w → Onwards (step who what setting w stamp).world
@@ -188,8 +277,14 @@ module _ (setting : Setting) (whole : List Command) (all : IsPlainLog setting.se
           what = what;
           later = later;
         } in
-        let serving = server_serves setting w ground.ready.rests n (own_steady setting w along.firm n) stamp what may.1 next.0.firm in
-        let t = step_told at numbered acted serving (record { along = next.0; grown = next.1 }) (step_kind (server_state setting w n) n (w.servers n) what)
+        let serving = server_serves setting w ground.ready.rests along.firm n
+        (own_steady setting w along.firm n) stamp what may.1 next.0.firm in
+        let t = step_told at sound.numbered acted serving (record {
+          along = next.0;
+          onward = ground_at v later next.2;
+          grows = next.1;
+          grown = grown_at w v next.0.firm next.1;
+        }) (step_kind (server_state setting w n) n (w.servers n) what)
         (λ letter seq bytes number sent says e. who_accepts setting state v later next.2 next.3 letter seq bytes number sent says e) in
         record {
           es = t.es;
@@ -213,14 +308,15 @@ module _ (setting : Setting) (whole : List Command) (all : IsPlainLog setting.se
           follows = t.follows;
         }
 
-  record_tells : (w : World) (m : Plain) → Along setting state w → Ground setting state w → Follow setting state (rows_in setting w) w m → (own : Record)
+  record_tells : (w : World) (m : Plain) → Along setting state w → Ground setting state w → Follow setting (rows_in setting w) w m
+      → (own : Record)
       (later : List Record) → Follows setting w own → Along setting state (stepped setting w own).world
-      → IsGrown (chosen_state setting w) (chosen_state setting (stepped setting w own).world)
+      → IsPrefix (chosen_log setting w) (chosen_log setting (stepped setting w own).world)
       → AreGrounded setting state (stepped setting w own).world later → IsLegalFrom setting (stepped setting w own).world later
       → Tells m (stepped setting w own).world (told setting w own later)
-  record_tells w m along ground follow own later follows then grown grounds legal =
+  record_tells w m along ground follow own later follows then grows grounds legal =
       let v = (stepped setting w own).world in
-      let t = step_tells w m along ground follow own.stamp later own.actor own.step follows.may.may (then, grown, grounds, legal) in
+      let t = step_tells w m along ground follow own.stamp later own.actor own.step follows.may.may (then, grows, grounds, legal) in
       record {
         es = t.es;
         is = (λ i. told_with (begins own.step own.actor v) (takes (change_by setting w v))
@@ -230,24 +326,27 @@ module _ (setting : Setting) (whole : List Command) (all : IsPlainLog setting.se
       }
 
   pub history_tells : (w : World) (m : Plain) (records : List Record) → AreFirm setting w records → WakeAlong setting w records
-      → IsPrefix (chosen_log setting (world_after setting w records)) whole → Ground setting state w → Follow setting state (rows_in setting w) w m
-      → IsLegalFrom setting w records → Tells m (world_after setting w records) (told_from setting w records)
-  history_tells w m [] firm wakes end ground follow legal = record { es = []; is = refl; may = tt; follows = follow }
-  history_tells w m (own ∷ later) firm wakes end ground follow legal =
+      → IsPrefix (chosen_log setting (world_after setting w records)) whole → (ground : Ground setting state w)
+      → IsLegal script (ground.records ++ records)
+      → Follow setting (rows_in setting w) w m → IsLegalFrom setting w records
+      → Tells m (world_after setting w records) (told_from setting w records)
+  history_tells w m [] firm wakes end ground all_legal follow legal = record { es = []; is = refl; may = tt; follows = follow }
+  history_tells w m (own ∷ later) firm wakes end ground all_legal follow legal =
       let v = (stepped setting w own).world in
       let then = firm_now setting v later firm.2 in
       let front = reaches v later firm.2 end in
       let along = along_at w firm.0 (front_on _ _ _ firm.1 front) in
-      let grown = grown_at w v then firm.1 in
-      let next = ground_next w own ground along (along_at v then front) grown (wake_now v later wakes.1) legal.0 in
+      let next = next_ground w own ground (one_more ground.records later own all_legal) along (along_at v then front) firm.1
+      (wake_now v later wakes.1) legal.0 in
+      let on = legal_on ground.records next.now.records later own next.records_are all_legal in
       let now = record_tells w m along ground follow own later legal.0 (along_at v then front)
-      grown (grounded v later firm.2 wakes.1 end next legal.1) legal.1 in
-      let rest = history_tells v (replay m now.es) later firm.2 wakes.1 end next now.follows legal.1 in
+      firm.1 (grounded v later firm.2 wakes.1 end next.now on legal.1) legal.1 in
+      let rest = history_tells v (replay m now.es) later firm.2 wakes.1 end next.now on now.follows legal.1 in
       record {
         es = now.es ++ rest.es;
         is = (λ i. joined (now.is i) (rest.is i));
         may = Obeys-append m now.es rest.es now.may rest.may;
-        follows = subst (λ k. Follow setting state (rows_in setting (world_after setting v later)) (world_after setting v later) k)
+        follows = subst (λ k. Follow setting (rows_in setting (world_after setting v later)) (world_after setting v later) k)
             (sym (replay-append m now.es rest.es)) rest.follows;
       }
 
@@ -261,11 +360,12 @@ none_voted setting (x ∷ xs) = none_voted setting xs
 pub none_chosen : (setting : Setting) → chosen_log setting (start setting) ≡ []
 none_chosen setting = ap (chosen_from setting.servers (devices (start setting)) 1) (none_voted setting (range_with_len 0 setting.servers))
 
-start_follow : (script : Script) (state : State) → Follow (setting_of script) state (rows_in (setting_of script) (start (setting_of script))) (start (setting_of script)) blank
+start_follow : (script : Script) → Follow (setting_of script) (rows_in (setting_of script) (start (setting_of script)))
+    (start (setting_of script)) blank
 unfolding In
-start_follow script state =
+start_follow script =
     let w = start (setting_of script) in
-    subst (λ (rows : List DiskRow). Follow (setting_of script) state rows w blank)
+    subst (λ (rows : List DiskRow). Follow (setting_of script) rows w blank)
     (sym (ap (λ log. (state_after script.servers log).disks.rows) (none_chosen (setting_of script)))) (record {
       stores = record { known = λ row h. absurd h; unknown = λ name none. refl; mindful = λ c o is. none_some refl is };
       seats = λ c. refl;
@@ -273,6 +373,44 @@ start_follow script state =
       pending = λ n cell op on is counted still. none_some (at-empty cell_cmp cell) is;
       finished = λ n c last on is how still. none_some (at-empty nat_cmp c) is;
     })
+
+-- nothing has happened
+start_ground : (state : State) (script : Script) → Ready (setting_of script) state (start (setting_of script))
+    → AllMayWake (setting_of script) (start (setting_of script)) → Ground (setting_of script) state (start (setting_of script))
+unfolding In
+start_ground state script ready wake =
+    let setting = setting_of script in
+    record {
+      ready = ready;
+      wake = wake;
+      records = [];
+      come = refl;
+      good = start_good setting;
+      started = λ front of link holder inc other other_inc prefix.
+          no_prefix front _ (subst (IsPrefix (front ++ Caught of link holder inc other other_inc ∷ [])) (none_chosen setting) prefix);
+      lives = first_lives;
+      asking = start_asking state script;
+      recalled = λ front cell row n own op prefix is both last visit there.
+          none_some (start_visits setting n (place_by setting front row) cell) visit;
+      named = start_named script;
+      short = λ n cell. inl (ap (λ o. unwrap_or {T = Chain} o []) (at-empty cell_cmp cell));
+      copied = λ letter i. absurd i;
+      born = λ n cell none. ap (λ o. unwrap_or {T = Chain} o []) (at-empty cell_cmp cell);
+    }
+  where
+    no_prefix : {B : Type 0} (front : List Command) (entry : Command) → IsPrefix (front ++ entry ∷ []) [] → B
+    no_prefix [] entry p = let f : [] ≡ entry ∷ p.later = p.is in absurd cc
+    no_prefix (x ∷ front) entry p = let f : [] ≡ x ∷ ((front ++ entry ∷ []) ++ p.later) = p.is in absurd cc
+
+-- the ground of the empty history
+record FirstGround (state : State) (script : Script) : Type 0 where
+  now : Ground (setting_of script) state (start (setting_of script))
+  records_are : now.records ≡ []
+
+first_ground : (state : State) (script : Script) → Ready (setting_of script) state (start (setting_of script))
+    → AllMayWake (setting_of script) (start (setting_of script)) → FirstGround state script
+unfolding start_ground
+first_ground state script ready wake = record { now = start_ground state script ready wake; records_are = refl }
 
 -- ### The law
 
@@ -300,18 +438,19 @@ module _ (script : Script) (records : List Record) (sound : IsSound script) (leg
   whole = chosen_log of_script last_world
 
   abbrev T : Type 0
-  T = Tells of_script whole last_firm.plain sound.numbered blank last_world (events_of script records)
+  T = Tells script sound whole last_firm.plain blank last_world (events_of script records)
 
   tells : T
   tells =
       let end = front_itself whole in
-      let front = reaches of_script whole last_firm.plain sound.numbered begun records firm end in
-      let first_along = along_at of_script whole last_firm.plain sound.numbered begun (firm_now of_script begun records firm) front in
+      let front = reaches script sound whole last_firm.plain begun records firm end in
+      let first_along = along_at script sound whole last_firm.plain begun (firm_now of_script begun records firm) front in
       let ready : Ready of_script (state_after script.servers whole) begun =
       record { rests = start_rests script; firm = first_along.firm; below = first_along.below } in
-      history_tells of_script whole last_firm.plain sound.numbered begun blank records firm wakes end
-      (start_ground (state_after script.servers whole) script ready (wake_now of_script whole last_firm.plain sound.numbered begun records wakes))
-      (start_follow script (state_after script.servers whole)) legal
+      let first = first_ground (state_after script.servers whole) script ready
+      (wake_now script sound whole last_firm.plain begun records wakes) in
+      history_tells script sound whole last_firm.plain begun blank records firm wakes end first.now
+      (subst (λ done. IsLegal script (done ++ records)) (sym first.records_are) legal) (start_follow script) legal
 
   pub run_after : IsRunOf (events_of script records)
   run_after = subst IsRunOf (sym tells.is) tells.may
@@ -330,18 +469,27 @@ module _ (script : Script) (records : List Record) (sound : IsSound script) (leg
         unknown = stores.unknown;
       })
 
+-- the rule of requests, after each legal history
+abbrev pub KeepsRequests : Type 0
+KeepsRequests = (script : Script) (records : List Record) → IsSound script → IsLegal script records
+    → Requests (setting_of script) (world_after (setting_of script) (start (setting_of script)) records)
+
+-- all the rest of the law
+pub law_with : KeepsRequests → Law
+law_with requests script records sound legal = record {
+  world = record {
+    agrees = history_agrees script records sound legal;
+    copies = copies_after script records sound legal;
+    covered = covered_after script records sound legal;
+    requests = requests script records sound legal;
+  };
+  grows = history_grows script records sound legal;
+  marks = marks_first script records sound legal;
+  run = run_after script records sound legal;
+  holds = held_after script records sound legal;
+}
+
 pub law : Law
-law script records sound legal =
+law = law_with (λ script records sound legal.
     let firm = firm_way script (λ done. history_is_firm script done sound) (λ done. history_grows script done sound) records legal in
-    record {
-      world = record {
-        agrees = history_agrees script records sound legal;
-        copies = copies_after script records sound firm legal;
-        covered = covered_after script records sound firm legal;
-        requests = requests_after script records sound firm legal;
-      };
-      grows = history_grows script records sound legal;
-      marks = marks_first script records sound firm legal;
-      run = run_after script records sound legal;
-      holds = held_after script records sound legal;
-    }
+    requests_after script records sound firm legal)

@@ -21,9 +21,10 @@ use Rattle.petal_rules.specs.State.{second}
 use Rattle.petal_rules.specs.Writes.{ended}
 use Rattle.petal_rules.specs.World.{stamped}
 use Rattle.petal_rules.proofs.Tests.{same_some, true_false}
-use Rattle.law_steps.specs.DidLead.{DidLead, Asks, A_slot, A_copy, Of_the_log, Asks_for, Repeats, Is_full, Gives_up, Opens, Marks, Puts, Unmarks, Closes, Opens_alone, Marks_alone, Puts_alone, Unmarks_alone, Closes_alone}
+use Rattle.law_steps.specs.DidLead.{DidLead, Asks, A_slot, A_copy, A_trim, A_copied_entry, A_page, Of_the_log, Asks_for, Repeats, Is_full, Gives_up, Opens, Marks, Puts, Unmarks, Closes, Opens_alone, Marks_alone, Puts_alone, Unmarks_alone, Closes_alone}
 use Rattle.law_steps.specs.DidSecond.{DidSecond}
-use Rattle.law_steps.specs.Did.{Did, Ignores, Refuses, By_read, By_lead, By_second}
+use Rattle.law_steps.specs.Did.{Did, Ignores, Refuses, By_read, By_lead, By_second, By_holder, By_other}
+use Rattle.law_steps.proofs.CopyFrames.{of_holder, of_other}
 use Rattle.law_steps.specs.Happens.{Handled, own_place}
 use Rattle.law_steps.proofs.Letters.{said, one_post, posted}
 use Rattle.law_steps.proofs.Subjects.{of_read, of_second}
@@ -94,6 +95,9 @@ IsQuiet _ = Unit {0}
 asks_unended : (here : Here) (own : Own) (post : Post) → Asks here own post → IsUnended post
 asks_unended here own _ (A_slot op to is stage e) = refl
 asks_unended here own _ (A_copy op to is stage e) = refl
+asks_unended here own _ (A_trim cell copy to is fresh e) = refl
+asks_unended here own _ (A_copied_entry cell copy row to is trimmed spot e) = refl
+asks_unended here own _ (A_page row to on e fresh) = refl
 asks_unended here own _ (Of_the_log post e) = logged_unended post.body e
 
 ended_data : (seq : ℕ) (how : Ending) → is_data (ended seq how) ≡ false
@@ -129,6 +133,8 @@ module _ (heard : Body → Type 0) (here : Here) (own : Own) where
   quiet_data _ (By_read done d) quiet post i = absurd quiet
   quiet_data _ (By_lead done d) quiet post i = lead_data done d post i
   quiet_data _ (By_second done d) quiet post i = unended_data post.body (second_unended done d post i)
+  quiet_data _ (By_holder done d) quiet post i = unended_data post.body (ap is_ending ((of_holder heard here own done d).says post i))
+  quiet_data _ (By_other done d) quiet post i = unended_data post.body (ap is_ending ((of_other heard here own done d).says post i))
 
 -- ### Writes that end as written
 
@@ -208,3 +214,7 @@ module _ (this : ServerStep) (k : Plain) (runs : (this.w.servers this.n).life.ru
       unwritten done.posts (λ post i. ap is_written ((of_read hears here own done d).says post i).is)
   did_says _ (By_lead done d) = lead_says done d
   did_says _ (By_second done d) = unwritten done.posts (λ post i. unended_written post.body (second_unended hears here own done d post i))
+  did_says _ (By_holder done d) =
+      unwritten done.posts (λ post i. unended_written post.body (ap is_ending ((of_holder hears here own done d).says post i)))
+  did_says _ (By_other done d) =
+      unwritten done.posts (λ post i. unended_written post.body (ap is_ending ((of_other hears here own done d).says post i)))

@@ -1,7 +1,9 @@
 -- Each kind of job shows what it has to, where the write of what it has put where it counts has had its bytes.
-use Rattle.std.proofs.Common.{◌≡◌, ◌≢◌, ◌≤◌, ◌+◌, ℕ, Bool, true, false, Some, refl, sym, ap, ◌∙◌, subst, ◌⊎◌, inl, inr}
+use Rattle.std.proofs.Common.{◌≡◌, ◌≢◌, ◌≤◌, ◌+◌, ℕ, Bool, true, false, Some, refl, sym, ap, ◌∙◌, subst, ◌⊎◌, inl, inr, Option, None}
 use Rattle.std.specs.Ordering.{nat_cmp}
 use Rattle.busy_marks.specs.declared.marks.MarkKind.TheVariants.{Busy, Stale}
+use Rattle.global_tables.specs.declared.link.LinkRow.{LinkRow}
+use Rattle.global_tables.specs.declared.link.LinkState.TheVariants.{Both, Only}
 use Rattle.petal_base.specs.declared.cell.Cell.{Cell}
 use Rattle.petal_base.specs.declared.cell.Key.{Key}
 use Rattle.petal_base.specs.Cells.{cell_of}
@@ -23,36 +25,36 @@ use Rattle.petal_rules.specs.World.{chosen_state}
 use Rattle.petal_rules.proofs.CellTables.{cell_same, cell_apart}
 use Rattle.petal_rules.proofs.Tests.{by_bool, is_the_one, same_or_apart, same_some, true_false}
 use Rattle.law_state.specs.Steady.{IsSteady}
-use Rattle.law_state.proofs.Alone.{alone_row, alone_on, both_not_alone, lead_alone, second_both}
-use Rattle.law_state.proofs.Cells.{alone_authority}
+use Rattle.law_state.proofs.Alone.{alone_not_both, so_both}
+use Rattle.law_state.proofs.Cells.{led_by, second_by}
 use Rattle.law_steps.specs.Operations.{answering, putting}
 use Rattle.law_steps.specs.DidLead.{DidLead, Taken, Asks_for, Repeats, Is_full, Gives_up, Opens, Marks, Puts, Unmarks, Closes, Opens_alone, Marks_alone, Puts_alone, Unmarks_alone, Closes_alone}
 use Rattle.law_steps.specs.DidSecond.{DidSecond, Sets_apart, Promises, Declines, Follows}
-use Rattle.law_steps.specs.Did.{Did, Ignores, Refuses, By_read, By_lead, By_second}
-use Rattle.law_steps.specs.Happens.{Handled, own_place}
+use Rattle.law_steps.specs.DidOther.{DidOther}
+use Rattle.law_steps.specs.Did.{Did, Ignores, Refuses, By_read, By_lead, By_second, By_holder, By_other}
+use Rattle.law_steps.specs.Happens.{Handled, IsSeated, own_place}
+use Rattle.law_steps.proofs.CopyFrames.{of_holder, of_other}
 use Rattle.law_steps.proofs.Histories.{chosen_steady, own_below, own_steady}
 use Rattle.law_steps.proofs.Restages.{stood}
 use Rattle.law_steps.proofs.Staged.{same_cell_or_apart}
 use Rattle.law_steps.proofs.Subjects.{of_read, of_second, told_own}
 use Rattle.law_steps.proofs.Taking.{taking}
-use Rattle.law_copies.specs.Pair.{IsPair, AreTogether, PairOk, AreCopies, Working, alone_in, far, half_of, owns_of, pair_of, shares}
-use Rattle.law_copies.proofs.Frames.{apart, same_first}
-use Rattle.law_copies.proofs.Jobs.{chain_apart, chain_put, first_together, heard_first, lead_pair, ok_first, second_pair}
-use Rattle.law_copies.proofs.Sharing.{shared_by}
+use Rattle.law_copies.specs.Good.{pair_at, store_of}
+use Rattle.law_copies.specs.Pair.{AreCopies, PairOk, Working, far, owns_of, pair_of}
+use Rattle.law_copies.specs.Visits.{IsLinked, half}
+use Rattle.law_copies.proofs.Chains.{chain_apart, chain_put}
+use Rattle.law_copies.proofs.Others.{held_not_lead}
+use Rattle.law_requests.proofs.Leads.{one_lead}
 use Rattle.law_requests.specs.Asked.{IsOpen}
 use Rattle.law_run.specs.Onward.{is_held, Onward}
-use Rattle.law_run.specs.Follow.{Is_pending, HasCounted, Is_told, Is_followed, Is_counted}
-use Rattle.law_run.proofs.Chains.{StoresSo, Nothing_new, An_own, An_asked, did_stores, lead_stores}
+use Rattle.law_run.specs.Follow.{HasCounted, Is_told, Is_followed, Is_counted}
+use Rattle.law_run.proofs.Chains.{StoresSo, Nothing_new, An_own, An_asked, A_copy, OtherStores, PutsAsked, PutsCopy, PutsOwn, copied_apart, did_stores, holder_chains, lead_stores, other_changes, second_stores}
+use Rattle.law_run.proofs.Copies.{copied_unfollowed}
 use Rattle.law_run.proofs.Frames.{OwnFollow, kept_finished}
-use Rattle.law_run.proofs.Grounds.{Followed, followed, not_ahead, own_recalled, pending_epoch}
+use Rattle.law_run.proofs.Grounds.{Followed, followed, not_ahead, pending_epoch}
 use Rattle.law_run.proofs.Machine.{held_onward}
+use Rattle.law_run.proofs.Seats.{IsSharedFirst, IsSharing, first_ok, heard_shared, one_place_of, op_alone, op_leads, op_shared, peer, place_of, visit_here}
 use Rattle.law_run.proofs.Steps.{ServerStep}
-
--- the copy of a server that holds a cell alone counts
-pub alone_counts : (state : State) → IsSteady state → (n : ℕ) (cell : Cell) → is_alone_on state n cell ≡ true → authority state cell ≡ Some n
-alone_counts state steady n cell e =
-    let a = alone_row state n cell e in
-    alone_authority state cell a.row a.is (steady.linked cell a.row a.is) n a.whole a.alone
 
 module _ (this : ServerStep) (k : Plain) where
   abbrev here : Here
@@ -68,7 +70,7 @@ module _ (this : ServerStep) (k : Plain) where
   Held op = IsOpen (this.w.clients op.client) op.seq → is_held k op.client ≡ true
 
   abbrev Counted : Cell → Pending → Chain → Type 0
-  Counted cell op chain = HasCounted this.setting this.state this.w this.n cell op chain
+  Counted cell op chain = HasCounted this.setting this.w this.n cell op chain
 
   abbrev mine : Cell → Chain
   mine cell = chain_in own.store.chains cell
@@ -77,7 +79,10 @@ module _ (this : ServerStep) (k : Plain) where
   abbrev pub PutHeld : {new : Own} → StoresSo hears here own new → Type 0
   PutHeld (Nothing_new same) = Unit {0}
   PutHeld (An_own p) = authority (chosen_state this.setting this.w) p.op.cell ≡ Some this.n → is_held k p.op.client ≡ true
-  PutHeld (An_asked a) = (f : Followed this.setting this.state this.w this.ground.good.memory this.n a.number a.key a.bytes) → is_held k f.putting.op.client ≡ true
+  PutHeld (An_asked a) =
+      (f : Followed this.setting this.state this.along.steady this.w this.along.firm this.ground this.n a.number a.key a.bytes)
+      → is_held k f.putting.op.client ≡ true
+  PutHeld (A_copy c) = Unit {0}
 
   module _ (runs : (this.w.servers this.n).life.running ≡ true) (onward : Onward this.m k) where
     -- an operation that was pending
@@ -86,10 +91,10 @@ module _ (this : ServerStep) (k : Plain) where
 
     -- the same in another stage
     recounted : (cell : Cell) (old now : Pending) (chain : Chain)
-        → (alone_in this.setting this.w this.n cell ≡ false → now.stage.paired ≡ true → old.stage.paired ≡ true)
+        → (now.stage.paired ≡ true → old.stage.paired ≡ true)
         → (now.stage.put ≡ true → old.stage.put ≡ true) → Counted cell now chain → Counted cell old chain
-    recounted cell old now chain paired put (Is_told off e) = Is_told off (paired off e)
-    recounted cell old now chain paired put (Is_followed q pair together e same) = Is_followed q pair together (put e) same
+    recounted cell old now chain paired put (Is_told both e) = Is_told both (paired e)
+    recounted cell old now chain paired put (Is_followed row linked both e same) = Is_followed row linked both (put e) same
     recounted cell old now chain paired put (Is_counted e counts) = Is_counted (put e) counts
 
     -- one that is put in the table, beside which other chains stay
@@ -110,76 +115,83 @@ module _ (this : ServerStep) (k : Plain) where
 
     -- ### In Both
 
-    -- the first server's pair, with what it has in memory
-    record IsFirst (cell : Cell) : Type 0 where
-      second : ℕ
-      pair : IsPair this.state cell this.n second
-      together : AreTogether (alone_in this.setting this.w) cell this.n second
-      shared : shares here.state this.n here.inc cell ≡ true
+    abbrev IsFirst : Pending → Type 0
+    IsFirst op = (f : LinkRow) × IsSharing this.setting this.state this.w this.along.firm this.ground this.n op.cell f
+        × (f.primary ≡ this.n)
 
-    first_of : (op : Pending) → at cell_cmp own.pairs.pending op.cell ≡ Some op → in_both here.state op.cell ≡ true → IsFirst op.cell
+    first_of : (op : Pending) → at cell_cmp own.pairs.pending op.cell ≡ Some op → in_both here.state op.cell ≡ true → IsFirst op
     first_of op is both =
-        let ready = this.ground.ready in
-        let s = (ready.rests.pending this.n).staged op.cell op is in
-        let seat = ready.rests.seated this.n op.cell op runs is in
-        let pair = lead_pair this.setting this.state this.along.steady this.w ready this.ground.good this.n runs op.cell s.lead both in
-        record {
-          second = pair.0;
-          pair = pair.1;
-          together = first_together this.setting this.state this.along.steady this.w ready this.ground.good this.n runs op.cell pair.0 pair.1 seat both;
-          shared = shared_by here.state this.n here.inc op.cell seat both;
-        }
+        let f = op_shared this.setting this.state this.w this.along.firm this.ground this.n op.cell op runs is both in
+        (f.row, f.shares, f.first)
 
-    ok_at : (op : Pending) (f : IsFirst op.cell) (q : ℕ) → IsPair this.state op.cell this.n q → AreTogether (alone_in this.setting this.w) op.cell this.n q
-        → PairOk (pair_of own (half_of this.ground.good.memory this.w op.cell q) op.cell)
-    ok_at op f q pair together =
-        ok_first this.setting this.state this.along.steady this.w this.ground.ready this.ground.good this.n runs op.cell q f.shared pair together
+    -- what the second server has in memory of the place
+    abbrev second_of : (op : Pending) → IsFirst op → Own
+    second_of op f = peer this.setting this.state this.w this.along.firm this.ground this.n f.0.secondary op.cell f.0
 
-    copies_at : (op : Pending) → at cell_cmp own.pairs.pending op.cell ≡ Some op → (other : Own) → PairOk (pair_of own other op.cell) → (put : Bool)
-        → op.stage.put ≡ put → Working (mine op.cell) (chain_in other.store.chains op.cell) (far (pair_of own other op.cell)) op put
-    copies_at op is other ok put e =
-        subst (Working (mine op.cell) (chain_in other.store.chains op.cell) (far (pair_of own other op.cell)) op) e
-        (subst (AreCopies (mine op.cell) (chain_in other.store.chains op.cell) (far (pair_of own other op.cell))) is ok.copies)
+    copies_at : (op : Pending) → at cell_cmp own.pairs.pending op.cell ≡ Some op → (f : IsFirst op) → (put : Bool) → op.stage.put ≡ put
+        → Working (mine op.cell) (chain_in (owns_of this.w f.0.secondary).store.chains op.cell)
+        (far (pair_of own (second_of op f) op.cell)) op put
+    copies_at op is f put e =
+        let ok = first_ok this.setting this.state this.w this.along.firm this.ground this.n op.cell f.0 f.1 f.2 in
+        let two : Own → Chain = λ (o : Own). chain_in o.store.chains op.cell in
+        of_half (this.ground.good.visits f.0.secondary (place_of this.setting this.state this.w this.along.firm this.ground this.n
+        f.0) op.cell) ok put e
+      where
+        of_half : (visit : Option Own) → PairOk (pair_of own (half visit (store_of this.w f.0.secondary)) op.cell) → (put : Bool)
+            → op.stage.put ≡ put
+            → Working (mine op.cell) (chain_in (owns_of this.w f.0.secondary).store.chains op.cell)
+            (far (pair_of own (half visit (store_of this.w f.0.secondary)) op.cell)) op put
+        of_half None ok put e =
+            subst (Working (mine op.cell) (chain_in (owns_of this.w f.0.secondary).store.chains op.cell)
+            (far (pair_of own (half None (store_of this.w f.0.secondary)) op.cell)) op) e
+            (subst (AreCopies (mine op.cell) (chain_in (owns_of this.w f.0.secondary).store.chains op.cell)
+            (far (pair_of own (half None (store_of this.w f.0.secondary)) op.cell))) is ok.copies)
+        of_half (Some other) ok put e =
+            subst (Working (mine op.cell) (chain_in (owns_of this.w f.0.secondary).store.chains op.cell)
+            (far (pair_of own (half (Some other) (store_of this.w f.0.secondary)) op.cell)) op) e
+            (subst (AreCopies (mine op.cell) (chain_in (owns_of this.w f.0.secondary).store.chains op.cell)
+            (far (pair_of own (half (Some other) (store_of this.w f.0.secondary)) op.cell))) is ok.copies)
+
+    -- how far the second server is, by a letter of its own
+    past_at : (op : Pending) → hears (body.Replicated op.op op.cell) → (f : IsFirst op)
+        → op.op + op.op + 1 ≤ far (pair_of own (second_of op f) op.cell)
+    past_at op h f =
+        heard_shared this.setting this.state this.w this.along.firm this.ground this.n op.cell f.0 f.1
+        (body.Replicated op.op op.cell) h refl
 
     paired_held : (op : Pending) → hears (body.Replicated op.op op.cell) → at cell_cmp own.pairs.pending op.cell ≡ Some op
         → in_both here.state op.cell ≡ true → op.stage.put ≡ true → Held op
     paired_held op h is both put =
         let f = first_of op is both in
-        let other = half_of this.ground.good.memory this.w op.cell f.second in
-        let past : op.op + op.op + 1 ≤ far (pair_of own other op.cell) =
-        heard_first this.setting this.state this.along.steady this.w this.ground.ready this.ground.good this.n runs _ h op.cell f.second f.shared refl f.pair
-        f.together in
-        let ahead = copies_at op is other (ok_at op f f.second f.pair f.together) true put in
-        was_held op.cell op is (Is_followed f.second f.pair f.together put (ahead.even past))
+        let ahead = copies_at op is f true put in
+        was_held op.cell op is (Is_followed f.0 f.1.linked f.1.both put (ahead.even (past_at op h f)))
 
     -- an operation that is put now is ahead of the second server's copy
-    put_now : (op : Pending) → at cell_cmp own.pairs.pending op.cell ≡ Some op → in_both here.state op.cell ≡ true → op.stage.put ≡ false → (q : ℕ)
-        → IsPair this.state op.cell this.n q → AreTogether (alone_in this.setting this.w) op.cell this.n q
-        → mine op.cell ≡ chain_in (owns_of this.w q).store.chains op.cell
-    put_now op is both put q pair together =
+    put_now : (op : Pending) → at cell_cmp own.pairs.pending op.cell ≡ Some op → in_both here.state op.cell ≡ true → op.stage.put ≡ false
+        → (row : LinkRow) → IsLinked this.setting (this.w.servers this.n).log.applied op.cell row
+        → mine op.cell ≡ chain_in (owns_of this.w row.secondary).store.chains op.cell
+    put_now op is both put row linked =
         let f = first_of op is both in
-        let other = half_of this.ground.good.memory this.w op.cell q in
-        (copies_at op is other (ok_at op f q pair together) false put).even
+        (copies_at op is f false put).even
+        ∙ ap (λ (r : LinkRow). chain_in (owns_of this.w r.secondary).store.chains op.cell) (same_some (sym f.1.linked ∙ linked))
 
     -- a new operation
     fresh_held : (cell : Cell) (op : Pending) (chain : Chain) → op.stage.paired ≡ false → op.stage.put ≡ false → Counted cell op chain → Held op
-    fresh_held cell op chain unpaired unput (Is_told off e) = true_false e unpaired
+    fresh_held cell op chain unpaired unput (Is_told both e) = true_false e unpaired
     fresh_held cell op chain unpaired unput (Is_counted e counts) = true_false e unput
-    fresh_held cell op chain unpaired unput (Is_followed q pair together e same) = true_false e unput
+    fresh_held cell op chain unpaired unput (Is_followed row linked both e same) = true_false e unput
 
     -- ### Alone
 
-    counts_alone : (cell : Cell) → is_alone_on here.state this.n cell ≡ true → authority (chosen_state this.setting this.w) cell ≡ Some this.n
-    counts_alone cell alone =
-        let firm = this.along.firm in
-        alone_counts (chosen_state this.setting this.w) (chosen_steady this.setting this.w firm) this.n cell
-        (alone_on here.state (chosen_state this.setting this.w) (own_below this.setting this.w firm this.n) this.n cell alone)
+    not_both : {B : Type 0} (cell : Cell) → is_alone_on here.state this.n cell ≡ true → in_both here.state cell ≡ true → B
+    not_both cell alone both = true_false both (alone_not_both here.state this.n cell alone)
 
     -- an operation that is taken up has had its bytes once it is put
     taken_held : (now : Own) (op new : Pending) → Taken own now op → is_alone_on here.state this.n op.cell ≡ true → new.client ≡ op.client → new.seq ≡ op.seq
         → (new.stage.put ≡ true → op.stage.put ≡ true) → (chain : Chain) → Counted op.cell new chain → Held new
-    taken_held now op new taken alone client seq put chain (Is_told off e) still = true_false alone off
-    taken_held now op new taken alone client seq put chain (Is_followed q pair together e same) still = true_false alone together.one
+    taken_held now op new taken alone client seq put chain (Is_told both e) still = not_both op.cell alone both
+    taken_held now op new taken alone client seq put chain (Is_followed row linked both e same) still =
+        not_both op.cell alone (so_both here.state op.cell row linked both)
     taken_held now op new taken alone client seq put chain (Is_counted e counts) still =
         let t = taking own now op taken in
         let old_put : t.old.stage.put ≡ true = ap (λ (o : Pending). o.stage.put) (sym t.is) ∙ put e in
@@ -218,19 +230,19 @@ module _ (this : ServerStep) (k : Plain) where
         → Counted op.cell (record op { version = version_of (mine op.cell) + 1; stage = record op.stage { put = true } })
         (chain_in (puts own op).own.store.chains op.cell)
         → Held (record op { version = version_of (mine op.cell) + 1; stage = record op.stage { put = true } })
-    puts_held op there both stage held (Is_told off e) still = was_held op.cell op there (Is_told off e) still
+    puts_held op there both stage held (Is_told here_both e) still = was_held op.cell op there (Is_told here_both e) still
     puts_held op there both stage held (Is_counted e counts) still = held counts
-    puts_held op there both stage held (Is_followed q pair together e same) still =
+    puts_held op there both stage held (Is_followed row linked in_it e same) still =
         let keyed = ((this.ground.ready.rests.pending this.n).staged op.cell op there).keyed in
         let cell = cell_of op.key in
         let entry : Stored = record { version = version_of (mine op.cell) + 1; bytes = op.bytes } in
         let new : chain_in (puts own op).own.store.chains cell ≡ put nat_cmp (mine cell) op.key.epoch entry = chain_put own.store.chains cell _ in
         let equal : put nat_cmp (mine cell) op.key.epoch entry ≡ mine cell =
         sym new ∙ ap (chain_in (puts own op).own.store.chains) keyed ∙ same
-        ∙ sym (put_now op there both (ap (λ (s : Stage). s.put) stage) q pair together) ∙ ap mine (sym keyed) in
+        ∙ sym (put_now op there both (ap (λ (s : Stage). s.put) stage) row linked) ∙ ap mine (sym keyed) in
         let next : entry.version ≡ version_of (mine cell) + 1 = ap (λ (c : Cell). version_of (mine c) + 1) (sym keyed) in
         absurd (not_ahead (mine cell) op.key.epoch entry
-        (pending_epoch this.setting this.state this.along.steady this.w this.ground this.n this.n op.cell op (Is_pending there))
+        (pending_epoch this.setting this.state this.along.steady this.w this.along.firm this.ground this.n this.n op.cell op there)
         (this.ground.short this.n cell) next equal)
 
     lead_pending : (done : Done) (d : DidLead hears here own done) → PutHeld (lead_stores hears here own done d) → (cell : Cell) (o : Pending)
@@ -246,7 +258,7 @@ module _ (this : ServerStep) (k : Plain) where
         put_lead (put cell_cmp own.pairs.pending op.cell (with_reserved op)) own.store.chains op.cell (with_mark_at (with_reserved op) Busy true)
         (beside own.pairs.pending op.cell (with_reserved op)) (λ q ne. refl)
         (λ counted. was_held op.cell op there
-        (recounted op.cell op (with_mark_at (with_reserved op) Busy true) (mine op.cell) (λ off e. e) (λ e. e) counted))
+        (recounted op.cell op (with_mark_at (with_reserved op) Busy true) (mine op.cell) (λ e. e) (λ e. e) counted))
     lead_pending _ (Puts op there both stage) held =
         let keyed = ((this.ground.ready.rests.pending this.n).staged op.cell op there).keyed in
         put_lead own.pairs.pending (puts own op).own.store.chains op.cell
@@ -274,8 +286,8 @@ module _ (this : ServerStep) (k : Plain) where
         (λ q ne. put_beside now.store.chains op.key (record { version = version_of (chain_in now.store.chains op.cell) + 1; bytes = op.bytes }) op.cell keyed q ne
         ∙ still_taken now op taken q ne)
         (λ counted still. elim counted [
-          | Is_told off e ↦ true_false alone off
-          | Is_followed q pair together e same ↦ true_false alone together.one
+          | Is_told both e ↦ not_both op.cell alone both
+          | Is_followed row linked both e same ↦ not_both op.cell alone (so_both here.state op.cell row linked both)
           | Is_counted e counts ↦
               subst (λ i. is_held k i ≡ true) (sym (ap (λ (o : Pending). o.client) t.is))
               (held (ap (λ (o : Pending). authority (chosen_state this.setting this.w) o.cell) (sym t.is) ∙ counts))
@@ -323,11 +335,13 @@ module _ (this : ServerStep) (k : Plain) where
     -- an operation that is closed has had its bytes
     pub closed_held : (op : Pending) → at cell_cmp own.pairs.pending op.cell ≡ Some op → in_both here.state op.cell ≡ true → op.stage ≡ answering → Held op
     closed_held op is both stage =
-        was_held op.cell op is (Is_told (both_not_alone here.state this.n op.cell both) (ap (λ (s : Stage). s.paired) stage))
+        was_held op.cell op is (Is_told both (ap (λ (s : Stage). s.paired) stage))
 
     pub closed_alone : (now : Own) (op : Pending) → Taken own now op → is_alone_on here.state this.n op.cell ≡ true → op.stage.put ≡ true → Held op
     closed_alone now op taken alone put =
-        taken_held now op op taken alone refl refl (λ e. e) (mine op.cell) (Is_counted put (counts_alone op.cell alone))
+        let t = taking own now op taken in
+        taken_held now op op taken alone refl refl (λ e. e) (mine op.cell)
+        (Is_counted put (op_alone this.setting this.state this.w this.along.firm this.ground this.n op.cell t.old runs t.was alone))
 
     lead_finished : (done : Done) → DidLead hears here own done → (c : ℕ) (last : Finished) → at nat_cmp done.own.pairs.finished c ≡ Some last
         → last.ending ≡ ending.Written → IsOpen (this.w.clients c) last.seq → is_held k c ≡ true
@@ -350,60 +364,105 @@ module _ (this : ServerStep) (k : Plain) where
 
     -- ### As a second server
 
-    -- a cell of which the server is the second, it doesn't lead
-    not_led : (cell : Cell) (p : ℕ) → IsPair this.state cell p this.n → AreTogether (alone_in this.setting this.w) cell p this.n
-        → is_lead here.state this.n cell ≡ true → ⊥
-    not_led cell p pair together lead = by_bool (in_both here.state cell)
-        (λ both.
-        let other = lead_pair this.setting this.state this.along.steady this.w this.ground.ready this.ground.good this.n runs cell lead both in
-        apart this.state this.along.steady cell p this.n pair (same_some (sym pair.leads ∙ other.1.leads)))
-        (λ off. true_false (lead_alone here.state (own_steady this.setting this.w this.along.firm this.n) this.n cell lead off) together.other)
+    abbrev Leads : Cell → Type 0
+    Leads cell = is_lead here.state this.n cell ≡ true
+
+    abbrev steady_here : IsSteady here.state
+    steady_here = own_steady this.setting this.w this.along.firm this.n
 
     -- a cell that the server leads, it is not the second of
-    led_alone : (cell : Cell) → is_lead here.state this.n cell ≡ true → is_second here.state this.n cell ≡ true → ⊥
+    led_alone : (cell : Cell) → Leads cell → is_second here.state this.n cell ≡ true → ⊥
     led_alone cell lead second =
-        let one = second_pair this.setting this.state this.along.steady this.w this.ground.ready this.ground.good this.n runs cell second in
-        let both = second_both here.state (own_steady this.setting this.w this.along.firm this.n) cell this.n (is_the_one _ this.n second) in
-        let other = lead_pair this.setting this.state this.along.steady this.w this.ground.ready this.ground.good this.n runs cell lead both in
-        apart this.state this.along.steady cell one.0 this.n one.1 (same_some (sym one.1.leads ∙ other.1.leads))
+        let b = second_by here.state steady_here cell this.n (is_the_one _ this.n second) in
+        elim (led_by here.state steady_here cell this.n (is_the_one _ this.n lead)) [
+          | inl f ↦ b.0.linked.apart (ap (λ (r : LinkRow). r.primary) (same_some (sym b.0.is ∙ f.0.is)) ∙ f.1 ∙ sym b.1)
+          | inr held ↦ (let f : Only this.n false ≡ Both = sym held.so
+              ∙ ap (λ (r : LinkRow). r.state) (same_some (sym held.is ∙ b.0.is)) ∙ b.0.so in absurd cc)
+        ]
 
-    second_chain : (done : Done) → DidSecond hears here own done → (cell : Cell) → is_lead here.state this.n cell ≡ true
-        → chain_in done.own.store.chains cell ≡ mine cell
-    second_chain _ (Sets_apart number c tickets h s le) cell lead = refl
-    second_chain _ (Promises number c how s is) cell lead = ap (λ (o : Own). chain_in o.store.chains cell) (told_own here own c number how)
-    second_chain _ (Declines number c h s no_room) cell lead = refl
-    second_chain _ (Follows number key version bytes h s is) cell lead =
-        chain_apart own.store.chains (cell_of key) _ cell
-        (λ e. led_alone cell lead (subst (λ (c : Cell). is_second here.state this.n c ≡ true) (sym e) s))
+    asked_beside : (new : Own) (a : PutsAsked hears here own new) → (cell : Cell) → Leads cell → chain_in new.store.chains cell ≡ mine cell
+    asked_beside new a cell lead = ap (λ c. chain_in c cell) a.chains
+        ∙ chain_apart own.store.chains (cell_of a.key) _ cell
+        (λ e. led_alone cell lead (subst (λ (c : Cell). is_second here.state this.n c ≡ true) (sym e) a.seconds))
 
-    second_pending : (done : Done) → DidSecond hears here own done → (cell : Cell) (o : Pending) → at cell_cmp done.own.pairs.pending cell ≡ Some o
-        → Counted cell o (chain_in done.own.store.chains cell) → Held o
-    second_pending done d cell o is counted =
-        let was : at cell_cmp own.pairs.pending cell ≡ Some o = sym (ap (λ t. at cell_cmp t cell) (of_second hears here own done d).pending) ∙ is in
+    copy_beside : (new : Own) (c : PutsCopy hears here own new) → (cell : Cell) → Leads cell → chain_in new.store.chains cell ≡ mine cell
+    copy_beside new c cell lead = copied_apart hears own c.cell new.store.chains c.how cell
+        (λ e. held_not_lead here steady_here c.cell c.holder c.held (subst (λ (q : Cell). Leads q) e lead))
+
+    -- a cell that the server leads keeps its chain, but for an operation of its own
+    abbrev IsNoOwn : {new : Own} → StoresSo hears here own new → Type 0
+    IsNoOwn (An_own p) = ⊥
+    IsNoOwn _ = Unit {0}
+
+    led_chain : (new : Own) (s : StoresSo hears here own new) → IsNoOwn s → (cell : Cell) → Leads cell
+        → chain_in new.store.chains cell ≡ mine cell
+    led_chain new (Nothing_new kept) none cell lead = ap (λ c. chain_in c cell) kept
+    led_chain new (An_own p) none cell lead = absurd none
+    led_chain new (An_asked a) none cell lead = asked_beside new a cell lead
+    led_chain new (A_copy c) none cell lead = copy_beside new c cell lead
+
+    -- operations that stay pending
+    stays_pending : (new : Own) (s : StoresSo hears here own new) → IsNoOwn s → new.pairs.pending ≡ own.pairs.pending
+        → (cell : Cell) (o : Pending)
+        → at cell_cmp new.pairs.pending cell ≡ Some o → Counted cell o (chain_in new.store.chains cell) → Held o
+    stays_pending new s none kept cell o is counted =
+        let was : at cell_cmp own.pairs.pending cell ≡ Some o = sym (ap (λ t. at cell_cmp t cell) kept) ∙ is in
         let lead = ((this.ground.ready.rests.pending this.n).staged cell o was).lead in
-        was_held cell o was (subst (Counted cell o) (second_chain done d cell lead) counted)
+        was_held cell o was (subst (Counted cell o) (led_chain new s none cell lead) counted)
 
-    did_second : (new : Own) (s : StoresSo hears here own new) → PutHeld s → (cell : Cell) (p : ℕ) (op : Pending) → (this.w.servers p).life.running ≡ true
-        → IsPair this.state cell p this.n → AreTogether (alone_in this.setting this.w) cell p this.n
-        → at cell_cmp (owns_of this.w p).pairs.pending cell ≡ Some op → chain_in (owns_of this.w p).store.chains cell ≡ chain_in new.store.chains cell
-        → (chain_in (owns_of this.w p).store.chains cell ≡ mine cell) ⊎ (is_held k op.client ≡ true)
-    did_second new (Nothing_new kept) held cell p op runs_p pair together is same = inl (same ∙ ap (λ c. chain_in c cell) kept)
-    did_second new (An_own o) held cell p op runs_p pair together is same =
-        let s = (this.ground.ready.rests.pending this.n).staged o.op.cell o.op o.is in
-        inl (same ∙ ap (λ c. chain_in c cell) o.chains
-        ∙ chain_apart own.store.chains (cell_of o.op.key) _ cell
-        (λ e. not_led cell p pair together (subst (λ (c : Cell). is_lead here.state this.n c ≡ true) (sym (e ∙ s.keyed)) s.lead)))
-    did_second new (An_asked a) held cell p op runs_p pair together is same = elim (same_cell_or_apart cell (cell_of a.key)) [
-      | inr ne ↦ inl (same ∙ ap (λ c. chain_in c cell) a.chains ∙ chain_apart own.store.chains (cell_of a.key) _ cell ne)
-      | inl e ↦
-          let f = followed this.setting this.state this.along.steady this.w this.ground this.n runs new a in
-          let pair' : IsPair this.state (cell_of a.key) p this.n = subst (λ (c : Cell). IsPair this.state c p this.n) e pair in
-          let one : p ≡ f.p = same_first this.state this.along.steady (cell_of a.key) p this.n f.p this.n pair' f.pair in
-          let op_is : op ≡ f.putting.op =
-          same_some (sym is ∙ sym (own_recalled this.setting this.state this.w this.along.firm this.ground p cell op runs_p together.one is)
-          ∙ (λ i. at cell_cmp (this.ground.good.memory (one i) (e i)).pending (e i)) ∙ f.putting.is) in
-          inr (ap (λ (o : Pending). is_held k o.client) op_is ∙ held f)
-    ]
+    -- another server, which has put, and has the link in Both with this one
+    module _ (cell : Cell) (p : ℕ) (op : Pending) (row : LinkRow)
+        (shares : IsSharing this.setting this.state this.w this.along.firm this.ground p cell row)
+        (first : row.primary ≡ p) (second : row.secondary ≡ this.n) (is : at cell_cmp (owns_of this.w p).pairs.pending cell ≡ Some op) where
+      not_itself : p ≢ this.n
+      not_itself e = ((own_steady this.setting this.w this.along.firm p).linked cell row shares.linked).apart (first ∙ e ∙ sym second)
+
+      abbrev Followed_or_held : Own → Type 0
+      Followed_or_held new = chain_in (owns_of this.w p).store.chains cell ≡ chain_in new.store.chains cell
+          → (chain_in (owns_of this.w p).store.chains cell ≡ mine cell) ⊎ (is_held k op.client ≡ true)
+
+      own_second : (new : Own) (o : PutsOwn own new) → Followed_or_held new
+      own_second new o same =
+          let s = (this.ground.ready.rests.pending this.n).staged o.op.cell o.op o.is in
+          inl (same ∙ ap (λ c. chain_in c cell) o.chains
+          ∙ chain_apart own.store.chains (cell_of o.op.key) _ cell
+          (λ e.
+          let there : at cell_cmp own.pairs.pending cell ≡ Some o.op = ap (at cell_cmp own.pairs.pending) (e ∙ s.keyed) ∙ o.is in
+          not_itself (one_lead (chosen_state this.setting this.w) p this.n cell
+          (op_leads this.setting this.state this.w this.along.firm this.ground p cell op shares.runs is)
+          (op_leads this.setting this.state this.w this.along.firm this.ground this.n cell o.op runs there))))
+
+      asked_second : (new : Own) (a : PutsAsked hears here own new) → PutHeld {new = new} (An_asked a) → Followed_or_held new
+      asked_second new a held same = elim (same_cell_or_apart cell (cell_of a.key)) [
+        | inr ne ↦ inl (same ∙ ap (λ c. chain_in c cell) a.chains ∙ chain_apart own.store.chains (cell_of a.key) _ cell ne)
+        | inl e ↦
+            let f = followed this.setting this.state this.along.steady this.w this.along.firm this.ground this.n runs new a in
+            let shares' : IsSharing this.setting this.state this.w this.along.firm this.ground p (cell_of a.key) row =
+            subst (λ (c : Cell). IsSharing this.setting this.state this.w this.along.firm this.ground p c row) e shares in
+            let at_one = one_place_of this.setting this.state this.w this.along.firm this.ground this.n p
+            (cell_of a.key) f.row row f.shares shares' in
+            let who : f.row.primary ≡ p = ap (λ (r : LinkRow). r.primary) (sym at_one.1) ∙ first in
+            let visit : this.ground.good.visits p (place_of this.setting this.state this.w this.along.firm this.ground p row)
+            (cell_of a.key)
+            ≡ Some (owns_of this.w p) = visit_here this.setting this.state this.w this.along.firm this.ground p
+            (cell_of a.key) row shares'.seat shares'.linked in
+            let own_is : f.own ≡ owns_of this.w p =
+            same_some (sym f.visited ∙ (λ i. this.ground.good.visits (who i) (at_one.0 i) (cell_of a.key)) ∙ visit) in
+            let op_is : op ≡ f.putting.op =
+            same_some (sym is ∙ (λ i. at cell_cmp (sym own_is i).pairs.pending (e i)) ∙ f.putting.is) in
+            inr (ap (λ (o : Pending). is_held k o.client) op_is ∙ held f)
+      ]
+
+      copy_second : (new : Own) (c : PutsCopy hears here own new) → Followed_or_held new
+      copy_second new c same = inl (same ∙ copied_apart hears own c.cell new.store.chains c.how cell
+          (λ e. copied_unfollowed this.setting this.state this.w this.along.firm this.ground this.n new c p row
+          (subst (λ (q : Cell). IsSharing this.setting this.state this.w this.along.firm this.ground p q row) e shares) not_itself))
+
+      did_second : (new : Own) (s : StoresSo hears here own new) → PutHeld s → Followed_or_held new
+      did_second new (Nothing_new kept) held same = inl (same ∙ ap (λ c. chain_in c cell) kept)
+      did_second new (An_own o) held same = own_second new o same
+      did_second new (An_asked a) held same = asked_second new a held same
+      did_second new (A_copy c) held same = copy_second new c same
 
     -- ### All of it
 
@@ -415,22 +474,45 @@ module _ (this : ServerStep) (k : Plain) where
         kept_finished this k onward runs done.own (ap (λ (o : Own). o.pairs.finished) (of_read hears here own done d).same)
     did_finished _ (By_lead done d) = lead_finished done d
     did_finished _ (By_second done d) = kept_finished this k onward runs done.own (of_second hears here own done d).finished
+    did_finished _ (By_holder done d) = kept_finished this k onward runs done.own (of_holder hears here own done d).finished
+    did_finished _ (By_other done d) = kept_finished this k onward runs done.own (of_other hears here own done d).finished
 
-    did_pending : (done : Done) (d : Did hears here own done) → PutHeld (did_stores hears here own done d) → (cell : Cell) (o : Pending)
+    second_no_own : (done : Done) (seated : IsSeated here own done) (d : DidSecond hears here own done)
+        → IsNoOwn (second_stores hears here own done seated d)
+    second_no_own _ seated (Sets_apart number c tickets h s le) = tt
+    second_no_own _ seated (Promises number c how s is) = tt
+    second_no_own _ seated (Declines number c h s no_room) = tt
+    second_no_own done (inl seat) (Follows number key version bytes h s is) = tt
+    second_no_own done (inr apart) (Follows number key version bytes h s is) = tt
+
+    other_pending : (done : Done) → DidOther hears here own done → OtherStores hears here own done.own → (cell : Cell) (o : Pending)
         → at cell_cmp done.own.pairs.pending cell ≡ Some o → Counted cell o (chain_in done.own.store.chains cell) → Held o
-    did_pending _ Ignores held = λ cell o is. was_held cell o is
-    did_pending _ (Refuses to said is why) held = λ cell o is. was_held cell o is
-    did_pending _ (By_read done d) held = λ cell o is counted.
-        let same = (of_read hears here own done d).same in
-        was_held cell o (sym (ap (λ (x : Own). at cell_cmp x.pairs.pending cell) same) ∙ is)
-        (subst (Counted cell o) (ap (λ (x : Own). chain_in x.store.chains cell) same) counted)
-    did_pending _ (By_lead done d) held = lead_pending done d held
-    did_pending _ (By_second done d) held = second_pending done d
+    other_pending done d (inl same) = stays_pending done.own (Nothing_new same) tt (of_other hears here own done d).pending
+    other_pending done d (inr copy) = stays_pending done.own (A_copy copy) tt (of_other hears here own done d).pending
 
-    pub did_job : (done : Done) (d : Did hears here own done) → PutHeld (did_stores hears here own done d) → OwnFollow this k done.own
-    did_job done d held = record {
+    did_pending : (done : Done) (seated : IsSeated here own done) (d : Did hears here own done)
+        → PutHeld (did_stores hears here own done seated d)
+        → (cell : Cell) (o : Pending)
+        → at cell_cmp done.own.pairs.pending cell ≡ Some o → Counted cell o (chain_in done.own.store.chains cell) → Held o
+    did_pending _ seated Ignores held = λ cell o is. was_held cell o is
+    did_pending _ seated (Refuses to said is why) held = λ cell o is. was_held cell o is
+    did_pending _ seated (By_read done d) held =
+        let same = (of_read hears here own done d).same in
+        stays_pending done.own (Nothing_new (ap (λ (x : Own). x.store.chains) same)) tt (ap (λ (x : Own). x.pairs.pending) same)
+    did_pending _ seated (By_lead done d) held = lead_pending done d held
+    did_pending _ seated (By_second done d) held =
+        stays_pending done.own (second_stores hears here own done seated d) (second_no_own done seated d)
+        (of_second hears here own done d).pending
+    did_pending _ seated (By_holder done d) held =
+        stays_pending done.own (Nothing_new (holder_chains hears here own done d)) tt (of_holder hears here own done d).pending
+    did_pending _ seated (By_other done d) held = other_pending done d (other_changes hears here own done seated d)
+
+    pub did_job : (done : Done) (seated : IsSeated here own done) (d : Did hears here own done)
+        → PutHeld (did_stores hears here own done seated d)
+        → OwnFollow this k done.own
+    did_job done seated d held = record {
       finished = λ c last on. did_finished done d c last;
-      as_lead = λ cell op on is counted still. did_pending done d held cell op is counted still;
-      as_second = λ cell p op runs_p pair together is put still same.
-          did_second done.own (did_stores hears here own done d) held cell p op runs_p pair together is same;
+      as_lead = λ cell op on is counted still. did_pending done seated d held cell op is counted still;
+      as_second = λ cell p op row shares first second is put still same.
+          did_second cell p op row shares first second is done.own (did_stores hears here own done seated d) held same;
     }

@@ -1,27 +1,35 @@
 -- What the machine is told of a server's step is allowed, and keeps it tied to the world.
-use Rattle.std.proofs.Common.{◌≡◌, ◌<◌, ◌+◌, ℕ, List, [], true, Some, refl, sym, ap, ◌∙◌, subst, inl}
+use Rattle.std.proofs.Common.{◌≡◌, ◌<◌, ◌+◌, ℕ, List, [], true, Some, refl, sym, ap, ◌∙◌, subst, inl, ◌||◌, false, Option, None}
+use Rattle.std.specs.Prelude.{is_some}
+use Rattle.petal_base.specs.declared.cell.Cell.{Cell}
+use Rattle.petal_table.specs.Table.{at}
 use Rattle.petal_machine.specs.Machine.{Plain}
 use Rattle.petal_msg.specs.declared.body.Body.{Body}
 use Rattle.petal_msg.specs.declared.body.Body.TheVariants as body
 use Rattle.petal_msg.specs.declared.letter.Actor.TheVariants as actor
 use Rattle.petal_msg.specs.declared.letter.Letter.{Letter}
+use Rattle.petal_msg.specs.declared.operation.Pending.{Pending}
 use Rattle.script_lines.specs.declared.request.Line.{Line}
 use Rattle.petal_rules.specs.Boots.{awake, raised}
 use Rattle.petal_rules.specs.Jobs.{Acted, down_posts}
 use Rattle.petal_rules.specs.Lists.{In}
 use Rattle.petal_rules.specs.Log.{Log, rev_of}
-use Rattle.petal_rules.specs.Server.{Own, Here, Post, Sender, Done, sender, letters_of}
+use Rattle.petal_rules.specs.Server.{Own, Pairs, Here, Post, Sender, Done, sender, letters_of}
 use Rattle.petal_rules.specs.State.{State, servers_of}
+use Rattle.petal_rules.specs.Progress.{copying_on}
+use Rattle.petal_rules.specs.Store.{Store, cell_cmp}
+use Rattle.petal_rules.specs.Writes.{is_under_way}
 use Rattle.petal_rules.specs.World.{Setting, World, acts, stamped, chosen_log, chosen_state, server_state}
 use Rattle.petal_rules.specs.declared.job.Job.{Job}
 use Rattle.petal_rules.specs.declared.step.Step.{Step}
 use Rattle.petal_rules.proofs.Tests.{true_false}
+use Rattle.petal_history.specs.Claims.{IsPrefix}
 use Rattle.petal_history.specs.Events.{accepted}
 use Rattle.petal_history.specs.declared.record.Record.{Record}
 use Rattle.law_state.specs.Tables.{IsGrown}
 use Rattle.law_steps.specs.DidRead.{Shows}
 use Rattle.law_steps.specs.Did.{Did, By_read}
-use Rattle.law_steps.specs.Happens.{Handled, Worked, By_job, By_entry, Serving, Goes, Ends, Stays, Wakes, Fails, own_place, without_rev, served_so, stopped_so}
+use Rattle.law_steps.specs.Happens.{Handled, Worked, By_job, By_ballot, By_entry, IsSeated, Serving, Goes, Ends, Stays, Wakes, Fails, own_place, without_rev, served_so, stopped_so}
 use Rattle.law_steps.proofs.Letters.{said}
 use Rattle.law_steps.proofs.Serving.{chosen_same}
 use Rattle.law_copies.specs.Pair.{owns_of}
@@ -33,7 +41,9 @@ use Rattle.law_run.proofs.Frames.{AreKept, As_before, Anew, OwnFollow, Runs, Say
 use Rattle.law_run.proofs.LogSteps.{IsOfKind, Of_the_log, Of_a_boot, Of_the_rest}
 use Rattle.law_run.proofs.Looks.{Accepts, is_data}
 use Rattle.law_run.proofs.Puts.{calm_told, stored_told, unchanged}
-use Rattle.law_run.proofs.Says.{IsUnended, is_written, did_says, downs_unended, glances_unended, quiet_data, unended_no_data, unended_no_end}
+use Rattle.law_requests.proofs.Stepping.{proposed_pairs}
+use Rattle.law_run.proofs.Grounds.{proposed_store}
+use Rattle.law_run.proofs.Says.{IsUnended, is_written, did_says, downs_unended, glances_unended, logged_unended, quiet_data, unended_no_data, unended_no_end}
 use Rattle.law_run.proofs.ServerJobs.{did_job}
 use Rattle.law_run.proofs.Shows.{data_of, show_told}
 use Rattle.law_run.proofs.Steps.{ServerStep, ServerTold, LooksTold, letters, assembled, quiet_looks}
@@ -50,6 +60,14 @@ module _ (this : ServerStep) (who : Sender) (posts : List Post) (is : letters th
   unended_looks : LooksTold this
   unended_looks = quiet_looks this (λ letter h. unended_no_data who this.stamp posts unended letter (subst (In letter) is h))
 
+-- where nothing is under way on the block, nothing is pending
+none_pending : (own : Own) (cell : Cell) → is_under_way own cell ≡ false → at cell_cmp own.pairs.pending cell ≡ None
+none_pending own cell free = by (at cell_cmp own.pairs.pending cell) free
+  where
+    by : (o : Option Pending) → is_some o || is_some (copying_on own cell) ≡ false → o ≡ None
+    by None e = refl
+    by (Some op) e = true_false refl e
+
 -- a server of this world
 pub record ServesAt : Type 0 where
   pub setting : Setting
@@ -58,7 +76,7 @@ pub record ServesAt : Type 0 where
   pub m : Plain
   pub along : Along setting state w
   pub ground : Ground setting state w
-  pub follow : Follow setting state (rows_in setting w) w m
+  pub follow : Follow setting (rows_in setting w) w m
   pub n : ℕ
   pub within : n < setting.servers
   pub stamp : ℕ
@@ -72,6 +90,8 @@ module _ (at : ServesAt) where
   -- what is chosen after the step
   pub record Next (acted : Acted) : Type 0 where
     pub along : Along at.setting at.state (after_step acted)
+    pub onward : Ground at.setting at.state (after_step acted)
+    pub grows : IsPrefix (chosen_log at.setting at.w) (chosen_log at.setting (after_step acted))
     pub grown : IsGrown (chosen_state at.setting at.w) (chosen_state at.setting (after_step acted))
 
   abbrev pub step_of : (acted : Acted) → Serving at.setting at.w at.n at.what acted → Next acted → ServerStep
@@ -90,6 +110,8 @@ module _ (at : ServesAt) where
     acted = acted;
     serving = serving;
     next = next.along;
+    onward = next.onward;
+    grows = next.grows;
     grown = next.grown;
     later = at.later;
   }
@@ -126,7 +148,7 @@ module _ (at : ServesAt) where
           → AreAccepted (after_step (served_so at.setting at.w at.n log done queue))
           → LooksTold (step_of (served_so at.setting at.w at.n log done queue) serving next)
       unfolding In
-      job_looks _ (By_read _ (Shows client seq cell epoch h seat r none)) queue serving next same accepts =
+      job_looks _ (By_read _ (Shows client seq cell epoch h seat r free)) queue serving next same accepts =
           let this = step_of _ serving next in
           let letter : Letter =
           record {
@@ -138,7 +160,8 @@ module _ (at : ServesAt) where
             nth = 0;
             body = body.Data seq (data_of this cell epoch);
           } in
-          show_told this numbered runs client seq cell epoch h seat r none letter refl refl refl (λ row b. unchanged this same row b (λ mine. refl))
+          show_told this numbered runs client seq cell epoch h seat r
+          (λ lead. none_pending own cell (free lead)) letter refl refl refl (λ row b. unchanged this same row b (λ mine. refl))
           (λ number e. accepts letter seq _ number (inl refl) refl e)
       job_looks done d queue serving next same accepts =
           let this = step_of _ serving next in
@@ -146,28 +169,30 @@ module _ (at : ServesAt) where
           let s = said (sender here) at.stamp 0 done.posts letter i in
           ap is_data s.body ∙ quiet_data hears here own done d tt s.post s.there)
 
-      job_told : (done : Done) (did : Did hears here own done) (queue : List Job)
+      job_told : (done : Done) (seated : IsSeated here own done) (did : Did hears here own done) (queue : List Job)
           (serving : Serving at.setting at.w at.n at.what (served_so at.setting at.w at.n log done queue))
           (next : Next (served_so at.setting at.w at.n log done queue)) → IsSame (served_so at.setting at.w at.n log done queue)
           → AreAccepted (after_step (served_so at.setting at.w at.n log done queue))
           → ServerTold (step_of (served_so at.setting at.w at.n log done queue) serving next)
-      job_told done did queue serving next same accepts =
+      job_told done seated did queue serving next same accepts =
           let this = step_of _ serving next in
           let says : (k : Plain) → Onward at.m k → SaysOk this k = λ k onward letter i c seq to says still.
           let s = said (sender here) at.stamp 0 done.posts letter i in
           did_says this k runs onward done did s.post s.there c seq (sym s.to ∙ to) (sym s.body ∙ says) still in
-          assembled this (stored_told this same runs says (did_stores hears here own done did) (λ k onward held. did_job this k runs onward done did held))
+          assembled this (stored_told this same runs says (did_stores hears here own done seated did)
+          (λ k onward held. did_job this k runs onward done seated did held))
           (job_looks done did queue serving next same accepts)
 
       -- the server stops once its commit is made
-      job_stopped : (done : Done) (did : Did hears here own done)
+      job_stopped : (done : Done) (seated : IsSeated here own done) (did : Did hears here own done)
           (serving : Serving at.setting at.w at.n at.what (stopped_so at.setting at.w at.n log done))
           (next : Next (stopped_so at.setting at.w at.n log done)) → IsSame (stopped_so at.setting at.w at.n log done)
           → ServerTold (step_of (stopped_so at.setting at.w at.n log done) serving next)
-      job_stopped done did serving next same =
+      job_stopped done seated did serving next same =
           let this = step_of _ serving next in
           let says : (k : Plain) → Onward at.m k → SaysOk this k = λ k onward. unended_says this (without_rev here) downs refl downs_end k in
-          assembled this (stored_told this same runs says (did_stores hears here own done did) (λ k onward held. did_job this k runs onward done did held))
+          assembled this (stored_told this same runs says (did_stores hears here own done seated did)
+          (λ k onward held. did_job this k runs onward done seated did held))
           (unended_looks this (without_rev here) downs refl downs_end)
 
     no_posts : (post : Post) → In post [] → IsUnended post
@@ -190,7 +215,15 @@ module _ (at : ServesAt) where
         (next : Next (served_so at.setting at.w at.n log done queue)) → IsSame (served_so at.setting at.w at.n log done queue)
         → AreAccepted (after_step (served_so at.setting at.w at.n log done queue))
         → ServerTold (step_of (served_so at.setting at.w at.n log done queue) serving next)
-    goes_told _ _ queue runs (By_job log done applied did seat) serving next same accepts = job_told log runs done did queue serving next same accepts
+    goes_told _ _ queue runs (By_job log done applied did seat) serving next same accepts = job_told log runs done seat did queue
+        serving next same accepts
+    goes_told _ _ queue runs (By_ballot log started posts applied starts says) serving next same accepts =
+        let pairs = proposed_pairs (server_state at.setting at.w at.n) own started in
+        calm_step _ serving next same (ap (λ (s : Store). s.chains) (proposed_store (server_state at.setting at.w at.n) own started))
+        (λ k onward. kept_own (step_of _ serving next) k onward
+        (ap (λ (s : Store). s.chains) (proposed_store (server_state at.setting at.w at.n) own started))
+        (λ on. As_before runs (ap (λ (p : Pairs). p.finished) pairs) (ap (λ (p : Pairs). p.pending) pairs)))
+        (sender here) posts refl (λ post i. logged_unended post.body (says post i))
     goes_told _ _ queue runs (By_entry log entry more front) serving next same accepts =
         calm_step _ serving next same refl (λ k onward. kept_own (step_of _ serving next) k onward refl (λ on. As_before runs refl refl))
         (sender here) [] refl no_posts
@@ -199,7 +232,14 @@ module _ (at : ServesAt) where
         → (serving : Serving at.setting at.w at.n at.what (stopped_so at.setting at.w at.n log done))
         (next : Next (stopped_so at.setting at.w at.n log done)) → IsSame (stopped_so at.setting at.w at.n log done)
         → ServerTold (step_of (stopped_so at.setting at.w at.n log done) serving next)
-    ends_told _ _ runs (By_job log done applied did seat) serving next same = job_stopped log runs done did serving next same
+    ends_told _ _ runs (By_job log done applied did seat) serving next same = job_stopped log runs done seat did serving next same
+    ends_told _ _ runs (By_ballot log started posts applied starts says) serving next same =
+        let pairs = proposed_pairs (server_state at.setting at.w at.n) own started in
+        calm_step _ serving next same (ap (λ (s : Store). s.chains) (proposed_store (server_state at.setting at.w at.n) own started))
+        (λ k onward. kept_own (step_of _ serving next) k onward
+        (ap (λ (s : Store). s.chains) (proposed_store (server_state at.setting at.w at.n) own started))
+        (λ on. As_before runs (ap (λ (p : Pairs). p.finished) pairs) (ap (λ (p : Pairs). p.pending) pairs)))
+        (without_rev here) downs refl downs_end
     ends_told _ _ runs (By_entry log entry more front) serving next same =
         calm_step _ serving next same refl (λ k onward. kept_own (step_of _ serving next) k onward refl (λ on. As_before runs refl refl))
         (without_rev here) downs refl downs_end
@@ -219,12 +259,13 @@ module _ (at : ServesAt) where
         (without_rev here) [] refl no_posts
 
     -- a server that runs after the step ran before, or has nothing in memory
-    serves_kept : (acted : Acted) (serving of_it : Serving at.setting at.w at.n at.what acted) (next : Next acted) → acted.server.own ≡ own
+    serves_kept : (acted : Acted) (serving of_it : Serving at.setting at.w at.n at.what acted) (next : Next acted)
+        → acted.server.own.pairs ≡ own.pairs
         → Runs (step_of acted of_it next) → AreKept (step_of acted of_it next)
     serves_kept _ (Goes log done queue runs worked queued works) of_it next same on =
-        As_before runs (ap (λ (o : Own). o.pairs.finished) same) (ap (λ (o : Own). o.pairs.pending) same)
+        As_before runs (ap (λ (p : Pairs). p.finished) same) (ap (λ (p : Pairs). p.pending) same)
     serves_kept _ (Ends log done runs worked) of_it next same on =
-        As_before runs (ap (λ (o : Own). o.pairs.finished) same) (ap (λ (o : Own). o.pairs.pending) same)
+        As_before runs (ap (λ (p : Pairs). p.finished) same) (ap (λ (p : Pairs). p.pending) same)
     serves_kept _ (Stays who posts from shown) of_it next same on = As_before on refl refl
     serves_kept _ (Wakes booted asleep) of_it next same on = Anew refl
     serves_kept _ (Fails booted asleep) of_it next same on = true_false on asleep
@@ -232,8 +273,9 @@ module _ (at : ServesAt) where
     -- each kind of step
     pub step_told : (acted : Acted) (serving : Serving at.setting at.w at.n at.what acted) (next : Next acted) → IsOfKind (at.w.servers at.n) acted
         → AreAccepted (after_step acted) → ServerTold (step_of acted serving next)
-    step_told acted serving next (Of_the_log own_same quiet) accepts =
-        votes_told (step_of acted serving next) (ap (λ (o : Own). o.store.chains) own_same) (serves_kept acted serving serving next own_same) (quiet at.stamp)
+    step_told acted serving next (Of_the_log store pairs quiet) accepts =
+        votes_told (step_of acted serving next) (ap (λ (s : Store). s.chains) store) (serves_kept acted serving serving next pairs)
+        (quiet at.stamp)
     step_told acted serving next (Of_a_boot chains none quiet) accepts =
         votes_told (step_of acted serving next) chains (λ on. Anew none) (quiet at.stamp)
     step_told acted serving next (Of_the_rest records) accepts =

@@ -1,7 +1,8 @@
 -- A read's data are those that the machine has.
-use Rattle.std.proofs.Common.{◌≡◌, ◌==◌, ℕ, List, [], ◌∷◌, ◌++◌, true, false, Option, Some, None, refl, sym, ap, ◌∙◌, subst, inl, inr}
+use Rattle.std.proofs.Common.{◌≡◌, ◌==◌, ℕ, List, [], ◌∷◌, ◌++◌, true, false, Option, Some, None, refl, sym, ap, ◌∙◌, subst, inl, inr, arith}
 use Rattle.std.specs.Prelude.{option_map}
 use Rattle.petal_base.specs.declared.cell.Cell.{Cell}
+use Rattle.petal_command.specs.declared.command.Command.{Command}
 use Rattle.petal_table.specs.Table.{at}
 use Rattle.global_tables.specs.declared.disk.DiskRow.{DiskRow}
 use Rattle.global_tables.specs.declared.link.LinkRow.{LinkRow}
@@ -16,7 +17,7 @@ use Rattle.script_lines.specs.declared.request.Line.{Line}
 use Rattle.script_lines.specs.declared.request.Request.TheVariants as request
 use Rattle.petal_rules.specs.Lists.{In}
 use Rattle.petal_rules.specs.State.{State, authority, in_both, is_in, is_lead, readable}
-use Rattle.petal_rules.specs.Store.{Chain, cell_cmp, chain_in, entry_at, bytes_of}
+use Rattle.petal_rules.specs.Store.{cell_cmp, chain_in, entry_at, bytes_of}
 use Rattle.petal_rules.specs.Server.{Own}
 use Rattle.petal_rules.specs.Clients.{epoch_for}
 use Rattle.petal_rules.specs.World.{chosen_state, chosen_log, server_state}
@@ -24,19 +25,20 @@ use Rattle.petal_rules.proofs.ListLemmas.{in-append}
 use Rattle.petal_rules.proofs.Tests.{by_bool, is_the_so, same_some, none_some, same_numbers, true_false}
 use Rattle.petal_history.specs.Contents.{cell_of_block, content_by}
 use Rattle.petal_history.specs.Events.{look_for, look_of, looks, accepted}
-use Rattle.law_state.proofs.Alone.{alone_not_both, both_before, primary_on, secondary_on, so_alone, so_both}
 use Rattle.law_state.proofs.Cells.{IsInBoth, alone_authority, both_authority, both_lead, read_by}
 use Rattle.law_state.proofs.Leaves.{either_true}
 use Rattle.law_state.proofs.Roles.{log_roles}
 use Rattle.law_state.proofs.Rows.{HasRow}
 use Rattle.law_steps.specs.Happens.{Handled}
+use Rattle.law_steps.proofs.Fronts.{front_itself}
 use Rattle.law_steps.proofs.Histories.{chosen_steady, own_below, own_steady, runs_now}
-use Rattle.law_copies.specs.Pair.{IsPair, AreCopies, owns_of}
-use Rattle.law_copies.proofs.Copying.{together_in_both}
-use Rattle.law_copies.proofs.Jobs.{ok_first}
-use Rattle.law_copies.proofs.Sharing.{shared_by}
+use Rattle.law_copies.specs.Good.{store_of}
+use Rattle.law_copies.specs.Pair.{PairOk, owns_of, pair_of}
+use Rattle.law_copies.specs.Visits.{half, place_by}
+use Rattle.law_copies.proofs.Places.{one_row, places_up}
 use Rattle.law_requests.specs.Asked.{IsRead}
 use Rattle.law_requests.specs.Known.{Known, seen}
+use Rattle.law_run.proofs.Seats.{chosen_twins, equal_pair, visit_here}
 use Rattle.law_run.proofs.Along.{rows_in, row_here, own_link, later_row}
 use Rattle.law_run.proofs.Looks.{AllLooks, Looked, looked, Accepts, letter_looks}
 use Rattle.law_run.proofs.Contents.{was_kept, now_kept}
@@ -59,42 +61,49 @@ module _ (this : ServerStep) where
   abbrev pub data_of : Cell → ℕ → List ℕ
   data_of cell epoch = bytes_of (entry_at (chain_in own.store.chains cell) epoch)
 
-  equal : (one two : Chain) (at : ℕ) (o : Option Pending) → o ≡ None → AreCopies one two at o → one ≡ two
-  equal one two at None e h = h
-  equal one two at (Some op) e h = none_some e refl
+  abbrev top : List Command
+  top = chosen_log this.setting this.w
 
-  -- the first server of a cell in Both that may read it has what counts
-  first_is : (this.w.servers this.n).life.running ≡ true → is_in own_state this.n (this.w.servers this.n).life.inc ≡ true → (cell : Cell)
-      → readable own_state this.n cell ≡ true → (is_lead own_state this.n cell ≡ true → at cell_cmp own.pairs.pending cell ≡ None)
+  -- the first server of a cell in Both has nothing pending where it was at the place: by its own state it leads the cell
+  first_none : is_in own_state this.n (this.w.servers this.n).life.inc ≡ true → (cell : Cell)
+      → (is_lead own_state this.n cell ≡ true → at cell_cmp own.pairs.pending cell ≡ None)
+      → (b : IsInBoth chosen cell) → b.row.primary ≡ this.n → (visit : Own)
+      → this.ground.good.visits this.n (place_by this.setting top b.row) cell ≡ Some visit → at cell_cmp visit.pairs.pending cell ≡ None
+  first_none seat cell none b mine visit is =
+      let firm = this.along.firm in
+      let applied = (this.w.servers this.n).log.applied in
+      let been = this.ground.good.been this.n (place_by this.setting top b.row) cell visit is in
+      let up = places_up this.setting top firm.plain applied top cell been.row b.row (firm.servers this.n)
+      (front_itself top) been.linked b.is in
+      let past = been.past in
+      let same : place_by this.setting applied been.row ≡ place_by this.setting top b.row = omega arith in
+      let one : b.row ≡ been.row =
+      one_row this.setting top firm.plain applied top cell been.row b.row (firm.servers this.n) (front_itself top) been.linked b.is same in
+      let link = (own_steady this.setting this.w firm this.n).linked cell been.row been.linked in
+      let lead : is_lead own_state this.n cell ≡ true =
+      is_the_so _ this.n (both_lead own_state cell been.row been.linked link (ap (λ (r : LinkRow). r.state) (sym one) ∙ b.so)
+      ∙ ap Some (ap (λ (r : LinkRow). r.primary) (sym one) ∙ mine)) in
+      let here = visit_here this.setting this.state this.w firm this.ground this.n cell been.row seat been.linked in
+      let own_is : visit ≡ own = same_some (sym is ∙ ap (λ p. this.ground.good.visits this.n p cell) (sym same) ∙ here) in
+      ap (λ (o : Own). at cell_cmp o.pairs.pending cell) own_is ∙ none lead
+
+  -- so it has what counts
+  first_is : is_in own_state this.n (this.w.servers this.n).life.inc ≡ true → (cell : Cell)
+      → (is_lead own_state this.n cell ≡ true → at cell_cmp own.pairs.pending cell ≡ None)
       → (b : IsInBoth chosen cell) → b.row.primary ≡ this.n
       → content_by this.w cell 0 (authority chosen cell) ≡ bytes_of (entry_at (chain_in own.store.chains cell) 0)
-  first_is runs seat cell may none b mine =
-      let firm = this.along.firm in
-      let old = own_steady this.setting this.w firm this.n in
-      let below = own_below this.setting this.w firm this.n in
-      let both : in_both chosen cell ≡ true = so_both chosen cell b.row b.is b.so in
-      let up = this.along.below in
+  first_is seat cell none b mine =
       let q = b.row.secondary in
-      let pair : IsPair this.state cell this.n q =
-      record {
-        leads = primary_on chosen this.state up cell this.n (ap (option_map (λ (r : LinkRow). r.primary)) b.is ∙ ap Some mine);
-        follows = secondary_on chosen this.state up cell q (ap (option_map (λ (r : LinkRow). r.secondary)) b.is);
-      } in
-      let leads : (is_lead own_state this.n cell ≡ true) × (in_both own_state cell ≡ true) = elim (read_by own_state old cell this.n may).1 [
-        | inl was ↦
-            let now = below.rows cell was.0.row was.0.is in
-            let row : now.now ≡ b.row = same_some (sym now.is ∙ b.is) in
-            let first : was.0.row.primary ≡ this.n = sym now.so.primary ∙ ap (λ (r : LinkRow). r.primary) row ∙ mine in (
-              is_the_so _ this.n (both_lead own_state cell was.0.row was.0.is was.0.linked was.0.so ∙ ap Some first),
-              so_both own_state cell was.0.row was.0.is was.0.so,
-            )
-        | inr held ↦ true_false (both_before own_state chosen below cell held.row held.is both)
-            (alone_not_both own_state this.n cell (so_alone own_state this.n cell held.row false held.is held.so))
-      ] in
-      let ok = ok_first this.setting this.state this.along.steady this.w this.ground.ready this.ground.good this.n runs cell q
-      (shared_by own_state this.n (this.w.servers this.n).life.inc cell seat leads.1) pair (together_in_both this.setting this.w firm cell this.n q both) in
-      ap (content_by this.w cell 0) (both_authority chosen cell b.row b.is b.linked b.so)
-      ∙ ap (λ c. bytes_of (entry_at c 0)) (sym (equal _ _ _ _ (none leads.0) ok.copies))
+      let place = place_by this.setting top b.row in
+      let visits = this.ground.good.visits in
+      let twins = chosen_twins this.setting this.state this.w this.along.firm this.ground cell b.row b.is b.so in
+      let pair : PairOk (pair_of (half (visits this.n place cell) (store_of this.w this.n))
+      (half (visits q place cell) (store_of this.w q)) cell) =
+      subst (λ k. PairOk (pair_of (half (visits k place cell) (store_of this.w k))
+      (half (visits q place cell) (store_of this.w q)) cell)) mine twins.pair in
+      let equal = equal_pair (visits this.n place cell) (visits q place cell) (store_of this.w this.n) (store_of this.w q) cell pair
+      (first_none seat cell none b mine) in
+      ap (content_by this.w cell 0) (both_authority chosen cell b.row b.is b.linked b.so) ∙ ap (λ c. bytes_of (entry_at c 0)) (sym equal)
 
   -- what a server that may read a cell has is what counts
   read_is : (this.w.servers this.n).life.running ≡ true → is_in own_state this.n (this.w.servers this.n).life.inc ≡ true → (cell : Cell)
@@ -111,7 +120,7 @@ module _ (this : ServerStep) where
         | inl both ↦
             let b = both.0 in
             by_bool (b.row.primary == this.n)
-            (λ t. first_is runs seat cell may none b (same_numbers b.row.primary this.n t))
+            (λ t. first_is seat cell none b (same_numbers b.row.primary this.n t))
             (λ f.
             let mine = same_numbers b.row.secondary this.n (either_true (b.row.primary == this.n) (b.row.secondary == this.n) both.1 f) in
             ap (content_by this.w cell 0) (both_authority chosen cell b.row b.is b.linked b.so ∙ ap Some mine))

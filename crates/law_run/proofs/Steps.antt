@@ -26,15 +26,14 @@ use Rattle.petal_history.specs.declared.record.Record.{Record}
 use Rattle.law_state.specs.Below.{IsBelow}
 use Rattle.law_state.specs.Firm.{Firm}
 use Rattle.law_state.specs.Tables.{IsGrown}
-use Rattle.law_state.proofs.Alone.{not_alone_before}
 use Rattle.law_state.proofs.Rows.{fresh_rows, none_before}
 use Rattle.law_state.proofs.Steady.{front_plain, log_below}
 use Rattle.law_steps.specs.Ready.{Rests}
-use Rattle.law_steps.specs.Happens.{Worked, By_job, By_entry, Serving, Goes, Ends, Stays, Wakes, Fails}
+use Rattle.law_steps.specs.Happens.{Worked, By_job, By_ballot, By_entry, Serving, Goes, Ends, Stays, Wakes, Fails}
 use Rattle.law_steps.proofs.Fronts.{front_itself, front_same}
 use Rattle.law_steps.proofs.Histories.{own_below}
 use Rattle.law_steps.specs.Waking.{AllMayWake}
-use Rattle.law_copies.specs.Pair.{alone_in, owns_of}
+use Rattle.law_copies.specs.Pair.{owns_of}
 use Rattle.law_run.specs.Follow.{Ground, Follow, Stores}
 use Rattle.law_run.proofs.Along.{Along, rows_in, plain_now}
 use Rattle.law_run.proofs.Born.{serves_born}
@@ -53,7 +52,7 @@ pub record ServerStep : Type 0 where
   pub m : Plain
   pub along : Along setting state w
   pub ground : Ground setting state w
-  pub follow : Follow setting state (rows_in setting w) w m
+  pub follow : Follow setting (rows_in setting w) w m
   pub n : ℕ
   pub within : n < setting.servers
   pub stamp : ℕ
@@ -61,6 +60,8 @@ pub record ServerStep : Type 0 where
   pub acted : Acted
   pub serving : Serving setting w n what acted
   pub next : Along setting state (acts w n what stamp acted).world
+  pub onward : Ground setting state (acts w n what stamp acted).world
+  pub grows : IsPrefix (chosen_log setting w) (chosen_log setting (acts w n what stamp acted).world)
   pub grown : IsGrown (chosen_state setting w) (chosen_state setting (acts w n what stamp acted).world)
   pub later : List Record
 
@@ -83,6 +84,7 @@ none_below one other cell below none = elim (some_or_none (cell_link one cell)) 
 -- the entries that a server has applied stay
 worked_grows : (setting : Setting) (w : World) (n : ℕ) (log : Log) (done : Done) → Worked setting w n log done → IsPrefix (w.servers n).log.applied log.applied
 worked_grows setting w n _ _ (By_job log done same did seat) = front_same _ _ same
+worked_grows setting w n _ _ (By_ballot log started posts same starts says) = front_same _ _ same
 worked_grows setting w n _ _ (By_entry log entry more front) = record { later = entry ∷ []; is = more }
 
 serves_grow : (setting : Setting) (w : World) → AllMayWake setting w → (n : ℕ) (what : Step) (acted : Acted) → Serving setting w n what acted
@@ -92,6 +94,23 @@ serves_grow setting w wake n what _ (Ends log done runs worked) = worked_grows s
 serves_grow setting w wake n what _ (Stays who posts from shown) = front_itself _
 serves_grow setting w wake n what _ (Wakes booted asleep) = (wake n).onward
 serves_grow setting w wake n what _ (Fails booted asleep) = front_itself _
+
+-- and are of what was chosen before the step
+worked_within : (setting : Setting) (w : World) → Firm setting w → (n : ℕ) (log : Log) (done : Done) → Worked setting w n log done
+    → IsPrefix log.applied (chosen_log setting w)
+worked_within setting w firm n _ _ (By_job log done same did seat) = subst (λ front. IsPrefix front (chosen_log setting w)) (sym same)
+    (firm.servers n)
+worked_within setting w firm n _ _ (By_ballot log started posts same starts says) =
+    subst (λ front. IsPrefix front (chosen_log setting w)) (sym same) (firm.servers n)
+worked_within setting w firm n _ _ (By_entry log entry more front) = front
+
+serves_within : (setting : Setting) (w : World) → AllMayWake setting w → Firm setting w → (n : ℕ) (what : Step) (acted : Acted)
+    → Serving setting w n what acted → IsPrefix acted.server.log.applied (chosen_log setting w)
+serves_within setting w wake firm n what _ (Goes log done queue runs worked queued works) = worked_within setting w firm n log done worked
+serves_within setting w wake firm n what _ (Ends log done runs worked) = worked_within setting w firm n log done worked
+serves_within setting w wake firm n what _ (Stays who posts from shown) = firm.servers n
+serves_within setting w wake firm n what _ (Wakes booted asleep) = (wake n).chosen
+serves_within setting w wake firm n what _ (Fails booted asleep) = firm.servers n
 
 -- what a server stores is of disks that it knows
 pub born_kept : (setting : Setting) (w : World) → AllMayWake setting w → Firm setting w → Rests setting w
@@ -142,19 +161,13 @@ module _ (this : ServerStep) where
   pub own_other : (i : ℕ) → i ≢ this.n → owns_of v i ≡ owns_of this.w i
   own_other i ne = ap (λ (x : Server). x.own) (put_apart this.w.servers this.n this.acted.server i ne)
 
-  logs_grow : (i : ℕ) → IsPrefix (this.w.servers i).log.applied (v.servers i).log.applied
+  pub logs_grow : (i : ℕ) → IsPrefix (this.w.servers i).log.applied (v.servers i).log.applied
   logs_grow = all_put this.w.servers this.n this.acted.server (λ i (x : Server). IsPrefix (this.w.servers i).log.applied x.log.applied)
       (λ i. front_itself _) (serves_grow this.setting this.w this.ground.wake this.n this.what this.acted this.serving)
 
-  -- a server's own state
-  pub own_later : (i : ℕ) → IsBelow (server_state this.setting this.w i) (server_state this.setting v i)
-  own_later i =
-      log_below this.setting.servers _ _ (front_plain this.setting.servers _ _ this.next.firm.plain (this.next.firm.servers i)) (logs_grow i)
-
-  -- who is alone stays so
-  pub alone_before : (i : ℕ) (cell : Cell) → alone_in this.setting v i cell ≡ false → alone_in this.setting this.w i cell ≡ false
-  alone_before i cell apart =
-      not_alone_before (server_state this.setting this.w i) (server_state this.setting v i) (own_later i) i cell apart
+  pub logs_within : (i : ℕ) → IsPrefix (v.servers i).log.applied (chosen_log this.setting this.w)
+  logs_within = all_put this.w.servers this.n this.acted.server (λ i (x : Server). IsPrefix x.log.applied (chosen_log this.setting this.w))
+      this.along.firm.servers (serves_within this.setting this.w this.ground.wake this.along.firm this.n this.what this.acted this.serving)
 
   -- nothing is stored of disks that were not chosen before the step
   unput : (cell : Cell) → cell_link (chosen_state this.setting this.w) cell ≡ None → (i : ℕ) → chain_in (owns_of v i).store.chains cell ≡ []
@@ -175,11 +188,11 @@ module _ (this : ServerStep) where
     pub es : List Event
     pub is : takes (change_by this.setting this.w v) ≡ Some es
     pub may : Obeys this.m es
-    pub follows : Follow this.setting this.state rows v (replay this.m es)
+    pub follows : Follow this.setting rows v (replay this.m es)
 
   -- what is told of data that are sent, to a machine that has the disks
   abbrev pub LooksTold : Type 0
-  LooksTold = (k : Plain) → Follow this.setting this.state (rows_in this.setting v) v k → Looked k (looks this.setting.lines this.later letters)
+  LooksTold = (k : Plain) → Follow this.setting (rows_in this.setting v) v k → Looked k (looks this.setting.lines this.later letters)
 
   -- what is told of the step
   pub record ServerTold : Type 0 where
@@ -187,7 +200,7 @@ module _ (this : ServerStep) where
     pub is : told_with [] (takes (change_by this.setting this.w v)) (makes (change_by this.setting this.w v) ++ looks this.setting.lines this.later letters ++ [])
         ≡ Some es
     pub may : Obeys this.m es
-    pub follows : Follow this.setting this.state (rows_in this.setting v) v (replay this.m es)
+    pub follows : Follow this.setting (rows_in this.setting v) v (replay this.m es)
 
   -- takes, then disks that are made, then looks
   pub assembled : TakesTold → LooksTold → ServerTold
@@ -207,9 +220,9 @@ module _ (this : ServerStep) where
       let made_is : makes (change_by this.setting this.w v) ≡ ms =
       ap (λ rs. map make_of (drop (length rows) rs)) this.grown.rows ∙ ap (map make_of) (drop_front rows more) in
       let k2 = replay k1 ms in
-      let following : Follow this.setting this.state (rows_in this.setting v) v k2 =
-      subst (λ rs. Follow this.setting this.state rs v k2) (sym this.grown.rows)
-      (follow_onward this.setting this.state rows (rows ++ more) v k1 k2 taken.follows made.onward made.stores) in
+      let following : Follow this.setting (rows_in this.setting v) v k2 =
+      subst (λ rs. Follow this.setting rs v k2) (sym this.grown.rows)
+      (follow_onward this.setting rows (rows ++ more) v k1 k2 taken.follows made.onward made.stores) in
       let seen = look k2 following in
       let ls = looks this.setting.lines this.later letters in
       let k3 = replay k2 ls in
@@ -225,8 +238,9 @@ module _ (this : ServerStep) where
         es = taken.es ++ (ms ++ ls);
         is = (λ i. told_with [] (taken.is i) (append_nil (made_is i ++ ls) i));
         may = Obeys-append this.m taken.es (ms ++ ls) taken.may (Obeys-append k1 ms ls made.may seen.may);
-        follows = subst (Follow this.setting this.state (rows_in this.setting v) v) (sym (replay-append this.m taken.es (ms ++ ls) ∙ replay-append k1 ms ls))
-            (follow_onward this.setting this.state (rows_in this.setting v) (rows_in this.setting v) v k2 k3 following seen.onward stores);
+        follows = subst (Follow this.setting (rows_in this.setting v) v)
+            (sym (replay-append this.m taken.es (ms ++ ls) ∙ replay-append k1 ms ls))
+            (follow_onward this.setting (rows_in this.setting v) (rows_in this.setting v) v k2 k3 following seen.onward stores);
       }
 
   -- where no data are sent, nothing is looked at

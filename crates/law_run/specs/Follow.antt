@@ -1,11 +1,16 @@
 -- What ties servers and clients to the plain machine.
-use Rattle.std.specs.Prelude.{◌≡◌, ◌≤◌, ◌<◌, ◌⊎◌, ℕ, true, false, List, [], ◌∷◌, Some, None}
+use Rattle.std.specs.Prelude.{◌≡◌, ◌≤◌, ◌<◌, ◌⊎◌, ℕ, true, false, List, [], ◌∷◌, Some, None, ◌++◌}
 use Rattle.std.specs.Ordering.{nat_cmp}
 use Rattle.petal_base.specs.declared.cell.Cell.{Cell}
+use Rattle.petal_command.specs.declared.command.Command.{Command}
+use Rattle.petal_command.specs.declared.command.Command.TheVariants.{Caught}
 use Rattle.petal_table.specs.Table.{at}
 use Rattle.global_tables.specs.Disk.{named}
 use Rattle.global_tables.specs.declared.disk.DiskRow.{DiskRow}
+use Rattle.global_tables.specs.declared.link.LinkRow.{LinkRow}
+use Rattle.global_tables.specs.declared.link.LinkState.TheVariants.{Both}
 use Rattle.petal_machine.specs.Machine.{Plain, disk_of, open_of}
+use Rattle.petal_msg.specs.declared.body.Body.{Body}
 use Rattle.petal_msg.specs.declared.body.Body.TheVariants as body
 use Rattle.petal_msg.specs.declared.letter.Actor.TheVariants as actor
 use Rattle.petal_msg.specs.declared.letter.Letter.{Letter}
@@ -14,15 +19,21 @@ use Rattle.petal_msg.specs.declared.operation.Finished.{Finished}
 use Rattle.petal_msg.specs.declared.operation.Pending.{Pending}
 use Rattle.petal_state.specs.CellState.{cell_link}
 use Rattle.petal_rules.specs.Lists.{In}
-use Rattle.petal_rules.specs.State.{State, authority}
+use Rattle.petal_rules.specs.State.{State, authority, in_both}
+use Rattle.petal_rules.specs.Server.{Own}
 use Rattle.petal_rules.specs.Store.{Chain, Stored, cell_cmp, chain_in}
-use Rattle.petal_rules.specs.World.{Setting, World, clock_of, server_state, chosen_state}
-use Rattle.petal_history.specs.Claims.{Holds}
+use Rattle.petal_rules.specs.World.{Setting, World, clock_of, server_state, start, chosen_log, chosen_state}
+use Rattle.petal_history.specs.Claims.{Holds, IsPrefix}
 use Rattle.petal_history.specs.Contents.{content_in}
 use Rattle.petal_history.specs.Events.{open_write, same_name}
+use Rattle.petal_history.specs.Legal.{world_after}
+use Rattle.petal_history.specs.declared.record.Record.{Record}
+use Rattle.law_log.specs.Requested.{WasStarted}
 use Rattle.law_steps.specs.Ready.{Ready}
 use Rattle.law_steps.specs.Waking.{AllMayWake}
-use Rattle.law_copies.specs.Pair.{IsPair, AreTogether, alone_in, owns_of, Good}
+use Rattle.law_copies.specs.Good.{Good}
+use Rattle.law_copies.specs.Pair.{owns_of}
+use Rattle.law_copies.specs.Visits.{IsLast, IsLinked, Visits, place_by}
 use Rattle.law_requests.specs.Asked.{IsOpen}
 use Rattle.law_requests.specs.Known.{Lives, PendingFor, seen, asked_for, AskingBy}
 use Rattle.law_run.specs.Onward.{IsMindful, is_held, Seat}
@@ -38,24 +49,47 @@ pub record Named (w : World) : Type 0 where
 abbrev pub IsShort : Chain → Type 0
 IsShort chain = (chain ≡ []) ⊎ ((entry : Stored) × (chain ≡ (0, entry) ∷ []))
 
--- an operation that a server remembers of a cell is pending there, or was so at an incarnation that has ended
-pub data IsRemembered (setting : Setting) (state : State) (w : World) (lives : Lives) (n : ℕ) (cell : Cell) (op : Pending) : Type 0 where
-  Is_pending : at cell_cmp (owns_of w n).pairs.pending cell ≡ Some op → IsRemembered setting state w lives n cell op
-  Was_pending : (inc : ℕ) → inc < lives.ran n → PendingFor setting state (seen lives w) n inc (asked_for cell op) op.rev
-      → IsRemembered setting state w lives n cell op
+-- an entry that a copy sends is of epoch 0
+abbrev pub IsShortSync : Body → Type 0
+IsShortSync (body.Sync number key version index bytes) = key.epoch ≡ 0
+IsShortSync _ = Unit {0}
 
--- the ground on which the run stands, at a state from what is chosen on: the laws below it; what a server remembers of a cell that
--- it doesn't hold alone is of a write that is known of; and what it has put is of a disk that it knows
+-- an operation that a server had pending when it last was at this place of the cell's link: it is pending there still, at this place, or
+-- it was known of, up to this place, at an incarnation that has ended
+pub data IsRemembered (setting : Setting) (state : State) (w : World) (lives : Lives) (n place : ℕ) (cell : Cell)
+    (op : Pending) : Type 0 where
+  Is_pending : at cell_cmp (owns_of w n).pairs.pending cell ≡ Some op → (row : LinkRow)
+      → IsLinked setting (w.servers n).log.applied cell row
+      → place_by setting (w.servers n).log.applied row ≡ place → IsRemembered setting state w lives n place cell op
+  Was_pending : (inc : ℕ) → inc < lives.ran n → (known : PendingFor setting state (seen lives w) n inc (asked_for cell op) op.rev)
+      → (row : LinkRow)
+      → IsLinked setting known.upto cell row → place_by setting known.upto row ≡ place → IsRemembered setting state w lives n place cell op
+
+-- so are the operations of all visits of a place at which the cell's link is in Both, and behind which no server that serves the link
+-- has been
+abbrev pub AreRemembered : (setting : Setting) (state : State) (w : World) (lives : Lives) (visits : Visits) (reached : Cell → ℕ) → Type 0
+AreRemembered setting state w lives visits reached = (front : List Command) (cell : Cell) (row : LinkRow) (n : ℕ) (own : Own) (op : Pending)
+    → IsPrefix front (chosen_log setting w) → IsLinked setting front cell row → row.state ≡ Both → IsLast reached setting front cell row
+    → visits n (place_by setting front row) cell ≡ Some own → at cell_cmp own.pairs.pending cell ≡ Some op
+    → IsRemembered setting state w lives n (place_by setting front row) cell op
+
+-- the ground on which the run stands, at a state from what is chosen on: the laws below it, after these records; the operations that
+-- servers had at places that count are of writes that are known of; and what a server has put is of a disk that it knows
 pub record Ground (setting : Setting) (state : State) (w : World) : Type 0 where
   pub ready : Ready setting state w
   pub wake : AllMayWake setting w
-  pub good : Good setting state w
+  pub records : List Record
+  pub come : world_after setting (start setting) records ≡ w
+  pub good : Good setting records (chosen_log setting w) w
+  pub started : (front : List Command) (of link holder inc other other_inc : ℕ)
+      → IsPrefix (front ++ Caught of link holder inc other other_inc ∷ []) (chosen_log setting w)
+      → WasStarted setting records holder inc front (record { map = of; link = link })
   pub lives : Lives
   pub asking : AskingBy setting state w lives
-  pub recalled : (n : ℕ) (cell : Cell) (op : Pending) → alone_in setting w n cell ≡ false → at cell_cmp (good.memory n cell).pending cell ≡ Some op
-      → IsRemembered setting state w lives n cell op
+  pub recalled : AreRemembered setting state w lives good.visits good.reached
   pub named : Named w
   pub short : (n : ℕ) (cell : Cell) → IsShort (chain_in (owns_of w n).store.chains cell)
+  pub copied : (letter : Letter) → In letter w.sent → IsShortSync letter.body
   pub born : (n : ℕ) (cell : Cell) → cell_link (server_state setting w n) cell ≡ None → chain_in (owns_of w n).store.chains cell ≡ []
 
 -- ### The machine
@@ -70,23 +104,24 @@ pub record Stores (chosen : State) (rows : List DiskRow) (w : World) (m : Plain)
   pub unknown : (name : List ℕ) → named rows name ≡ None → disk_of m.disks name ≡ None
   pub mindful : IsMindful m
 
--- why the write of an operation that is pending at this server, which has this chain, has had its bytes: before the server held
--- the cell alone, it heard that the second one has put; or the second one has put, while neither holds the cell alone; or the
--- server has put itself, and its copy counts by what is chosen
-pub data HasCounted (setting : Setting) (state : State) (w : World) (n : ℕ) (cell : Cell) (op : Pending) (chain : Chain) : Type 0 where
-  Is_told : alone_in setting w n cell ≡ false → op.stage.paired ≡ true → HasCounted setting state w n cell op chain
-  Is_followed : (q : ℕ) → IsPair state cell n q → AreTogether (alone_in setting w) cell n q → op.stage.put ≡ true
-      → chain ≡ chain_in (owns_of w q).store.chains cell → HasCounted setting state w n cell op chain
-  Is_counted : op.stage.put ≡ true → authority (chosen_state setting w) cell ≡ Some n → HasCounted setting state w n cell op chain
+-- why the write of an operation that is pending at this server, which has this chain, has had its bytes: while the server has the cell's
+-- link in Both by its own state, it heard that the second one has put, or the second one has; or the server has put itself, and its copy
+-- counts by what is chosen
+pub data HasCounted (setting : Setting) (w : World) (n : ℕ) (cell : Cell) (op : Pending) (chain : Chain) : Type 0 where
+  Is_told : in_both (server_state setting w n) cell ≡ true → op.stage.paired ≡ true → HasCounted setting w n cell op chain
+  Is_followed : (row : LinkRow) → IsLinked setting (w.servers n).log.applied cell row → row.state ≡ Both → op.stage.put ≡ true
+      → chain ≡ chain_in (owns_of w row.secondary).store.chains cell → HasCounted setting w n cell op chain
+  Is_counted : op.stage.put ≡ true → authority (chosen_state setting w) cell ≡ Some n → HasCounted setting w n cell op chain
 
 -- its disks are these; the writes under way are those that clients have open; and one whose operation was put where it counts, at
 -- a server that runs, or that ended as written, has had its bytes
-pub record Follow (setting : Setting) (state : State) (rows : List DiskRow) (w : World) (m : Plain) : Type 0 where
+pub record Follow (setting : Setting) (rows : List DiskRow) (w : World) (m : Plain) : Type 0 where
   pub stores : Stores (chosen_state setting w) rows w m
   pub seats : (c : ℕ) → Seat (open_write w c) (open_of m.opened c)
   pub letters : (letter : Letter) (c seq : ℕ) → In letter w.sent → letter.to ≡ actor.Client c → letter.body ≡ body.Written seq
       → IsOpen (w.clients c) seq → is_held m c ≡ true
   pub pending : (n : ℕ) (cell : Cell) (op : Pending) → (w.servers n).life.running ≡ true → at cell_cmp (owns_of w n).pairs.pending cell ≡ Some op
-      → HasCounted setting state w n cell op (chain_in (owns_of w n).store.chains cell) → IsOpen (w.clients op.client) op.seq → is_held m op.client ≡ true
+      → HasCounted setting w n cell op (chain_in (owns_of w n).store.chains cell) → IsOpen (w.clients op.client) op.seq
+      → is_held m op.client ≡ true
   pub finished : (n c : ℕ) (last : Finished) → (w.servers n).life.running ≡ true → at nat_cmp (owns_of w n).pairs.finished c ≡ Some last
       → last.ending ≡ ending.Written → IsOpen (w.clients c) last.seq → is_held m c ≡ true

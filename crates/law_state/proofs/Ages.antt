@@ -1,5 +1,5 @@
 -- Ages of servers: an incarnation that is In is of one age, and one that was In and is In again was In all the time.
-use Rattle.std.proofs.Common.{◌≡◌, ◌≤◌, ◌<◌, ◌+◌, ◌==◌, ℕ, true, false, Option, Some, None, refl, ap, ◌∙◌, arith}
+use Rattle.std.proofs.Common.{◌≡◌, ◌≤◌, ◌<◌, ◌+◌, ◌==◌, ℕ, true, false, Option, Some, None, refl, sym, ap, ◌∙◌, arith}
 use Rattle.std.specs.Prelude.{slice_get, option_and_then, nat_lt}
 use Rattle.std.specs.Option.{option_map_or}
 use Rattle.std.proofs.lemmas.Bool.Decides.{nat_tests}
@@ -7,7 +7,7 @@ use Rattle.global_tables.specs.declared.fence.Member.{Member}
 use Rattle.global_tables.specs.declared.fence.Member.TheVariants as member
 use Rattle.global_tables.specs.View.{is_in, inc_in}
 use Rattle.petal_state.specs.Command.{may_join}
-use Rattle.petal_state.specs.State.{is_up, is_up_as}
+use Rattle.petal_state.specs.State.{inc_of, is_up, is_up_as}
 use Rattle.petal_rules.specs.State.{State}
 use Rattle.petal_rules.proofs.Tests.{by_bool, same_numbers, number_itself, true_false}
 use Rattle.law_state.specs.Ages.{age, age_of}
@@ -56,6 +56,18 @@ in_once s n one other e f = let a = in_age s n one e in let b = in_age s n other
 pub between : (s t u : State) (n inc : ℕ) → age_of s n ≤ age_of t n → age_of t n ≤ age_of u n → is_up_as s n inc ≡ true → is_up_as u n inc ≡ true
     → is_up_as t n inc ≡ true
 between s t u n inc a b e f = let x = in_age s n inc e in let y = in_age u n inc f in age_in t n inc (omega arith)
+
+-- who is In as no incarnation is Out
+pub out_by : (s : State) (n : ℕ) → inc_of s n ≡ None → is_up s n ≡ false
+out_by s n none = by_bool (is_up s n)
+    (λ up. let is = up_some s n up in true_false is.1 (ap (λ o. option_map_or (λ present. present == is.0) o false) none))
+    (λ no. no)
+
+-- who is Out is so as long as its age stays
+pub out_same : (s t : State) (n : ℕ) → is_up s n ≡ false → age_of t n ≡ age_of s n → is_up t n ≡ false
+out_same s t n out same = by_bool (is_up t n)
+    (λ up. let is = up_some t n up in true_false (in_up s n is.0 (age_in s n is.0 (sym same ∙ in_age t n is.0 is.1))) out)
+    (λ no. no)
 
 pub no_less : (a : ℕ) → a ≤ a
 no_less a = omega arith

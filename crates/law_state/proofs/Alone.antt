@@ -1,5 +1,5 @@
 -- What a state says of a cell's two servers and of a holder that is alone, and what a later one says of them.
-use Rattle.std.proofs.Common.{◌≡◌, ◌≢◌, ℕ, if◌then◌else◌, Bool, true, false, Option, Some, None, refl, sym, ap, ◌∙◌, ◌⊎◌, inl, inr}
+use Rattle.std.proofs.Common.{◌≡◌, ◌≢◌, ℕ, Bool, true, false, Option, Some, None, refl, sym, ap, ◌∙◌, ◌⊎◌, inl, inr}
 use Rattle.std.specs.Prelude.{is_some, option_map, option_and_then}
 use Rattle.std.specs.Option.{option_map_or}
 use Rattle.petal_base.specs.declared.cell.Cell.{Cell}
@@ -8,26 +8,26 @@ use Rattle.global_tables.specs.Link.{has_server}
 use Rattle.global_tables.specs.declared.link.LinkState.{LinkState}
 use Rattle.global_tables.specs.declared.link.LinkState.TheVariants.{Both, Only, Lost}
 use Rattle.petal_command.specs.declared.command.Command.{Command}
-use Rattle.petal_state.specs.CellState.{cell_link}
-use Rattle.petal_state.specs.Command.{act, after, is_alone}
+use Rattle.petal_state.specs.CellState.{cell_link, serves}
+use Rattle.petal_state.specs.Command.{after, is_alone}
 use Rattle.petal_state.specs.Place.{touches}
 use Rattle.petal_state.specs.State.{is_up, is_up_as}
 use Rattle.petal_rules.specs.Crossing.{touches_cell}
 use Rattle.petal_rules.specs.State.{State, lead, is_lead, row_in_both, in_both, first, second, primary, secondary, is_alone_on}
 use Rattle.petal_rules.proofs.Tests.{by_bool, true_false, none_some, same_some, same_numbers, number_itself, some_or_none, is_the_one}
+use Rattle.law_state.specs.Places.{By_caught, By_join, By_leave}
 use Rattle.law_state.specs.Rows.{IsServed, IsServedBy, ByBoth, ByOne}
 use Rattle.law_state.specs.Steady.{IsSteady}
 use Rattle.law_state.specs.Below.{IsBelow}
 use Rattle.law_state.specs.Plain.{IsPlain}
 use Rattle.law_state.specs.Tables.{IsPlainState}
+use Rattle.law_state.proofs.Ages.{out_by}
 use Rattle.law_state.proofs.Cells.{led_by, first_by, second_by, both_first, both_second}
-use Rattle.law_state.proofs.Entries.{settled_act}
-use Rattle.law_state.proofs.Joins.{was_out}
-use Rattle.law_state.proofs.Leaves.{both_up, left_by, out_now}
+use Rattle.law_state.proofs.Leaves.{both_up}
 use Rattle.law_state.proofs.Grown.{one_before}
 use Rattle.law_state.proofs.Grown.{alone_not_both as alone_row_not_both}
 use Rattle.law_state.proofs.Roles.{primary_is_one, secondary_is_one}
-use Rattle.law_state.proofs.Touching.{touched_by_entry}
+use Rattle.law_state.proofs.Touching.{touched}
 
 -- ### One state, by its definitions alone
 
@@ -197,30 +197,6 @@ module _ (earlier later : State) (below : IsBelow earlier later) where
     | inr none ↦ none_some (ap (option_map (λ (r : LinkRow). r.secondary)) none) e
   ]
 
-  -- who is alone stays so
-  pub alone_on : (n : ℕ) (cell : Cell) → is_alone_on earlier n cell ≡ true → is_alone_on later n cell ≡ true
-  alone_on n cell e =
-      let a = alone_row earlier n cell e in
-      let now = below.rows cell a.row a.is in
-      elim now.so.state [
-        | inl same ↦ so_alone later n cell now.now a.whole now.is (same ∙ a.alone)
-        | inr left ↦ let f : Both ≡ Only n a.whole = sym left.before ∙ a.alone in absurd cc
-      ]
-
-  pub not_alone_before : (n : ℕ) (cell : Cell) → is_alone_on later n cell ≡ false → is_alone_on earlier n cell ≡ false
-  not_alone_before n cell e = by_bool (is_alone_on earlier n cell) (λ alone. true_false (alone_on n cell alone) e) (λ no. no)
-
-  -- a cell that had a link, and is in Both, was in Both
-  pub both_before : (cell : Cell) (row : LinkRow) → cell_link earlier cell ≡ Some row → in_both later cell ≡ true → in_both earlier cell ≡ true
-  both_before cell row is e =
-      let now = below.rows cell row is in
-      let b = both_row later cell e in
-      let both : now.now.state ≡ Both = ap (λ (r : LinkRow). r.state) (same_some (sym now.is ∙ b.is)) ∙ b.both in
-      elim now.so.state [
-        | inl same ↦ so_both earlier cell row is (sym same ∙ both)
-        | inr left ↦ let f : Both ≡ Only left.holder false = sym both ∙ left.after in absurd cc
-      ]
-
 -- ### An entry that touches a link
 
 -- a cell that an entry touches has a link
@@ -236,41 +212,32 @@ pub record IsLeftOut (after_it : State) (row : LinkRow) : Type 0 where
   pub one_of : has_server server row ≡ true
   pub out : is_up after_it server ≡ false
 
-pub touched_out : (servers : ℕ) (s : State) → IsPlainState servers s → (entry : Command) → IsPlain servers entry → (row : LinkRow)
-    → touches s entry row ≡ true → IsServed s row → row.state ≡ Both → IsLeftOut (after s entry) row
-touched_out servers s p entry plain row e served both = elim (touched_by_entry servers s entry row plain e) [
-  | inl left ↦ record {
-    server = left.server;
-    one_of = left.one_of;
-    out = ap (λ t. is_up t left.server) (settled_act servers s entry p plain) ∙ ap (λ c. is_up (act c s) left.server) left.is
-        ∙ ap (λ b. is_up (if b then left_by s left.server else s) left.server) left.up ∙ out_now servers s p left.server left.inc left.up;
-  }
-  | inr joined ↦ elim served [
-    | ByBoth so one two ↦ true_false (both_up (is_up s) row joined.server one two joined.one_of) (was_out servers s p joined.server joined.inc joined.may)
-    | ByOne holder other so pair out ↦ alone_row_not_both row holder so both
-  ]
+pub touched_out : (servers : ℕ) (s : State) → IsPlainState servers s → (entry : Command) → IsPlain servers entry → (cell : Cell) (row : LinkRow)
+    → cell_link s cell ≡ Some row → touches s entry row ≡ true → IsServed s row → row.state ≡ Both → IsLeftOut (after s entry) row
+touched_out servers s p entry plain cell row is e served both = elim (touched servers s p cell row is served entry plain e) [
+  | By_leave left at seats ↦ record { server = left.server; one_of = left.one_of; out = out_by (after s entry) left.server seats.here }
+  | By_join joined at apart seats ↦ absurd (apart both)
+  | By_caught caught stays ↦ alone_row_not_both row caught.holder caught.alone both
 ]
 
--- a server that serves the cell before the entry, and is In as the same incarnation after it, holds the link alone then
+-- a server of a cell in Both, which is In as the same incarnation after such an entry, holds the link alone then
 pub touched_alone : (servers : ℕ) (s : State) → IsPlainState servers s → (entry : Command) → IsPlain servers entry → IsSteady s → IsSteady (after s entry)
     → IsBelow s (after s entry) → (cell : Cell) (n inc : ℕ) → touches_cell s entry cell ≡ true → (primary s cell ≡ Some n) ⊎ (secondary s cell ≡ Some n)
-    → (in_both s cell ≡ true) ⊎ (is_alone_on s n cell ≡ true) → is_up_as s n inc ≡ true → is_up_as (after s entry) n inc ≡ true
-    → is_alone_on (after s entry) n cell ≡ true
-touched_alone servers s p entry plain was steady below cell n inc e one (inr alone) before still = alone_on s (after s entry) below n cell alone
-touched_alone servers s p entry plain was steady below cell n inc e one (inl together) before still =
+    → in_both s cell ≡ true → is_up_as s n inc ≡ true → is_up_as (after s entry) n inc ≡ true → is_alone_on (after s entry) n cell ≡ true
+touched_alone servers s p entry plain was steady below cell n inc e one together before still =
     let b = both_row s cell together in
     let row = b.row in
     let t = after s entry in
-    let gone = touched_out servers s p entry plain row (sym (ap (λ o. option_map_or (touches s entry) o false) b.is) ∙ e) (was.linked cell row b.is).served b.both in
+    let gone = touched_out servers s p entry plain cell row b.is (sym (ap (λ o. option_map_or (touches s entry) o false) b.is) ∙ e) (was.linked cell row b.is).served b.both in
     let now = below.rows cell row b.is in
     let mine : has_server n row ≡ true = elim one [
       | inl first ↦ primary_is_one row n (same_some (sym (ap (option_map (λ (r : LinkRow). r.primary)) b.is) ∙ first))
       | inr second ↦ secondary_is_one row n (same_some (sym (ap (option_map (λ (r : LinkRow). r.secondary)) b.is) ∙ second))
     ] in
-    elim (now.on n inc b.both mine before still) [
-      | inr alone ↦ so_alone t n cell now.now false now.is alone
-      | inl both ↦ elim (steady.linked cell now.now now.is).served [
-        | ByBoth so up up' ↦ true_false (both_up (is_up t) now.now gone.server up up' (one_before row now.now gone.server now.so ∙ gone.one_of)) gone.out
-        | ByOne holder other alone pair out ↦ alone_row_not_both now.now holder alone both
-      ]
+    let on = now.on n inc mine (ap (serves n row) b.both ∙ mine) before still in
+    elim (steady.linked cell now.now now.is).served [
+      | ByBoth so up up' ↦ true_false (both_up (is_up t) now.now gone.server up up' (one_before row now.now gone.server now.so ∙ gone.one_of)) gone.out
+      | ByOne holder other alone pair out ↦ (
+          let same = same_numbers holder n (sym (ap (serves n now.now) alone) ∙ on) in
+          so_alone t n cell now.now false now.is (alone ∙ ap (λ k. Only k false) same))
     ]

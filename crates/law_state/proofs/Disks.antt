@@ -10,7 +10,7 @@ use Rattle.global_tables.specs.declared.disk.DiskRow.{DiskRow}
 use Rattle.global_tables.specs.declared.fence.Member.{Member}
 use Rattle.global_tables.specs.declared.fence.Member.TheVariants as member
 use Rattle.petal_command.specs.declared.command.Command.{Command}
-use Rattle.petal_command.specs.declared.command.Command.TheVariants.{Join, Leave, MakeDisk, Witness}
+use Rattle.petal_command.specs.declared.command.Command.TheVariants.{Join, Leave, Caught, MakeDisk, Witness}
 use Rattle.global_tables.specs.declared.disk.Verdict.TheVariants as Verdict
 use Rattle.petal_state.specs.Command.{act, after, is_new, may_join, state_after, with_disk}
 use Rattle.petal_state.specs.State.{is_up, is_up_as, latest, start, told}
@@ -24,6 +24,7 @@ use Rattle.law_state.specs.Plain.{IsPlain, IsPlainLog}
 use Rattle.law_state.specs.Steady.{HasLink}
 use Rattle.law_state.specs.Tables.{IsPlainState}
 use Rattle.law_state.proofs.Ages.{in_once, in_up, up_some}
+use Rattle.law_state.proofs.Caughts.{act_caught}
 use Rattle.law_state.proofs.Joins.{joined_by, in_now, was_out}
 use Rattle.law_state.proofs.Joins.{in_beside as joined_beside}
 use Rattle.law_state.proofs.Places.{find_here, get_in, in_get, get_replicate, text_itself}
@@ -115,6 +116,9 @@ made_out servers s p (Leave server last) plain n inc is =
       | inr ne ↦ true_false (in_beside servers s p server last now n inc ne ∙ is) out
     ])
     (λ no out. true_false is out)
+made_out servers s p (Caught of link holder holder_inc other other_inc) plain n inc is =
+    act_caught (λ (t : State). is_up_as t n inc ≡ false → Leave n inc ≡ Caught of link holder holder_inc other other_inc) s
+    of link holder holder_inc other other_inc (λ acts out. true_false is out) (λ out. true_false is out)
 made_out servers s p (MakeDisk client seq name tuple) plain n inc is =
     by_test (λ (t : State). is_up_as t n inc ≡ false → Leave n inc ≡ MakeDisk client seq name tuple) (not (is_new seq (latest s client))) s _
     (λ old out. true_false is out)
@@ -169,6 +173,9 @@ made_in servers s p (Leave server last) plain n inc out =
     by_test (λ (t : State). is_up_as t n inc ≡ true → Join n inc false ≡ Leave server last) (is_up_as s server last) (left_by s server) s
     (λ now is. true_false (in_before servers s p server last now n inc is) out)
     (λ no is. true_false is out)
+made_in servers s p (Caught of link holder holder_inc other other_inc) plain n inc out =
+    act_caught (λ (t : State). is_up_as t n inc ≡ true → Join n inc false ≡ Caught of link holder holder_inc other other_inc) s
+    of link holder holder_inc other other_inc (λ acts is. true_false is out) (λ is. true_false is out)
 made_in servers s p (MakeDisk client seq name tuple) plain n inc out =
     by_test (λ (t : State). is_up_as t n inc ≡ true → Join n inc false ≡ MakeDisk client seq name tuple) (not (is_new seq (latest s client))) s _
     (λ old is. true_false is out)

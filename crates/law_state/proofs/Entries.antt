@@ -1,14 +1,15 @@
--- Plain entries keep a state plain, and only add to its tables, but for servers that leave and join.
+-- Plain entries keep a state plain, and only add to its tables, but for servers that leave and join, and links that are in Both again.
 use Rattle.std.proofs.Common.{◌≡◌, ◌+◌, ℕ, zero, suc, List, [], ◌∷◌, length, true, false, not, Option, Some, None, refl, sym, ap, subst, inl, inr, is_some, arith}
 use Rattle.std.specs.Prelude.{fold, replicate, slice_get}
 use Rattle.std.proofs.lemmas.List.{length-replicate}
 use Rattle.global_tables.specs.declared.disk.Verdict.{Verdict}
 use Rattle.global_tables.specs.declared.fence.Member.{Member}
 use Rattle.global_tables.specs.declared.fence.Member.TheVariants as member
+use Rattle.global_tables.specs.declared.link.LinkRow.{LinkRow}
 use Rattle.global_tables.specs.Disk.{named}
 use Rattle.global_tables.specs.View.{last_inc}
 use Rattle.petal_command.specs.declared.command.Command.{Command}
-use Rattle.petal_command.specs.declared.command.Command.TheVariants.{Join, Leave, MakeDisk, Witness}
+use Rattle.petal_command.specs.declared.command.Command.TheVariants.{Join, Leave, Caught, MakeDisk, Witness}
 use Rattle.petal_state.specs.State.{start, latest, told, is_up_as}
 use Rattle.petal_state.specs.Fence.{settled, let_through}
 use Rattle.petal_state.specs.Command.{act, after, is_new, may_join, with_disk, state_after}
@@ -20,6 +21,7 @@ use Rattle.law_state.specs.Tables.{IsPlainState}
 use Rattle.law_state.proofs.Grown.{Step, grown_on, stays, untabled}
 use Rattle.law_state.proofs.Leaves.{leaving}
 use Rattle.law_state.proofs.Joins.{joining}
+use Rattle.law_state.proofs.Caughts.{act_caught, catching}
 use Rattle.law_state.proofs.Making.{making}
 
 none_of : {A : Type 0} (o : Option A) → is_some o ≡ false → o ≡ None
@@ -32,6 +34,8 @@ acting servers s (Join server inc false) p proper =
     by_test (Step servers s) (may_join (slice_get s.view.members server) inc) _ s (λ may. joining servers s p server inc may) (λ no. stays servers s p)
 acting servers s (Leave server inc) p proper =
     by_test (Step servers s) (is_up_as s server inc) _ s (λ is. leaving servers s p server inc is) (λ no. stays servers s p)
+acting servers s (Caught of link holder holder_inc other other_inc) p proper =
+    act_caught (Step servers s) s of link holder holder_inc other other_inc (catching servers s p of link holder holder_inc other other_inc) (stays servers s p)
 acting servers s (MakeDisk client seq name tuple) p proper =
     by_test (Step servers s) (not (is_new seq (latest s client))) s _
     (λ old. stays servers s p)
@@ -68,6 +72,10 @@ in_at_start zero n m e = none_some refl e
 in_at_start (suc servers) zero m e = sym (same_some e)
 in_at_start (suc servers) (suc n) m e = in_at_start servers n m e
 
+no_row : {A : Type 0} (row : LinkRow) → In row [] → A
+unfolding In
+no_row row h = absurd h
+
 pub start_plain : (servers : ℕ) → IsPlainState servers (start servers)
 start_plain servers = record {
   many = length-replicate servers (member.In 1);
@@ -80,6 +88,7 @@ start_plain servers = record {
   tuples = λ of tuple e. none_some refl e;
   links = λ of link tuple e. none_some refl e;
   unlinked = λ of link none. refl;
+  found = λ row h. no_row row h;
 }
 
 pub log_plain : (servers : ℕ) (log : List Command) → IsPlainLog servers log → IsPlainState servers (state_after servers log)

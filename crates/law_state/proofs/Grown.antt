@@ -1,5 +1,5 @@
 -- States that have grown from one another, and rows of links that are later than others.
-use Rattle.std.proofs.Common.{◌≡◌, ◌≤◌, ◌++◌, ℕ, List, [], false, Option, refl, sym, ap, ◌∙◌, ◌⊎◌, inl, inr, append_assoc, arith}
+use Rattle.std.proofs.Common.{◌≡◌, ◌≤◌, ◌++◌, ℕ, List, [], false, Option, refl, sym, ap, ◌∙◌, append_assoc, arith}
 use Rattle.std.proofs.lemmas.List.{append-nil}
 use Rattle.global_tables.specs.Link.{has_server}
 use Rattle.global_tables.specs.declared.disk.Latest.{Latest}
@@ -7,12 +7,12 @@ use Rattle.global_tables.specs.declared.link.LinkRow.{LinkRow}
 use Rattle.global_tables.specs.declared.link.LinkState.TheVariants.{Both, Only}
 use Rattle.petal_rules.specs.State.{State}
 use Rattle.law_state.specs.Ages.{age_of}
-use Rattle.law_state.specs.Rows.{IsLater, IsLeftAlone, IsServedOn}
+use Rattle.law_state.specs.Rows.{IsHeldOn, IsLater, IsServedOn}
 use Rattle.law_state.specs.Tables.{IsGrown, IsPlainState}
-use Rattle.law_state.proofs.Ages.{between, no_less}
+use Rattle.law_state.proofs.Ages.{between, no_less, out_same}
 
 pub later_itself : (row : LinkRow) → IsLater row row
-later_itself row = record { map = refl; link = refl; primary = refl; secondary = refl; state = inl refl }
+later_itself row = record { map = refl; link = refl; primary = refl; secondary = refl }
 
 -- who is one of two servers later was so before
 pub one_before : (row later : LinkRow) (n : ℕ) → IsLater row later → has_server n later ≡ has_server n row
@@ -21,49 +21,33 @@ one_before row later n so = λ i. has_server n (record row { primary = so.primar
 pub alone_not_both : {B : Type 0} (row : LinkRow) (holder : ℕ) → row.state ≡ Only holder false → row.state ≡ Both → B
 alone_not_both row holder e f = let g : Only holder false ≡ Both = sym e ∙ f in absurd cc
 
--- a link that is in Both was so before
-pub both_before : (row later : LinkRow) → IsLater row later → later.state ≡ Both → row.state ≡ Both
-both_before row later so both = elim so.state [ inl same ↦ sym same ∙ both | inr left ↦ alone_not_both later left.holder left.after both ]
-
 pub later_on : (one two three : LinkRow) → IsLater one two → IsLater two three → IsLater one three
 later_on one two three a b = record {
   map = b.map ∙ a.map;
   link = b.link ∙ a.link;
   primary = b.primary ∙ a.primary;
   secondary = b.secondary ∙ a.secondary;
-  state = by a.state b.state;
 }
-  where
-    by : (two.state ≡ one.state) ⊎ IsLeftAlone one two → (three.state ≡ two.state) ⊎ IsLeftAlone two three → (three.state ≡ one.state) ⊎ IsLeftAlone one three
-    by (inl e) (inl f) = inl (f ∙ e)
-    by (inl e) (inr left) = inr (record {
-      before = sym e ∙ left.before;
-      holder = left.holder;
-      one_of = sym (one_before one two left.holder a) ∙ left.one_of;
-      after = left.after;
-    })
-    by (inr left) (inl f) = inr (record { before = left.before; holder = left.holder; one_of = left.one_of; after = f ∙ left.after })
-    by (inr left) (inr again) = alone_not_both two left.holder left.after again.before
 
--- a link that a server holds alone it goes on to hold alone
-alone_on : (row later : LinkRow) (n : ℕ) → IsLater row later → row.state ≡ Only n false → later.state ≡ Only n false
-alone_on row later n so alone = elim so.state [ inl same ↦ same ∙ alone | inr left ↦ alone_not_both row n alone left.before ]
+module _ (s t u : State) (old : (n : ℕ) → age_of s n ≤ age_of t n) (new : (n : ℕ) → age_of t n ≤ age_of u n) where
+  pub served_on_on : (one two three : LinkRow) → IsLater one two → IsServedOn s t one two → IsServedOn t u two three → IsServedOn s u one three
+  served_on_on one two three so on after_on n inc has serving e f =
+      let g = between s t u n inc (old n) (new n) e f in after_on n inc (one_before one two n so ∙ has) (on n inc has serving e g) g f
 
-pub served_on_on : (s t u : State) → ((n : ℕ) → age_of s n ≤ age_of t n) → ((n : ℕ) → age_of t n ≤ age_of u n) → (one two three : LinkRow)
-    → IsLater one two → IsLater two three → IsServedOn s t one two → IsServedOn t u two three → IsServedOn s u one three
-served_on_on s t u old new one two three so after_so on after_on n inc both has e f =
-    let g = between s t u n inc (old n) (new n) e f in
-    elim (on n inc both has e g) [
-      | inl still ↦ after_on n inc still (one_before one two n so ∙ has) g f
-      | inr alone ↦ inr (alone_on two three n after_so alone)
-    ]
+  pub held_on_on : (one two three : LinkRow) → IsHeldOn s t one two → IsHeldOn t u two three → IsHeldOn s u one three
+  held_on_on one two three on after_on n alone out same =
+      let a = old n in
+      let b = new n in
+      let here : age_of t n ≡ age_of s n = omega arith in
+      let there : age_of u n ≡ age_of t n = omega arith in
+      after_on n (on n alone out here) (out_same s t n out here) there
 
 pub grown_itself : (s : State) → IsGrown s s
 grown_itself s = record {
   more = [];
   rows = sym (append-nil s.disks.rows);
   maps = λ of tuple e. e;
-  links = λ of link row e. record { now = row; is = e; so = later_itself row; on = λ n inc both has a b. inl both };
+  links = λ of link row e. record { now = row; is = e; so = later_itself row; on = λ n inc has serving a b. serving; held = λ n alone out same. alone };
   ages = λ n. no_less (age_of s n);
 }
 
@@ -82,7 +66,8 @@ grown_on s t u one two = record {
         now = last.now;
         is = last.is;
         so = later_on row middle.now last.now middle.so last.so;
-        on = served_on_on s t u one.ages two.ages row middle.now last.now middle.so last.so middle.on last.on;
+        on = served_on_on s t u one.ages two.ages row middle.now last.now middle.so middle.on last.on;
+        held = held_on_on s t u one.ages two.ages row middle.now last.now middle.held last.held;
       };
   ages = λ n. let a = one.ages n in let b = two.ages n in at_most _ _ _ a b;
 }
@@ -114,12 +99,13 @@ untabled servers rev verdicts s t h = record {
       asked = record { map = old.asked.map; place = old.asked.place; primary = old.asked.primary; secondary = old.asked.secondary; served = old.asked.served };
     };
     unlinked = h.plain.unlinked;
+    found = h.plain.found;
   };
   grown = record {
     more = h.grown.more;
     rows = h.grown.rows;
     maps = h.grown.maps;
-    links = λ of link row e. let old = h.grown.links of link row e in record { now = old.now; is = old.is; so = old.so; on = old.on };
+    links = λ of link row e. let old = h.grown.links of link row e in record { now = old.now; is = old.is; so = old.so; on = old.on; held = old.held };
     ages = h.grown.ages;
   };
 }

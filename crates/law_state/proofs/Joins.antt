@@ -42,6 +42,9 @@ module _ (servers : ℕ) (s : State) (p : IsPlainState servers s) (server inc : 
   up_now : is_up t server ≡ true
   up_now = ap (λ o. option_map_or is_in o false) here
 
+  pub some_now : inc_of t server ≡ Some inc
+  some_now = ap (option_and_then inc_in) here
+
   -- In as this incarnation alone
   pub in_now : (k : ℕ) → is_up_as t server k ≡ (inc == k)
   in_now k = ap (λ o. option_map_or (λ present. present == k) (option_and_then inc_in o) false) here
@@ -118,12 +121,13 @@ module _ (servers : ℕ) (s : State) (p : IsPlainState servers s) (server inc : 
             };
           };
       unlinked = p.unlinked;
+      found = p.found;
     };
     grown = record {
       more = [];
       rows = sym (append-nil s.disks.rows);
       maps = λ of tuple e. e;
-      links = λ of link row e. record { now = row; is = e; so = later_itself row; on = λ n k both has a b. inl both };
+      links = λ of link row e. record { now = row; is = e; so = later_itself row; on = λ n k has serving a b. serving; held = λ n alone out same. alone };
       ages = ages;
     };
   }

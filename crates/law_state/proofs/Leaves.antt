@@ -1,5 +1,5 @@
 -- A Leave: its server is Out, and of the links that it served with another one the other one is left.
-use Rattle.std.proofs.Common.{◌≡◌, ◌≢◌, ◌≤◌, ◌+◌, ◌==◌, ℕ, [], Bool, true, false, Option, Some, None, refl, sym, ap, ◌∙◌, ◌⊎◌, inl, inr, arith}
+use Rattle.std.proofs.Common.{◌≡◌, ◌≢◌, ◌≤◌, ◌+◌, ◌==◌, ℕ, [], Bool, true, false, Option, Some, None, refl, sym, ap, ◌∙◌, subst, inl, inr, arith}
 use Rattle.std.specs.Prelude.{◌||◌, if◌then◌else◌, slice_get, option_map, option_and_then}
 use Rattle.std.specs.Option.{option_map_or}
 use Rattle.std.proofs.lemmas.List.{append-nil, length-set}
@@ -13,50 +13,32 @@ use Rattle.global_tables.specs.Link.{is_link, has_server, other_of, left_state, 
 use Rattle.global_tables.specs.Link as links
 use Rattle.global_tables.specs.View.{is_in, inc_in, last_inc, out_of, servers_in, awaiting}
 use Rattle.global_tables.specs.View as view
+use Rattle.petal_state.specs.CellState.{serves}
 use Rattle.petal_state.specs.State.{State, inc_of, is_up, is_up_as}
+use Rattle.petal_rules.specs.Lists.{In}
 use Rattle.petal_rules.proofs.Tests.{by_bool, by_test, same_some, same_or_apart, same_numbers, number_itself, true_false}
 use Rattle.law_state.specs.Ages.{age, age_of}
-use Rattle.law_state.specs.Rows.{IsServed, IsServedOn, IsBetween, IsLater, IsLeftAlone, ByBoth, ByOne}
+use Rattle.law_state.specs.Rows.{IsHeldOn, IsServed, IsServedOn, IsBetween, IsLater, ByBoth, ByOne}
 use Rattle.law_state.specs.Tables.{IsPlainState}
 use Rattle.law_state.proofs.Ages.{in_up, out_not}
 use Rattle.law_state.proofs.Grown.{Step, later_itself}
-use Rattle.law_state.proofs.Links.{either_false}
+use Rattle.law_state.proofs.Links.{either_false, in_map}
 use Rattle.law_state.proofs.Places.{find_map, get_set_here, get_set_beside}
 
 pub either_true : (a b : Bool) → (a || b) ≡ true → a ≡ false → b ≡ true
 either_true true b e f = let g : true ≡ false = f in absurd cc
 either_true false b e f = e
 
-or_true : (a b : Bool) → b ≡ true → (a || b) ≡ true
-or_true true b e = refl
-or_true false b e = e
-
 -- ### The other server of a link
 
-other_is_one : (row : LinkRow) (server : ℕ) → has_server (other_of server row) row ≡ true
-other_is_one row server = by_test (λ other. has_server other row ≡ true) (row.primary == server) row.secondary row.primary
-    (λ e. or_true (row.primary == row.secondary) (row.secondary == row.secondary) (number_itself row.secondary))
-    (λ e. ap (λ b. b || row.secondary == row.primary) (number_itself row.primary))
-
-other_between : (row : LinkRow) (server : ℕ) → has_server server row ≡ true → IsBetween row (other_of server row) server
+pub other_between : (row : LinkRow) (server : ℕ) → has_server server row ≡ true → IsBetween row (other_of server row) server
 other_between row server has = by_test (λ other. IsBetween row other server) (row.primary == server) row.secondary row.primary
     (λ e. inr (same_numbers row.primary server e, refl))
     (λ e. inl (refl, same_numbers row.secondary server (either_true (row.primary == server) (row.secondary == server) has e)))
 
-left_later : (row : LinkRow) (server : ℕ) (state : LinkState) → row.state ≡ state
-    → (left_state (other_of server row) row.state ≡ row.state) ⊎ IsLeftAlone row (record row { state = left_state (other_of server row) row.state })
-left_later row server Both e = inr (record {
-  before = e;
-  holder = other_of server row;
-  one_of = other_is_one row server;
-  after = ap (left_state (other_of server row)) e;
-})
-left_later row server (Only holder whole) e = inl (ap (left_state (other_of server row)) e ∙ sym e)
-left_later row server Lost e = inl (ap (left_state (other_of server row)) e ∙ sym e)
-
 pub later_left : (row : LinkRow) (server : ℕ) → IsLater row (row_left server row)
 later_left row server = by_test (IsLater row) (has_server server row) _ _
-    (λ has. record { map = refl; link = refl; primary = refl; secondary = refl; state = left_later row server row.state refl })
+    (λ has. record { map = refl; link = refl; primary = refl; secondary = refl })
     (λ no. later_itself row)
 
 -- a link of two others stays as it is
@@ -115,6 +97,9 @@ module _ (servers : ℕ) (s : State) (p : IsPlainState servers s) (server inc : 
 
   pub out_now : is_up t server ≡ false
   out_now = ap (λ o. option_map_or is_in o false) here
+
+  pub none_now : inc_of t server ≡ None
+  none_now = ap (option_and_then inc_in) here
 
   pub up_beside : (n : ℕ) → n ≢ server → is_up t n ≡ is_up s n
   up_beside n ne = ap (λ o. option_map_or is_in o false) (beside n ne)
@@ -177,12 +162,30 @@ module _ (servers : ℕ) (s : State) (p : IsPlainState servers s) (server inc : 
       (λ has. ByOne holder other (ap (left_state (other_of server row)) state) pair (not_first other out))
       (λ no. ByOne holder other state pair (not_first other out))
 
-  -- of a link in Both, one that is In before and after still serves it
+  -- one that is In before and after still serves the links that it served
   on_left : (row : LinkRow) → IsServedOn s t row (row_left server row)
-  on_left row n k both has before later = by_test (λ (now : LinkRow). (now.state ≡ Both) ⊎ (now.state ≡ Only n false)) (has_server server row) _ _
-      (λ gone. inr (ap (left_state (other_of server row)) both
-      ∙ ap (λ h. Only h false) (one_of_two (is_up t) row (other_of server row) server n (other_between row server gone) out_now has (in_up t n k later))))
-      (λ no. inl both)
+  on_left row n k has serving before later = by_test (λ (now : LinkRow). serves n now now.state ≡ true) (has_server server row) _ _
+      (λ gone. still gone row.state serving) (λ no. serving)
+    where
+      still : has_server server row ≡ true → (state : LinkState) → serves n row state ≡ true
+          → serves n (record row { state = left_state (other_of server row) state }) (left_state (other_of server row) state) ≡ true
+      still gone Both e =
+          let same = one_of_two (is_up t) row (other_of server row) server n (other_between row server gone) out_now has (in_up t n k later) in
+          ap (λ h. h == n) same ∙ number_itself n
+      still gone (Only holder whole) e = e
+      still gone Lost e = e
+
+  -- and who holds a link alone goes on to
+  held_left : (row : LinkRow) → IsHeldOn s t row (row_left server row)
+  held_left row n alone out same = by_test (λ (now : LinkRow). now.state ≡ Only n false) (has_server server row) _ _
+      (λ gone. ap (left_state (other_of server row)) alone) (λ no. alone)
+
+  found_left : (row : LinkRow) → In row t.links → links.link_at t.links row.map row.link ≡ Some row
+  found_left row h =
+      let was = in_map (row_left server) s.links row h in
+      let so = later_left was.0 server in
+      subst (λ r. links.link_at t.links r.map r.link ≡ Some r) (sym was.2)
+      ((λ i. links.link_at t.links (so.map i) (so.link i)) ∙ link_left was.0.map was.0.link ∙ ap (option_map (row_left server)) (p.found was.0 was.1))
 
   pub leaving : Step servers s t
   leaving = record {
@@ -209,6 +212,7 @@ module _ (servers : ℕ) (s : State) (p : IsPlainState servers s) (server inc : 
             };
           };
       unlinked = λ of link none. link_left of link ∙ ap (option_map (row_left server)) (p.unlinked of link none);
+      found = found_left;
     };
     grown = record {
       more = [];
@@ -219,6 +223,7 @@ module _ (servers : ℕ) (s : State) (p : IsPlainState servers s) (server inc : 
         is = link_left of link ∙ ap (option_map (row_left server)) e;
         so = later_left row server;
         on = on_left row;
+        held = held_left row;
       };
       ages = ages;
     };

@@ -4,6 +4,7 @@ pub mod Links
 pub mod Grown
 pub mod Leaves
 pub mod Joins
+pub mod Caughts
 pub mod Making
 pub mod Entries
 pub mod Cells
@@ -13,4 +14,4 @@ pub mod Rows
 pub mod Roles
 pub mod Touching
 pub mod Alone
-pub mod Both
+pub mod Again

@@ -19,7 +19,7 @@ use Rattle.law_state.specs.Rows.{IsServed, ByBoth, ByOne}
 use Rattle.law_state.proofs.Ages.{out_not}
 use Rattle.law_state.proofs.Places.{find_none, in_get}
 
-in_map : {A B : Type 0} (f : A → B) (xs : List A) (y : B) → In y (map f xs) → (x : A) × In x xs × (y ≡ f x)
+pub in_map : {A B : Type 0} (f : A → B) (xs : List A) (y : B) → In y (map f xs) → (x : A) × In x xs × (y ≡ f x)
 unfolding In
 in_map f [] y h = absurd h
 in_map f (x ∷ xs) y (inl e) = (x, inl refl, e)
@@ -118,7 +118,7 @@ new_served s of tuple i = served_between s of i (slice_index tuple i) (slice_ind
 
 -- ### The rows of a new map
 
-row_in : (up : List Bool) (of : ℕ) (tuple : List ℕ) (j : ℕ) (row : LinkRow) → slice_get (new_rows of tuple up) j ≡ Some row
+pub row_in : (up : List Bool) (of : ℕ) (tuple : List ℕ) (j : ℕ) (row : LinkRow) → slice_get (new_rows of tuple up) j ≡ Some row
     → (i : ℕ) × (i < length tuple) × (row ≡ new_row of tuple up i)
 row_in up of tuple j row e =
     let made = in_map (new_row of tuple up) (range_with_len 0 (length tuple)) row (in_get _ j row e) in

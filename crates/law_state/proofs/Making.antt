@@ -11,14 +11,16 @@ use Rattle.global_tables.specs.Map.{tuple_of, added}
 use Rattle.global_tables.specs.Disk.{named, same_name}
 use Rattle.petal_state.specs.State.{ups}
 use Rattle.petal_state.specs.Command.{with_disk}
+use Rattle.petal_rules.specs.Lists.{In}
 use Rattle.petal_rules.specs.State.{State}
+use Rattle.petal_rules.proofs.ListLemmas.{in-append}
 use Rattle.petal_rules.proofs.Tests.{none_some, same_some, some_or_none, true_false}
 use Rattle.law_state.specs.Tables.{IsNewRow, IsPlainState, HasLinkOf}
 use Rattle.law_state.specs.Ages.{age_of}
 use Rattle.law_state.proofs.Ages.{no_less}
 use Rattle.law_state.proofs.Grown.{Step, later_itself}
-use Rattle.law_state.proofs.Places.{get_front, get_last, none_find, find_front, find_behind, text_itself}
-use Rattle.law_state.proofs.Links.{link_new, link_other, new_served}
+use Rattle.law_state.proofs.Places.{get_front, get_in, get_last, none_find, find_front, find_behind, text_itself}
+use Rattle.law_state.proofs.Links.{link_new, link_other, new_served, row_in}
 
 pub map_front : (maps : List MapRow) (tuple other : List ℕ) (disk of : ℕ) → tuple_of maps of ≡ Some tuple → tuple_of (added maps other disk) of ≡ Some tuple
 map_front maps tuple other disk of e = by (slice_get maps of) refl e
@@ -122,6 +124,17 @@ module _ (servers : ℕ) (s : State) (p : IsPlainState servers s) (name tuple : 
           last [] = refl
           last (m ∷ maps) = last maps
 
+  found_now : (row : LinkRow) → In row t.links → link_at t.links row.map row.link ≡ Some row
+  found_now row h = elim (in-append row s.links late h) [
+    | inl old ↦ find_front (is_link row.map row.link) s.links late row (p.found row old)
+    | inr new ↦ (
+        let at = get_in late row new in
+        let is = row_in (ups s) (length s.maps) tuple at.0 row at.1 in
+        subst (λ r. link_at t.links r.map r.link ≡ Some r) (sym is.2)
+        (find_behind (is_link (length s.maps) is.0) s.links late (p.unlinked (length s.maps) is.0 (map_past s.maps (length s.maps) (no_less (length s.maps))))
+        ∙ link_new (ups s) (length s.maps) tuple is.0 is.1))
+  ]
+
   pub making : Step servers s t
   making = record {
     plain = record {
@@ -135,12 +148,13 @@ module _ (servers : ℕ) (s : State) (p : IsPlainState servers s) (name tuple : 
       tuples = tuples_now;
       links = links_now;
       unlinked = unlinked_now;
+      found = found_now;
     };
     grown = record {
       more = made_row ∷ [];
       rows = refl;
       maps = λ of ids e. map_front s.maps ids tuple s.disks.made of e;
-      links = λ of link row e. record { now = row; is = find_front (is_link of link) s.links late row e; so = later_itself row; on = λ n inc both has a b. inl both };
+      links = λ of link row e. record { now = row; is = find_front (is_link of link) s.links late row e; so = later_itself row; on = λ n inc has serving a b. serving; held = λ n alone out same. alone };
       ages = λ n. no_less (age_of s n);
     };
   }

@@ -1,33 +1,36 @@
--- An entry that does not touch a link leaves its row and its two servers as they are, and a longer log has no fewer places.
-use Rattle.std.proofs.Common.{◌≡◌, ◌≢◌, ◌≤◌, ◌+◌, ◌++◌, ◌==◌, ◌&&◌, ℕ, List, [], ◌∷◌, length, Bool, true, false, not, if◌then◌else◌, Some, is_some, refl, sym, ap, ◌∙◌, subst, ◌⊎◌, inl, inr, arith}
+-- What an entry does to a link: one that does not touch it leaves its row and its two servers as they are. A longer log has no fewer
+-- places.
+use Rattle.std.proofs.Common.{◌≡◌, ◌≢◌, ◌≤◌, ◌+◌, ◌++◌, ◌==◌, ◌&&◌, ℕ, List, [], ◌∷◌, length, Bool, true, false, not, if◌then◌else◌, Option, Some, None, is_some, refl, sym, ap, ◌∙◌, subst, inl, inr, arith}
 use Rattle.std.specs.Prelude.{fold, slice_get, option_map, option_and_then}
 use Rattle.std.proofs.lemmas.Grind.{fold-append}
 use Rattle.petal_base.specs.declared.cell.Cell.{Cell}
 use Rattle.global_tables.specs.declared.link.LinkRow.{LinkRow}
+use Rattle.global_tables.specs.declared.link.LinkState.TheVariants.{Both, Only}
 use Rattle.global_tables.specs.Disk.{named}
-use Rattle.global_tables.specs.Link.{has_server, is_link, link_at, row_left, new_rows}
+use Rattle.global_tables.specs.Link.{has_server, is_link, link_at, row_caught, row_left, new_rows}
 use Rattle.global_tables.specs.Map.{tuple_of}
 use Rattle.global_tables.specs.Region.{link_of}
 use Rattle.petal_command.specs.declared.command.Command.{Command}
-use Rattle.petal_command.specs.declared.command.Command.TheVariants.{Join, Leave, MakeDisk, Witness}
+use Rattle.petal_command.specs.declared.command.Command.TheVariants.{Join, Leave, Caught, MakeDisk, Witness}
 use Rattle.petal_state.specs.CellState.{cell_link}
-use Rattle.petal_state.specs.Command.{act, after, is_new, may_join, with_disk, state_after}
+use Rattle.petal_state.specs.Command.{act, after, is_alone, is_new, may_join, with_disk, state_after}
 use Rattle.petal_state.specs.Place.{touches, places_from}
-use Rattle.petal_state.specs.State.{is_up, is_up_as, latest, start, ups}
+use Rattle.petal_state.specs.State.{inc_of, is_up, is_up_as, latest, start, ups}
 use Rattle.petal_rules.specs.Lists.{In}
 use Rattle.petal_rules.specs.State.{State}
 use Rattle.petal_rules.proofs.ListLemmas.{in_later}
-use Rattle.petal_rules.proofs.Tests.{both_true, by_bool, by_test, none_some, number_itself, some_or_none, true_false}
+use Rattle.petal_rules.proofs.Tests.{both_true, by_bool, by_test, none_some, number_itself, same_numbers, some_or_none, true_false}
 use Rattle.petal_history.specs.Claims.{IsPrefix}
-use Rattle.law_state.specs.Places.{IsJoinedBy, IsLeftBy, StaysAlone, StaysSo}
+use Rattle.law_state.specs.Places.{IsReseated, IsTouchedBy, By_caught, By_join, By_leave, StaysSo}
 use Rattle.law_state.specs.Plain.{IsPlain, IsPlainLog}
 use Rattle.law_state.specs.Tables.{IsPlainState}
 use Rattle.law_state.proofs.Entries.{entering, log_plain, settled_act}
 use Rattle.law_state.specs.Rows.{IsServed, ByBoth, ByOne}
+use Rattle.law_state.proofs.Caughts.{act_caught, alone_is, catch_so, caught_by, found_itself, link_caught, row_in_both, row_uncaught, the_row, touch_by, touch_so}
 use Rattle.law_state.proofs.Grown.{alone_not_both}
-use Rattle.law_state.proofs.Joins.{joined_by, was_out}
+use Rattle.law_state.proofs.Joins.{joined_by, some_now, was_out}
 use Rattle.law_state.proofs.Joins.{inc_beside as joined_beside}
-use Rattle.law_state.proofs.Leaves.{both_up, inc_beside, left_by, link_left, row_stays}
+use Rattle.law_state.proofs.Leaves.{both_up, inc_beside, left_by, link_left, none_now, row_stays}
 use Rattle.law_state.proofs.Links.{either_false}
 use Rattle.law_state.proofs.Making.{map_front}
 use Rattle.law_state.proofs.Places.{find_front}
@@ -40,12 +43,20 @@ module _ (servers : ℕ) (s : State) (p : IsPlainState servers s) (cell : Cell) 
   itself : StaysSo cell row s s
   itself = record { same = is; primary = refl; secondary = refl }
 
-  -- a map's rows are as before where each link that was found is
-  kept_link : (t : State) → ((ids : List ℕ) → tuple_of s.maps cell.map ≡ Some ids → tuple_of t.maps cell.map ≡ Some ids)
-      → ((link : ℕ) → link_at s.links cell.map link ≡ Some row → link_at t.links cell.map link ≡ Some row) → cell_link t cell ≡ Some row
-  kept_link t maps links = elim (some_or_none (tuple_of s.maps cell.map)) [
+  -- the cell's row later, where each of its map's links that was found as this row is found so
+  moved_link : (t : State) (now : LinkRow) → ((ids : List ℕ) → tuple_of s.maps cell.map ≡ Some ids → tuple_of t.maps cell.map ≡ Some ids)
+      → ((link : ℕ) → link_at s.links cell.map link ≡ Some row → link_at t.links cell.map link ≡ Some now) → cell_link t cell ≡ Some now
+  moved_link t now maps links = elim (some_or_none (tuple_of s.maps cell.map)) [
     | inl h ↦ ap (option_and_then (λ ids. link_at t.links cell.map (link_of (length ids) cell.block))) (maps h.0 h.1)
         ∙ links (link_of (length h.0) cell.block)
+        (sym (ap (option_and_then (λ ids. link_at s.links cell.map (link_of (length ids) cell.block))) h.1) ∙ is)
+    | inr none ↦ none_some (ap (option_and_then (λ ids. link_at s.links cell.map (link_of (length ids) cell.block))) none) is
+  ]
+
+  -- it is found by its own map and number
+  found_row : link_at s.links row.map row.link ≡ Some row
+  found_row = elim (some_or_none (tuple_of s.maps cell.map)) [
+    | inl h ↦ found_itself s cell.map (link_of (length h.0) cell.block) row
         (sym (ap (option_and_then (λ ids. link_at s.links cell.map (link_of (length ids) cell.block))) h.1) ∙ is)
     | inr none ↦ none_some (ap (option_and_then (λ ids. link_at s.links cell.map (link_of (length ids) cell.block))) none) is
   ]
@@ -68,18 +79,31 @@ module _ (servers : ℕ) (s : State) (p : IsPlainState servers s) (cell : Cell) 
       let away : has_server server row ≡ false = sym (ap (λ b. b && has_server server row) now) ∙ off in
       let apart = either_false (row.primary == server) (row.secondary == server) away in
       record {
-        same = kept_link (left_by s server) (λ ids e. e) (λ link e.
+        same = moved_link (left_by s server) row (λ ids e. e) (λ link e.
             link_left servers s p server inc now cell.map link ∙ ap (option_map (row_left server)) e
             ∙ ap Some (row_stays row server away));
         primary = inc_beside servers s p server inc now row.primary (differ row.primary server apart.0);
         secondary = inc_beside servers s p server inc now row.secondary (differ row.secondary server apart.1);
       })
       (λ no. itself)
+  act_stays (Caught of link holder holder_inc other other_inc) plain off =
+      act_caught (StaysSo cell row s) s of link holder holder_inc other other_inc
+      (λ acts.
+      let away : is_link of link row ≡ false = by_bool (is_link of link row)
+      (λ on. true_false (touch_so s row of link holder holder_inc other other_inc on acts) off) (λ no. no) in
+      record {
+        same = moved_link (caught_by s of link) row (λ ids e. e)
+            (λ at e. link_caught servers s p of link holder holder_inc other other_inc acts cell.map at
+            ∙ ap (option_map (row_caught of link)) e ∙ ap Some (row_uncaught of link row away));
+        primary = refl;
+        secondary = refl;
+      })
+      itself
   act_stays (MakeDisk client seq name tuple) plain off =
       by_test (StaysSo cell row s) (not (is_new seq (latest s client))) s _ (λ old. itself)
       (λ new. by_test (StaysSo cell row s) (is_some (named s.disks.rows name)) _ _ (λ there. record { same = is; primary = refl; secondary = refl })
       (λ none. record {
-        same = kept_link (with_disk s name tuple) (λ ids e. map_front s.maps ids tuple s.disks.made cell.map e)
+        same = moved_link (with_disk s name tuple) row (λ ids e. map_front s.maps ids tuple s.disks.made cell.map e)
             (λ link e. find_front (is_link cell.map link) s.links (new_rows (length s.maps) tuple (ups s)) row e);
         primary = refl;
         secondary = refl;
@@ -87,45 +111,93 @@ module _ (servers : ℕ) (s : State) (p : IsPlainState servers s) (cell : Cell) 
   act_stays (Witness client seq turn) plain off = itself
   act_stays _ plain off = absurd plain
 
-  -- a Join of one of its servers leaves the row as it is, and finds it held by one alone
-  pub join_stays : IsServed s row → (entry : Command) → IsPlain servers entry → IsJoinedBy s entry row → StaysAlone cell row (after s entry)
-  join_stays served entry plain by_it = record {
-    same = ap (λ (t : State). cell_link t cell) (settled_act servers s entry p plain) ∙ ap (λ c. cell_link (act c s) cell) by_it.is
-        ∙ ap (λ b. cell_link (if b then joined_by s by_it.server by_it.inc else s) cell) by_it.may ∙ is;
-    apart = λ both. elim served [
-      | ByBoth so one two ↦ true_false (both_up (is_up s) row by_it.server one two by_it.one_of) (was_out servers s p by_it.server by_it.inc by_it.may)
-      | ByOne holder other so pair out ↦ alone_not_both row holder so both
-    ];
-  }
-
   pub entry_stays : (entry : Command) → IsPlain servers entry → touches s entry row ≡ false → StaysSo cell row s (after s entry)
   entry_stays entry plain off =
       let h = subst (StaysSo cell row s) (sym (settled_act servers s entry p plain)) (act_stays entry plain off) in
       record { same = h.same; primary = h.primary; secondary = h.secondary }
+
+-- ### An entry that touches the link
+
+module _ (servers : ℕ) (s : State) (p : IsPlainState servers s) (cell : Cell) (row : LinkRow) (is : cell_link s cell ≡ Some row) (served : IsServed s row) where
+  -- who is In after the entry, by what its command does
+  seats_after : (entry : Command) → IsPlain servers entry → (server : ℕ) (now : Option ℕ) → IsReseated s (act entry s) server now
+      → IsReseated s (after s entry) server now
+  seats_after entry plain server now h =
+      let k = subst (λ (t : State). IsReseated s t server now) (sym (settled_act servers s entry p plain)) h in
+      record { here = k.here; beside = k.beside }
+
+  row_after : (entry : Command) → IsPlain servers entry → (now : LinkRow) → cell_link (act entry s) cell ≡ Some now → cell_link (after s entry) cell ≡ Some now
+  row_after entry plain now e = ap (λ (t : State). cell_link t cell) (settled_act servers s entry p plain) ∙ e
+
+  pub touched : (entry : Command) → IsPlain servers entry → touches s entry row ≡ true → IsTouchedBy cell row s entry
+  touched (Join server inc true) plain on = true_false refl plain
+  touched (Join server inc false) plain on =
+      let h = both_true (may_join (slice_get s.view.members server) inc) (has_server server row) on in
+      By_join (record { server = server; inc = inc; is = refl; may = h.0; one_of = h.1 })
+      (row_after (Join server inc false) plain row (ap (λ b. cell_link (if b then joined_by s server inc else s) cell) h.0 ∙ is))
+      (λ both. elim served [
+        | ByBoth so one two ↦ true_false (both_up (is_up s) row server one two h.1) (was_out servers s p server inc h.0)
+        | ByOne holder other so pair out ↦ alone_not_both row holder so both
+      ])
+      (seats_after (Join server inc false) plain server (Some inc)
+      (subst (λ b. IsReseated s (if b then joined_by s server inc else s) server (Some inc)) (sym h.0)
+      (record { here = some_now servers s p server inc h.0; beside = joined_beside servers s p server inc h.0 })))
+  touched (Leave server inc) plain on =
+      let h = both_true (is_up_as s server inc) (has_server server row) on in
+      By_leave (record { server = server; inc = inc; is = refl; up = h.0; one_of = h.1 })
+      (row_after (Leave server inc) plain (row_left server row)
+      (ap (λ b. cell_link (if b then left_by s server else s) cell) h.0
+      ∙ moved_link servers s p cell row is (left_by s server) (row_left server row) (λ ids e. e)
+      (λ at e. link_left servers s p server inc h.0 cell.map at ∙ ap (option_map (row_left server)) e)))
+      (seats_after (Leave server inc) plain server None
+      (subst (λ b. IsReseated s (if b then left_by s server else s) server None) (sym h.0)
+      (record { here = none_now servers s p server inc h.0; beside = inc_beside servers s p server inc h.0 })))
+  touched (Caught of link holder inc other other_inc) plain on =
+      let h = touch_by s row of link holder inc other other_inc on in
+      let k = both_true (row.map == of) (row.link == link) h.0 in
+      let found = the_row servers s p of link holder inc other other_inc h.1 row (found_row servers s p cell row is) h.0 in
+      By_caught
+      (record {
+        holder = holder;
+        inc = inc;
+        other_inc = other_inc;
+        is = λ i. Caught (sym (same_numbers row.map of k.0) i) (sym (same_numbers row.link link k.1) i) holder inc (sym found.other_is i) other_inc;
+        alone = elim served [
+          | ByBoth so one two ↦ true_false found.alone (ap (is_alone holder) so)
+          | ByOne h o so pair out ↦ so ∙ ap (λ n. Only n false) (alone_is holder h row.state found.alone so)
+        ];
+        holds = h.1.holds;
+        joins = ap (λ n. is_up_as s n other_inc) found.other_is ∙ h.1.joins;
+      })
+      (record {
+        same = row_after (Caught of link holder inc other other_inc) plain (record row { state = Both })
+            (ap (λ b. cell_link (if b then caught_by s of link else s) cell) (catch_so s of link holder inc other other_inc h.1)
+            ∙ moved_link servers s p cell row is (caught_by s of link) (record row { state = Both }) (λ ids e. e)
+            (λ at e. link_caught servers s p of link holder inc other other_inc h.1 cell.map at
+            ∙ ap (option_map (row_caught of link)) e ∙ ap Some (row_in_both of link row h.0)));
+        primary = same_seat of link holder inc other other_inc plain row.primary;
+        secondary = same_seat of link holder inc other other_inc plain row.secondary;
+      })
+    where
+      same_seat : (of link holder inc other other_inc : ℕ) (plain : IsPlain servers (Caught of link holder inc other other_inc)) (n : ℕ)
+          → inc_of (after s (Caught of link holder inc other other_inc)) n ≡ inc_of s n
+      same_seat of link holder inc other other_inc plain n =
+          ap (λ (t : State). inc_of t n) (settled_act servers s (Caught of link holder inc other other_inc) p plain)
+          ∙ act_caught (λ (t : State). inc_of t n ≡ inc_of s n) s of link holder inc other other_inc (λ acts. refl) refl
+  touched (MakeDisk client seq name tuple) plain on = let f : false ≡ true = on in absurd cc
+  touched (Witness client seq turn) plain on = let f : false ≡ true = on in absurd cc
+  touched _ plain on = absurd plain
 
 pub log_entry_stays : (servers : ℕ) (log : List Command) (entry : Command) (cell : Cell) (row : LinkRow) → IsPlainLog servers log → IsPlain servers entry
     → cell_link (state_after servers log) cell ≡ Some row → touches (state_after servers log) entry row ≡ false
     → StaysSo cell row (state_after servers log) (after (state_after servers log) entry)
 log_entry_stays servers log entry cell row all plain is off = entry_stays servers (state_after servers log) (log_plain servers log all) cell row is entry plain off
 
-pub touched_by_entry : (servers : ℕ) (state : State) (entry : Command) (row : LinkRow) → IsPlain servers entry → touches state entry row ≡ true
-    → IsLeftBy state entry row ⊎ IsJoinedBy state entry row
-touched_by_entry servers state (Join server inc true) row plain on = true_false refl plain
-touched_by_entry servers state (Join server inc false) row plain on =
-    let h = both_true (may_join (slice_get state.view.members server) inc) (has_server server row) on in
-    inr (record { server = server; inc = inc; is = refl; may = h.0; one_of = h.1 })
-touched_by_entry servers state (Leave server inc) row plain on =
-    let h = both_true (is_up_as state server inc) (has_server server row) on in
-    inl (record { server = server; inc = inc; is = refl; up = h.0; one_of = h.1 })
-touched_by_entry servers state (MakeDisk client seq name tuple) row plain on = let f : false ≡ true = on in absurd cc
-touched_by_entry servers state (Witness client seq turn) row plain on = let f : false ≡ true = on in absurd cc
-touched_by_entry servers state _ row plain on = absurd plain
-
-pub log_join_stays : (servers : ℕ) (log : List Command) (entry : Command) (cell : Cell) (row : LinkRow) → IsPlainLog servers log → IsPlain servers entry
-    → cell_link (state_after servers log) cell ≡ Some row → IsJoinedBy (state_after servers log) entry row
-    → StaysAlone cell row (after (state_after servers log) entry)
-log_join_stays servers log entry cell row all plain is by_it =
-    join_stays servers (state_after servers log) (log_plain servers log all) cell row is ((log_steady servers log all).linked cell row is).served entry plain by_it
+pub log_touched : (servers : ℕ) (log : List Command) (entry : Command) (cell : Cell) (row : LinkRow) → IsPlainLog servers log → IsPlain servers entry
+    → cell_link (state_after servers log) cell ≡ Some row → touches (state_after servers log) entry row ≡ true
+    → IsTouchedBy cell row (state_after servers log) entry
+log_touched servers log entry cell row all plain is on =
+    touched servers (state_after servers log) (log_plain servers log all) cell row is ((log_steady servers log all).linked cell row is).served entry plain on
 
 -- ### Places
 
@@ -133,12 +205,12 @@ counted : (b : Bool) (a x y : ℕ) → a ≡ x + y → (if b then a + 1 else a) 
 counted true a x y e = omega arith
 counted false a x y e = e
 
-places_on : (row : LinkRow) (s : State) (front more : List Command)
+pub places_on : (row : LinkRow) (s : State) (front more : List Command)
     → places_from s (front ++ more) row ≡ places_from s front row + places_from (fold after s front) more row
 places_on row s [] more = omega arith
 places_on row s (entry ∷ front) more = counted (touches s entry row) _ _ _ (places_on row (after s entry) front more)
 
-places_of_both : (servers : ℕ) (front whole : List Command) (row : LinkRow) → (prefix : IsPrefix front whole)
+pub places_of_both : (servers : ℕ) (front whole : List Command) (row : LinkRow) → (prefix : IsPrefix front whole)
     → places_from (start servers) whole row ≡ places_from (start servers) front row + places_from (state_after servers front) prefix.later row
 places_of_both servers front whole row prefix = ap (λ log. places_from (start servers) log row) prefix.is ∙ places_on row (start servers) front prefix.later
 
@@ -146,10 +218,10 @@ pub places_grow : (servers : ℕ) (front whole : List Command) (row : LinkRow) �
     → places_from (start servers) front row ≤ places_from (start servers) whole row
 places_grow servers front whole row prefix = let e = places_of_both servers front whole row prefix in omega arith
 
-stays_on : (cell : Cell) (row : LinkRow) (s t u : State) → StaysSo cell row s t → StaysSo cell row t u → StaysSo cell row s u
+pub stays_on : (cell : Cell) (row : LinkRow) (s t u : State) → StaysSo cell row s t → StaysSo cell row t u → StaysSo cell row s u
 stays_on cell row s t u a b = record { same = b.same; primary = b.primary ∙ a.primary; secondary = b.secondary ∙ a.secondary }
 
-untouched : (servers : ℕ) (entries : List Command) (s : State) → IsPlainState servers s → IsPlainLog servers entries → (cell : Cell) (row : LinkRow)
+pub untouched : (servers : ℕ) (entries : List Command) (s : State) → IsPlainState servers s → IsPlainLog servers entries → (cell : Cell) (row : LinkRow)
     → cell_link s cell ≡ Some row → places_from s entries row ≡ 0 → StaysSo cell row s (fold after s entries)
 unfolding In
 untouched servers [] s p all cell row is none = record { same = is; primary = refl; secondary = refl }

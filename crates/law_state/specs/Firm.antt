@@ -1,17 +1,25 @@
 -- What the laws of pairs, requests and the run know of the agreed log.
-use Rattle.std.specs.Prelude.{◌≡◌, ℕ, true, List}
+use Rattle.std.specs.Prelude.{◌≡◌, ◌⊎◌, ◌++◌, ℕ, true, false, List, [], ◌∷◌, length}
 use Rattle.petal_history.specs.Claims.{IsPrefix}
 use Rattle.petal_command.specs.declared.command.Command.{Command}
+use Rattle.petal_command.specs.declared.command.Command.TheVariants.{Caught}
 use Rattle.petal_state.specs.Command.{state_after}
 use Rattle.petal_rules.specs.State.{is_in}
 use Rattle.petal_rules.specs.World.{Setting, World, chosen_log, chosen_state}
+use Rattle.petal_rules.specs.Lists.{In}
 use Rattle.law_state.specs.Plain.{IsPlainLog}
+use Rattle.law_state.specs.Started.{HasStarted, is_caught}
 
--- what servers and clients have applied stands at the front of the chosen log, whose entries are plain; and who runs, and is In as
--- itself by some front of the log, is so by all that is chosen
+-- what servers and clients have applied stands at the front of the chosen log, whose entries are plain; who runs, and is In as
+-- itself by some front of the log, is so by all that is chosen; of a Caught that is chosen the holder started the ballot behind the
+-- entries before it; and what servers are asked to propose is no Caught
 pub record Firm (setting : Setting) (w : World) : Type 0 where
   pub servers : (n : ℕ) → IsPrefix (w.servers n).log.applied (chosen_log setting w)
   pub clients : (c : ℕ) → IsPrefix (w.clients c).applied (chosen_log setting w)
   pub plain : IsPlainLog setting.servers (chosen_log setting w)
   pub runs : (n : ℕ) (front : List Command) → (w.servers n).life.running ≡ true → IsPrefix front (chosen_log setting w)
       → is_in (state_after setting.servers front) n (w.servers n).life.inc ≡ true → is_in (chosen_state setting w) n (w.servers n).life.inc ≡ true
+  pub started : (front : List Command) (of link holder inc other other_inc : ℕ)
+      → IsPrefix (front ++ Caught of link holder inc other other_inc ∷ []) (chosen_log setting w)
+      → HasStarted w.servers holder inc (length front) (record { map = of; link = link })
+  pub asked : (n : ℕ) (command : Command) → In command (w.servers n).log.wants ⊎ In command (w.servers n).log.leaves → is_caught command ≡ false

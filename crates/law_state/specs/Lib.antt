@@ -3,6 +3,7 @@ pub mod Rows
 pub mod Steady
 pub mod Below
 pub mod Plain
+pub mod Started
 pub mod Firm
 pub mod Tables
 pub mod Disks

@@ -1,14 +1,16 @@
--- What an entry does to a link: it stays as it is, or one of its servers leaves or joins.
-use Rattle.std.specs.Prelude.{◌≡◌, ◌≢◌, ℕ, Some, true, false, slice_get}
+-- What an entry does to a link: it stays as it is, one of its servers leaves or joins, or it is in Both again.
+use Rattle.std.specs.Prelude.{◌≡◌, ◌≢◌, ◌+◌, ◌++◌, ℕ, List, [], ◌∷◌, Option, Some, None, true, false, slice_get}
 use Rattle.petal_base.specs.declared.cell.Cell.{Cell}
-use Rattle.global_tables.specs.Link.{has_server}
+use Rattle.global_tables.specs.Link.{has_server, other_of, row_left}
 use Rattle.global_tables.specs.declared.link.LinkRow.{LinkRow}
-use Rattle.global_tables.specs.declared.link.LinkState.TheVariants.{Both}
+use Rattle.global_tables.specs.declared.link.LinkState.TheVariants.{Both, Only}
 use Rattle.petal_command.specs.declared.command.Command.{Command}
-use Rattle.petal_command.specs.declared.command.Command.TheVariants.{Join, Leave}
+use Rattle.petal_command.specs.declared.command.Command.TheVariants.{Join, Leave, Caught}
+use Rattle.petal_history.specs.Claims.{IsPrefix}
 use Rattle.petal_state.specs.CellState.{cell_link}
-use Rattle.petal_state.specs.Command.{may_join}
-use Rattle.petal_state.specs.State.{inc_of, is_up_as}
+use Rattle.petal_state.specs.Command.{after, may_join, state_after}
+use Rattle.petal_state.specs.Place.{places_from}
+use Rattle.petal_state.specs.State.{inc_of, is_up_as, start}
 use Rattle.petal_rules.specs.State.{State}
 
 -- the cell has the same row, and its two servers are In, with the same incarnations, or Out, as before
@@ -16,6 +18,11 @@ pub record StaysSo (cell : Cell) (row : LinkRow) (earlier later : State) : Type 
   pub same : cell_link later cell ≡ Some row
   pub primary : inc_of later row.primary ≡ inc_of earlier row.primary
   pub secondary : inc_of later row.secondary ≡ inc_of earlier row.secondary
+
+-- the server is In with this incarnation now, or Out, and each other one is as before
+pub record IsReseated (earlier later : State) (server : ℕ) (now : Option ℕ) : Type 0 where
+  pub here : inc_of later server ≡ now
+  pub beside : (n : ℕ) → n ≢ server → inc_of later n ≡ inc_of earlier n
 
 -- the entry is the Leave of a server of the link that was In
 pub record IsLeftBy (state : State) (entry : Command) (row : LinkRow) : Type 0 where
@@ -33,7 +40,37 @@ pub record IsJoinedBy (state : State) (entry : Command) (row : LinkRow) : Type 0
   pub may : may_join (slice_get state.view.members server) inc ≡ true
   pub one_of : has_server server row ≡ true
 
--- the cell has the same row, which one server holds alone
-pub record StaysAlone (cell : Cell) (row : LinkRow) (later : State) : Type 0 where
-  pub same : cell_link later cell ≡ Some row
-  pub apart : row.state ≢ Both
+-- the entry is the Caught of the link, which one of its servers held alone; both are In, as the incarnations that it names
+pub record IsCaughtBy (state : State) (entry : Command) (row : LinkRow) : Type 0 where
+  pub holder : ℕ
+  pub inc : ℕ
+  pub other_inc : ℕ
+  pub is : entry ≡ Caught row.map row.link holder inc (other_of holder row) other_inc
+  pub alone : row.state ≡ Only holder false
+  pub holds : is_up_as state holder inc ≡ true
+  pub joins : is_up_as state (other_of holder row) other_inc ≡ true
+
+-- what an entry that touches a cell's link does to it: of its two servers one leaves; one joins, which finds the link held by one
+-- alone, and leaves it so; or the link, which one held alone, is in Both again, and nobody else is In than before
+pub data IsTouchedBy (cell : Cell) (row : LinkRow) (state : State) (entry : Command) : Type 0 where
+  By_leave : (left : IsLeftBy state entry row) → cell_link (after state entry) cell ≡ Some (row_left left.server row)
+      → IsReseated state (after state entry) left.server None → IsTouchedBy cell row state entry
+  By_join : (joined : IsJoinedBy state entry row) → cell_link (after state entry) cell ≡ Some row → row.state ≢ Both
+      → IsReseated state (after state entry) joined.server (Some joined.inc) → IsTouchedBy cell row state entry
+  By_caught : IsCaughtBy state entry row → StaysSo cell (record row { state = Both }) state (after state entry) → IsTouchedBy cell row state entry
+
+-- behind this front of the log stands a Caught that acts on the cell's link, and finds it as this row
+pub record IsCaughtIn (servers : ℕ) (front whole : List Command) (cell : Cell) (row : LinkRow) : Type 0 where
+  pub until : List Command
+  pub entry : Command
+  pub behind : IsPrefix front until
+  pub stands : IsPrefix (until ++ entry ∷ []) whole
+  pub was : cell_link (state_after servers until) cell ≡ Some row
+  pub acts : IsCaughtBy (state_after servers until) entry row
+
+-- such a Caught put the cell's link in Both, as it is by the whole log: the link is one place on
+pub record IsCaughtSince (servers : ℕ) (front whole : List Command) (cell : Cell) (now : LinkRow) : Type 0 where
+  pub row : LinkRow
+  pub found : IsCaughtIn servers front whole cell row
+  pub since : StaysSo cell now (state_after servers found.until) (state_after servers whole)
+  pub place : places_from (start servers) whole row ≡ places_from (start servers) found.until row + 1

@@ -3,7 +3,9 @@ use Rattle.std.specs.Prelude.{◌≡◌, ◌⊎◌, ℕ, Bool, true, false}
 use Rattle.global_tables.specs.Link.{has_server}
 use Rattle.global_tables.specs.declared.link.LinkRow.{LinkRow}
 use Rattle.global_tables.specs.declared.link.LinkState.TheVariants.{Both, Only}
+use Rattle.petal_state.specs.CellState.{serves}
 use Rattle.petal_state.specs.State.{State, is_up, is_up_as}
+use Rattle.law_state.specs.Ages.{age_of}
 
 -- the link is between these two servers, in either order
 abbrev pub IsBetween : LinkRow → (one other : ℕ) → Type 0
@@ -18,23 +20,19 @@ pub data IsServedBy (up first : ℕ → Bool) (row : LinkRow) : Type 0 where
 abbrev pub IsServed : State → LinkRow → Type 0
 IsServed state row = IsServedBy (is_up state) (λ n. is_up_as state n 1) row
 
--- of the two that served the link one is left
-pub record IsLeftAlone (row later : LinkRow) : Type 0 where
-  pub before : row.state ≡ Both
-  pub holder : ℕ
-  pub one_of : has_server holder row ≡ true
-  pub after : later.state ≡ Only holder false
-
--- the same link later: served as before, or by one that is left
+-- the same link later, whoever serves it
 pub record IsLater (row later : LinkRow) : Type 0 where
   pub map : later.map ≡ row.map
   pub link : later.link ≡ row.link
   pub primary : later.primary ≡ row.primary
   pub secondary : later.secondary ≡ row.secondary
-  pub state : (later.state ≡ row.state) ⊎ IsLeftAlone row later
 
--- of a link in Both, a server that is In as the same incarnation at both states is not the one that left: it still serves the
--- link, with the other one or alone
+-- a server of the link that serves it, and is In as the same incarnation at both states, serves it later too: with the other one or
+-- alone
 abbrev pub IsServedOn : (earlier later : State) → (row now : LinkRow) → Type 0
-IsServedOn earlier later row now = (n inc : ℕ) → row.state ≡ Both → has_server n row ≡ true → is_up_as earlier n inc ≡ true → is_up_as later n inc ≡ true
-    → (now.state ≡ Both) ⊎ (now.state ≡ Only n false)
+IsServedOn earlier later row now = (n inc : ℕ) → has_server n row ≡ true → serves n row row.state ≡ true → is_up_as earlier n inc ≡ true
+    → is_up_as later n inc ≡ true → serves n now now.state ≡ true
+
+-- a link that one server holds alone stays so while the holder is Out
+abbrev pub IsHeldOn : (earlier later : State) → (row now : LinkRow) → Type 0
+IsHeldOn earlier later row now = (n : ℕ) → row.state ≡ Only n false → is_up earlier n ≡ false → age_of later n ≡ age_of earlier n → now.state ≡ Only n false

@@ -7,9 +7,10 @@ use Rattle.global_tables.specs.declared.link.LinkRow.{LinkRow}
 use Rattle.global_tables.specs.Link.{link_at}
 use Rattle.global_tables.specs.Map.{tuple_of}
 use Rattle.global_tables.specs.View.{last_inc}
+use Rattle.petal_rules.specs.Lists.{In}
 use Rattle.petal_rules.specs.State.{State}
 use Rattle.law_state.specs.Ages.{age_of}
-use Rattle.law_state.specs.Rows.{IsServed, IsServedOn, IsLater}
+use Rattle.law_state.specs.Rows.{IsHeldOn, IsServed, IsServedOn, IsLater}
 
 -- the row of the disk that was made at this place: its map has the disk's number; it has no snapshot, and never moved
 pub record IsNewRow (place : ℕ) (row : DiskRow) : Type 0 where
@@ -34,7 +35,7 @@ pub record HasLinkOf (state : State) (of : ℕ) (tuple : List ℕ) (link : ℕ) 
   pub asked : IsLinkOf state of tuple link row
 
 -- so many servers, whose incarnations count from 1; no fence waits; no two disks have one name; and each map is of one disk,
--- over a proper tuple, and has the links that its tuple asks for
+-- over a proper tuple, and has the links that its tuple asks for, and each is found by its map and number
 pub record IsPlainState (servers : ℕ) (state : State) : Type 0 where
   pub many : length state.view.members ≡ servers
   pub members : (n : ℕ) (member : Member) → slice_get state.view.members n ≡ Some member → 1 ≤ last_inc member
@@ -47,6 +48,7 @@ pub record IsPlainState (servers : ℕ) (state : State) : Type 0 where
   pub tuples : (of : ℕ) (tuple : List ℕ) → tuple_of state.maps of ≡ Some tuple → is_tuple servers tuple ≡ true
   pub links : (of link : ℕ) (tuple : List ℕ) → tuple_of state.maps of ≡ Some tuple → link < length tuple → HasLinkOf state of tuple link
   pub unlinked : (of link : ℕ) → tuple_of state.maps of ≡ None → link_at state.links of link ≡ None
+  pub found : (row : LinkRow) → In row state.links → link_at state.links row.map row.link ≡ Some row
 
 -- the later row of a link
 pub record HasLaterRow (earlier later : State) (of link : ℕ) (row : LinkRow) : Type 0 where
@@ -54,9 +56,10 @@ pub record HasLaterRow (earlier later : State) (of link : ℕ) (row : LinkRow) :
   pub is : link_at later.links of link ≡ Some now
   pub so : IsLater row now
   pub on : IsServedOn earlier later row now
+  pub held : IsHeldOn earlier later row now
 
--- disks and maps were added, and those before stay as they were; of a link one server may be left; and an incarnation that was Out
--- stays Out
+-- disks and maps were added, and those before stay as they were; a link stays between its two servers, and who served it, and has
+-- been In all the time, serves it still; and an incarnation that was Out stays Out
 pub record IsGrown (earlier later : State) : Type 0 where
   pub more : List DiskRow
   pub rows : later.disks.rows ≡ earlier.disks.rows ++ more

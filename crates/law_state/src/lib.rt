@@ -1,13 +1,14 @@
 //! What plain entries of the agreed log make: states in which each cell's link is served by both of its servers, or by one of
-//! them once the other one has left.
+//! them once the other one has left, until a Caught of the link.
 //!
-//! To the laws above it promises that such a state is steady, and what of what it says of a cell, a server or a name each later
-//! one says too. It knows nothing of letters, clients or histories.
+//! To the laws above it promises that such a state is steady, what of what it says of a cell, a server or a name each later
+//! one says too, and what has become of a link from one of its places to a later one. It knows nothing of letters, clients or histories.
 #![tactic(auto)]
 
 ghost use Rattle.std.specs.Prelude.{◌≡◌, ◌<◌, ◌≤◌, ◌⊎◌, ℕ, List, Some, length, true, false};
 ghost use Rattle.petal_base.specs.declared.cell.Cell.{Cell};
 ghost use Rattle.global_tables.specs.declared.link.LinkRow.{LinkRow};
+ghost use Rattle.global_tables.specs.declared.link.LinkState.TheVariants.{Both, Only};
 ghost use Rattle.petal_command.specs.declared.command.Command.{Command};
 ghost use Rattle.petal_command.specs.declared.command.Command.TheVariants.{Leave};
 ghost use Rattle.petal_history.specs.Claims.{IsPrefix};
@@ -19,7 +20,7 @@ ghost use Rattle.petal_rules.specs.Lists.{In};
 ghost use Rattle.petal_rules.specs.State.{State, is_in};
 ghost use Rattle.law_state.specs.Below.{IsBelow, KeepsRoles};
 ghost use Rattle.law_state.specs.Disks.{AreDisks, AreInOrOut, HasJoined};
-ghost use Rattle.law_state.specs.Places.{IsJoinedBy, IsLeftBy, StaysAlone, StaysSo};
+ghost use Rattle.law_state.specs.Places.{IsCaughtIn, IsCaughtSince, IsTouchedBy, StaysSo};
 ghost use Rattle.law_state.specs.Plain.{IsPlain, IsPlainLog};
 ghost use Rattle.law_state.specs.Steady.{IsSteady};
 ghost use Rattle.law_state.specs.Tables.{IsGrown, IsPlainState};
@@ -29,13 +30,13 @@ pub fn a_plain_log_is_steady()
     ensures { (servers : ℕ) (log : List Command) → IsPlainLog servers log → IsSteady (state_after servers log) }
 {}
 
-/// What the state of a front of a plain log says, that of the whole says too, but for servers that have left.
+/// What the state of a front of a plain log says of names, that of the whole says too, and of a cell what its servers are that have stayed In.
 pub fn a_longer_log_says_the_same()
     ensures { (servers : ℕ) (front whole : List Command) → IsPlainLog servers whole → IsPrefix front whole → IsBelow (state_after servers front) (state_after servers whole) }
 {}
 
 /// A server that is still In as the same incarnation leads, follows and is read as before; only that of a link's two servers it may be
-/// left alone.
+/// left alone, and that a second server which was alone follows again.
 pub fn a_longer_log_keeps_roles()
     ensures { (servers : ℕ) (front whole : List Command) → IsPlainLog servers whole → IsPrefix front whole → KeepsRoles (state_after servers front) (state_after servers whole) }
 {}
@@ -50,7 +51,7 @@ pub fn a_plain_log_makes_plain_tables()
     ensures { (servers : ℕ) (log : List Command) → IsPlainLog servers log → IsPlainState servers (state_after servers log) }
 {}
 
-/// A longer log adds rows behind those that are there, and changes none but those of links of which one server is left.
+/// A longer log adds rows behind those that are there, and changes none but who serves a link.
 pub fn a_longer_log_only_adds()
     ensures { (servers : ℕ) (front whole : List Command) → IsPlainLog servers whole → IsPrefix front whole → IsGrown (state_after servers front) (state_after servers whole) }
 {}
@@ -77,11 +78,18 @@ pub fn who_is_in_has_joined()
 {}
 
 /// An entry that doesn't touch a link leaves its row as it is, and whether its two servers are In; one that does is the Leave of
-/// one of them, or a Join, which finds the row held by one alone and leaves it so. A longer log has no fewer places of a link, and where it has as many it says the same of it.
+/// one of them, a Join, or the link's Caught. A longer log has no fewer places of a link, and where it has as many it says the same of it.
 pub fn an_entry_that_does_not_touch_a_link()
     ensures stays { (servers : ℕ) (log : List Command) (entry : Command) (cell : Cell) (row : LinkRow) → IsPlainLog servers log → IsPlain servers entry → cell_link (state_after servers log) cell ≡ Some row → touches (state_after servers log) entry row ≡ false → StaysSo cell row (state_after servers log) (after (state_after servers log) entry) }
-    ensures touched { (servers : ℕ) (state : State) (entry : Command) (row : LinkRow) → IsPlain servers entry → touches state entry row ≡ true → IsLeftBy state entry row ⊎ IsJoinedBy state entry row }
-    ensures joined { (servers : ℕ) (log : List Command) (entry : Command) (cell : Cell) (row : LinkRow) → IsPlainLog servers log → IsPlain servers entry → cell_link (state_after servers log) cell ≡ Some row → IsJoinedBy (state_after servers log) entry row → StaysAlone cell row (after (state_after servers log) entry) }
+    ensures touched { (servers : ℕ) (log : List Command) (entry : Command) (cell : Cell) (row : LinkRow) → IsPlainLog servers log → IsPlain servers entry → cell_link (state_after servers log) cell ≡ Some row → touches (state_after servers log) entry row ≡ true → IsTouchedBy cell row (state_after servers log) entry }
     ensures grows { (servers : ℕ) (front whole : List Command) (row : LinkRow) → IsPrefix front whole → places_from (start servers) front row ≤ places_from (start servers) whole row }
     ensures place { (servers : ℕ) (front whole : List Command) (cell : Cell) (row : LinkRow) → IsPlainLog servers whole → IsPrefix front whole → cell_link (state_after servers front) cell ≡ Some row → places_from (start servers) whole row ≡ places_from (start servers) front row → StaysSo cell row (state_after servers front) (state_after servers whole) }
+{}
+
+/// A link that is in Both is at the place at which it was seen before, or a Caught put it there since. One that a server holds alone
+/// stays so, or its first change is the holder's Caught. And while both servers of a link in Both stay In, it stays at its place.
+pub fn a_link_is_in_both_again_by_its_caught()
+    ensures caught { (servers : ℕ) (front whole : List Command) → IsPlainLog servers whole → IsPrefix front whole → (cell : Cell) (row now : LinkRow) → cell_link (state_after servers front) cell ≡ Some row → cell_link (state_after servers whole) cell ≡ Some now → now.state ≡ Both → (places_from (start servers) whole row ≡ places_from (start servers) front row) ⊎ IsCaughtSince servers front whole cell now }
+    ensures alone { (servers : ℕ) (front whole : List Command) → IsPlainLog servers whole → IsPrefix front whole → (cell : Cell) (row now : LinkRow) (holder : ℕ) → cell_link (state_after servers front) cell ≡ Some row → row.state ≡ Only holder false → cell_link (state_after servers whole) cell ≡ Some now → (now.state ≡ Only holder false) ⊎ IsCaughtIn servers front whole cell row }
+    ensures both { (servers : ℕ) (front whole : List Command) → IsPlainLog servers whole → IsPrefix front whole → (cell : Cell) (row : LinkRow) (one other : ℕ) → cell_link (state_after servers front) cell ≡ Some row → row.state ≡ Both → is_in (state_after servers front) row.primary one ≡ true → is_in (state_after servers front) row.secondary other ≡ true → is_in (state_after servers whole) row.primary one ≡ true → is_in (state_after servers whole) row.secondary other ≡ true → places_from (start servers) whole row ≡ places_from (start servers) front row }
 {}

@@ -1,5 +1,5 @@
 -- Fronts of the log, and what stands below what.
-use Rattle.std.proofs.Common.{◌≡◌, ◌≤◌, ◌++◌, List, [], ◌∷◌, length, length-append, refl, sym, ap, ◌∙◌, inl, arith, append_assoc}
+use Rattle.std.proofs.Common.{◌≡◌, ◌≤◌, ◌++◌, List, [], ◌∷◌, length, length-append, refl, sym, ap, ◌∙◌, arith, append_assoc}
 use Rattle.std.specs.Prelude.{slice_get, drop}
 use Rattle.std.proofs.lemmas.List.{append-nil}
 use Rattle.petal_command.specs.declared.command.Command.{Command}
@@ -9,7 +9,7 @@ use Rattle.petal_rules.proofs.Tests.{same_some}
 use Rattle.law_state.specs.Below.{IsBelow}
 use Rattle.law_state.specs.Ages.{age_of}
 use Rattle.law_state.proofs.Ages.{no_less}
-use Rattle.law_state.proofs.Grown.{later_itself, later_on, served_on_on}
+use Rattle.law_state.proofs.Grown.{held_on_on, later_itself, later_on, served_on_on}
 
 pub front_itself : (log : List Command) → IsPrefix log log
 front_itself log = record { later = []; is = sym (append-nil log) }
@@ -56,7 +56,8 @@ below_on a b c one two = record {
         now = last.now;
         is = last.is;
         so = later_on row middle.now last.now middle.so last.so;
-        on = served_on_on a b c one.ages two.ages row middle.now last.now middle.so last.so middle.on last.on;
+        on = served_on_on a b c one.ages two.ages row middle.now last.now middle.so middle.on last.on;
+        held = held_on_on a b c one.ages two.ages row middle.now last.now middle.held last.held;
       };
   ages = λ n. let x = one.ages n in let y = two.ages n in omega arith;
   finds = λ name disk e. two.finds name disk (one.finds name disk e);
@@ -64,7 +65,7 @@ below_on a b c one two = record {
 
 pub below_itself : (a : State) → IsBelow a a
 below_itself a = record {
-  rows = λ cell row e. record { now = row; is = e; so = later_itself row; on = λ n inc both has x y. inl both };
+  rows = λ cell row e. record { now = row; is = e; so = later_itself row; on = λ n inc has serving x y. serving; held = λ n alone out same. alone };
   ages = λ n. no_less (age_of a n);
   finds = λ name disk e. e;
 }

@@ -1,8 +1,12 @@
 -- Each step that is allowed is of one of the kinds that the relation names, and what each kind keeps holds after every history.
-use Rattle.std.proofs.Common.{◌≡◌, true, Some, inl, inr, ap, ◌∙◌, ◌<◌, ◌≤◌, ◌+◌, ℕ, List, [], ◌∷◌, ◌++◌, refl, sym, subst, arith, append_assoc}
+use Rattle.std.proofs.Common.{◌≡◌, true, Bool, false, length, Option, Some, None, inl, inr, ap, ◌∙◌, ◌<◌, ◌≤◌, ◌+◌, ℕ, List, [], ◌∷◌, ◌++◌, refl, sym, subst, arith, append_assoc}
 use Rattle.std.specs.Prelude.{max}
 use Rattle.petal_base.specs.declared.cell.Cell.{Cell}
+use Rattle.global_tables.specs.Link.{other_of}
+use Rattle.global_tables.specs.declared.link.LinkRow.{LinkRow}
+use Rattle.global_tables.specs.declared.link.LinkState.TheVariants.{Only}
 use Rattle.petal_command.specs.declared.command.Command.{Command}
+use Rattle.petal_command.specs.declared.command.Command.TheVariants.{Caught}
 use Rattle.petal_table.specs.Table.{Table, at}
 use Rattle.petal_table.proofs.Rows.{at-empty}
 use Rattle.petal_msg.specs.declared.operation.Pending.{Pending}
@@ -10,6 +14,7 @@ use Rattle.petal_msg.specs.declared.letter.Actor.{Actor}
 use Rattle.petal_msg.specs.declared.letter.Actor.TheVariants as actor
 use Rattle.petal_msg.specs.declared.letter.Letter.{Letter}
 use Rattle.script_lines.specs.declared.script.Script.{Script}
+use Rattle.petal_state.specs.CellState.{cell_link}
 use Rattle.petal_state.specs.Command.{state_after}
 use Rattle.petal_history.specs.Claims.{IsPrefix, Grows}
 use Rattle.petal_history.specs.Legal.{Follows, IsLegal, IsLegalFrom, stepped, world_after}
@@ -19,25 +24,38 @@ use Rattle.petal_rules.specs.Clients.{Client}
 use Rattle.petal_rules.specs.Log.{Log, state_in}
 use Rattle.petal_rules.specs.Server.{Own, Server, Done}
 use Rattle.petal_rules.specs.Boots.{awake, raised, stays, wakes}
-use Rattle.petal_rules.specs.State.{State, is_in}
+use Rattle.petal_rules.specs.Crossing.{crossed}
+use Rattle.petal_rules.specs.Returns.{holds_link, proposed}
+use Rattle.petal_rules.specs.Progress.{has_proposed}
+use Rattle.petal_rules.specs.State.{State, id_of, in_both, is_alone_on, is_in, is_lead, lead, link_named}
 use Rattle.petal_rules.specs.Store.{cell_cmp}
 use Rattle.petal_rules.specs.Jobs.{Acted}
 use Rattle.petal_rules.specs.World.{Setting, World, acts, reacts, step, server_step, client_step, next_line, received, clock_of, server_state, client_state, chosen_log, chosen_state, setting_of, start, MayServer, MayActor}
 use Rattle.petal_rules.specs.declared.job.Job.{Job}
 use Rattle.petal_rules.specs.declared.step.Step.{Step}
 use Rattle.petal_rules.proofs.ListLemmas.{in_later, put_same}
-use Rattle.petal_rules.proofs.Tests.{all_put, none_some, true_false}
+use Rattle.petal_rules.proofs.Tests.{all_put, is_the_one, none_some, true_false}
 use Rattle.law_state.specs.Below.{IsBelow}
 use Rattle.law_state.specs.Firm.{Firm}
 use Rattle.law_state.specs.Plain.{IsPlainLog}
 use Rattle.law_state.specs.Steady.{IsSteady}
-use Rattle.law_state.proofs.Ages.{between}
-use Rattle.law_state.proofs.Alone.{led_row, both_before}
+use Rattle.law_state.specs.Places.{IsCaughtIn}
+use Rattle.law_state.specs.Started.{HasStarted}
+use Rattle.law_state.proofs.Again.{log_alone}
+use Rattle.law_state.proofs.Ages.{between, in_once}
+use Rattle.law_state.proofs.Alone.{alone_not_both, led_row, second_both, so_alone, so_both}
+use Rattle.law_state.proofs.Cells.{led_by}
 use Rattle.law_state.proofs.Roles.{log_roles}
 use Rattle.law_state.proofs.Steady.{log_steady, log_below, front_plain}
-use Rattle.law_steps.specs.Happens.{Handled, AreQueued, Worked, By_job, By_entry, Serving, Goes, Ends, Stays, Wakes, Fails, served_so, stopped_so, shown_so, own_place, Happens, Serves, Turns}
-use Rattle.law_steps.specs.Ready.{IsReady, Ready, Rests, AreFirm}
-use Rattle.law_steps.proofs.Fronts.{below_on, front_on}
+use Rattle.law_steps.specs.Happens.{Handled, AreQueued, Worked, By_job, By_ballot, By_entry, Serving, Goes, Ends, Stays, Wakes, Fails, served_so, stopped_so, shown_so, own_place, Happens, Serves, Turns}
+use Rattle.law_steps.specs.Ready.{IsReady, IsRising, Ready, Rests, AreFirm}
+use Rattle.law_steps.proofs.Subjects.{copies_rise, unheld_stays}
+use Rattle.law_steps.proofs.Tables.{rising_filter}
+use Rattle.law_steps.specs.Operations.{AtRest}
+use Rattle.law_steps.proofs.Fronts.{below_on, front_itself, front_long, front_more, front_on}
+use Rattle.law_steps.specs.Resting.{AreResting}
+use Rattle.law_steps.proofs.Resting.{ballot_rests, did_rests, log_rests, none_rest}
+use Rattle.law_steps.proofs.Minds.{ballot_unheld, crossed_unheld, held_as_flag}
 use Rattle.law_steps.proofs.Serving.{server_serves}
 use Rattle.law_steps.proofs.Staged.{did_ready}
 use Rattle.law_steps.proofs.Turning.{is_call, client_turns}
@@ -49,23 +67,67 @@ queues_later : (w v : World) → ((letter : Letter) → In letter w.sent → In 
     → AreQueued v m queue
 queues_later w v later m queue h letter i = let known = h letter i in (later letter known.0, known.1)
 
--- what rests at an earlier state rests at a later one by which its server is In as the same incarnation
-ready_on : (servers : ℕ) (front whole : List Command) → IsPlainLog servers whole → IsPrefix front whole → (n inc : ℕ) (pending : Table Cell Pending)
-    → ((cell : Cell) (op : Pending) → at cell_cmp pending cell ≡ Some op → is_in (state_after servers front) n inc ≡ true)
-    → ((cell : Cell) (op : Pending) → at cell_cmp pending cell ≡ Some op → is_in (state_after servers whole) n inc ≡ true)
-    → IsReady (state_after servers front) n pending → IsReady (state_after servers whole) n pending
-ready_on servers front whole plain prefix n inc pending before still ready = record {
-  staged = λ cell op is.
-      let s = ready.staged cell op is in
-      let row = led_row (state_after servers front) (log_steady servers front (front_plain servers front whole plain prefix)) n cell s.lead in
-      record {
-        own = s.own;
-        keyed = s.keyed;
-        lead = (log_roles servers front whole plain prefix).leads n inc cell (before cell op is) (still cell op is) s.lead;
-        stage = λ both. s.stage (both_before _ _ (log_below servers front whole plain prefix) cell row.0 row.1 both);
-      };
+-- where less is held back
+ready_held : (state : State) (me : ℕ) (held later : Cell → Bool) (pending : Table Cell Pending)
+    → ((cell : Cell) (op : Pending) → at cell_cmp pending cell ≡ Some op → held cell ≡ false → later cell ≡ false)
+    → IsReady state me held pending → IsReady state me later pending
+ready_held state me held later pending less ready = record {
+  staged = λ cell op is. let s = ready.staged cell op is in
+      record { own = s.own; keyed = s.keyed; lead = s.lead; stage = s.stage; unheld = less cell op is s.unheld };
   rising = ready.rising;
 }
+
+-- what rests at an earlier state rests at a later one by which its server is In as the same incarnation, where no Caught of the server's
+-- stands between them on the link of an operation
+module _ (servers : ℕ) (front whole : List Command) (plain : IsPlainLog servers whole) (prefix : IsPrefix front whole) (n inc : ℕ) (held : Cell → Bool)
+    (pending : Table Cell Pending)
+    (before : (cell : Cell) (op : Pending) → at cell_cmp pending cell ≡ Some op → is_in (state_after servers front) n inc ≡ true)
+    (still : (cell : Cell) (op : Pending) → at cell_cmp pending cell ≡ Some op → is_in (state_after servers whole) n inc ≡ true)
+    (caught : (cell : Cell) (op : Pending) → at cell_cmp pending cell ≡ Some op → (row : LinkRow) → cell_link (state_after servers front) cell ≡ Some row
+    → row.state ≡ Only n false → IsCaughtIn servers front whole cell row → held cell ≡ true)
+    (ready : IsReady (state_after servers front) n held pending) where
+  abbrev earlier : State
+  earlier = state_after servers front
+
+  abbrev later : State
+  later = state_after servers whole
+
+  was_steady : IsSteady earlier
+  was_steady = log_steady servers front (front_plain servers front whole plain prefix)
+
+  -- who holds the link of such an operation alone goes on to
+  alone_still : (cell : Cell) (op : Pending) → at cell_cmp pending cell ≡ Some op → (row : LinkRow) → cell_link earlier cell ≡ Some row → row.state ≡ Only n false
+      → is_alone_on later n cell ≡ true
+  alone_still cell op is row there alone =
+      let h = (log_below servers front whole plain prefix).rows cell row there in
+      elim (log_alone servers front whole plain prefix cell row h.now n there alone h.is) [
+        | inl same ↦ so_alone later n cell h.now false h.is same
+        | inr found ↦ true_false (caught cell op is row there alone found) (ready.staged cell op is).unheld
+      ]
+
+  lead_still : (cell : Cell) (op : Pending) → at cell_cmp pending cell ≡ Some op → is_lead later n cell ≡ true
+  lead_still cell op is =
+      elim ((log_roles servers front whole plain prefix).leads n inc cell (before cell op is) (still cell op is) (ready.staged cell op is).lead) [
+        | inl leads ↦ leads
+        | inr second ↦ true_false
+            (second_both later (log_steady servers whole plain) cell n (is_the_one _ n second.second))
+            (alone_not_both later n cell (alone_still cell op is second.alone.row second.alone.is second.alone.alone))
+      ]
+
+  stage_still : (cell : Cell) (op : Pending) → at cell_cmp pending cell ≡ Some op → in_both later cell ≡ true → AtRest op.stage
+  stage_still cell op is both =
+      let s = ready.staged cell op is in
+      elim (led_by earlier was_steady cell n (is_the_one (lead earlier cell) n s.lead)) [
+        | inl b ↦ s.stage (so_both earlier cell b.0.row b.0.is b.0.so)
+        | inr alone ↦ true_false both (alone_not_both later n cell (alone_still cell op is alone.row alone.is alone.so))
+      ]
+
+  ready_on : IsReady later n held pending
+  ready_on = record {
+    staged = λ cell op is. let s = ready.staged cell op is in
+        record { own = s.own; keyed = s.keyed; lead = lead_still cell op is; stage = stage_still cell op is; unheld = s.unheld };
+    rising = ready.rising;
+  }
 
 -- ### One world
 
@@ -98,31 +160,99 @@ module _ (setting : Setting) (w : World) (firm : Firm setting w) where
       → is_in (chosen_state setting w) n (w.servers n).life.inc ≡ true
   runs_now n runs is = firm.runs n (w.servers n).log.applied runs (firm.servers n) is
 
-  -- what rests where a server runs, rests at what is chosen
-  pub ready_chosen : Rests setting w → (n : ℕ) → (w.servers n).life.running ≡ true → IsReady (chosen_state setting w) n (w.servers n).own.pairs.pending
-  ready_chosen rests n runs =
-      ready_on setting.servers _ _ firm.plain (firm.servers n) n (w.servers n).life.inc (w.servers n).own.pairs.pending
-      (λ cell op is. rests.seated n cell op runs is) (λ cell op is. runs_now n runs (rests.seated n cell op runs is)) (rests.pending n)
+  -- a Caught behind its own entries the server has in mind, where it is In as itself
+  caught_held : (n : ℕ) (more : List Command) → IsPrefix (w.servers n).log.applied more → IsPrefix more (chosen_log setting w)
+      → (w.servers n).life.running ≡ true → is_in (server_state setting w n) n (w.servers n).life.inc ≡ true → (cell : Cell) (row : LinkRow)
+      → cell_link (server_state setting w n) cell ≡ Some row → row.state ≡ Only n false
+      → IsCaughtIn setting.servers (w.servers n).log.applied more cell row → has_proposed (server_state setting w n) (w.servers n).own cell ≡ true
+  caught_held n more on chosen runs seat cell row is alone found =
+      let acts = found.acts in
+      let stands = front_on (found.until ++ found.entry ∷ []) more (chosen_log setting w) found.stands chosen in
+      let mine : acts.holder ≡ n = same_only (sym acts.alone ∙ alone) in
+      let until_chosen = front_on found.until _ _ (front_more found.until found.entry) stands in
+      let seated_then = runs_at (w.servers n).log.applied found.until found.behind until_chosen n runs seat in
+      let inc_is : acts.inc ≡ (w.servers n).life.inc =
+      in_once (state_after setting.servers found.until) n acts.inc (w.servers n).life.inc (subst (λ k. is_in (state_after setting.servers found.until) k acts.inc ≡ true) mine acts.holds) seated_then in
+      let started = firm.started found.until row.map row.link acts.holder acts.inc (other_of acts.holder row) acts.other_inc
+      (subst (λ (c : Command). IsPrefix (found.until ++ c ∷ []) (chosen_log setting w)) acts.is stands) in
+      let mine_started = subst (λ k. HasStarted w.servers k acts.inc (length found.until) (id_of row)) mine started in
+      elim mine_started [
+        | inl past ↦ absurd (omega (arith, inc_is))
+        | inr flag ↦ (
+            let reached = flag.1.reached in
+            let long = front_long (w.servers n).log.applied found.until found.behind in
+            held_as_flag (server_state setting w n) (w.servers n).own cell row is ∙ flag.1.flagged (omega arith))
+      ]
+    where
+      same_only : {h k : ℕ} → Only h false ≡ Only k false → h ≡ k
+      same_only e = cc
+
+  -- what rests where a server runs, rests at each front of what is chosen from its own entries on
+  pub ready_at : Rests setting w → (n : ℕ) → (w.servers n).life.running ≡ true → (more : List Command) → IsPrefix (w.servers n).log.applied more
+      → IsPrefix more (chosen_log setting w)
+      → IsReady (state_after setting.servers more) n (has_proposed (server_state setting w n) (w.servers n).own) (w.servers n).own.pairs.pending
+  ready_at rests n runs more on chosen =
+      ready_on setting.servers (w.servers n).log.applied more (front_plain setting.servers more _ firm.plain chosen) on n (w.servers n).life.inc
+      (has_proposed (server_state setting w n) (w.servers n).own) (w.servers n).own.pairs.pending
+      (λ cell op is. rests.seated n cell op runs is)
+      (λ cell op is. runs_at (w.servers n).log.applied more on chosen n runs (rests.seated n cell op runs is))
+      (λ cell op is row there alone found. caught_held n more on chosen runs (rests.seated n cell op runs is) cell row there alone found)
+      (rests.pending n)
+
+  pub ready_chosen : Rests setting w → (n : ℕ) → (w.servers n).life.running ≡ true
+      → IsReady (chosen_state setting w) n (has_proposed (server_state setting w n) (w.servers n).own) (w.servers n).own.pairs.pending
+  ready_chosen rests n runs = ready_at rests n runs (chosen_log setting w) (firm.servers n) (front_itself (chosen_log setting w))
 
 pub chosen_below : (setting : Setting) (w v : World) → Firm setting v → IsPrefix (chosen_log setting w) (chosen_log setting v)
     → IsBelow (chosen_state setting w) (chosen_state setting v)
 chosen_below setting w v firm grows = log_below setting.servers _ _ firm.plain grows
+
+-- ### A ballot leaves pairs and copies as they are
+
+link_pairs : (own : Own) (o : Option LinkRow) → (holds_link own o).pairs.pending ≡ own.pairs.pending
+link_pairs own None = refl
+link_pairs own (Some row) = refl
+
+proposed_pairs : (state : State) (own : Own) (o : Option Command) → (proposed state own o).pairs.pending ≡ own.pairs.pending
+proposed_pairs state own (Some (Caught of link holder inc other other_inc)) = link_pairs own (link_named state (record { map = of; link = link }))
+proposed_pairs state own (Some _) = refl
+proposed_pairs state own None = refl
+
+link_copies : (own : Own) (o : Option LinkRow) → (holds_link own o).copies.pending ≡ own.copies.pending
+link_copies own None = refl
+link_copies own (Some row) = refl
+
+proposed_copies : (state : State) (own : Own) (o : Option Command) → (proposed state own o).copies.pending ≡ own.copies.pending
+proposed_copies state own (Some (Caught of link holder inc other other_inc)) = link_copies own (link_named state (record { map = of; link = link }))
+proposed_copies state own (Some _) = refl
+proposed_copies state own None = refl
 
 -- ### One step
 
 module _ (setting : Setting) (w : World) (rests : Rests setting w) (firm : Firm setting w) where
   -- what a running server leaves rests at the state that it leaves
   worked_ready : (n : ℕ) → (w.servers n).life.running ≡ true → (log : Log) (done : Done) → Worked setting w n log done
-      → IsReady (state_in setting.servers log) n done.own.pairs.pending
+      → IsReady (state_in setting.servers log) n (has_proposed (state_in setting.servers log) done.own) done.own.pairs.pending
   worked_ready n runs _ _ (By_job log done same did seat) =
-      subst (λ applied. IsReady (state_after setting.servers applied) n done.own.pairs.pending) (sym same)
-      (did_ready (Handled w n) (own_place setting w n) (w.servers n).own (rests.pending n) done did)
+      subst (λ applied. IsReady (state_after setting.servers applied) n (has_proposed (state_after setting.servers applied) done.own) done.own.pairs.pending) (sym same)
+      (ready_held (server_state setting w n) n _ _ done.own.pairs.pending
+      (λ cell op is unheld. unheld_stays (Handled w n) (own_place setting w n) (w.servers n).own done did (server_state setting w n) cell unheld)
+      (did_ready (Handled w n) (own_place setting w n) (w.servers n).own (rests.pending n) done did))
+  worked_ready n runs _ _ (By_ballot log started posts same starts says) =
+      let to = proposed (server_state setting w n) (w.servers n).own started in
+      subst (λ applied. IsReady (state_after setting.servers applied) n (has_proposed (state_after setting.servers applied) to) to.pairs.pending) (sym same)
+      (subst (λ (t : Table Cell Pending). IsReady (server_state setting w n) n (has_proposed (server_state setting w n) to) t)
+      (sym (proposed_pairs (server_state setting w n) (w.servers n).own started))
+      (ready_held (server_state setting w n) n _ _ (w.servers n).own.pairs.pending
+      (λ cell op is unheld. ballot_unheld (own_place setting w n) (w.servers n).own started starts cell op is unheld) (rests.pending n)))
   worked_ready n runs _ _ (By_entry log entry more front) =
-      ready_on setting.servers (w.servers n).log.applied log.applied (front_plain setting.servers _ _ firm.plain front)
-      (record { later = entry ∷ []; is = more }) n (w.servers n).life.inc (w.servers n).own.pairs.pending
-      (λ cell op is. rests.seated n cell op runs is)
-      (λ cell op is. runs_at setting w firm (w.servers n).log.applied log.applied (record { later = entry ∷ []; is = more }) front n runs
-      (rests.seated n cell op runs is)) (rests.pending n)
+      let on : IsPrefix (w.servers n).log.applied log.applied = record { later = entry ∷ []; is = more } in
+      ready_held (state_after setting.servers log.applied) n _ _ (w.servers n).own.pairs.pending
+      (λ cell op is unheld.
+      let row = led_row (server_state setting w n) (own_steady setting w firm n) n cell ((rests.pending n).staged cell op is).lead in
+      crossed_unheld (server_state setting w n) (state_after setting.servers log.applied) entry (w.servers n).own cell row.0 row.1
+      ((log_below setting.servers (w.servers n).log.applied log.applied (front_plain setting.servers _ _ firm.plain front) on).rows cell row.0 row.1) unheld)
+      (ready_at setting w firm rests n runs log.applied on front)
 
   -- it has operations only while it is In as itself
   worked_seated : (n : ℕ) → (w.servers n).life.running ≡ true → (log : Log) (done : Done) → Worked setting w n log done → (cell : Cell) (op : Pending)
@@ -130,48 +260,78 @@ module _ (setting : Setting) (w : World) (rests : Rests setting w) (firm : Firm 
   worked_seated n runs _ _ (By_job log done same did seat) cell op is =
       let now : is_in (server_state setting w n) n (w.servers n).life.inc ≡ true = elim seat [
         | inl so ↦ so
-        | inr kept ↦ rests.seated n cell op runs (sym (ap (λ (o : Own). at cell_cmp o.pairs.pending cell) kept) ∙ is)
+        | inr apart ↦ rests.seated n cell op runs (sym (ap (λ (o : Own). at cell_cmp o.pairs.pending cell) apart.same) ∙ is)
       ] in
       subst (λ applied. is_in (state_after setting.servers applied) n (w.servers n).life.inc ≡ true) (sym same) now
+  worked_seated n runs _ _ (By_ballot log started posts same starts says) cell op is =
+      subst (λ applied. is_in (state_after setting.servers applied) n (w.servers n).life.inc ≡ true) (sym same)
+      (rests.seated n cell op runs (sym (ap (λ t. at cell_cmp t cell) (proposed_pairs (server_state setting w n) (w.servers n).own started)) ∙ is))
   worked_seated n runs _ _ (By_entry log entry more front) cell op is =
       runs_at setting w firm (w.servers n).log.applied log.applied (record { later = entry ∷ []; is = more }) front n runs (rests.seated n cell op runs is)
 
+  worked_copying : (n : ℕ) (log : Log) (done : Done) → Worked setting w n log done → IsRising cell_cmp done.own.copies.pending
+  worked_copying n _ _ (By_job log done same did seat) = copies_rise (Handled w n) (own_place setting w n) (w.servers n).own done did (rests.copying n)
+  worked_copying n _ _ (By_ballot log started posts same starts says) =
+      subst (IsRising cell_cmp) (sym (proposed_copies (server_state setting w n) (w.servers n).own started)) (rests.copying n)
+  worked_copying n _ _ (By_entry log entry more front) = rising_filter cell_cmp _ (w.servers n).own.copies.pending (rests.copying n)
+
+  worked_resting : (n : ℕ) (log : Log) (done : Done) → Worked setting w n log done → AreResting (state_in setting.servers log) n done.own
+  worked_resting n _ _ (By_job log done same did seat) =
+      subst (λ applied. AreResting (state_after setting.servers applied) n done.own) (sym same)
+      (did_rests (Handled w n) (own_place setting w n) (w.servers n).own done (rests.resting n) did)
+  worked_resting n _ _ (By_ballot log started posts same starts says) =
+      subst (λ applied. AreResting (state_after setting.servers applied) n (proposed (server_state setting w n) (w.servers n).own started)) (sym same)
+      (ballot_rests (own_place setting w n) (w.servers n).own started (rests.resting n))
+  worked_resting n _ _ (By_entry log entry more front) =
+      let plain : IsPlainLog setting.servers ((w.servers n).log.applied ++ entry ∷ []) =
+      subst (IsPlainLog setting.servers) more (front_plain setting.servers _ _ firm.plain front) in
+      subst (λ applied. AreResting (state_after setting.servers applied) n (crossed (server_state setting w n) entry (w.servers n).own)) (sym more)
+      (log_rests setting.servers (w.servers n).log.applied entry plain n (w.servers n).own (rests.resting n))
+
   -- the worlds that a server's step leads to
   rests_put : (n stamp : ℕ) (what : Step) (acted : Acted) → AreQueued w n acted.server.queue
-      → IsReady (state_in setting.servers acted.server.log) n acted.server.own.pairs.pending
+      → IsReady (state_in setting.servers acted.server.log) n (has_proposed (state_in setting.servers acted.server.log) acted.server.own)
+      acted.server.own.pairs.pending
       → ((cell : Cell) (op : Pending) → acted.server.life.running ≡ true → at cell_cmp acted.server.own.pairs.pending cell ≡ Some op
-      → is_in (state_in setting.servers acted.server.log) n acted.server.life.inc ≡ true) → Rests setting (acts w n what stamp acted).world
-  rests_put n stamp what acted queued ready seated =
+      → is_in (state_in setting.servers acted.server.log) n acted.server.life.inc ≡ true) → IsRising cell_cmp acted.server.own.copies.pending
+      → AreResting (state_in setting.servers acted.server.log) n acted.server.own → Rests setting (acts w n what stamp acted).world
+  rests_put n stamp what acted queued ready seated copying resting =
       let v = (acts w n what stamp acted).world in
       record {
         queues = all_put w.servers n acted.server (λ m (x : Server). AreQueued v m x.queue)
             (λ m. queues_later w v (λ letter. in_later letter _ w.sent) m (w.servers m).queue (rests.queues m))
             (queues_later w v (λ letter. in_later letter _ w.sent) n acted.server.queue queued);
-        pending = all_put w.servers n acted.server (λ m (x : Server). IsReady (state_in setting.servers x.log) m x.own.pairs.pending) rests.pending ready;
+        pending = all_put w.servers n acted.server (λ m (x : Server). IsReady (state_in setting.servers x.log) m (has_proposed (state_in setting.servers x.log) x.own) x.own.pairs.pending)
+            rests.pending ready;
         seated = all_put w.servers n acted.server (λ m (x : Server). (cell : Cell) (op : Pending) → x.life.running ≡ true
             → at cell_cmp x.own.pairs.pending cell ≡ Some op → is_in (state_in setting.servers x.log) m x.life.inc ≡ true) rests.seated seated;
+        copying = all_put w.servers n acted.server (λ m (x : Server). IsRising cell_cmp x.own.copies.pending) rests.copying copying;
+        resting = all_put w.servers n acted.server (λ m (x : Server). AreResting (state_in setting.servers x.log) m x.own) rests.resting resting;
       }
 
   serves_rest : (n stamp : ℕ) (what : Step) (acted : Acted) → Serving setting w n what acted → Rests setting (acts w n what stamp acted).world
   unfolding In
   serves_rest n stamp what _ (Goes log done queue runs worked queued works) =
       rests_put n stamp what (served_so setting w n log done queue) queued (worked_ready n runs log done worked)
-      (λ cell op e is. worked_seated n runs log done worked cell op is)
+      (λ cell op e is. worked_seated n runs log done worked cell op is) (worked_copying n log done worked) (worked_resting n log done worked)
   serves_rest n stamp what _ (Ends log done runs worked) =
       rests_put n stamp what (stopped_so setting w n log done) (λ letter i. absurd i) (worked_ready n runs log done worked)
-      (λ cell op e is. true_false e refl)
+      (λ cell op e is. true_false e refl) (worked_copying n log done worked)
+      (worked_resting n log done worked)
   serves_rest n stamp what _ (Stays who posts from shown) = rests_put n stamp what (shown_so w n who posts) (rests.queues n) (rests.pending n)
-      (rests.seated n)
+      (rests.seated n) (rests.copying n) (rests.resting n)
   serves_rest n stamp what _ (Wakes booted asleep) =
       rests_put n stamp what (wakes (own_place setting w n) (awake (raised (w.servers n)))) (λ letter i. absurd i)
-      (record { staged = λ cell op is. none_some (at-empty cell_cmp cell) is; rising = tt }) (λ cell op e is. none_some (at-empty cell_cmp cell) is)
+      (record { staged = λ cell op is. none_some (at-empty cell_cmp cell) is; rising = tt }) (λ cell op e is. none_some (at-empty cell_cmp cell) is) tt
+      (none_rest _ n _ refl)
   serves_rest n stamp what _ (Fails booted asleep) =
-      rests_put n stamp what (stays (raised (w.servers n))) (rests.queues n) (rests.pending n) (λ cell op e is. true_false e asleep)
+      rests_put n stamp what (stays (raised (w.servers n))) (rests.queues n) (rests.pending n) (λ cell op e is. true_false e asleep) (rests.copying n)
+      (rests.resting n)
 
   serves_by : (n stamp : ℕ) (what : Step) → MayServer what w n
       → Firm setting (acts w n what stamp (server_step what (server_state setting w n) n (w.servers n))).world
       → Serving setting w n what (server_step what (server_state setting w n) n (w.servers n))
-  serves_by n stamp what may later = server_serves setting w rests n (own_steady setting w firm n) stamp what may later
+  serves_by n stamp what may later = server_serves setting w rests firm n (own_steady setting w firm n) stamp what may later
 
   rests_by : (who : Actor) (what : Step) (stamp : ℕ) → MayActor who what setting w → Firm setting (step who what setting w stamp).world
       → Rests setting (step who what setting w stamp).world
@@ -181,6 +341,8 @@ module _ (setting : Setting) (w : World) (rests : Rests setting w) (firm : Firm 
     queues = λ m letter i. let known = rests.queues m letter i in (in_later letter _ w.sent known.0, known.1);
     pending = rests.pending;
     seated = rests.seated;
+    copying = rests.copying;
+    resting = rests.resting;
   }
 
   happens_by : (who : Actor) (what : Step) (stamp : ℕ) → MayActor who what setting w → clock_of w who < stamp
@@ -272,6 +434,8 @@ start_rests script = record {
   queues = λ n letter h. absurd h;
   pending = λ n. record { staged = λ cell op is. none_some (at-empty cell_cmp cell) is; rising = tt };
   seated = λ n cell op e is. none_some (at-empty cell_cmp cell) is;
+  copying = λ n. tt;
+  resting = λ n. none_rest (server_state (setting_of script) (start (setting_of script)) n) n _ refl;
 }
 
 -- where each legal history is firm and its log only grows, each world on its way is

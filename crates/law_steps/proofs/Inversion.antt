@@ -1,5 +1,6 @@
 -- What a server does with a job is one of the kinds that the relation names.
 use Rattle.std.proofs.Common.{◌≡◌, ℕ, ◌==◌, not, true, Option, Some, None, refl}
+use Rattle.std.specs.Prelude.{is_some}
 use Rattle.petal_base.specs.declared.cell.Cell.{Cell}
 use Rattle.petal_base.specs.Cells.{cell_of}
 use Rattle.petal_msg.specs.declared.body.Body.{Body}
@@ -10,6 +11,8 @@ use Rattle.petal_msg.specs.declared.letter.Letter.{Letter}
 use Rattle.petal_msg.specs.declared.operation.Pending.{Pending}
 use Rattle.petal_rules.specs.State.{is_in, is_second}
 use Rattle.petal_rules.specs.Server.{Own, Here, Done}
+use Rattle.petal_rules.specs.Copies.{copies_on}
+use Rattle.petal_rules.specs.Progress.{copying_on, has_proposed}
 use Rattle.petal_rules.specs.Writes.{goes_on, pending_on, on_reserve, on_reserved, on_pair_full, on_replicate, on_replicated}
 use Rattle.petal_rules.specs.Jobs.{handles, at_other_rev, wrong_rev, is_from_in, does}
 use Rattle.petal_rules.specs.declared.job.Job.{Job}
@@ -22,9 +25,11 @@ use Rattle.law_steps.proofs.Busy.{not_busy}
 use Rattle.law_steps.proofs.InvertRead.{did_read}
 use Rattle.law_steps.proofs.InvertLead.{not_false, did_next, did_write, did_reserved, did_pair_full, did_replicated}
 use Rattle.law_steps.proofs.InvertSecond.{did_reserve, did_replicate}
+use Rattle.law_steps.proofs.InvertHolder.{did_copies, did_mends, did_hello, did_trimmed, did_synced, did_sync_full}
+use Rattle.law_steps.proofs.InvertOther.{did_hello_ask, did_trim, did_trims, did_sync}
 
 module _ (heard : Body → Type 0) (here : Here) (own : Own) (steady : IsSteady here.state)
-    (staged : (cell : Cell) (op : Pending) → pending_on own cell ≡ Some op → IsStaged here.state here.me cell op) where
+    (staged : (cell : Cell) (op : Pending) → pending_on own cell ≡ Some op → IsStaged here.state here.me (has_proposed here.state own) cell op) where
   abbrev D : Done → Type 0
   D done = Did heard here own done
 
@@ -40,6 +45,14 @@ module _ (heard : Body → Type 0) (here : Here) (own : Own) (steady : IsSteady 
   did_handle seated (body.Replicate number key version bytes) h =
       by_test D (is_second here.state here.me (cell_of key)) _ _ (λ s. did_replicate heard here own number key version bytes _ h s refl) (λ t. Ignores)
   did_handle seated (body.Replicated number cell) h = did_replicated heard here own steady staged number cell _ h refl
+  did_handle seated (body.HelloAsk map link after) h = did_hello_ask heard here own (record { map = map; link = link }) after h
+  did_handle seated (body.Hello map link after block) h = did_hello heard here own (record { map = map; link = link }) after block h
+  did_handle seated (body.Trim number cell epochs) h = did_trim heard here own number cell epochs h
+  did_handle seated (body.Trimmed number cell) h = did_trimmed heard here own number cell h
+  did_handle seated (body.Sync number key version index bytes) h =
+      did_sync heard here own (record { op = number; key = key; index = index; stored = record { version = version; bytes = bytes } }) h
+  did_handle seated (body.Synced number cell index) h = did_synced heard here own number cell index h
+  did_handle seated (body.SyncFull number cell) h = did_sync_full heard here own number cell h
   did_handle seated _ h = Ignores
 
   told_rev : (client : ℕ) (o : Option ℕ) → D (wrong_rev own client o)
@@ -56,13 +69,16 @@ module _ (heard : Body → Type 0) (here : Here) (own : Own) (steady : IsSteady 
   IsHeard _ = Unit {0}
 
   pub did : (what : Job) → IsHeard what → D (does here own what)
-  unfolding does goes_on
+  unfolding does goes_on copies_on
   did (job.Letter letter) h =
       by_test D (not (is_in here.state here.me here.inc)) _ _ (λ t. Ignores) (λ seat.
       by_test D (not (letter.rev == here.state.rev)) _ _ (λ t. other_rev letter letter.from) (λ same.
       by_test D (not (is_from_in here.state letter.inc letter.from)) _ _ (λ t. Ignores)
-      (λ t. did_handle (not_false (is_in here.state here.me here.inc) seat) letter.body
-      (h (same_numbers letter.rev here.state.rev (not_false (letter.rev == here.state.rev) same))))))
-  did (job.Stage cell) h = by_test D (is_in here.state here.me here.inc) _ _ (λ t. did_next heard here own steady staged cell _ refl) (λ t. Ignores)
+      (λ t. did_handle (not_false (is_in here.state here.me here.inc) seat) letter.body (h (same_numbers letter.rev here.state.rev (not_false (letter.rev == here.state.rev) same))))))
+  did (job.Stage cell) h = by_test D (is_in here.state here.me here.inc) _ _
+      (λ t. by_test D (is_some (pending_on own cell)) _ _ (λ s. did_next heard here own steady staged cell _ refl)
+      (λ s. by_test D (is_some (copying_on own cell)) _ _ (λ u. did_copies heard here own cell (copying_on own cell) refl) (λ u. did_trims heard here own cell)))
+      (λ t. Ignores)
+  did (job.Mend link) h = by_test D (is_in here.state here.me here.inc) _ _ (λ t. did_mends heard here own link) (λ t. Ignores)
   did job.Apply h = Ignores
   did job.Start h = Ignores

@@ -1,6 +1,6 @@
 -- What a lead does for a write is one of the kinds that the relation names.
 use Rattle.std.proofs.Common.{◌≡◌, ◌≤◌, ℕ, ◌+◌, ◌==◌, ◌&&◌, not, Bool, true, false, Option, Some, None, refl, ap, sym, ◌∙◌, subst, arith}
-use Rattle.std.specs.Prelude.{nat_lt, if◌then◌else◌}
+use Rattle.std.specs.Prelude.{◌||◌, is_some, nat_lt, if◌then◌else◌}
 use Rattle.std.proofs.lemmas.Bool.Decides.{nat_tests}
 use Rattle.std.specs.Ordering.{nat_cmp}
 use Rattle.petal_base.specs.declared.cell.Cell.{Cell}
@@ -8,23 +8,26 @@ use Rattle.petal_table.specs.Table.{at}
 use Rattle.petal_msg.specs.declared.body.Body.{Body}
 use Rattle.petal_msg.specs.declared.body.Body.TheVariants as body
 use Rattle.petal_msg.specs.declared.letter.Actor.TheVariants as actor
+use Rattle.petal_msg.specs.declared.copying.Copying.{Copying as Copy}
 use Rattle.petal_msg.specs.declared.operation.Action.TheVariants as action
 use Rattle.petal_msg.specs.declared.operation.Finished.{Finished}
 use Rattle.petal_msg.specs.declared.operation.Pending.{Pending}
 use Rattle.petal_msg.specs.declared.operation.Stage.{Stage}
 use Rattle.petal_rules.specs.Lists.{In}
-use Rattle.petal_rules.specs.State.{second, is_lead, leads_link, in_both}
+use Rattle.petal_rules.specs.Progress.{copying_on, has_proposed}
+use Rattle.petal_rules.specs.State.{held, second, is_lead, leads_link, in_both}
 use Rattle.petal_rules.specs.Store.{free_of}
-use Rattle.petal_rules.specs.Server.{Own, Here, Post, Done, post_to}
-use Rattle.petal_rules.specs.Writes.{Wanted, Older, Again, Newer, standing, next_stage, both_action, alone_action, acts, goes_on, goes_on_with, pending_on, with_pending, with_reserved, with_paired, opened, operation, opens, takes, takes_newer, is_pending_for, is_reserving, is_replicating, hears_reserved, hears_pair_full, hears_replicated, on_write}
+use Rattle.petal_rules.specs.Server.{Own, Here, Post, Done, post_to, says}
+use Rattle.petal_rules.specs.Writes.{Wanted, Older, Again, Newer, standing, next_stage, both_action, alone_action, acts, goes_on, goes_on_with, pending_on, with_pending, with_reserved, with_paired, opened, operation, opens, takes, takes_newer, is_kept_back, is_under_way, is_writes_held, is_pending_for, is_reserving, is_replicating, hears_reserved, hears_pair_full, hears_replicated, on_write}
 use Rattle.petal_rules.specs.Reads.{said}
 use Rattle.petal_rules.proofs.CellTables.{cell_same}
 use Rattle.law_state.specs.Steady.{IsSteady}
 use Rattle.law_state.proofs.Alone.{lead_alone}
 use Rattle.law_state.proofs.Cells.{leads_so}
+use Rattle.law_state.proofs.Links.{either_false}
 use Rattle.law_steps.specs.Operations.{IsStaged, AtRest, Waiting, Putting, Copying, Answering, waiting, putting, copying, answering, done_to}
 use Rattle.law_steps.specs.DidLead.{Asks_for, Repeats, Is_full, Opens, Marks, Puts, Gives_up, Unmarks, Closes, Opens_alone, Marks_alone, Puts_alone, Unmarks_alone, Closes_alone, Asks, A_slot, A_copy, IsNew, Taken, As_it_is, As_told}
-use Rattle.law_steps.specs.Did.{Did, Ignores, Refuses, For_a_write, By_lead}
+use Rattle.law_steps.specs.Did.{Did, Ignores, Refuses, For_a_write, By_copy_for_a_write, By_lead}
 use Rattle.petal_rules.proofs.Tests.{by_test, by_bool, both_true, not_true, true_false, same_numbers, only}
 use Rattle.law_steps.proofs.Busy.{not_busy, busy_seq}
 
@@ -44,6 +47,10 @@ pub not_false : (a : Bool) → not a ≡ false → a ≡ true
 not_false true e = refl
 not_false false e = true_false refl e
 
+is_none : {A : Type 0} (o : Option A) → is_some o ≡ false → o ≡ None
+is_none None e = refl
+is_none (Some x) e = true_false refl e
+
 pub no_free : (free : ℕ) → nat_lt 0 free ≡ false → free ≡ 0
 no_free free e = grind (arith, nat_tests)
 
@@ -51,7 +58,7 @@ newer : (last : Finished) (seq : ℕ) → nat_lt seq last.seq ≡ false → (seq
 newer last seq e f = grind (arith, nat_tests)
 
 module _ (heard : Body → Type 0) (here : Here) (own : Own) (steady : IsSteady here.state)
-    (staged : (cell : Cell) (op : Pending) → pending_on own cell ≡ Some op → IsStaged here.state here.me cell op) where
+    (staged : (cell : Cell) (op : Pending) → pending_on own cell ≡ Some op → IsStaged here.state here.me (has_proposed here.state own) cell op) where
   abbrev D : Done → Type 0
   D done = Did heard here own done
 
@@ -137,20 +144,37 @@ module _ (heard : Body → Type 0) (here : Here) (own : Own) (steady : IsSteady 
       (λ apart. subst (λ a. D (acts here (opened here own want) op a)) (sym (alone_next op new.lead apart))
       (By_lead _ (Opens_alone want new (lead_alone here.state steady here.me want.cell new.lead apart)))))
 
+  -- an operation or a copy keeps it back
+  did_busy : (want : Wanted) → by_write want → is_lead here.state here.me want.cell ≡ true → is_pending_for (pending_on own want.cell) want ≡ false
+      → (o : Option Pending) → pending_on own want.cell ≡ o → (copy : Option Copy) → copying_on own want.cell ≡ copy → (is_some o || is_some copy) ≡ true
+      → D (says own (actor.Client want.client) (body.BlockBusy want.seq))
+  did_busy want h lead other (Some op) e copy f busy = Refuses (actor.Client want.client) (body.BlockBusy want.seq) refl
+      (λ seq g. For_a_write want op h (busy_seq g) lead e (ap (λ o. is_pending_for o want) (sym e) ∙ other))
+  did_busy want h lead other None e (Some copy) f busy = Refuses (actor.Client want.client) (body.BlockBusy want.seq) refl
+      (λ seq g. By_copy_for_a_write want copy h (busy_seq g) lead f)
+  did_busy want h lead other None e None f busy = true_false busy refl
+
   did_newer : (want : Wanted) → by_write want → is_lead here.state here.me want.cell ≡ true
-      → done_to (at nat_cmp own.pairs.finished want.client) ≤ want.seq → (fenced : Bool) (o : Option Pending) → pending_on own want.cell ≡ o
-      → is_pending_for (pending_on own want.cell) want ≡ false → D (takes_newer here own want fenced o)
-  did_newer want h lead new true o e other = Refuses (actor.Client want.client) (body.Held want.seq) refl (λ seq f. not_busy (body.Held want.seq) seq f refl)
-  did_newer want h lead new false (Some op) e other = Refuses (actor.Client want.client) (body.BlockBusy want.seq) refl
-      (λ seq f. For_a_write want op h (busy_seq f) lead e (ap (λ o. is_pending_for o want) (sym e) ∙ other))
-  did_newer want h lead new false None e other =
-      did_opens want (record { wanted = h; lead = lead; newer = new; none = e }) (nat_lt 0 (free_of own.store)) refl
+      → done_to (at nat_cmp own.pairs.finished want.client) ≤ want.seq → (kept busy : Bool) → is_kept_back here.state own want.cell ≡ kept
+      → is_under_way own want.cell ≡ busy → is_pending_for (pending_on own want.cell) want ≡ false → D (takes_newer here own want kept busy)
+  did_newer want h lead new true busy e f other = Refuses (actor.Client want.client) (body.Held want.seq) refl (λ seq g. not_busy (body.Held want.seq) seq g refl)
+  did_newer want h lead new false true e f other = did_busy want h lead other (pending_on own want.cell) refl (copying_on own want.cell) refl f
+  did_newer want h lead new false false e f other =
+      let idle = either_false (is_some (pending_on own want.cell)) (is_some (copying_on own want.cell)) f in
+      did_opens want (record {
+        wanted = h;
+        lead = lead;
+        newer = new;
+        none = is_none (pending_on own want.cell) idle.0;
+        uncopied = is_none (copying_on own want.cell) idle.1;
+        unheld = (either_false (is_writes_held (held here.state want.cell)) (has_proposed here.state own want.cell) e).1;
+      }) (nat_lt 0 (free_of own.store)) refl
 
   did_standing : (want : Wanted) → by_write want → is_lead here.state here.me want.cell ≡ true → (o : Option Finished)
       → at nat_cmp own.pairs.finished want.client ≡ o → D (takes here own want (standing o want.seq))
   did_standing want h lead None e =
       by_test D (is_pending_for (pending_on own want.cell) want) _ _ (λ t. Ignores)
-      (λ t. did_newer want h lead (subst (λ o. done_to o ≤ want.seq) (sym e) (omega arith)) _ _ refl t)
+      (λ t. did_newer want h lead (subst (λ o. done_to o ≤ want.seq) (sym e) (omega arith)) _ _ refl refl t)
   did_standing want h lead (Some last) e =
       by_bool (nat_lt want.seq last.seq)
       (λ older. subst (λ b. D (takes here own want (if b then Older else if want.seq == last.seq then Again last.ending else Newer))) (sym older) Ignores)
@@ -160,7 +184,7 @@ module _ (heard : Body → Type 0) (here : Here) (own : Own) (steady : IsSteady 
       (By_lead _ (Repeats want last h lead e (same_numbers want.seq last.seq same))))
       (λ apart. subst (λ b. D (takes here own want (if b then Again last.ending else Newer))) (sym apart)
       (by_test D (is_pending_for (pending_on own want.cell) want) _ _ (λ t. Ignores)
-      (λ t. did_newer want h lead (subst (λ o. done_to o ≤ want.seq) (sym e) (newer last want.seq not_older apart)) _ _ refl t)))))
+      (λ t. did_newer want h lead (subst (λ o. done_to o ≤ want.seq) (sym e) (newer last want.seq not_older apart)) _ _ refl refl t)))))
 
   pub did_write : (want : Wanted) → by_write want → D (on_write here own want)
   unfolding on_write

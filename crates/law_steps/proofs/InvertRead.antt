@@ -1,42 +1,45 @@
 -- What a server does with a read is one of the kinds that the relation names.
 use Rattle.std.proofs.Common.{◌≡◌, ℕ, ◌&&◌, Bool, true, false, Option, Some, None, refl, subst}
-use Rattle.std.specs.Prelude.{if◌then◌else◌, is_some}
+use Rattle.std.specs.Prelude.{◌||◌, if◌then◌else◌, is_some}
 use Rattle.petal_base.specs.declared.cell.Cell.{Cell}
 use Rattle.petal_msg.specs.declared.body.Body.{Body}
 use Rattle.petal_msg.specs.declared.body.Body.TheVariants as body
 use Rattle.petal_msg.specs.declared.letter.Actor.TheVariants as actor
+use Rattle.petal_msg.specs.declared.copying.Copying.{Copying}
 use Rattle.petal_msg.specs.declared.operation.Pending.{Pending}
 use Rattle.petal_msg.specs.declared.operation.Reply.TheVariants as reply
 use Rattle.petal_rules.specs.State.{is_in, is_lead, readable}
 use Rattle.petal_rules.specs.Store.{chain_in, entry_at, bytes_of}
 use Rattle.petal_rules.specs.Server.{Own, Here, Done, says}
-use Rattle.petal_rules.specs.Writes.{pending_on}
+use Rattle.petal_rules.specs.Progress.{copying_on}
+use Rattle.petal_rules.specs.Writes.{is_under_way, pending_on}
 use Rattle.petal_rules.specs.Reads.{on_read, said}
 use Rattle.law_steps.specs.DidRead.{Shows}
-use Rattle.law_steps.specs.Did.{Did, Ignores, Refuses, For_a_read, By_read}
+use Rattle.law_steps.specs.Did.{Did, Ignores, Refuses, For_a_read, By_copy_for_a_read, By_read}
 use Rattle.petal_rules.proofs.Tests.{by_test, true_false}
 use Rattle.law_steps.proofs.Busy.{not_busy, busy_seq}
-
-is_there : {A : Type 0} (o : Option A) → is_some o ≡ true → (x : A) × (o ≡ Some x)
-is_there None e = let f : false ≡ true = e in absurd cc
-is_there (Some x) e = (x, refl)
 
 module _ (heard : Body → Type 0) (here : Here) (own : Own) (seated : is_in here.state here.me here.inc ≡ true) where
   abbrev D : Done → Type 0
   D done = Did heard here own done
 
+  -- an operation or a copy at the lead keeps it back
+  busy : (client seq : ℕ) (cell : Cell) (epoch : ℕ) → heard (body.Read client seq cell epoch) → is_lead here.state here.me cell ≡ true
+      → (o : Option Pending) → pending_on own cell ≡ o → (copy : Option Copying) → copying_on own cell ≡ copy → (is_some o || is_some copy) ≡ true
+      → D (says own (actor.Client client) (body.BlockBusy seq))
+  busy client seq cell epoch h lead (Some op) e copy f t = Refuses (actor.Client client) (body.BlockBusy seq) refl
+      (λ k g. For_a_read client cell epoch op (subst (λ i. heard (body.Read client i cell epoch)) (busy_seq g) h) lead e)
+  busy client seq cell epoch h lead None e (Some copy) f t = Refuses (actor.Client client) (body.BlockBusy seq) refl
+      (λ k g. By_copy_for_a_read client cell epoch copy (subst (λ i. heard (body.Read client i cell epoch)) (busy_seq g) h) lead f)
+  busy client seq cell epoch h lead None e None f t = true_false t refl
+
   shown : (client seq : ℕ) (cell : Cell) (epoch : ℕ) → heard (body.Read client seq cell epoch) → readable here.state here.me cell ≡ true
-      → (all lead some : Bool) → is_lead here.state here.me cell ≡ lead → is_some (pending_on own cell) ≡ some
+      → (all lead some : Bool) → is_lead here.state here.me cell ≡ lead → is_under_way own cell ≡ some
       → D (says own (actor.Client client) (said seq
       (if all then reply.Held else if lead && some then reply.BlockBusy else reply.Data (bytes_of (entry_at (chain_in own.store.chains cell) epoch)))))
   shown client seq cell epoch h r true lead some e f = Refuses (actor.Client client) (body.Held seq) refl (λ k g. not_busy (body.Held seq) k g refl)
-  shown client seq cell epoch h r false true true e f = let there = is_there (pending_on own cell) f in Refuses (actor.Client client) (body.BlockBusy seq) refl
-      (λ k g. For_a_read client cell epoch there.0 (subst (λ i. heard (body.Read client i cell epoch)) (busy_seq g) h) e there.1)
-  shown client seq cell epoch h r false true false e f = By_read _ (Shows client seq cell epoch h seated r (λ t. is_none _ f))
-    where
-      is_none : (o : Option Pending) → is_some o ≡ false → o ≡ None
-      is_none None e = refl
-      is_none (Some op) e = let g : true ≡ false = e in absurd cc
+  shown client seq cell epoch h r false true true e f = busy client seq cell epoch h e (pending_on own cell) refl (copying_on own cell) refl f
+  shown client seq cell epoch h r false true false e f = By_read _ (Shows client seq cell epoch h seated r (λ t. f))
   shown client seq cell epoch h r false false some e f = By_read _ (Shows client seq cell epoch h seated r (λ t. true_false t e))
 
   pub did_read : (client seq : ℕ) (cell : Cell) (epoch : ℕ) → heard (body.Read client seq cell epoch) → D (on_read here own client seq cell epoch)

@@ -3,9 +3,12 @@ pub mod Busy
 pub mod InvertRead
 pub mod InvertLead
 pub mod InvertSecond
+pub mod InvertHolder
+pub mod InvertOther
 pub mod Inversion
 pub mod Letters
 pub mod Taking
+pub mod CopyFrames
 pub mod Subjects
 pub mod Staged
 pub mod Restages
@@ -14,6 +17,9 @@ pub mod Fronts
 pub mod LogJobs
 pub mod Turning
 pub mod Serving
+pub mod Minds
+pub mod Resting
 pub mod Histories
 pub mod Firms
+pub mod Ties
 pub mod Waking

@@ -30,5 +30,5 @@ turned_asks heard servers lines c client _ _ (Goes_on reacted seq stays only) po
 turned_asks heard servers lines c client _ _ (Begins reacted line asked is free seq there called only) post h = says_asks _ c _ post (only.says post h)
 turned_asks heard servers lines c client _ _ (Reads asked bytes h' is e) post h = absurd h
 turned_asks heard servers lines c client _ _ (Ends asked how h' is e) post h = absurd h
-turned_asks heard servers lines c client _ _ (Shown asked rev round inc running full h' is given e) post h = absurd h
+turned_asks heard servers lines c client _ _ (Shown asked rev sight given h' is e) post h = absurd h
 turned_asks heard servers lines c client _ _ (Judges after asked given is gone seq judged) post h = absurd h

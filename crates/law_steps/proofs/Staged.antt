@@ -1,5 +1,5 @@
 -- After each job the pending operations rest: in one of the four stages, where the link is in Both.
-use Rattle.std.proofs.Common.{◌≡◌, ◌≢◌, ℕ, ◌+◌, true, false, Some, refl, sym, ap, ◌∙◌, subst, ◌⊎◌, inl, inr}
+use Rattle.std.proofs.Common.{◌≡◌, ◌≢◌, ℕ, ◌+◌, Bool, true, false, Some, refl, sym, ap, ◌∙◌, subst, ◌⊎◌, inl, inr}
 use Rattle.busy_marks.specs.declared.marks.MarkKind.TheVariants.{Busy, Stale}
 use Rattle.petal_base.specs.declared.cell.Cell.{Cell}
 use Rattle.petal_base.specs.Cells.{cell_of}
@@ -9,15 +9,17 @@ use Rattle.petal_msg.specs.declared.operation.Pending.{Pending}
 use Rattle.petal_msg.specs.declared.operation.Stage.{Stage}
 use Rattle.petal_rules.specs.State.{State, is_lead, is_alone_on}
 use Rattle.petal_rules.specs.Store.{cell_cmp, chain_in, version_of}
+use Rattle.petal_rules.specs.Progress.{has_proposed}
 use Rattle.petal_rules.specs.Server.{Own, Here, Done}
 use Rattle.petal_rules.specs.Writes.{operation, with_reserved, with_paired, with_mark_at}
 use Rattle.petal_rules.proofs.CellTables.{cell_cmp_total, cell_same, cell_apart, cell_gone, cell_gone_apart}
 use Rattle.law_steps.specs.Operations.{IsStaged, AtRest, Waiting, Putting, Copying, Answering}
 use Rattle.law_state.proofs.Alone.{alone_not_both}
 use Rattle.law_steps.specs.DidLead.{DidLead, Asks_for, Repeats, Is_full, Opens, Marks, Puts, Gives_up, Unmarks, Closes, Opens_alone, Marks_alone, Puts_alone, Unmarks_alone, Closes_alone, Taken}
-use Rattle.law_steps.specs.Did.{Did, Ignores, Refuses, By_read, By_lead, By_second}
+use Rattle.law_steps.specs.Did.{Did, Ignores, Refuses, By_read, By_lead, By_second, By_holder, By_other}
 use Rattle.law_steps.specs.Ready.{IsReady, IsRising}
 use Rattle.petal_rules.proofs.Tests.{same_or_apart, same_some, none_some, true_false}
+use Rattle.law_steps.proofs.CopyFrames.{of_holder, of_other}
 use Rattle.law_steps.proofs.Subjects.{of_read, of_second}
 use Rattle.law_steps.proofs.Tables.{put_rises, without_rises}
 use Rattle.law_steps.proofs.Taking.{taking}
@@ -33,12 +35,12 @@ same_cell_or_apart a b = elim (same_or_apart a.map b.map) [
 ]
 
 -- what stands at one cell is another
-pub changed_ready : (state : State) (me : ℕ) (t u : Table Cell Pending) (cell : Cell) → IsReady state me t → IsRising cell_cmp u
-    → ((q : Cell) → q ≢ cell → at cell_cmp u q ≡ at cell_cmp t q) → ((o : Pending) → at cell_cmp u cell ≡ Some o → IsStaged state me cell o)
-    → IsReady state me u
-changed_ready state me t u cell ready rises others here = record {
+pub changed_ready : (state : State) (me : ℕ) (held : Cell → Bool) (t u : Table Cell Pending) (cell : Cell) → IsReady state me held t → IsRising cell_cmp u
+    → ((q : Cell) → q ≢ cell → at cell_cmp u q ≡ at cell_cmp t q) → ((o : Pending) → at cell_cmp u cell ≡ Some o → IsStaged state me held cell o)
+    → IsReady state me held u
+changed_ready state me held t u cell ready rises others here = record {
   staged = λ c o is. elim (same_cell_or_apart c cell) [
-    | inl e ↦ subst (λ (q : Cell). IsStaged state me q o) (sym e) (here o (subst (λ (q : Cell). at cell_cmp u q ≡ Some o) e is))
+    | inl e ↦ subst (λ (q : Cell). IsStaged state me held q o) (sym e) (here o (subst (λ (q : Cell). at cell_cmp u q ≡ Some o) e is))
     | inr ne ↦ ready.staged c o (sym (others c ne) ∙ is)
   ];
   rising = rises;
@@ -49,67 +51,67 @@ pub put_put : (t : Table Cell Pending) (cell : Cell) (one two : Pending) (q : Ce
     → at cell_cmp (put cell_cmp (put cell_cmp t cell one) cell two) q ≡ at cell_cmp t q
 put_put t cell one two q ne = cell_apart (put cell_cmp t cell one) cell two q ne ∙ cell_apart t cell one q ne
 
-module _ (heard : Body → Type 0) (here : Here) (own : Own) (ready : IsReady here.state here.me own.pairs.pending) where
+module _ (heard : Body → Type 0) (here : Here) (own : Own) (ready : IsReady here.state here.me (has_proposed here.state own) own.pairs.pending) where
   abbrev t : Table Cell Pending
   t = own.pairs.pending
 
   abbrev R : Table Cell Pending → Type 0
-  R u = IsReady here.state here.me u
+  R u = IsReady here.state here.me (has_proposed here.state own) u
 
   restaged : (op new : Pending) → at cell_cmp t op.cell ≡ Some op → new.cell ≡ op.cell → new.key ≡ op.key → AtRest new.stage
-      → IsStaged here.state here.me op.cell new
+      → IsStaged here.state here.me (has_proposed here.state own) op.cell new
   restaged op new is cell key stage =
       let s = ready.staged op.cell op is in
-      record { own = cell; keyed = ap cell_of key ∙ s.keyed; lead = s.lead; stage = λ both. stage }
+      record { own = cell; keyed = ap cell_of key ∙ s.keyed; lead = s.lead; stage = λ both. stage; unheld = s.unheld }
 
   -- the operation rests in its next stage, and nothing else is changed
-  put_ready : (op new : Pending) → IsStaged here.state here.me op.cell new → R (put cell_cmp t op.cell new)
+  put_ready : (op new : Pending) → IsStaged here.state here.me (has_proposed here.state own) op.cell new → R (put cell_cmp t op.cell new)
   put_ready op new staged =
-      changed_ready here.state here.me t (put cell_cmp t op.cell new) op.cell ready (put_rises cell_cmp_total t op.cell new ready.rising)
+      changed_ready here.state here.me (has_proposed here.state own) t (put cell_cmp t op.cell new) op.cell ready (put_rises cell_cmp_total t op.cell new ready.rising)
       (λ q ne. cell_apart t op.cell new q ne)
-      (λ o there. subst (IsStaged here.state here.me op.cell) (same_some (sym (cell_same t op.cell new) ∙ there)) staged)
+      (λ o there. subst (IsStaged here.state here.me (has_proposed here.state own) op.cell) (same_some (sym (cell_same t op.cell new) ∙ there)) staged)
 
-  put_twice_ready : (op one new : Pending) → IsStaged here.state here.me op.cell new → R (put cell_cmp (put cell_cmp t op.cell one) op.cell new)
+  put_twice_ready : (op one new : Pending) → IsStaged here.state here.me (has_proposed here.state own) op.cell new → R (put cell_cmp (put cell_cmp t op.cell one) op.cell new)
   put_twice_ready op one new staged =
       let u = put cell_cmp t op.cell one in
-      changed_ready here.state here.me t (put cell_cmp u op.cell new) op.cell ready
+      changed_ready here.state here.me (has_proposed here.state own) t (put cell_cmp u op.cell new) op.cell ready
       (put_rises cell_cmp_total u op.cell new (put_rises cell_cmp_total t op.cell one ready.rising))
       (λ q ne. put_put t op.cell one new q ne)
-      (λ o there. subst (IsStaged here.state here.me op.cell) (same_some (sym (cell_same u op.cell new) ∙ there)) staged)
+      (λ o there. subst (IsStaged here.state here.me (has_proposed here.state own) op.cell) (same_some (sym (cell_same u op.cell new) ∙ there)) staged)
 
   gone_ready : (cell : Cell) → R (without cell_cmp t cell)
   gone_ready cell =
-      changed_ready here.state here.me t (without cell_cmp t cell) cell ready (without_rises cell_cmp t cell ready.rising)
+      changed_ready here.state here.me (has_proposed here.state own) t (without cell_cmp t cell) cell ready (without_rises cell_cmp t cell ready.rising)
       (λ q ne. cell_gone_apart t cell q ne) (λ o there. none_some (cell_gone t cell) there)
 
   -- ### At a holder that is alone
 
   alone_staged : (cell : Cell) (op : Pending) → op.cell ≡ cell → cell_of op.key ≡ cell → is_lead here.state here.me cell ≡ true
-      → is_alone_on here.state here.me cell ≡ true → IsStaged here.state here.me cell op
-  alone_staged cell op own keyed lead alone =
-      record { own = own; keyed = keyed; lead = lead; stage = λ both. true_false both (alone_not_both here.state here.me cell alone) }
+      → is_alone_on here.state here.me cell ≡ true → has_proposed here.state own cell ≡ false → IsStaged here.state here.me (has_proposed here.state own) cell op
+  alone_staged cell op mine keyed lead alone unheld =
+      record { own = mine; keyed = keyed; lead = lead; unheld = unheld; stage = λ both. true_false both (alone_not_both here.state here.me cell alone) }
 
   taken_staged : (now : Own) (op new : Pending) → Taken own now op → is_alone_on here.state here.me op.cell ≡ true → new.cell ≡ op.cell → new.key ≡ op.key
-      → IsStaged here.state here.me op.cell new
+      → IsStaged here.state here.me (has_proposed here.state own) op.cell new
   taken_staged now op new taken alone cell key =
       let k = taking own now op taken in
       let s = ready.staged op.cell k.old k.was in
-      alone_staged op.cell new cell (ap cell_of (key ∙ ap (λ (o : Pending). o.key) k.is) ∙ s.keyed) s.lead alone
+      alone_staged op.cell new cell (ap cell_of (key ∙ ap (λ (o : Pending). o.key) k.is) ∙ s.keyed) s.lead alone s.unheld
 
   taken_ready : (now : Own) (op new : Pending) → Taken own now op → is_alone_on here.state here.me op.cell ≡ true → new.cell ≡ op.cell → new.key ≡ op.key
       → R (put cell_cmp now.pairs.pending op.cell new)
   taken_ready now op new taken alone cell key =
       let k = taking own now op taken in
       let u = now.pairs.pending in
-      changed_ready here.state here.me t (put cell_cmp u op.cell new) op.cell ready (put_rises cell_cmp_total u op.cell new (k.rises ready.rising))
+      changed_ready here.state here.me (has_proposed here.state own) t (put cell_cmp u op.cell new) op.cell ready (put_rises cell_cmp_total u op.cell new (k.rises ready.rising))
       (λ q ne. cell_apart u op.cell new q ne ∙ k.others q ne)
-      (λ o there. subst (IsStaged here.state here.me op.cell) (same_some (sym (cell_same u op.cell new) ∙ there)) (taken_staged now op new taken alone cell key))
+      (λ o there. subst (IsStaged here.state here.me (has_proposed here.state own) op.cell) (same_some (sym (cell_same u op.cell new) ∙ there)) (taken_staged now op new taken alone cell key))
 
   taken_gone : (now : Own) (op : Pending) → Taken own now op → R (without cell_cmp now.pairs.pending op.cell)
   taken_gone now op taken =
       let k = taking own now op taken in
       let u = now.pairs.pending in
-      changed_ready here.state here.me t (without cell_cmp u op.cell) op.cell ready (without_rises cell_cmp u op.cell (k.rises ready.rising))
+      changed_ready here.state here.me (has_proposed here.state own) t (without cell_cmp u op.cell) op.cell ready (without_rises cell_cmp u op.cell (k.rises ready.rising))
       (λ q ne. cell_gone_apart u op.cell q ne ∙ k.others q ne) (λ o there. none_some (cell_gone u op.cell) there)
 
   lead_ready : (done : Done) → DidLead heard here own done → R done.own.pairs.pending
@@ -119,7 +121,7 @@ module _ (heard : Body → Type 0) (here : Here) (own : Own) (ready : IsReady he
   lead_ready _ (Gives_up op h is reserved put) = gone_ready op.cell
   lead_ready _ (Opens want new both) =
       let op = operation here own.pairs.next want in
-      put_ready op op (record { own = refl; keyed = refl; lead = new.lead; stage = λ both. Waiting refl })
+      put_ready op op (record { own = refl; keyed = refl; lead = new.lead; stage = λ both. Waiting refl; unheld = new.unheld })
   lead_ready _ (Marks op h is both stage) =
       put_twice_ready op (with_reserved op) _ (restaged op (with_mark_at (with_reserved op) Busy true) is refl refl
       (Putting (ap (λ (x : Stage). (record x { reserved = true; busy = true })) stage)))
@@ -132,7 +134,7 @@ module _ (heard : Body → Type 0) (here : Here) (own : Own) (ready : IsReady he
   lead_ready _ (Closes op is both stage) = gone_ready op.cell
   lead_ready _ (Opens_alone want new alone) =
       let op = operation here own.pairs.next want in
-      put_twice_ready op op (with_mark_at op Stale true) (alone_staged want.cell (with_mark_at op Stale true) refl refl new.lead alone)
+      put_twice_ready op op (with_mark_at op Stale true) (alone_staged want.cell (with_mark_at op Stale true) refl refl new.lead alone new.unheld)
   lead_ready _ (Marks_alone now op taken alone fresh) = taken_ready now op (with_mark_at op Stale true) taken alone refl refl
   lead_ready _ (Puts_alone now op taken alone stale put) =
       taken_ready now op (record op { version = version_of (chain_in now.store.chains op.cell) + 1; stage = record op.stage { put = true } }) taken alone refl refl
@@ -148,3 +150,5 @@ module _ (heard : Body → Type 0) (here : Here) (own : Own) (ready : IsReady he
   did_ready _ (By_read done d) = still _ (ap (λ (o : Own). o.pairs.pending) (of_read heard here own done d).same)
   did_ready _ (By_lead done d) = lead_ready done d
   did_ready _ (By_second done d) = still _ (of_second heard here own done d).pending
+  did_ready _ (By_holder done d) = still _ (of_holder heard here own done d).pending
+  did_ready _ (By_other done d) = still _ (of_other heard here own done d).pending

@@ -1,5 +1,8 @@
 -- What a job of each subject leaves as it is: a law that does not speak of the subject goes by this alone.
-use Rattle.std.proofs.Common.{◌≡◌, ℕ, List, [], inl, inr, refl, ap, subst}
+use Rattle.std.proofs.Common.{◌≡◌, ℕ, false, List, [], Option, Some, None, inl, inr, refl, sym, ap, ◌∙◌, subst}
+use Rattle.std.specs.Prelude.{unwrap_or}
+use Rattle.std.specs.Option.{option_map_or}
+use Rattle.global_tables.specs.declared.link.LinkRow.{LinkRow}
 use Rattle.petal_base.specs.declared.cell.Cell.{Cell}
 use Rattle.petal_msg.specs.Kinds.{Paired, subject_of}
 use Rattle.petal_msg.specs.declared.body.Body.{Body}
@@ -8,14 +11,21 @@ use Rattle.petal_msg.specs.declared.letter.Letter.{Letter}
 use Rattle.petal_msg.specs.declared.operation.Far.{Far}
 use Rattle.petal_msg.specs.declared.operation.Far.TheVariants as far
 use Rattle.petal_rules.specs.Lists.{In}
-use Rattle.petal_rules.specs.Server.{Own, Here, Post, Done}
+use Rattle.petal_state.specs.CellState.{cell_link}
+use Rattle.petal_table.specs.Table.{at}
+use Rattle.petal_rules.specs.Progress.{has_proposed, no_progress, progress_on}
+use Rattle.petal_rules.specs.Server.{Own, Copies, Here, Post, Done}
+use Rattle.petal_rules.specs.State.{State, id_of, link_cmp}
+use Rattle.petal_rules.specs.Store.{cell_cmp}
+use Rattle.law_steps.specs.Ready.{IsRising}
 use Rattle.petal_rules.specs.Writes.{tells}
 use Rattle.petal_rules.specs.declared.job.Job.{Job}
 use Rattle.petal_rules.specs.declared.job.Job.TheVariants as job
 use Rattle.law_steps.specs.DidRead.{DidRead, Shows}
 use Rattle.law_steps.specs.DidLead.{DidLead, Asks_for, Repeats, Is_full, Opens, Marks, Puts, Gives_up, Unmarks, Closes, Opens_alone, Marks_alone, Puts_alone, Unmarks_alone, Closes_alone}
 use Rattle.law_steps.specs.DidSecond.{DidSecond, Sets_apart, Promises, Declines, Follows}
-use Rattle.law_steps.specs.Did.{Did, Ignores, Refuses, By_read, By_lead, By_second}
+use Rattle.law_steps.specs.Did.{Did, Ignores, Refuses, By_read, By_lead, By_second, By_holder, By_other}
+use Rattle.law_steps.proofs.CopyFrames.{of_holder, of_other}
 use Rattle.law_steps.proofs.Letters.{one_post, posted}
 use Rattle.law_steps.proofs.Taking.{taking}
 
@@ -36,12 +46,14 @@ pub record SecondFrame (own : Own) (done : Done) : Type 0 where
   pub pending : done.own.pairs.pending ≡ own.pairs.pending
   pub next : done.own.pairs.next ≡ own.pairs.next
   pub finished : done.own.pairs.finished ≡ own.pairs.finished
+  pub copies : done.own.copies ≡ own.copies
   pub no_jobs : done.jobs ≡ []
   pub says : (post : Post) → In post done.posts → subject_of post.body ≡ Paired
 
 -- a lead's job leaves what the server remembers as a second server, and no letter follows it up
 pub record LeadFrame (own : Own) (done : Done) : Type 0 where
   pub last : done.own.pairs.last ≡ own.pairs.last
+  pub copies : done.own.copies ≡ own.copies
   pub no_letters : (letter : Letter) → In (job.Letter letter) done.jobs → ⊥
 
 -- what a second server tells of an operation leaves its own part
@@ -59,39 +71,72 @@ module _ (heard : Body → Type 0) (here : Here) (own : Own) where
 
   pub of_lead : (done : Done) → DidLead heard here own done → LeadFrame own done
   unfolding In
-  of_lead _ (Asks_for posts h) = record { last = refl; no_letters = λ letter i. i }
-  of_lead _ (Repeats want last h lead is e) = record { last = refl; no_letters = λ letter i. i }
-  of_lead _ (Is_full want new no_room) = record { last = refl; no_letters = λ letter i. i }
-  of_lead _ (Gives_up op h is reserved put) = record { last = refl; no_letters = λ letter i. i }
-  of_lead _ (Opens want new both) = record { last = refl; no_letters = λ letter i. i }
-  of_lead _ (Marks op h is both stage) = record { last = refl; no_letters = λ letter i. elim i [ inl e ↦ cc | inr none ↦ none ] }
-  of_lead _ (Puts op is both stage) = record { last = refl; no_letters = λ letter i. elim i [ inl e ↦ cc | inr none ↦ none ] }
-  of_lead _ (Unmarks op h is both stage) = record { last = refl; no_letters = λ letter i. elim i [ inl e ↦ cc | inr none ↦ none ] }
-  of_lead _ (Closes op is both stage) = record { last = refl; no_letters = λ letter i. i }
-  of_lead _ (Opens_alone want new alone) = record { last = refl; no_letters = λ letter i. elim i [ inl e ↦ cc | inr none ↦ none ] }
+  of_lead _ (Asks_for posts h) = record { last = refl; copies = refl; no_letters = λ letter i. i }
+  of_lead _ (Repeats want last h lead is e) = record { last = refl; copies = refl; no_letters = λ letter i. i }
+  of_lead _ (Is_full want new no_room) = record { last = refl; copies = refl; no_letters = λ letter i. i }
+  of_lead _ (Gives_up op h is reserved put) = record { last = refl; copies = refl; no_letters = λ letter i. i }
+  of_lead _ (Opens want new both) = record { last = refl; copies = refl; no_letters = λ letter i. i }
+  of_lead _ (Marks op h is both stage) = record { last = refl; copies = refl; no_letters = λ letter i. elim i [ inl e ↦ cc | inr none ↦ none ] }
+  of_lead _ (Puts op is both stage) = record { last = refl; copies = refl; no_letters = λ letter i. elim i [ inl e ↦ cc | inr none ↦ none ] }
+  of_lead _ (Unmarks op h is both stage) = record { last = refl; copies = refl; no_letters = λ letter i. elim i [ inl e ↦ cc | inr none ↦ none ] }
+  of_lead _ (Closes op is both stage) = record { last = refl; copies = refl; no_letters = λ letter i. i }
+  of_lead _ (Opens_alone want new alone) = record { last = refl; copies = refl; no_letters = λ letter i. elim i [ inl e ↦ cc | inr none ↦ none ] }
   of_lead _ (Marks_alone now op taken alone fresh) =
-      record { last = (taking own now op taken).last; no_letters = λ letter i. elim i [ inl e ↦ cc | inr none ↦ none ] }
+      record { last = (taking own now op taken).last; copies = (taking own now op taken).copies; no_letters = λ letter i. elim i [ inl e ↦ cc | inr none ↦ none ] }
   of_lead _ (Puts_alone now op taken alone stale put) =
-      record { last = (taking own now op taken).last; no_letters = λ letter i. elim i [ inl e ↦ cc | inr none ↦ none ] }
+      record { last = (taking own now op taken).last; copies = (taking own now op taken).copies; no_letters = λ letter i. elim i [ inl e ↦ cc | inr none ↦ none ] }
   of_lead _ (Unmarks_alone now op taken alone stale put busy) =
-      record { last = (taking own now op taken).last; no_letters = λ letter i. elim i [ inl e ↦ cc | inr none ↦ none ] }
-  of_lead _ (Closes_alone now op taken alone stale put free) = record { last = (taking own now op taken).last; no_letters = λ letter i. i }
+      record { last = (taking own now op taken).last; copies = (taking own now op taken).copies; no_letters = λ letter i. elim i [ inl e ↦ cc | inr none ↦ none ] }
+  of_lead _ (Closes_alone now op taken alone stale put free) = record { last = (taking own now op taken).last; copies = (taking own now op taken).copies; no_letters = λ letter i. i }
 
   -- what a second server tells the lead
   told : (new : Own) (cell : Cell) (number : ℕ) (how : Far) → new.pairs.pending ≡ own.pairs.pending → new.pairs.next ≡ own.pairs.next
-      → new.pairs.finished ≡ own.pairs.finished
+      → new.pairs.finished ≡ own.pairs.finished → new.copies ≡ own.copies
       → SecondFrame own (tells here new cell number how)
-  told new cell number far.Reserved pending next finished =
-      record { pending = pending; next = next; finished = finished; no_jobs = refl; says = λ post i. ap subject_of (posted _ _ post i) }
-  told new cell number far.Replicated pending next finished =
-      record { pending = pending; next = next; finished = finished; no_jobs = refl; says = λ post i. ap subject_of (posted _ _ post i) }
+  told new cell number far.Reserved pending next finished copies =
+      record { pending = pending; next = next; finished = finished; copies = copies; no_jobs = refl; says = λ post i. ap subject_of (posted _ _ post i) }
+  told new cell number far.Replicated pending next finished copies =
+      record { pending = pending; next = next; finished = finished; copies = copies; no_jobs = refl; says = λ post i. ap subject_of (posted _ _ post i) }
 
   pub of_second : (done : Done) → DidSecond heard here own done → SecondFrame own done
-  of_second _ (Sets_apart number cell tickets h s le) = told _ cell number far.Reserved refl refl refl
-  of_second _ (Promises number cell how s is) = told own cell number how refl refl refl
+  of_second _ (Sets_apart number cell tickets h s le) = told _ cell number far.Reserved refl refl refl refl
+  of_second _ (Promises number cell how s is) = told own cell number how refl refl refl refl
   of_second _ (Declines number cell h s no_room) =
-      record { pending = refl; next = refl; finished = refl; no_jobs = refl; says = λ post i. ap subject_of (posted _ _ post i) }
-  of_second _ (Follows number key version bytes h s is) = told _ _ number far.Replicated refl refl refl
+      record { pending = refl; next = refl; finished = refl; copies = refl; no_jobs = refl; says = λ post i. ap subject_of (posted _ _ post i) }
+  of_second _ (Follows number key version bytes h s is) = told _ _ number far.Replicated refl refl refl refl
+
+  same_copies : (done : Done) → done.own.copies ≡ own.copies → (state : State) (cell : Cell) → has_proposed state done.own cell ≡ has_proposed state own cell
+  same_copies done e state cell =
+      ap (λ (c : Copies). option_map_or (λ (row : LinkRow). (unwrap_or (at link_cmp c.progress (id_of row)) no_progress).caught) (cell_link state cell) false) e
+
+  same_caught : (done : Done) → ((row : LinkRow) → (progress_on done.own row).caught ≡ (progress_on own row).caught) → (state : State) (cell : Cell)
+      → has_proposed state done.own cell ≡ has_proposed state own cell
+  same_caught done e state cell = by (cell_link state cell)
+    where
+      by : (o : Option LinkRow) → option_map_or (λ row. (progress_on done.own row).caught) o false ≡ option_map_or (λ row. (progress_on own row).caught) o false
+      by None = refl
+      by (Some row) = e row
+
+  -- copies under way stand in the order of their cells
+  pub copies_rise : (done : Done) → Did heard here own done → IsRising cell_cmp own.copies.pending → IsRising cell_cmp done.own.copies.pending
+  copies_rise _ Ignores h = h
+  copies_rise _ (Refuses to said is why) h = h
+  copies_rise _ (By_read done d) h = subst (λ (o : Own). IsRising cell_cmp o.copies.pending) (sym (of_read done d).same) h
+  copies_rise _ (By_lead done d) h = subst (λ (c : Copies). IsRising cell_cmp c.pending) (sym (of_lead done d).copies) h
+  copies_rise _ (By_second done d) h = subst (λ (c : Copies). IsRising cell_cmp c.pending) (sym (of_second done d).copies) h
+  copies_rise _ (By_holder done d) h = (of_holder heard here own done d).rises h
+  copies_rise _ (By_other done d) h = (of_other heard here own done d).rises h
+
+  -- no job starts a ballot for a Caught
+  pub unheld_stays : (done : Done) → Did heard here own done → (state : State) (cell : Cell) → has_proposed state own cell ≡ false
+      → has_proposed state done.own cell ≡ false
+  unheld_stays _ Ignores state cell e = e
+  unheld_stays _ (Refuses to said is why) state cell e = e
+  unheld_stays _ (By_read done d) state cell e = ap (λ (o : Own). has_proposed state o cell) (of_read done d).same ∙ e
+  unheld_stays _ (By_lead done d) state cell e = same_copies done (of_lead done d).copies state cell ∙ e
+  unheld_stays _ (By_second done d) state cell e = same_copies done (of_second done d).copies state cell ∙ e
+  unheld_stays _ (By_holder done d) state cell e = same_caught done (of_holder heard here own done d).caught state cell ∙ e
+  unheld_stays _ (By_other done d) state cell e = same_caught done (of_other heard here own done d).caught state cell ∙ e
 
   -- what follows a job up is a stage, and no letter
   pub no_letters : (done : Done) → Did heard here own done → (letter : Letter) → In (job.Letter letter) done.jobs → ⊥
@@ -101,3 +146,5 @@ module _ (heard : Body → Type 0) (here : Here) (own : Own) where
   no_letters _ (By_read done d) letter i = subst (λ (jobs : List Job). In (job.Letter letter) jobs) (of_read done d).no_jobs i
   no_letters _ (By_lead done d) letter i = (of_lead done d).no_letters letter i
   no_letters _ (By_second done d) letter i = subst (λ (jobs : List Job). In (job.Letter letter) jobs) (of_second done d).no_jobs i
+  no_letters _ (By_holder done d) letter i = (of_holder heard here own done d).no_letters letter i
+  no_letters _ (By_other done d) letter i = (of_other heard here own done d).no_letters letter i

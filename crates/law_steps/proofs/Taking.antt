@@ -24,6 +24,7 @@ pub record IsTaken (own now : Own) (op : Pending) : Type 0 where
   pub next : now.pairs.next ≡ own.pairs.next
   pub finished : now.pairs.finished ≡ own.pairs.finished
   pub last : now.pairs.last ≡ own.pairs.last
+  pub copies : now.copies ≡ own.copies
 
 pub taking : (own now : Own) (op : Pending) → Taken own now op → IsTaken own now op
 taking own _ _ (As_it_is op is) = record {
@@ -39,6 +40,7 @@ taking own _ _ (As_it_is op is) = record {
   next = refl;
   finished = refl;
   last = refl;
+  copies = refl;
 }
 taking own _ _ (As_told op reserved paired is) =
     let t = own.pairs.pending in
@@ -56,4 +58,5 @@ taking own _ _ (As_told op reserved paired is) =
       next = refl;
       finished = refl;
       last = refl;
+      copies = refl;
     }

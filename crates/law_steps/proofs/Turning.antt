@@ -1,16 +1,18 @@
 -- Each step of a client is one of the kinds that the relation names.
 use Rattle.std.proofs.Common.{◌≡◌, ◌+◌, ◌++◌, ◌==◌, ◌&&◌, ℕ, Bool, true, false, List, [], ◌∷◌, Option, Some, None, length, refl, ◌∙◌, sym, ap, subst, inl, inr, append_assoc}
-use Rattle.std.specs.Prelude.{is_some}
+use Rattle.std.specs.Prelude.{is_some, map, not, if◌then◌else◌}
 use Rattle.std.proofs.lemmas.Grind.{fold-append}
 use Rattle.petal_command.specs.declared.command.Command.{Command}
 use Rattle.petal_msg.specs.Kinds.{about}
 use Rattle.petal_msg.specs.declared.body.Body.{Body}
 use Rattle.petal_msg.specs.declared.body.Body.TheVariants as body
+use Rattle.petal_msg.specs.declared.letter.Actor.{Actor}
 use Rattle.petal_msg.specs.declared.letter.Actor.TheVariants as actor
 use Rattle.petal_msg.specs.declared.letter.Letter.{Letter}
 use Rattle.petal_msg.specs.declared.operation.Ending.TheVariants as ending
 use Rattle.script_lines.specs.Pattern.{pattern_block}
 use Rattle.script_lines.specs.declared.answer.Answer.{Answer}
+use Rattle.script_lines.specs.declared.answer.Answer.TheVariants as answer
 use Rattle.script_lines.specs.declared.request.Line.{Line}
 use Rattle.script_lines.specs.declared.request.Pattern.{Pattern}
 use Rattle.script_lines.specs.declared.request.Request.{Request}
@@ -21,9 +23,10 @@ use Rattle.petal_state.specs.Command.{after, state_after}
 use Rattle.petal_state.specs.declared.answer.DiskView.{DiskView}
 use Rattle.petal_history.specs.Claims.{IsPrefix}
 use Rattle.petal_rules.specs.Lists.{In}
-use Rattle.petal_rules.specs.State.{State, find}
+use Rattle.petal_state.specs.Settled.{is_settled}
+use Rattle.petal_rules.specs.State.{State, find, servers_of}
 use Rattle.petal_rules.specs.Server.{Post, post_to}
-use Rattle.petal_rules.specs.Clients.{Client, Asked, Reaction, Learning, rests, posts_for, write_posts, read_posts, read_posts_at, epoch_for, cell_on, to_propose, sends_or_proposes, goes_out, goes_out_where, post_in_turn, asking, asks_and_sends, called, replies, is_read, is_write, seen_answer, answers_where, hears, hears_of, heard, hears_any, command_of, refusal, verdict_for, answered_where, witnessed, is_witness, judged, judged_by, takes_entry, takes_all, then_goes_out, takes_entries, next_entries, ticked}
+use Rattle.petal_rules.specs.Clients.{Client, Asked, Reaction, Learning, rests, posts_for, write_posts, read_posts, read_posts_at, epoch_for, cell_on, to_propose, sends_or_proposes, goes_out, goes_out_where, post_in_turn, asking, asks_and_sends, called, replies, is_read, is_write, first_round, Sight, with_sight, stays_open, rounds, settles, sees_for, sees, sees_from, answers, hears, hears_of, heard, hears_any, command_of, refusal, verdict_for, answered_where, witnessed, is_witness, judged, judged_by, takes_entry, takes_all, then_goes_out, takes_entries, next_entries, ticked}
 use Rattle.petal_rules.specs.World.{Setting, World, MayClient, client_state, client_step, calls, line_in, next_line}
 use Rattle.petal_rules.specs.declared.step.Step.{Step}
 use Rattle.petal_rules.specs.declared.step.Step.TheVariants.{Call, Deliver, Tick, Work, Stop, Boot, Glance}
@@ -31,7 +34,7 @@ use Rattle.petal_rules.proofs.ListLemmas.{in-append}
 use Rattle.petal_rules.proofs.Tests.{by_test, both_true, same_numbers, only}
 use Rattle.law_state.proofs.Steady.{log_rev}
 use Rattle.law_steps.specs.Happens.{Heard}
-use Rattle.law_steps.specs.Turned.{Turned, Says, Of_the_log, A_write, A_read, OnlySays, IsSame, StaysOpen, IsReason, By_verdict, By_witness, IsJudged, Goes_on, Begins, Reads, Ends, Shown, Judges}
+use Rattle.law_steps.specs.Turned.{Turned, Says, Of_the_log, A_write, A_read, OnlySays, IsSame, StaysOpen, IsReason, By_verdict, By_witness, IsJudged, Stops_it, Starts_it, Has_no_space, Is_settled, Goes_on, Begins, Reads, Ends, Shown, Judges}
 use Rattle.law_steps.proofs.Fronts.{front_itself, front_same, front_more, front_on}
 
 -- a client's step is made in a call, or else
@@ -209,7 +212,7 @@ module _ (servers : ℕ) (lines : List Line) (w : World) (c : ℕ) where
   called_turns : (line : Line) → next_line lines c client ≡ Some line → client.asked ≡ None → Turning true (called state c client line.number line.request)
   called_turns line is free =
       let before : Client = record client { seq = client.seq + 1 } in
-      let new : Asked = record { line = line.number; seq = client.seq + 1; request = line.request; turn = 0; rev = state.rev; witnesses = 0 } in
+      let new : Asked = record { line = line.number; seq = client.seq + 1; request = line.request; turn = 0; rev = state.rev; witnesses = 0; round = first_round line.request; seen = [] } in
       let reacted = goes_out state c before new in
       let q = goes_quiet state c before new in
       let still = still_open state.rev new reacted.client.asked q.stays in
@@ -236,11 +239,67 @@ module _ (servers : ℕ) (lines : List Line) (w : World) (c : ℕ) where
       → Turned (Heard w (actor.Client c)) servers lines c client false reacted → T reacted
   ends_turn {reacted} e t = record { turned = t; grows = front_same client.applied reacted.client.applied e }
 
-  seen_turns : (asked : Asked) (rev : ℕ) → client.asked ≡ Some asked → (round : ℕ) (running : Bool) (inc : ℕ) (full : Bool)
-      → Heard w (actor.Client c) rev (body.Seen asked.line round running inc full) → (o : Option Answer) → seen_answer asked.request running ≡ o
-      → T (answers_where client asked o)
-  seen_turns asked rev is round running inc full h None e = rests_turns
-  seen_turns asked rev is round running inc full h (Some given) e = ends_turn refl (Shown asked rev round inc running full h is given e)
+  -- ### A glance
+
+  -- a settle stays open, with its round as it is then
+  stays_turn : (asked other : Asked) → client.asked ≡ Some asked → IsSame state.rev asked other → T (stays_open client other)
+  unfolding In
+  stays_turn asked other is same = goes_on (stays_open client other) (record {
+    seq = refl;
+    applied = refl;
+    stays = subst (λ o. StaysOpen state.rev o (Some other)) (sym is) same;
+    says = λ post i. absurd i;
+    unanswered = refl;
+  })
+
+  abbrev Shows : Asked → ℕ → Sight → Type 0
+  Shows asked rev sight = Heard w (actor.Client c) rev (body.Seen asked.line sight.round sight.running sight.inc sight.full)
+
+  round_turns : (asked : Asked) (rev : ℕ) (sight : Sight) → client.asked ≡ Some asked → Shows asked rev sight → asked.request ≡ request.Settle
+      → sight.round ≡ asked.round → T (rounds state client (with_sight asked sight))
+  round_turns asked rev sight is h what at =
+      let now = with_sight asked sight in
+      by_test T (not (length now.seen == servers_of state)) (stays_open client now) _
+      (λ t. stays_turn asked now is (record { line = refl; seq = refl; request = refl; sent = inl refl }))
+      (λ all. by_test T (is_settled state (map (λ row. row.1) now.seen)) (answers client now answer.Ok) _
+      (λ t. ends_turn refl (Shown asked rev sight answer.Ok h is
+      (Is_settled what at (same_numbers (length now.seen) (servers_of state) (no_longer (length now.seen == servers_of state) all)) t refl)))
+      (λ t. stays_turn asked (record now { round = now.round + 1; seen = [] }) is (record { line = refl; seq = refl; request = refl; sent = inl refl })))
+    where
+      no_longer : (b : Bool) → not b ≡ false → b ≡ true
+      no_longer true e = refl
+      no_longer false e = sym e
+
+  settle_turns : (asked : Asked) (rev : ℕ) (sight : Sight) → client.asked ≡ Some asked → Shows asked rev sight → asked.request ≡ request.Settle
+      → T (settles state client asked sight)
+  settle_turns asked rev sight is h what =
+      by_test T sight.full (answers client asked answer.NoSpace) _
+      (λ full. ends_turn refl (Shown asked rev sight answer.NoSpace h is (Has_no_space what full refl)))
+      (λ t. by_test T (sight.round == asked.round) (rounds state client (with_sight asked sight)) (rests client)
+      (λ same. round_turns asked rev sight is h what (same_numbers sight.round asked.round same)) (λ t. rests_turns))
+
+  seen_for_turns : (asked : Asked) (rev : ℕ) (sight : Sight) → client.asked ≡ Some asked → Shows asked rev sight → (what : Request) → asked.request ≡ what
+      → T (sees_for state client asked sight what)
+  seen_for_turns asked rev sight is h (request.Stop server) e = ends_turn refl (Shown asked rev sight answer.Ok h is (Stops_it server e refl))
+  seen_for_turns asked rev sight is h (request.Start server) e =
+      ends_turn refl (Shown asked rev sight (if sight.running then answer.Ok else answer.Failed) h is (Starts_it server e refl))
+  seen_for_turns asked rev sight is h request.Settle e = settle_turns asked rev sight is h e
+  seen_for_turns asked rev sight is h _ e = rests_turns
+
+  seen_turns : (rev : ℕ) (sight : Sight) → Heard w (actor.Client c) rev (body.Seen sight.line sight.round sight.running sight.inc sight.full)
+      → (o : Option Asked) → client.asked ≡ o → T (sees state client o sight)
+  seen_turns rev sight h None is = rests_turns
+  seen_turns rev sight h (Some asked) is = by_test T (sight.line == asked.line) (sees_for state client asked sight asked.request) (rests client)
+      (λ t. seen_for_turns asked rev sight is
+      (heard_as (ap (λ k. body.Seen k sight.round sight.running sight.inc sight.full) (same_numbers sight.line asked.line t)) refl h) asked.request refl)
+      (λ t. rests_turns)
+
+  seen_from_turns : (rev : ℕ) (sight : Sight) → Heard w (actor.Client c) rev (body.Seen sight.line sight.round sight.running sight.inc sight.full)
+      → (who : Actor) → T (sees_from state client who sight)
+  seen_from_turns rev sight h (actor.Server n) = seen_turns rev (record sight { server = n }) h client.asked refl
+  seen_from_turns rev sight h (actor.Client d) = rests_turns
+
+  -- ### Other replies
 
   hears_turns : (asked : Asked) (rev : ℕ) → client.asked ≡ Some asked → (said : Body) → Heard w (actor.Client c) rev said → T (hears state c client asked rev said)
   hears_turns asked rev is (body.Data seq bytes) h = by_test T (replies asked rev (about (body.Data seq bytes)) && is_read asked.request) _ _
@@ -255,10 +314,6 @@ module _ (servers : ℕ) (lines : List Line) (w : World) (c : ℕ) where
       (λ t. let tests = both_true (replies asked rev (about (body.Full seq))) (is_write asked.request) t in
       let same = both_true (seq == asked.seq) (rev == asked.rev) tests.0 in
       ends_turn refl (Ends asked ending.Full (heard_as (ap body.Full (same_numbers seq asked.seq same.0)) (same_numbers rev asked.rev same.1) h) is tests.1)) (λ t. rests_turns)
-  hears_turns asked rev is (body.Seen line round running inc full) h = by_test T (line == asked.line) _ _
-      (λ t. seen_turns asked rev is round running inc full
-      (heard_as (ap (λ k. body.Seen k round running inc full) (same_numbers line asked.line t)) refl h) (seen_answer asked.request running) refl)
-      (λ t. rests_turns)
   hears_turns asked rev is (body.BlockBusy seq) h = by_test T (replies asked rev (about (body.BlockBusy seq))) _ _ (λ t. again asked is) (λ t. rests_turns)
   hears_turns asked rev is (body.Held seq) h = by_test T (replies asked rev (about (body.Held seq))) _ _ (λ t. again asked is) (λ t. rests_turns)
   hears_turns asked rev is (body.WrongRev seq) h = by_test T (replies asked rev (about (body.WrongRev seq))) _ _ (λ t. again asked is) (λ t. rests_turns)
@@ -426,9 +481,12 @@ module _ (servers : ℕ) (lines : List Line) (w : World) (c : ℕ) where
         far = Open_still refl (stays_itself rev client.asked);
       }))
 
-  heard_turns : (letter : Letter) → In letter w.sent → letter.to ≡ actor.Client c → (said : Body) → T (hears_any state c client letter said)
-  heard_turns letter h own (body.News from commands) = news_turns (next_entries client from commands)
-  heard_turns letter h own _ = reply_turns letter client.asked refl h own
+  heard_turns : (letter : Letter) → In letter w.sent → letter.to ≡ actor.Client c → (said : Body) → letter.body ≡ said → T (hears_any state c client letter said)
+  heard_turns letter h own (body.News from commands) e = news_turns (next_entries client from commands)
+  heard_turns letter h own (body.Seen line round running inc full) e =
+      seen_from_turns letter.rev (record { server = 0; line = line; round = round; running = running; inc = inc; full = full })
+      (record { letter = letter; sent = h; own = own; at = refl; is = e }) letter.from
+  heard_turns letter h own _ e = reply_turns letter client.asked refl h own
 
 -- a client's step is of a kind
 pub client_turns : (setting : Setting) (w : World) (c : ℕ) (what : Step) → MayClient what setting w c
@@ -436,7 +494,7 @@ pub client_turns : (setting : Setting) (w : World) (c : ℕ) (what : Step) → M
     (client_step what (client_state setting w c) c (w.clients c) (next_line setting.lines c (w.clients c)))
 unfolding heard ticked
 client_turns setting w c (Call number) may = call_turns setting.servers setting.lines w c may.line may.next may.free
-client_turns setting w c (Deliver letter) may = heard_turns setting.servers setting.lines w c letter may.sent may.own letter.body
+client_turns setting w c (Deliver letter) may = heard_turns setting.servers setting.lines w c letter may.sent may.own letter.body refl
 client_turns setting w c Tick may =
     let client = w.clients c in
     let state = client_state setting w c in

@@ -5,24 +5,32 @@ use Rattle.petal_msg.specs.Kinds.{Refused, subject_of}
 use Rattle.petal_msg.specs.declared.body.Body.{Body}
 use Rattle.petal_msg.specs.declared.body.Body.TheVariants as body
 use Rattle.petal_msg.specs.declared.letter.Actor.{Actor}
+use Rattle.petal_msg.specs.declared.copying.Copying.{Copying}
 use Rattle.petal_msg.specs.declared.operation.Pending.{Pending}
+use Rattle.petal_rules.specs.Progress.{copying_on}
 use Rattle.petal_rules.specs.State.{is_lead}
 use Rattle.petal_rules.specs.Server.{Own, Here, Done, silent, says}
 use Rattle.petal_rules.specs.Writes.{Wanted, is_for, pending_on}
 use Rattle.law_steps.specs.DidRead.{DidRead}
 use Rattle.law_steps.specs.DidLead.{DidLead}
 use Rattle.law_steps.specs.DidSecond.{DidSecond}
+use Rattle.law_steps.specs.DidHolder.{DidHolder}
+use Rattle.law_steps.specs.DidOther.{DidOther}
 
 -- a refusal, which ends nothing
 abbrev pub IsRefusal : Body → Type 0
 IsRefusal said = subject_of said ≡ Refused
 
--- why a client is told that the block is busy: another operation is pending on it at its lead
+-- why a client is told that the block is busy: another operation is pending on it at its lead, or a copy is under way
 pub data IsBusy (heard : Body → Type 0) (here : Here) (own : Own) (seq : ℕ) : Type 0 where
   For_a_write : (want : Wanted) (op : Pending) → heard (body.Write want.client want.seq want.cell want.epoch want.bytes) → want.seq ≡ seq
       → is_lead here.state here.me want.cell ≡ true → pending_on own want.cell ≡ Some op → is_for op want ≡ false → IsBusy heard here own seq
   For_a_read : (client : ℕ) (cell : Cell) (epoch : ℕ) (op : Pending) → heard (body.Read client seq cell epoch)
       → is_lead here.state here.me cell ≡ true → pending_on own cell ≡ Some op → IsBusy heard here own seq
+  By_copy_for_a_write : (want : Wanted) (copy : Copying) → heard (body.Write want.client want.seq want.cell want.epoch want.bytes) → want.seq ≡ seq
+      → is_lead here.state here.me want.cell ≡ true → copying_on own want.cell ≡ Some copy → IsBusy heard here own seq
+  By_copy_for_a_read : (client : ℕ) (cell : Cell) (epoch : ℕ) (copy : Copying) → heard (body.Read client seq cell epoch)
+      → is_lead here.state here.me cell ≡ true → copying_on own cell ≡ Some copy → IsBusy heard here own seq
 
 -- what a server may have done that handled only such letters as `heard` knows: nothing, a refusal, what its subject's rules
 -- say. All is by its own state, `here.state`
@@ -33,3 +41,5 @@ pub data Did (heard : Body → Type 0) (here : Here) (own : Own) : Done → Type
   By_read : (done : Done) → DidRead heard here own done → Did heard here own done
   By_lead : (done : Done) → DidLead heard here own done → Did heard here own done
   By_second : (done : Done) → DidSecond heard here own done → Did heard here own done
+  By_holder : (done : Done) → DidHolder heard here own done → Did heard here own done
+  By_other : (done : Done) → DidOther heard here own done → Did heard here own done

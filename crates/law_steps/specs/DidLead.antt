@@ -1,37 +1,57 @@
 -- What the lead of a cell may have done for a write, rule by rule, with what was so when it was done, by its own state: as the
 -- first of two servers, or as a holder that is alone.
-use Rattle.std.specs.Prelude.{◌≡◌, ◌≤◌, ℕ, Bool, true, false, List, [], Some, None}
+use Rattle.std.specs.Prelude.{◌≡◌, ◌≤◌, ℕ, Bool, true, false, List, [], Option, Some, None, option_and_then, slice_get}
 use Rattle.std.specs.Ordering.{nat_cmp}
 use Rattle.busy_marks.specs.declared.marks.MarkKind.TheVariants.{Busy, Stale}
+use Rattle.global_tables.specs.declared.link.LinkRow.{LinkRow}
+use Rattle.petal_base.specs.declared.cell.Cell.{Cell}
+use Rattle.petal_base.specs.Cells.{key_at}
 use Rattle.petal_table.specs.Table.{at}
 use Rattle.petal_msg.specs.Kinds.{is_logged, subject_of}
 use Rattle.petal_msg.specs.declared.body.Body.{Body}
 use Rattle.petal_msg.specs.declared.body.Body.TheVariants as body
 use Rattle.petal_msg.specs.declared.letter.Actor.TheVariants as actor
+use Rattle.petal_msg.specs.declared.copying.Copying.{Copying}
 use Rattle.petal_msg.specs.declared.operation.Ending.TheVariants as ending
 use Rattle.petal_msg.specs.declared.operation.Finished.{Finished}
 use Rattle.petal_msg.specs.declared.operation.Pending.{Pending}
+use Rattle.petal_state.specs.CellState.{cell_link}
+use Rattle.petal_rules.specs.Copies.{page_wanted}
 use Rattle.petal_rules.specs.Lists.{In}
-use Rattle.petal_rules.specs.State.{second, is_lead, in_both, is_alone_on}
-use Rattle.petal_rules.specs.Store.{free_of}
+use Rattle.petal_rules.specs.Progress.{copying_on, has_proposed, progress_on}
+use Rattle.petal_rules.specs.State.{second, is_lead, in_both, is_alone_on, other_in}
+use Rattle.petal_rules.specs.Store.{Stored, chain_in, epochs_of, free_of}
 use Rattle.petal_rules.specs.Server.{Own, Here, Post, Done, says, says_to}
 use Rattle.petal_rules.specs.Writes.{Wanted, operation, pending_on, with_pending, without_pending, gives_back, with_reserved, with_paired, opened, marks, puts, unmarks, finishes, ended}
 use Rattle.law_steps.specs.Operations.{waiting, putting, copying, answering, done_to}
 
--- what a pending operation asks of the second server, or what speaks of the agreed log
+-- to the other server of a cell's link, which this one holds alone, where that is In
+abbrev pub other_on : Here → Cell → Option ℕ
+other_on here cell = option_and_then (other_in here.state here.me) (cell_link here.state cell)
+
+-- what a pending operation asks of the second server, a copy or a page of the other one, or what speaks of the agreed log
 pub data Asks (here : Here) (own : Own) : Post → Type 0 where
   A_slot : (op : Pending) (to : ℕ) → pending_on own op.cell ≡ Some op → op.stage ≡ waiting → second here.state op.cell ≡ Some to
       → Asks here own (record { to = actor.Server to; body = body.Reserve op.op op.cell })
   A_copy : (op : Pending) (to : ℕ) → pending_on own op.cell ≡ Some op → op.stage ≡ copying → second here.state op.cell ≡ Some to
       → Asks here own (record { to = actor.Server to; body = body.Replicate op.op op.key op.version op.bytes })
+  A_trim : (cell : Cell) (copy : Copying) (to : ℕ) → copying_on own cell ≡ Some copy → copy.trimmed ≡ false → other_on here cell ≡ Some to
+      → Asks here own (record { to = actor.Server to; body = body.Trim copy.op cell (epochs_of (chain_in own.store.chains cell)) })
+  A_copied_entry : (cell : Cell) (copy : Copying) (row : ℕ × Stored) (to : ℕ) → copying_on own cell ≡ Some copy → copy.trimmed ≡ true
+      → slice_get (chain_in own.store.chains cell) copy.index ≡ Some row → other_on here cell ≡ Some to
+      → Asks here own (record { to = actor.Server to; body = body.Sync copy.op (key_at cell row.0) row.1.version copy.index row.1.bytes })
+  A_page : (row : LinkRow) (to : ℕ) → In row here.state.links → other_in here.state here.me row ≡ Some to → (progress_on own row).paged ≡ false
+      → Asks here own (record { to = actor.Server to; body = page_wanted own row })
   Of_the_log : (post : Post) → is_logged (subject_of post.body) ≡ true → Asks here own post
 
--- the write's request is new to the lead, and nothing is pending on its cell
+-- the write's request is new to the lead, nothing is under way on its cell, and the lead wants no Caught of the cell's link
 pub record IsNew (heard : Body → Type 0) (here : Here) (own : Own) (want : Wanted) : Type 0 where
   pub wanted : heard (body.Write want.client want.seq want.cell want.epoch want.bytes)
   pub lead : is_lead here.state here.me want.cell ≡ true
   pub newer : done_to (at nat_cmp own.pairs.finished want.client) ≤ want.seq
   pub none : pending_on own want.cell ≡ None
+  pub uncopied : copying_on own want.cell ≡ None
+  pub unheld : has_proposed here.state own want.cell ≡ false
 
 -- the operation, as letters of the second server may have told of it
 abbrev pub told : Pending → (reserved paired : Bool) → Pending

@@ -1,15 +1,21 @@
 -- What a step of the world may have done: a relation above the step, with what the laws need to know of it.
-use Rattle.std.specs.Prelude.{◌≡◌, ◌⊎◌, ◌<◌, ℕ, Bool, true, false, List, [], ◌∷◌, ◌++◌}
+use Rattle.std.specs.Prelude.{◌≡◌, ◌⊎◌, ◌<◌, ℕ, Bool, true, false, List, [], ◌∷◌, ◌++◌, Option, Some}
+use Rattle.global_tables.specs.declared.link.LinkRow.{LinkRow}
 use Rattle.petal_command.specs.declared.command.Command.{Command}
-use Rattle.petal_msg.specs.Kinds.{Glanced, subject_of}
+use Rattle.petal_command.specs.declared.command.Command.TheVariants.{Caught}
+use Rattle.petal_msg.specs.Kinds.{Copied, Glanced, Paired, Subject, is_logged, subject_of}
 use Rattle.petal_msg.specs.declared.body.Body.{Body}
+use Rattle.petal_msg.specs.declared.copying.LinkId.{LinkId}
+use Rattle.petal_msg.specs.declared.copying.NextCopy.TheVariants.{Nothing}
 use Rattle.petal_msg.specs.declared.letter.Actor.{Actor}
 use Rattle.petal_msg.specs.declared.letter.Actor.TheVariants as actor
 use Rattle.petal_msg.specs.declared.letter.Letter.{Letter}
 use Rattle.petal_state.specs.Command.{state_after}
 use Rattle.petal_history.specs.Claims.{IsPrefix}
 use Rattle.petal_rules.specs.Boots.{awake, raised, stays, wakes}
+use Rattle.petal_rules.specs.Copies.{next_copy}
 use Rattle.petal_rules.specs.Crossing.{crossed}
+use Rattle.petal_rules.specs.Returns.{proposed}
 use Rattle.petal_rules.specs.Lists.{In}
 use Rattle.petal_rules.specs.Log.{Log, rev_of}
 use Rattle.petal_rules.specs.State.{State, is_in, servers_of}
@@ -25,6 +31,7 @@ use Rattle.petal_rules.specs.declared.step.CommitEnd.TheVariants.{After}
 use Rattle.petal_rules.specs.declared.step.WorkEnd.TheVariants as work_end
 use Rattle.law_state.specs.Below.{IsBelow}
 use Rattle.law_state.specs.Plain.{IsPlainLog}
+use Rattle.law_steps.specs.DidHolder.{IsHeldWith}
 use Rattle.law_steps.specs.DidLead.{Asks}
 use Rattle.law_steps.specs.Did.{Did}
 use Rattle.law_steps.specs.Turned.{Turned}
@@ -66,16 +73,44 @@ pub record IsIdle (here : Here) (own : Own) (done : Done) : Type 0 where
   pub same : done.own ≡ own
   pub asks : (post : Post) → In post done.posts → Asks here own post
 
--- a server that is not In as itself leaves its own part as it is
-abbrev pub IsSeated : Here → Own → Done → Type 0
-IsSeated here own done = (is_in here.state here.me here.inc ≡ true) ⊎ (done.own ≡ own)
+-- between two servers: of a pair's write, or of copies
+abbrev pub is_between : Subject → Bool
+is_between Paired = true
+is_between Copied = true
+is_between _ = false
 
--- what a running server does in a step, before its letters go: a job that applies no entry, or one that applies one and drops
--- what others asked of it on the links that the entry touches
+-- the server's own part stays as it is, and nothing is said of pairs or copies
+pub record LeavesAll (own : Own) (done : Done) : Type 0 where
+  pub same : done.own ≡ own
+  pub mute : (post : Post) → In post done.posts → is_between (subject_of post.body) ≡ false
+
+-- a server that is not In as itself leaves its own part as it is, and speaks neither of pairs nor of copies
+abbrev pub IsSeated : Here → Own → Done → Type 0
+IsSeated here own done = (is_in here.state here.me here.inc ≡ true) ⊎ LeavesAll own done
+
+-- it starts a ballot for the link's Caught: it is In as itself and holds the link alone, the other server is In, and nothing is left to
+-- copy
+pub record IsBallotFor (here : Here) (own : Own) (id : LinkId) : Type 0 where
+  pub row : LinkRow
+  pub other : ℕ
+  pub held : IsHeldWith here id row other
+  pub nothing : next_copy here.state row own ≡ Nothing
+  pub seated : is_in here.state here.me here.inc ≡ true
+
+-- the command for which a ballot starts, where one does
+abbrev pub Starts : Here → Own → Option Command → Type 0
+Starts here own (Some (Caught of link holder inc other other_inc)) = IsBallotFor here own (record { map = of; link = link })
+Starts here own _ = Unit {0}
+
+-- what a running server does in a step, before its letters go: a job that applies no entry, one that starts a ballot and has a Caught
+-- in mind then, or one that applies an entry and drops what others asked of it on the links that the entry touches
 pub data Worked (setting : Setting) (w : World) (n : ℕ) : Log → Done → Type 0 where
   By_job : (log : Log) (done : Done) → log.applied ≡ (w.servers n).log.applied → Did (Handled w n) (own_place setting w n) (w.servers n).own done
       → IsSeated (own_place setting w n) (w.servers n).own done
       → Worked setting w n log done
+  By_ballot : (log : Log) (started : Option Command) (posts : List Post) → log.applied ≡ (w.servers n).log.applied
+      → Starts (own_place setting w n) (w.servers n).own started → ((post : Post) → In post posts → is_logged (subject_of post.body) ≡ true)
+      → Worked setting w n log (record { own = proposed (server_state setting w n) (w.servers n).own started; posts = posts; jobs = [] })
   By_entry : (log : Log) (entry : Command) → log.applied ≡ (w.servers n).log.applied ++ entry ∷ [] → IsPrefix log.applied (chosen_log setting w)
       → Worked setting w n log (silent (crossed (server_state setting w n) entry (w.servers n).own))
 

@@ -2,8 +2,12 @@ pub mod Operations
 pub mod DidRead
 pub mod DidLead
 pub mod DidSecond
+pub mod DidHolder
+pub mod DidOther
 pub mod Did
 pub mod Turned
 pub mod Happens
+pub mod Resting
 pub mod Ready
+pub mod Ties
 pub mod Waking

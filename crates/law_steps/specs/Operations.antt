@@ -1,5 +1,5 @@
 -- How far an operation is, at its lead and at its second server.
-use Rattle.std.specs.Prelude.{◌≡◌, ℕ, ◌+◌, true, Option, Some, None}
+use Rattle.std.specs.Prelude.{◌≡◌, ℕ, ◌+◌, Bool, true, false, Option, Some, None}
 use Rattle.petal_base.specs.declared.cell.Cell.{Cell}
 use Rattle.petal_base.specs.Cells.{cell_of}
 use Rattle.petal_msg.specs.declared.operation.Far.{Far}
@@ -31,12 +31,14 @@ pub data AtRest (stage : Stage) : Type 0 where
   Copying : stage ≡ copying → AtRest stage
   Answering : stage ≡ answering → AtRest stage
 
--- an operation that is pending on a cell at a server, by this state. At a holder that is alone it may rest in any stage
-pub record IsStaged (state : State) (me : ℕ) (cell : Cell) (op : Pending) : Type 0 where
+-- an operation that is pending on a cell at a server, by this state. At a holder that is alone it may rest in any stage; and the server
+-- has started no ballot for the Caught of the cell's link, for which it would be held
+pub record IsStaged (state : State) (me : ℕ) (held : Cell → Bool) (cell : Cell) (op : Pending) : Type 0 where
   pub own : op.cell ≡ cell
   pub keyed : cell_of op.key ≡ cell
   pub lead : is_lead state me cell ≡ true
   pub stage : in_both state cell ≡ true → AtRest op.stage
+  pub unheld : held cell ≡ false
 
 -- above the number of each request that is finished
 abbrev pub done_to : Option Finished → ℕ

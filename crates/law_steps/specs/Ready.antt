@@ -1,11 +1,12 @@
 -- What holds of queues and pending operations in every world: the ground on which each step is one of the kinds named.
-use Rattle.std.specs.Prelude.{◌≡◌, ℕ, true, List, [], ◌∷◌, Some}
+use Rattle.std.specs.Prelude.{◌≡◌, ℕ, Bool, true, List, [], ◌∷◌, Some}
 use Rattle.std.specs.declared.cmp.Ordering.{Ordering}
 use Rattle.std.specs.declared.cmp.Ordering.TheVariants.{Less}
 use Rattle.petal_base.specs.declared.cell.Cell.{Cell}
 use Rattle.petal_table.specs.Table.{Table, at}
 use Rattle.petal_msg.specs.declared.operation.Pending.{Pending}
 use Rattle.petal_rules.specs.Lists.{In}
+use Rattle.petal_rules.specs.Progress.{has_proposed}
 use Rattle.petal_rules.specs.State.{State, is_in}
 use Rattle.petal_rules.specs.Store.{cell_cmp}
 use Rattle.petal_rules.specs.World.{Setting, World, server_state, chosen_log, chosen_state}
@@ -15,6 +16,7 @@ use Rattle.petal_history.specs.declared.record.Record.{Record}
 use Rattle.law_state.specs.Below.{IsBelow}
 use Rattle.law_state.specs.Firm.{Firm}
 use Rattle.law_steps.specs.Operations.{IsStaged}
+use Rattle.law_steps.specs.Resting.{AreResting}
 use Rattle.law_steps.specs.Happens.{AreQueued}
 
 -- each row is below those after it
@@ -22,18 +24,20 @@ abbrev pub IsRising : {K X : Type 0} → (K → K → Ordering) → Table K X �
 IsRising R [] = Unit {0}
 IsRising {K} {X} R (row ∷ rows) = ((other : K × X) → In other rows → R row.0 other.0 ≡ Less) × IsRising R rows
 
--- the operations that are pending at a server rest, each on its own cell, which the server leads by this state
-pub record IsReady (state : State) (me : ℕ) (pending : Table Cell Pending) : Type 0 where
-  pub staged : (cell : Cell) (op : Pending) → at cell_cmp pending cell ≡ Some op → IsStaged state me cell op
+-- the operations that are pending at a server rest, each on its own cell, which the server leads by this state and doesn't hold back
+pub record IsReady (state : State) (me : ℕ) (held : Cell → Bool) (pending : Table Cell Pending) : Type 0 where
+  pub staged : (cell : Cell) (op : Pending) → at cell_cmp pending cell ≡ Some op → IsStaged state me held cell op
   pub rising : IsRising cell_cmp pending
 
 -- and what waits in a queue was sent: at each server's own state, also that in which it stopped. A server that runs has operations
--- only while it is In as itself
+-- only while it is In as itself. What is remembered of copies is of links as they are there
 pub record Rests (setting : Setting) (w : World) : Type 0 where
   pub queues : (n : ℕ) → AreQueued w n (w.servers n).queue
-  pub pending : (n : ℕ) → IsReady (server_state setting w n) n (w.servers n).own.pairs.pending
+  pub pending : (n : ℕ) → IsReady (server_state setting w n) n (has_proposed (server_state setting w n) (w.servers n).own) (w.servers n).own.pairs.pending
   pub seated : (n : ℕ) (cell : Cell) (op : Pending) → (w.servers n).life.running ≡ true → at cell_cmp (w.servers n).own.pairs.pending cell ≡ Some op
       → is_in (server_state setting w n) n (w.servers n).life.inc ≡ true
+  pub copying : (n : ℕ) → IsRising cell_cmp (w.servers n).own.copies.pending
+  pub resting : (n : ℕ) → AreResting (server_state setting w n) n (w.servers n).own
 
 -- the same, with what is known of the log, and this state stands at least as far as what is chosen
 pub record Ready (setting : Setting) (state : State) (w : World) : Type 0 where

@@ -1,5 +1,5 @@
 -- What a client may have done: a relation above its step, with what the laws need to know of it.
-use Rattle.std.specs.Prelude.{◌≡◌, ◌+◌, ◌-◌, ◌⊎◌, ℕ, Bool, true, false, List, [], ◌∷◌, ◌++◌, Option, Some, None, length, slice_get}
+use Rattle.std.specs.Prelude.{◌≡◌, ◌+◌, ◌-◌, ◌⊎◌, ℕ, Bool, true, false, List, [], ◌∷◌, ◌++◌, Option, Some, None, length, map, slice_get, if◌then◌else◌}
 use Rattle.petal_command.specs.declared.command.Command.{Command}
 use Rattle.petal_msg.specs.Kinds.{is_logged, subject_of}
 use Rattle.petal_msg.specs.declared.body.Body.{Body}
@@ -18,10 +18,11 @@ use Rattle.petal_state.specs.Command.{state_after}
 use Rattle.petal_state.specs.declared.answer.DiskView.{DiskView}
 use Rattle.petal_history.specs.Claims.{IsPrefix}
 use Rattle.petal_rules.specs.Lists.{In}
-use Rattle.petal_rules.specs.State.{State, find}
+use Rattle.petal_state.specs.Settled.{is_settled}
+use Rattle.petal_rules.specs.State.{State, find, servers_of}
 use Rattle.petal_rules.specs.Server.{Post}
 use Rattle.petal_rules.specs.Writes.{ended}
-use Rattle.petal_rules.specs.Clients.{Client, Asked, Reaction, answers, is_read, is_write, seen_answer, cell_on, epoch_for, command_of, refusal, verdict_for, is_witness}
+use Rattle.petal_rules.specs.Clients.{Client, Asked, Reaction, Sight, with_sight, answers, is_read, is_write, cell_on, epoch_for, command_of, refusal, verdict_for, is_witness}
 use Rattle.petal_rules.specs.World.{lines_of, next_line}
 
 -- the line of a client's request of this number. The first has number 1
@@ -53,7 +54,8 @@ pub record OnlySays (servers c : ℕ) (reacted : Reaction) : Type 0 where
 
 -- ### What stays open
 
--- a request that stays open may have been sent once more, at the revision that the step leaves, or had a Witness more
+-- a request that stays open may have been sent once more, at the revision that the step leaves, or had a Witness more, or, of a
+-- settle, a server more in its round, or another round
 pub record IsSame (rev : ℕ) (old new : Asked) : Type 0 where
   pub line : new.line ≡ old.line
   pub seq : new.seq ≡ old.seq
@@ -90,6 +92,18 @@ pub record IsJudged (servers c : ℕ) (before after : List Command) (asked : Ask
   pub new : IsPrefix before front
   pub reason : IsReason c asked given (state_after servers (front ++ entry ∷ [])) entry
 
+-- ### Answers by a glance
+
+-- why a glance answers the operator's line: a stop is done; a start is, or has failed where the server doesn't run; and a settle has no
+-- space where the server's last copy found no slot, or is done where its round has shown each server and all is settled
+pub data IsSeenAs (state : State) (asked : Asked) (sight : Sight) (given : Answer) : Type 0 where
+  Stops_it : (server : ℕ) → asked.request ≡ request.Stop server → given ≡ answer.Ok → IsSeenAs state asked sight given
+  Starts_it : (server : ℕ) → asked.request ≡ request.Start server → given ≡ (if sight.running then answer.Ok else answer.Failed)
+      → IsSeenAs state asked sight given
+  Has_no_space : asked.request ≡ request.Settle → sight.full ≡ true → given ≡ answer.NoSpace → IsSeenAs state asked sight given
+  Is_settled : asked.request ≡ request.Settle → sight.round ≡ asked.round → length (with_sight asked sight).seen ≡ servers_of state
+      → is_settled state (map (λ row. row.1) (with_sight asked sight).seen) ≡ true → given ≡ answer.Ok → IsSeenAs state asked sight given
+
 -- ### What it does
 
 -- what a client may have done, in a call or else having heard only what `heard` knows, with the revision of its sender. A
@@ -105,8 +119,9 @@ pub data Turned (heard : ℕ → Body → Type 0) (servers : ℕ) (lines : List 
       → Turned heard servers lines c client false (answers client asked (answer.Data bytes))
   Ends : (asked : Asked) (how : Ending) → heard asked.rev (ended asked.seq how) → client.asked ≡ Some asked → is_write asked.request ≡ true
       → Turned heard servers lines c client false (answers client asked (answer_of how))
-  Shown : (asked : Asked) (rev round inc : ℕ) (running full : Bool) → heard rev (body.Seen asked.line round running inc full) → client.asked ≡ Some asked
-      → (given : Answer) → seen_answer asked.request running ≡ Some given
+  Shown : (asked : Asked) (rev : ℕ) (sight : Sight) (given : Answer)
+      → heard rev (body.Seen asked.line sight.round sight.running sight.inc sight.full) → client.asked ≡ Some asked
+      → IsSeenAs (state_after servers client.applied) asked sight given
       → Turned heard servers lines c client false (answers client asked given)
   Judges : (after : Client) (asked : Asked) (given : Answer) → client.asked ≡ Some asked → after.asked ≡ None → after.seq ≡ client.seq
       → IsJudged servers c client.applied after.applied asked given

@@ -1,13 +1,23 @@
 //! What every legal step does, rule by rule: a relation above the rules, with one inversion lemma, on which the laws stand.
 //!
 //! To the laws above it promises that each legal step is of one of a few kinds, each with what was so when it was done, by the
-//! own state of the server or client that made it. It knows nothing of copies, answers or the plain machine.
+//! own state of the server or client that made it, and that a server which runs is tied to what is chosen. It knows nothing of answers
+//! or the plain machine, and not of what two copies have in common.
 #![tactic(auto)]
 
-ghost use Rattle.std.specs.Prelude.{◌≡◌, ◌++◌, ℕ, true, List, [], ◌∷◌};
+ghost use Rattle.std.specs.Prelude.{◌≡◌, ◌++◌, ℕ, true, false, List, [], ◌∷◌, Some};
+ghost use Rattle.petal_base.specs.declared.cell.Cell.{Cell};
+ghost use Rattle.global_tables.specs.Link.{has_server};
+ghost use Rattle.global_tables.specs.declared.link.LinkRow.{LinkRow};
+ghost use Rattle.global_tables.specs.declared.link.LinkState.TheVariants.{Both, Only};
+ghost use Rattle.petal_command.specs.declared.command.Command.{Command};
+ghost use Rattle.petal_state.specs.CellState.{cell_link};
+ghost use Rattle.petal_state.specs.Command.{state_after};
 ghost use Rattle.script_lines.specs.declared.script.Script.{Script};
-ghost use Rattle.petal_rules.specs.State.{State};
-ghost use Rattle.petal_rules.specs.World.{chosen_state, setting_of, start};
+ghost use Rattle.petal_rules.specs.State.{State, is_in};
+ghost use Rattle.petal_rules.specs.Progress.{has_proposed};
+ghost use Rattle.petal_rules.specs.World.{chosen_log, chosen_state, server_state, setting_of, start};
+ghost use Rattle.petal_history.specs.Claims.{IsPrefix};
 ghost use Rattle.petal_history.specs.Legal.{IsLegal, world_after};
 ghost use Rattle.petal_history.specs.Sound.{IsSound};
 ghost use Rattle.petal_history.specs.declared.record.Record.{Record};
@@ -15,6 +25,7 @@ ghost use Rattle.law_state.specs.Below.{IsBelow};
 ghost use Rattle.law_state.specs.Steady.{IsSteady};
 ghost use Rattle.law_steps.specs.Happens.{Happens};
 ghost use Rattle.law_steps.specs.Ready.{IsReady, Rests};
+ghost use Rattle.law_steps.specs.Ties.{StaysAloneOrCaught, StaysInBoth};
 
 /// After every legal history, the state that is chosen is steady: each cell that has a link has two servers apart, and both
 /// serve it, or one of them alone.
@@ -23,10 +34,12 @@ pub fn what_is_chosen_is_steady()
 {}
 
 /// After every legal history, what waits in a queue was sent to its server, and a pending operation is on a cell that its
-/// server leads, by the server's own state, and rests in one of four stages where the cell is in Both. While the server runs
-/// this is so by what is chosen, too.
+/// server leads, by the server's own state, and rests in one of four stages where the cell is in Both; and the server has started no
+/// ballot for the Caught of the cell's link. While the server runs this is so by what is chosen, too. A copy that is under way is of a
+/// link that the server holds alone by its own state, and whose pages are done; and the last copy to a server is of a link that the other
+/// one holds.
 pub fn operations_rest_in_four_stages()
-    ensures chosen { (script : Script) (records : List Record) → IsSound script → IsLegal script records → (n : ℕ) → ((world_after (setting_of script) (start (setting_of script)) records).servers n).life.running ≡ true → IsReady (chosen_state (setting_of script) (world_after (setting_of script) (start (setting_of script)) records)) n ((world_after (setting_of script) (start (setting_of script)) records).servers n).own.pairs.pending }
+    ensures chosen { (script : Script) (records : List Record) → IsSound script → IsLegal script records → (n : ℕ) → ((world_after (setting_of script) (start (setting_of script)) records).servers n).life.running ≡ true → IsReady (chosen_state (setting_of script) (world_after (setting_of script) (start (setting_of script)) records)) n (has_proposed (server_state (setting_of script) (world_after (setting_of script) (start (setting_of script)) records) n) ((world_after (setting_of script) (start (setting_of script)) records).servers n).own) ((world_after (setting_of script) (start (setting_of script)) records).servers n).own.pairs.pending }
     ensures own { (script : Script) (records : List Record) → IsSound script → IsLegal script records → Rests (setting_of script) (world_after (setting_of script) (start (setting_of script)) records) }
 {}
 
@@ -34,4 +47,12 @@ pub fn operations_rest_in_four_stages()
 /// what is then chosen on.
 pub fn each_step_is_of_a_kind()
     ensures { (script : Script) (front : List Record) (own : Record) → IsSound script → IsLegal script (front ++ own ∷ []) → (state : State) → IsBelow (chosen_state (setting_of script) (world_after (setting_of script) (start (setting_of script)) (front ++ own ∷ []))) state → Happens (setting_of script) state (world_after (setting_of script) (start (setting_of script)) front) (world_after (setting_of script) (start (setting_of script)) (front ++ own ∷ [])) }
+{}
+
+/// While a server runs, and is In as itself, it is tied to what is chosen from its own entries on: a link that was in Both is so at the
+/// same place, or the server holds it alone; and one that it held alone it holds so still, or it is in Both by a Caught for which the
+/// server has started the ballot, right behind its own entries.
+pub fn a_running_server_is_tied_to_what_is_chosen()
+    ensures both { (script : Script) (records : List Record) → IsSound script → IsLegal script records → (n : ℕ) (front more : List Command) → ((world_after (setting_of script) (start (setting_of script)) records).servers n).life.running ≡ true → IsPrefix ((world_after (setting_of script) (start (setting_of script)) records).servers n).log.applied front → IsPrefix front more → IsPrefix more (chosen_log (setting_of script) (world_after (setting_of script) (start (setting_of script)) records)) → is_in (state_after script.servers front) n ((world_after (setting_of script) (start (setting_of script)) records).servers n).life.inc ≡ true → (cell : Cell) (row : LinkRow) → cell_link (state_after script.servers front) cell ≡ Some row → has_server n row ≡ true → row.state ≡ Both → StaysInBoth (setting_of script) n front more cell row }
+    ensures alone { (script : Script) (records : List Record) → IsSound script → IsLegal script records → (n : ℕ) (front more : List Command) → ((world_after (setting_of script) (start (setting_of script)) records).servers n).life.running ≡ true → IsPrefix ((world_after (setting_of script) (start (setting_of script)) records).servers n).log.applied front → IsPrefix front more → IsPrefix more (chosen_log (setting_of script) (world_after (setting_of script) (start (setting_of script)) records)) → is_in (state_after script.servers front) n ((world_after (setting_of script) (start (setting_of script)) records).servers n).life.inc ≡ true → (cell : Cell) (row : LinkRow) → cell_link (state_after script.servers front) cell ≡ Some row → has_server n row ≡ true → row.state ≡ Only n false → StaysAloneOrCaught (setting_of script) (world_after (setting_of script) (start (setting_of script)) records) n front more cell }
 {}

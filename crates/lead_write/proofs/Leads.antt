@@ -54,7 +54,7 @@ full_slot side store op h there unused =
 
 -- the own part with nothing pending on a cell, and with this store
 abbrev ended_own : Cell → Store → Own → Own
-ended_own cell s own = record { pairs = record own.pairs { pending = without cell_cmp own.pairs.pending cell }; store = s }
+ended_own cell s own = record { pairs = record own.pairs { pending = without cell_cmp own.pairs.pending cell }; copies = own.copies; store = s }
 
 module _ {D : Type 0} (here : Here) (side after : Side) (store : Holdings D) (op : Pending) (done : Done) where
   -- nothing else is pending where a request was done with

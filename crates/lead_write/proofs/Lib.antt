@@ -1,4 +1,3 @@
 pub mod Moves
 pub mod Opens
 pub mod Leads
-pub mod Letters

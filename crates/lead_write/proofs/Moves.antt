@@ -25,6 +25,7 @@ use Rattle.kept_chains.specs.Kept.{chains_of, store_of}
 use Rattle.kept_chains.specs.Marking.{IsCommit}
 use Rattle.kept_chains.proofs.Puts.{put_over, put_same, without_put}
 use Rattle.pair_side.specs.declared.done.Done.{Done}
+use Rattle.pair_side.specs.declared.done.FollowUp.TheVariants as follow
 use Rattle.pair_side.specs.Side.{Side, HasTickets, HasTicketsAt, needs_own, own_of}
 use Rattle.pair_side.specs.Done.{IsBy, IsDone, IsSaid, only}
 use Rattle.pair_side.proofs.Tickets as tickets
@@ -104,7 +105,7 @@ module _ {D : Type 0} (here : Here) (side : Side) (store : Holdings D) (op : Pen
       let given = tickets.given_is store (record store { tickets = lists.without store.tickets slot }) slot out refl in
       rw (table, is, gone, rest) (record {
         done = record {
-          own = (λ i. record { pairs = record (own_of side store).pairs { pending = sym closed_is i }; store = given i })
+          own = (λ i. record { pairs = record (own_of side store).pairs { pending = sym closed_is i }; copies = side.copies; store = given i })
               ∙ sym (ap (given_up (with_pending (own_of side store) op) op.cell) unused);
           letters = refl;
           jobs = refl;
@@ -126,13 +127,13 @@ module _ {D : Type 0} (here : Here) (side : Side) (store : Holdings D) (op : Pen
 
   -- the own part after a put with this version, where these are pending and this is the store
   abbrev put_own : Table Cell Pending → Store → Own
-  put_own t s = record { pairs = record (own_of side store).pairs { pending = t }; store = s }
+  put_own t s = record { pairs = record (own_of side store).pairs { pending = t }; copies = side.copies; store = s }
 
   pub puts_done : (new : Table Cell Pending) (own : Table Cell ℕ) (after : Holdings D) (version : ℕ) (done : Done)
       → new ≡ versioned side.pending op.cell version (record op.stage { put = true }) (at cell_cmp side.pending op.cell)
       → version ≡ version_of (chain_in (chains_of store.entries) op.cell) + 1
       → store_of after ≡ with_entry (store_of store) op.key (record { version = version; bytes = op.bytes })
-      → done ≡ record { letters = []; follow = Some op.cell }
+      → done ≡ record { letters = []; follow = Some (follow.Stage op.cell) }
       → IsBy here (own_of (record side { pending = new; own = own }) after) done (acts here (with_pending (own_of side store) op) op action.Put)
   puts_done new own after version done table counted kept is =
       let next = version_of (chain_in (chains_of store.entries) op.cell) + 1 in
@@ -174,7 +175,7 @@ module _ {D : Type 0} (here : Here) (side : Side) (store : Holdings D) (op : Pen
 
   pub flags_done : {T : Type 0} (device : Ghosts D) (kind : MarkKind) (is : Bool) (new : Table Cell Pending) (after : Holdings D) (kept : Store) (t : T) (done : Done)
       → new ≡ staged side.pending op.cell (with_flag op.stage kind is) (at cell_cmp side.pending op.cell)
-      → IsCommit device store after (Ok t) kept → done ≡ record { letters = []; follow = Some op.cell }
+      → IsCommit device store after (Ok t) kept → done ≡ record { letters = []; follow = Some (follow.Stage op.cell) }
       → IsDone device here side (record side { pending = new }) store after (Ok done) (flagged kind is kept)
   flags_done device kind is new after kept t done table commit said = rw (table ∙ flagged_is kind is, said) (record {
     done = λ told. record {

@@ -69,8 +69,8 @@ module _ {D : Type 0} (here : Here) (want : Wanted) (side : Side) (store : Holdi
     -- its own part as the rule opens it
     opened_is : own_of new after ≡ opened here (own_of side store) want
     opened_is =
-        ap (λ (s : Side). record { pairs = pairs_of s; store = store_of after }) begun.side
-        ∙ ap (λ (s : Store). record { pairs = (opened here (own_of side store) want).pairs; store = s }) (tickets.kept_is store after begun.slot begun.store)
+        ap (λ (s : Side). record { pairs = pairs_of s; copies = s.copies; store = store_of after }) begun.side
+        ∙ ap (λ (s : Store). record { pairs = (opened here (own_of side store) want).pairs; copies = side.copies; store = s }) (tickets.kept_is store after begun.slot begun.store)
 
     -- the journal had no room for the record of its first stage, and it is taken back
     pub full_back : (mid last : Side) (held left : Holdings D) (room : Bool) → room ≡ true

@@ -5,6 +5,7 @@ ghost use Rattle.petal_rules.specs.Server as rules;
 ghost use Rattle.petal_rules.specs.State.{second};
 ghost use Rattle.petal_rules.specs.Writes as writes;
 ghost use Rattle.petal_msg.specs.declared.operation.Action.TheVariants as action;
+ghost use Rattle.pair_side.specs.declared.done.FollowUp.TheVariants as follow;
 ghost use Rattle.pair_side.specs.declared.error.WorkError.TheVariants as error;
 ghost use Rattle.pair_side.specs.Side.{own_of, HasTicketsAt};
 ghost use Rattle.pair_side.specs.Done.{HasVersions, IsDone, IsSaid};
@@ -12,7 +13,7 @@ ghost use Rattle.lead_write.specs.Moved.{IsMoved};
 
 use busy_marks::MarkKind;
 use kept_chains::{mark, next_version, unmark};
-use pair_side::{Done, Here, Side, WorkError, finishes, give_back, only, spend};
+use pair_side::{Done, FollowUp, Here, Side, WorkError, finishes, give_back, only, spend};
 use petal_base::{Cell, Sequence};
 use petal_disk::Disk;
 use petal_msg::{Body, Ending, Pending, Stage};
@@ -71,11 +72,11 @@ pub fn drops<D: Disk>(here: &Here, side: &mut Side, store: &mut Store<D>, op: &P
 
 /// No letter is sent, and the next stage is a job of its own.
 fn follows_up(here: &Here, cell: Cell) -> Done
-    ensures { result ≡ record { letters = []; follow = Some cell } }
+    ensures { result ≡ record { letters = []; follow = Some (follow.Stage cell) } }
 {
     Done {
         letters: Sequence::new(here.alloc()),
-        follow: Some(cell),
+        follow: Some(FollowUp::Stage(cell)),
     }
 }
 

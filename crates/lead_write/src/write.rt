@@ -1,13 +1,15 @@
 //! A client's write at the lead.
 
-ghost use Rattle.std.specs.Prelude.{◌≡◌, ◌+◌, ℕ, nat_lt, true, false, Some, None, Err, IsSome, IfOk, OnErr, OnOk};
+ghost use Rattle.std.specs.Prelude.{◌≡◌, ◌||◌, ◌+◌, ℕ, nat_lt, true, false, Some, None, Err, IsSome, IfOk, OnErr, OnOk};
 ghost use Rattle.petal_table.specs.Table.{at, put, without};
+ghost use Rattle.petal_rules.specs.State.{held};
 ghost use Rattle.petal_rules.specs.Store.{cell_cmp, free_of};
 ghost use Rattle.petal_rules.specs.Writes as writes;
 ghost use Rattle.server_store.specs.Tickets as lists;
 ghost use Rattle.kept_chains.specs.Kept.{store_of};
 ghost use Rattle.pair_side.specs.declared.error.WorkError.TheVariants as error;
 ghost use Rattle.pair_side.specs.Side.{own_of, HasTicketsAt};
+ghost use Rattle.pair_side.specs.Copies.{has_proposed_in};
 ghost use Rattle.pair_side.specs.Done.{HasVersions, IsDone};
 ghost use Rattle.pair_side.specs.Slots.{IsOutAt};
 ghost use Rattle.lead_write.specs.Opened.{IsOpened};
@@ -170,7 +172,14 @@ fn opens<D: Disk>(
     }
 }
 
-/// A write that is not finished. What a fence or an operation on its block keeps back is refused, and ends nothing.
+/// Whether a fence holds the cell's writes, or a ballot was started for the `Caught` of its link.
+fn is_kept_back(here: &Here, side: &Side, cell: Cell) -> bool
+    ensures { result ≡ (writes.is_writes_held (held here.now.state cell) || has_proposed_in here.now.state side.now.copies cell) }
+{
+    is_writes_held(here.held(cell)) || side.copies.has_proposed(here, cell)
+}
+
+/// A write that is not finished. What is kept back, or waits for what is under way on its block, is refused, and ends nothing.
 fn takes_newer<D: Disk>(
     here: &Here,
     side: &mut Side,
@@ -187,10 +196,10 @@ fn takes_newer<D: Disk>(
         return silent(here, side, store);
     }
     let client = Actor::Client(want.client);
-    if is_writes_held(here.held(want.cell)) {
+    if is_kept_back(here, side, want.cell) {
         return says(here, side, store, client, Body::Held { seq: want.seq });
     }
-    if side.is_busy(want.cell) {
+    if side.is_under_way(want.cell) {
         return says(here, side, store, client, Body::BlockBusy { seq: want.seq });
     }
     opens(here, side, store, want)

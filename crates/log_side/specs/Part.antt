@@ -1,12 +1,12 @@
 -- A server's part of the agreed log in memory, and the log of the rules that it is with the records of its state store.
-use Rattle.std.specs.Prelude.{ℕ, List, []}
+use Rattle.std.specs.Prelude.{ℕ, length, List, [], Option}
 use Rattle.petal_command.specs.declared.command.Command.{Command}
 use Rattle.petal_msg.specs.declared.letter.Actor.TheVariants as actor
 use Rattle.petal_paxos.specs.declared.phase.Phase.{Phase}
 use Rattle.petal_paxos.specs.declared.phase.Phase.TheVariants.{Idle}
 use Rattle.petal_paxos.specs.declared.record.StateRecord.{StateRecord}
-use Rattle.petal_rules.specs.Log.{Log, LogDone, Voter, next_place}
-use Rattle.petal_rules.specs.Ballots.{starts, starts_ballot, next_round, wanted}
+use Rattle.petal_rules.specs.Log.{Log, Voter}
+use Rattle.petal_rules.specs.Ballots.{first_wanted, wanted}
 use Rattle.petal_rules.specs.Server.{Sender}
 use Rattle.petal_state.specs.Command.{state_after}
 use Rattle.petal_state.specs.State.{State}
@@ -48,10 +48,10 @@ state_of part = state_after part.voter.servers part.applied
 abbrev pub sender_of : Part → Sender
 sender_of part = record { from = actor.Server part.voter.me; inc = part.voter.inc; rev = (state_of part).rev }
 
--- a ballot is started for the first command that is wanted, where these are wanted after the Leaves
-abbrev pub starts_one : Log → Voter → (returning : List Command) → LogDone
-starts_one log voter returning = starts voter log (wanted voter log returning)
+-- what the server wants chosen, where these are wanted after the Leaves; no record counts
+abbrev pub wants_of : Part → (returning : List Command) → List Command
+wants_of part returning = wanted part.voter (log_of part []) returning
 
--- an idle proposer starts a ballot for this command, at the next place
-abbrev pub starts_want : Voter → Log → Command → LogDone
-starts_want voter log want = starts_ballot voter log (next_place log) (record { round = next_round log; server = voter.me }) want
+-- the command for which its next ballot starts
+abbrev pub next_want : Part → (returning : List Command) → Option Command
+next_want part returning = first_wanted part.phase (length part.applied) (wants_of part returning)

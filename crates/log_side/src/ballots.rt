@@ -1,15 +1,14 @@
 //! Ballots: those that the server starts, and those that it takes part in.
 
-ghost use Rattle.std.specs.Prelude.{◌≡◌, ◌+◌, max, IfOk, IfNone, IfSome, List};
+ghost use Rattle.std.specs.Prelude.{◌≡◌, ◌+◌, max, IfOk, List};
 ghost use Rattle.petal_command.specs.declared.pax.Pax.TheVariants.{Prepare};
 ghost use Rattle.petal_paxos.specs.Kept.{row_of};
 ghost use Rattle.petal_paxos.specs.Proposer as proposers;
 ghost use Rattle.petal_paxos.specs.declared.record.StateRecord.{StateRecord};
 ghost use Rattle.petal_rules.specs.Ballots as rules;
 ghost use Rattle.petal_rules.specs.Jobs.{hears_log};
-ghost use Rattle.petal_rules.specs.Log.{keeps};
 ghost use Rattle.log_side.specs.Done.{IsLogDone, IsLogSaid};
-ghost use Rattle.log_side.specs.Part.{log_of, starts_one, starts_want};
+ghost use Rattle.log_side.specs.Part.{log_of, next_want};
 
 use crate::done::{LogDone, only};
 use crate::envelope::room_for;
@@ -173,16 +172,16 @@ impl LogSide {
     }
 
     /// What the next ballot is for, where the proposer is idle and the log has a place left. These commands are wanted after the
-    /// Leaves, so that the server returns.
+    /// Leaves, so that the server and its links return.
     ///
     /// # Errors
     /// Out of memory.
-    #[tactic(auto, unfolding(petal_rules::specs::Ballots::starts))]
-    fn next_want(&self, alloc: Global, returning: &[Command]) -> Result<Option<Command>, NoMemory>
-        ensures none { IfOk result (λ found. IfNone found ((records : List StateRecord)
-            → starts_one (log_of self.now records) self.now.voter returning.now ≡ keeps (log_of self.now records))) }
-        ensures some { IfOk result (λ found. IfSome found (λ want. (records : List StateRecord)
-            → starts_one (log_of self.now records) self.now.voter returning.now ≡ starts_want self.now.voter (log_of self.now records) want)) }
+    pub fn next_want(
+        &self,
+        alloc: Global,
+        returning: &[Command],
+    ) -> Result<Option<Command>, NoMemory>
+        ensures { IfOk result (λ found. found ≡ next_want self.now returning.now) }
     {
         match &self.proposer.phase {
             Phase::Collecting { .. } => return Ok(None),
@@ -211,22 +210,20 @@ impl LogSide {
         self.proposer.start(place, round, want)
     }
 
-    /// An idle proposer starts a ballot for the first command that is wanted, at the next place; these are wanted after the
-    /// Leaves, so that the server returns. Its own acceptor commits the promise first.
+    /// Its proposer starts a ballot for the command that `next_want` told, if any, at the next place. Its own acceptor commits the
+    /// promise first.
     ///
     /// # Errors
     /// As at `on_letter`.
-    #[tactic(auto, unfolding(petal_rules::specs::Ballots::starts))]
     pub fn start_ballot<D: Disk>(
         &mut self,
         alloc: Global,
         state: &mut StateStore<D>,
-        returning: &[Command],
+        found: Option<Command>,
     ) -> Result<LogDone, StateError>
         ensures { IsLogDone D.Disk self.old self.new state.old state.new result
-            (starts_one (log_of self.old state.old.records) self.old.voter returning.now) }
+            (rules.starts_for self.old.voter (log_of self.old state.old.records) found) }
     {
-        let found = self.next_want(alloc, returning)?;
         let Some(want) = found else {
             return self.quiet(alloc, state);
         };

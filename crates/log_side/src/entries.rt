@@ -6,7 +6,7 @@ ghost use Rattle.petal_rules.specs.Entries as rules;
 ghost use Rattle.petal_rules.specs.Log.{Log, known, next_place};
 ghost use Rattle.petal_state.specs.Command.{after};
 ghost use Rattle.log_side.specs.Done.{IsBy, IsLogDone, IsLogSaid};
-ghost use Rattle.log_side.specs.Entered.{entry_of};
+ghost use Rattle.log_side.specs.Entered.{IsNext, entry_of};
 ghost use Rattle.log_side.specs.Part.{log_of, sender_of, state_of};
 
 use crate::done::{LogDone, only};
@@ -25,6 +25,13 @@ use std::alloc::Global;
 /// The most entries that one letter tells.
 const MOST: u32 = 64;
 
+/// The next entry, and the state with it.
+#[derive(Drop)]
+pub struct Next {
+    pub entry: Command,
+    pub state: GlobalState,
+}
+
 /// An entry that was applied, and the state before it.
 #[derive(Drop)]
 pub struct Entered {
@@ -32,22 +39,28 @@ pub struct Entered {
     pub before: GlobalState,
 }
 
-/// One entry more: the state with it, and it among those applied. Gives the state before.
-fn enter(
-    alloc: Global,
-    state: &mut GlobalState,
-    applied: &mut Sequence<Command>,
-    entry: &Command,
-) -> Result<GlobalState, NoMemory>
-    ensures before { IfOk result (λ before. before ≡ state.old) }
-    ensures state { OnOk result (state.new ≡ after state.old entry.now) }
-    ensures applied { OnOk result (applied.new ≡ applied.old ++ entry.now ∷ []) }
-    ensures err { OnErr result ((state.new ≡ state.old) × (applied.new ≡ applied.old)) }
+/// The state with one entry more.
+fn state_with(alloc: Global, state: &GlobalState, entry: &Command) -> Result<GlobalState, NoMemory>
+    ensures { IfOk result (λ next. next ≡ after state.now entry.now) }
 {
     if state.rev() == Rev::MAX {
         return Err(NoMemory);
     }
-    let next = state.next(alloc, entry)?;
+    state.next(alloc, entry)
+}
+
+/// One entry more: the state with it, and it among those applied. Gives the state before.
+fn enter(
+    state: &mut GlobalState,
+    applied: &mut Sequence<Command>,
+    entry: &Command,
+    next: GlobalState,
+) -> Result<GlobalState, NoMemory>
+    ensures before { IfOk result (λ before. before ≡ state.old) }
+    ensures state { OnOk result (state.new ≡ next) }
+    ensures applied { OnOk result (applied.new ≡ applied.old ++ entry.now ∷ []) }
+    ensures err { OnErr result ((state.new ≡ state.old) × (applied.new ≡ applied.old)) }
+{
     applied.push(entry.again())?;
     Ok(std::mem::replace(state, next))
 }
@@ -104,17 +117,27 @@ impl LogSide {
         state.chosen(place).is_none() && u64::from(place) == u64::from(self.rev()) + 1
     }
 
-    /// The next entry, where it is known.
+    /// The next entry, where it is known, with the state that it makes.
     ///
     /// # Errors
-    /// Where its place has no number.
-    pub fn next_entry<D: Disk>(&self, state: &StateStore<D>) -> Result<Option<Command>, NoMemory>
-        ensures { IfOk result (λ entry. entry ≡ known (log_of self.now state.now.records) (next_place (log_of self.now state.now.records))) }
+    /// Out of memory, or where its place has no number.
+    pub fn next_entry<D: Disk>(
+        &self,
+        alloc: Global,
+        state: &StateStore<D>,
+    ) -> Result<Option<Next>, NoMemory>
+        ensures { IfOk result (IsNext self.now state.now.records) }
     {
-        Ok(state.chosen(self.next_place()?))
+        match state.chosen(self.next_place()?) {
+            Some(entry) => {
+                let state = state_with(alloc, &self.state, &entry)?;
+                Ok(Some(Next { entry, state }))
+            }
+            None => Ok(None),
+        }
     }
 
-    /// The next entry is applied, where it is known. Gives it too, with the state before it.
+    /// The next entry is applied, as `next_entry` told it. Gives it too, with the state before it.
     ///
     /// # Errors
     /// Out of memory. Nothing changed.
@@ -123,7 +146,9 @@ impl LogSide {
         &mut self,
         alloc: Global,
         state: &StateStore<D>,
+        found: Option<Next>,
     ) -> Result<(LogDone, Option<Entered>), NoMemory>
+        requires next { IsNext self.old state.now.records found }
         ensures done { IfOk result (λ out. IsBy (sender_of self.old) (log_of self.new state.now.records) out.0
             (rules.applies (log_of self.old state.now.records))) }
         ensures voter { self.new.voter ≡ self.old.voter }
@@ -133,11 +158,17 @@ impl LogSide {
         ensures err { OnErr result (self.new ≡ self.old) }
     {
         let place = self.next_place()?;
-        let Some(entry) = state.chosen(place) else {
+        let Some(
+            Next {
+                entry,
+                state: with_it,
+            },
+        ) = found
+        else {
             return Ok((only(Sequence::new(alloc)), None));
         };
         let next = place.checked_add(1).ok_or(NoMemory)?;
-        let before = enter(alloc, &mut self.state, &mut self.applied, &entry)?;
+        let before = enter(&mut self.state, &mut self.applied, &entry, with_it)?;
         self.proposer.phase = Phase::Idle;
         self.refused = 0;
         let wants = std::mem::replace(&mut self.wants, Sequence::new(alloc));

@@ -94,7 +94,8 @@ impl LogSide {
     ) -> Result<LogDone, StateError>
         ensures { IsLogSaid self.old self.new state.now.records result (entries.applies (log_of self.old state.now.records)) }
     {
-        match self.apply(alloc, state) {
+        let next = self.next_entry(alloc, state)?;
+        match self.apply(alloc, state, next) {
             Ok((done, _)) => Ok(done),
             Err(NoMemory) => Err(StateError::NoMemory),
         }
@@ -127,7 +128,7 @@ impl LogSide {
     {
         match job {
             Job::Letter(letter) => self.on_letter(alloc, state, letter),
-            Job::Stage(_) | Job::Start => self.quiet(alloc, state),
+            Job::Stage(_) | Job::Mend(_) | Job::Start => self.quiet(alloc, state),
             Job::Apply => self.applied(alloc, state),
         }
     }

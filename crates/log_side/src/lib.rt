@@ -21,6 +21,6 @@ mod wants;
 
 pub use done::LogDone;
 pub use down::farewell;
-pub use entries::Entered;
+pub use entries::{Entered, Next};
 pub use envelope::Envelope;
 pub use side::LogSide;

@@ -5,12 +5,16 @@ use Rattle.kept_chains.specs.Kept.{store_of}
 use Rattle.log_side.specs.Done as logs
 use Rattle.pair_side.specs.Done.{HoldsAt}
 use Rattle.petal_disk.specs.declared.disk.Disk.{Ghosts}
+use Rattle.global_tables.specs.declared.link.LinkRow.{LinkRow}
 use Rattle.petal_command.specs.declared.command.Command.{Command}
+use Rattle.petal_command.specs.declared.command.Command.TheVariants.{Caught}
 use Rattle.petal_paxos.specs.declared.record.StateRecord.{StateRecord}
 use Rattle.petal_rules.specs.Entries.{applies, applies_known}
 use Rattle.petal_rules.specs.Jobs.{Acted, does, entered, faults, is_log_job, job_done, journal_records, log_does, stops, voter_of, worked, works}
 use Rattle.petal_rules.specs.Log.{Log, Voter, first_log, known, next_place}
-use Rattle.petal_rules.specs.Server.{Here, Own, Server, no_pairs, stopped}
+use Rattle.petal_rules.specs.Returns.{holds_link, proposed}
+use Rattle.petal_rules.specs.Server.{Here, Own, Server, no_copies, no_pairs, stopped}
+use Rattle.petal_rules.specs.State.{State, link_named}
 use Rattle.petal_rules.specs.Store.{Store}
 use Rattle.petal_rules.specs.declared.job.Job.{Job}
 use Rattle.petal_rules.specs.declared.job.Job.TheVariants as job
@@ -37,6 +41,16 @@ applies_records : (log : Log) (next : Option Command) → (applies_known log nex
 applies_records log None = refl
 applies_records log (Some entry) = refl
 
+held_store : (own : Own) (found : Option LinkRow) → (holds_link own found).store ≡ own.store
+held_store own None = refl
+held_store own (Some row) = refl
+
+-- a ballot that starts leaves the store
+proposed_store : (state : State) (own : Own) (found : Option Command) → (proposed state own found).store ≡ own.store
+proposed_store state own (Some (Caught of link holder holder_inc other other_inc)) =
+    held_store own (link_named state (record { map = of; link = link }))
+proposed_store state own _ = refl
+
 -- a job that commits to at most one device, and keeps the server's life
 record Commits (server left : Server) : Type 0 where
   once : CommitsOnce (shown_of server) (shown_of left)
@@ -53,7 +67,8 @@ commits here server [] = record { once = inl refl; life = refl }
 commits here server (job.Apply ∷ rest) = record { once = inl (applies_records server.log (known server.log (next_place server.log))); life = refl }
 commits here server (job.Letter letter ∷ rest) = one_part here server (job.Letter letter) rest (is_log_job (job.Letter letter))
 commits here server (job.Stage cell ∷ rest) = one_part here server (job.Stage cell) rest false
-commits here server (job.Start ∷ rest) = record { once = inr refl; life = refl }
+commits here server (job.Mend link ∷ rest) = one_part here server (job.Mend link) rest false
+commits here server (job.Start ∷ rest) = record { once = inr (ap on_device (proposed_store here.state server.own _)); life = refl }
 
 works_is : (here : Here) (server : Server) (queue : List Job) → (after_first here server queue).own.store.records ≤ journal_records
     → length (after_first here server queue).log.records ≤ journal_records → (works here server queue).server ≡ after_first here server queue
@@ -67,7 +82,7 @@ abbrev pub left_with : ℕ → Store → List StateRecord → Server
 left_with inc store records = record {
   life = record { running = false; inc = inc };
   log = record first_log { records = records };
-  own = record { pairs = no_pairs; store = on_device store };
+  own = record { pairs = no_pairs; copies = no_copies; store = on_device store };
   queue = [];
 }
 

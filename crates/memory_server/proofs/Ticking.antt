@@ -1,26 +1,21 @@
 -- A server that ticks.
-use Rattle.std.proofs.Common.{◌≡◌, Bool, List, Result, Ok, Err}
-use Rattle.std.specs.Prelude.{IfOk, OnOk}
+use Rattle.std.proofs.Common.{◌≡◌, List}
 use Rattle.kept_chains.specs.Kept.{store_of}
 use Rattle.memory_server.specs.Server.{whole_after, whole_of}
-use Rattle.petal_base.specs.declared.memory.NoMemory.{NoMemory}
 use Rattle.petal_msg.specs.declared.letter.Letter.{Letter}
-use Rattle.petal_paxos.specs.declared.record.StateRecord.{StateRecord}
 use Rattle.petal_rules.specs.Jobs.{ticks}
-use Rattle.petal_rules.specs.Store.{Store}
 use Rattle.petal_rules.specs.declared.step.Step.TheVariants.{Tick}
 use Rattle.server_core.specs.Core.{Core, acted, here_in, server_of}
 use Rattle.server_store.specs.Holdings.{Holdings}
 use Rattle.state_store.specs.Device.{Keeping}
 
--- where it was told whether its store is still to be filled, its core's tick is that of the server
-pub tick_site : {D : Type 0} (old new : Core) (store : Holdings D) (state : Keeping D) (result : Result (List Letter) NoMemory) (fresh : Bool) → store.fresh ≡ fresh
-    → IfOk result (λ letters. (stored : Store) (records : List StateRecord) → stored.fresh ≡ fresh → acted new stored records letters ≡ ticks (here_in old) (server_of old stored records))
+-- the core's tick is that of the server, whose store is as it was
+pub tick_site : {D : Type 0} (old new : Core) (before after : Holdings D) (state : Keeping D) (letters : List Letter)
+    → acted new (store_of after) state.records letters ≡ ticks (here_in old) (server_of old (store_of before) state.records)
     → new.log.voter ≡ old.log.voter
-    → OnOk result (whole_of (record { core = new; store = store; state = state }) ≡ whole_after (whole_of (record { core = old; store = store; state = state })) Tick)
-tick_site old new store state (Ok letters) fresh same is voter = λ i. record {
+    → whole_of (record { core = new; store = after; state = state }) ≡ whole_after (whole_of (record { core = old; store = before; state = state })) Tick
+tick_site old new before after state letters is voter = λ i. record {
   me = (voter i).me;
   servers = (voter i).servers;
-  server = (is (store_of store) state.records same i).server;
+  server = (is i).server;
 }
-tick_site old new store state (Err e) fresh same is voter = tt

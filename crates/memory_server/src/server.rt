@@ -1,10 +1,10 @@
 //! A server and its two stores.
 
-ghost use Rattle.std.specs.Prelude.{◌≡◌, ◌∷◌, ◌&&◌, [], true, IfOk, OnOk};
+ghost use Rattle.std.specs.Prelude.{◌≡◌, ◌∷◌, ◌&&◌, [], true, IfOk, OnOk, OnErr};
 ghost use Rattle.log_side.specs.Done as logs;
 ghost use Rattle.petal_paxos.specs.declared.record.StateRecord.TheVariants.{Inc};
 ghost use Rattle.petal_rules.specs.Server.{first_server};
-ghost use Rattle.petal_rules.specs.declared.step.Step.TheVariants.{Boot, Stop, Work};
+ghost use Rattle.petal_rules.specs.declared.step.Step.TheVariants.{Boot, Stop, Tick, Work};
 ghost use Rattle.petal_rules.specs.declared.step.WorkEnd.TheVariants.{Done};
 ghost use Rattle.world_desks.specs.Desks.{IsFault, acted_at, end_in, ended, may_take};
 ghost use Rattle.server_store.specs.Slots.{slot_start};
@@ -16,7 +16,7 @@ use petal_base::{Inc, NoMemory, Rev, Sequence, ServerId};
 use petal_disk::{Disk, MemDisk, Plan, Planned, Which};
 use petal_msg::Letter;
 use petal_rules::{Step, WorkEnd};
-use server_core::{ServerCore, WorkError};
+use server_core::{ReadError, ServerCore, WorkError};
 use server_store::{DATA_START, SLOT_BYTES, Store};
 use state_store::{DEVICE_BYTES, StateStore};
 use std::alloc::Global;
@@ -166,6 +166,32 @@ impl MemServer {
         }
     }
 
+    /// A tick, in which the data device may fail; then all is as before.
+    fn tick_once(&mut self, alloc: Global) -> Result<Taken, ReadError>
+        ensures site { OnOk result (whole_of self.new ≡ whole_after (whole_of self.old) Tick) }
+        ensures taken { IfOk result (λ taken. taken ≡ record { letters = (acted_at (whole_of self.old) Tick).letters; end = Done }) }
+        ensures err { OnErr result (whole_of self.new ≡ whole_of self.old) }
+    {
+        let letters = self.core.tick(alloc, &mut self.store)?;
+        Ok(done(letters))
+    }
+
+    /// A tick. A data device that fails in it is asked once more; where it fails again no step is taken.
+    fn tick(&mut self, alloc: Global) -> Result<Taken, NoMemory>
+        ensures site { OnOk result (whole_of self.new ≡ whole_after (whole_of self.old) Tick) }
+        ensures taken { IfOk result (λ taken. taken ≡ record { letters = (acted_at (whole_of self.old) Tick).letters; end = Done }) }
+    {
+        match self.tick_once(alloc) {
+            Ok(taken) => return Ok(taken),
+            Err(ReadError::NoMemory) => return Err(NoMemory),
+            Err(ReadError::Failed) => {}
+        }
+        match self.tick_once(alloc) {
+            Ok(taken) => Ok(taken),
+            Err(_) => Err(NoMemory),
+        }
+    }
+
     /// It boots, where it is stopped and its incarnation can be raised: both stores are opened again, and it runs as its next
     /// incarnation. Where the journal of the state device has no room it stays stopped, and so does one of which the state device
     /// fails: then the devices tell whether the incarnation was raised.
@@ -196,7 +222,7 @@ impl MemServer {
                 self.core.deliver(letter.share()?)?;
                 Ok(done(Sequence::new(alloc)))
             }
-            Step::Tick => Ok(done(self.core.tick(alloc, self.store.fresh())?)),
+            Step::Tick => self.tick(alloc),
             Step::Work(_) => self.work(alloc),
             Step::Stop => Ok(done(self.stop(alloc)?)),
             Step::Boot(_) => self.boot(alloc),

@@ -1,8 +1,8 @@
 -- What an entry drops of a side's tables, and the tickets that are given back.
-use Rattle.std.proofs.Common.{◌≡◌, ◌≢◌, ◌⊎◌, inl, inr, ℕ, ◌+◌, ◌-◌, ◌≤◌, ◌<◌, Bool, true, false, not, cond, T, ◌&&◌, List, [], ◌∷◌, length, map, filter, find, Contains, IsSome, Option, Some, None, is_some, refl, sym, subst, ap, ◌∙◌, arith}
-use Rattle.std.specs.declared.cmp.Ordering.TheVariants.{Less, Equal}
+use Rattle.std.proofs.Common.{◌≡◌, ℕ, ◌+◌, ◌-◌, ◌≤◌, ◌<◌, Bool, true, false, not, cond, T, ◌&&◌, List, [], ◌∷◌, length, map, filter, find, IsSome, Option, Some, None, is_some, refl, sym, subst, ap, ◌∙◌, arith}
+use Rattle.std.specs.declared.cmp.Ordering.TheVariants.{Less}
 use Rattle.std.specs.Ordering.{is_eq}
-use Rattle.std.specs.Cmp.{IsTotalOrder, tied_itself}
+use Rattle.std.specs.Cmp.{tied_itself}
 use Rattle.std.specs.List.{AllByRecursion}
 use Rattle.std.specs.List.Sorted.{IsStrictlySortedBy}
 use Rattle.std.specs.BTreeMap.{is_at}
@@ -14,17 +14,17 @@ use Rattle.petal_command.specs.declared.command.Command.{Command}
 use Rattle.petal_table.specs.Table.{Table, at, without}
 use Rattle.petal_table.proofs.Rows.{at-where, remove_is_without}
 use Rattle.petal_msg.specs.declared.operation.LastOp.{LastOp}
-use Rattle.petal_rules.specs.Crossing.{crossed, loses_slot, touches_cell}
+use Rattle.petal_rules.specs.Crossing.{copies_crossed, loses_slot, touches_cell}
+use Rattle.petal_rules.specs.Server.{Copies}
 use Rattle.petal_rules.specs.State.{State}
 use Rattle.petal_rules.specs.Store.{cell_cmp}
-use Rattle.petal_rules.specs.Store as rules
 use Rattle.petal_rules.specs.Writes.{has_slot}
 use Rattle.petal_rules.proofs.CellTables.{cell_cmp_same, cell_cmp_total}
 use Rattle.server_store.specs.Holdings.{Holdings}
 use Rattle.server_store.specs.Tickets as store
 use Rattle.kept_chains.proofs.Puts.{tied}
 use Rattle.pair_side.specs.Crossed.{AreFreed, IsCrossed}
-use Rattle.pair_side.specs.Side.{Side, HasTickets, HasTicketsAt, needs_apart, own_of, pairs_of, times}
+use Rattle.pair_side.specs.Side.{Side, HasTicketsAt, needs_apart, pairs_of, times}
 use Rattle.pair_side.specs.Slots.{IsOutAt}
 use Rattle.kept_chains.specs.Kept.{store_of}
 use Rattle.pair_side.proofs.Tickets.{contained, counted_in, counted_own, length_less, one_at, slot_by, times_less, times_without, with_tickets}
@@ -341,9 +341,10 @@ module _ {D : Type 0} (state : State) (entry : Command) where
     store_is : store_of after ≡ record (store_of before) { tickets = length before.tickets - length (filter (loses_slot state entry) old.last) }
     store_is = ap (λ (s : Holdings D). store_of s) freed.store ∙ ap (with_tickets before) number_is
 
-    pub crossed_is : IsCrossed state entry old (record old { last = last; apart = apart }) before after
-    crossed_is = record {
-      own = λ i. record { pairs = record (pairs_of old) { last = dropped i }; store = store_is i };
+    pub crossed_is : (copies : Copies) → copies ≡ copies_crossed state entry old.copies
+        → IsCrossed state entry old (record old { last = last; apart = apart; copies = copies }) before after
+    crossed_is copies ended = record {
+      own = λ i. record { pairs = record (pairs_of old) { last = dropped i }; copies = ended i; store = store_is i };
       keeps = record { out = out_is; owned = h.owned; kept = kept_is };
       store = freed.store;
     }

@@ -1,6 +1,5 @@
 -- What a job leaves, and what every job keeps.
 use Rattle.std.specs.Prelude.{◌≡◌, ◌≤◌, ◌<◌, ℕ, ◌+◌, ◌-◌, ◌^◌, length, List, [], ◌∷◌, Option, None, Some, Result, Err, IfOk, IfErr, OnOk, OnErr}
-use Rattle.petal_base.specs.declared.cell.Cell.{Cell}
 use Rattle.petal_disk.specs.Disk.{LeavesOnly}
 use Rattle.petal_disk.specs.declared.disk.Disk.{Ghosts}
 use Rattle.petal_msg.specs.declared.letter.Letter.{Letter}
@@ -16,15 +15,18 @@ use Rattle.kept_chains.specs.Standing.{StandsAsEither}
 use Rattle.pair_side.specs.declared.error.WorkError.{WorkError}
 use Rattle.pair_side.specs.declared.error.WorkError.TheVariants.{Failed, JournalFull, NoMemory}
 use Rattle.pair_side.specs.declared.done.Done.{Done}
+use Rattle.pair_side.specs.declared.done.FollowUp.{FollowUp}
+use Rattle.pair_side.specs.declared.done.FollowUp.TheVariants as follow
 use Rattle.pair_side.specs.Side.{Side, own_of, HasTicketsAt}
 
 -- letters and nothing else
 abbrev pub only : List Letter → Done
 only letters = record { letters = letters; follow = None }
 
-abbrev pub follow_up : Option Cell → List Job
+abbrev pub follow_up : Option FollowUp → List Job
 follow_up None = []
-follow_up (Some cell) = job.Stage cell ∷ []
+follow_up (Some (follow.Stage cell)) = job.Stage cell ∷ []
+follow_up (Some (follow.Mend link)) = job.Mend link ∷ []
 
 -- what a job left of the server's own part, its letters and the jobs that follow it up are what the rule says
 pub record IsBy (here : Here) (left : Own) (done : Done) (rule : Rule) : Type 0 where

@@ -1,3 +1,4 @@
+pub mod Copies
 pub mod Side
 pub mod Done
 pub mod Refusals

@@ -1,8 +1,9 @@
 -- Tickets by the cells for whose puts they are.
-use Rattle.std.specs.Prelude.{◌≡◌, ℕ, ◌++◌, ◌∷◌, [], ⊤, List, Some, Contains}
+use Rattle.std.specs.Prelude.{◌≡◌, ℕ, Bool, true, false, ◌++◌, ◌∷◌, [], ⊤, List, Some, Contains}
 use Rattle.petal_base.specs.declared.cell.Cell.{Cell}
 use Rattle.petal_table.specs.Table.{Table, at, put}
-use Rattle.petal_rules.specs.Store.{cell_cmp}
+use Rattle.petal_base.specs.declared.cell.Key.{Key}
+use Rattle.petal_rules.specs.Store.{Store, Stored, cell_cmp, with_entry, with_ticket}
 use Rattle.server_store.specs.Holdings.{Holdings}
 use Rattle.pair_side.specs.declared.error.WorkError.{WorkError}
 use Rattle.pair_side.specs.declared.error.WorkError.TheVariants.{Failed, JournalFull, NoMemory}
@@ -18,6 +19,11 @@ pub record IsKept {D : Type 0} (old_table new_table : Table Cell ℕ) (old new :
 -- the ticket that stands at the cell is out at the store
 abbrev pub IsOutAt : Table Cell ℕ → Cell → List ℕ → Type 0
 IsOutAt table cell tickets = (slot : ℕ) → at cell_cmp table cell ≡ Some slot → Contains tickets slot
+
+-- an entry is put into a free slot, where there is one
+abbrev pub with_new : Store → Key → Stored → (room : Bool) → Store
+with_new store key entry true = with_entry (with_ticket store) key entry
+with_new store key entry false = store
 
 -- what stops a server
 abbrev pub IsStop : WorkError → Type 0

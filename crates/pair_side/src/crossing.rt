@@ -1,21 +1,25 @@
 //! What an entry of the log does to a server's part in its pairs.
 
-ghost use Rattle.std.specs.Prelude.{◌≡◌, ◌≤◌, ◌+◌, ℕ, not, map, filter, find, length, IfOk};
+ghost use Rattle.std.specs.Prelude.{◌≡◌, ◌≤◌, ◌+◌, ◌&&◌, ℕ, not, map, filter, find, length, IfOk, Some};
 ghost use Rattle.std.specs.List.Sorted.{IsStrictlySortedBy};
 ghost use Rattle.std.specs.Map.{keys_of, values_of};
+ghost use Rattle.petal_state.specs.Command.{after};
+ghost use Rattle.petal_state.specs.Place.{touches};
 ghost use Rattle.petal_rules.specs.Crossing as rules;
 ghost use Rattle.petal_rules.specs.Crossing.{touches_cell};
+ghost use Rattle.petal_rules.specs.State.{id_of};
 ghost use Rattle.petal_rules.specs.Store.{Store as Stored, cell_cmp};
 ghost use Rattle.petal_rules.specs.declared.job.Job.TheVariants as job;
 ghost use Rattle.pair_side.specs.Crossed.{AreFreed, IsCrossed};
 ghost use Rattle.pair_side.specs.Side.{HasTicketsAt, pairs_of, times};
 
-use crate::{Here, Side, give_back};
+use crate::{Here, Side, give_back, link_id};
+use global_state::{GlobalState, LinkRow, LinkState};
+use link_table::has_server;
 use pair_lock::PairLock;
-use petal_base::{Cell, NoMemory};
+use petal_base::{Cell, NoMemory, ServerId};
 use petal_command::Command;
 use petal_disk::Disk;
-use petal_msg::LastOp;
 use petal_rules::Job;
 use petal_table::Table;
 use server_store::{Store, Ticket};
@@ -49,21 +53,23 @@ fn frees<D: Disk>(
     }
 }
 
-fn drops_last(here: &Here, entry: &Command, last: &mut Table<Cell, LastOp>)
-    ensures rows { last.new ≡ filter (λ row. not (touches_cell here.now.state entry.now row.0)) last.old }
-    ensures sorted { IsStrictlySortedBy cell_cmp (keys_of last.old) }
+/// The rows go on the cells that the entry touches.
+pub fn drops_cells<X: Drop>(here: &Here, entry: &Command, table: &mut Table<Cell, X>)
+    ensures rows { table.new ≡ filter (λ row. not (touches_cell here.now.state entry.now row.0)) table.old }
+    ensures sorted { IsStrictlySortedBy cell_cmp (keys_of table.old) }
 {
-    last.retain(|cell, _| !here.touches(entry, *cell));
+    table.retain(|cell, _| !here.touches(entry, *cell));
 }
 
-/// What others asked of this server on the links that the entry touches is dropped, and the slots set apart for them are free.
-/// The state is that before the entry. It takes no memory.
+/// What others asked of this server on the links that the entry touches is dropped with all that is remembered of copies there,
+/// and the slots set apart for others are free. The state is that before the entry. It takes no memory.
 pub fn crosses<D: Disk>(here: &Here, entry: &Command, side: &mut Side, store: &mut Store<D>)
     requires { HasTicketsAt side.old store.old }
     ensures { IsCrossed here.now.state entry.now side.old side.new store.old store.new }
 {
     frees(here, entry, &mut side.apart, store);
-    drops_last(here, entry, &mut side.last);
+    drops_cells(here, entry, &mut side.last);
+    side.copies.crosses(here, entry);
 }
 
 fn stages(
@@ -82,13 +88,50 @@ fn stages(
         .collect(alloc)
 }
 
-/// The jobs by which this server's own operations go on, on the links that the entry touches.
+/// Whether the server has something to mend of the link, as this state has it.
+fn is_mended(state: &GlobalState, me: ServerId, row: &LinkRow) -> bool
+    ensures { result ≡ rules.is_mended state.now me row.now row.now.state }
+{
+    match row.state {
+        LinkState::Both => has_server(me, row),
+        LinkState::Only { .. } => state.other_in(me, row).is_some(),
+        LinkState::Lost => false,
+    }
+}
+
+fn mends(
+    alloc: Global,
+    here: &Here,
+    entry: &Command,
+    next: &GlobalState,
+) -> Result<Vec<Job>, AllocError>
+    ensures { IfOk result (λ jobs. jobs.items ≡ map (λ row. job.Mend (id_of row))
+        (filter (λ row. touches here.now.state entry.now row && rules.is_mended next.now here.now.me row row.state) next.now.links)) }
+{
+    next.links()
+        .iter()
+        .filter(|row| { here.state().touches(entry, row) && is_mended(next, here.me(), row) })
+        .map(|row| Job::Mend(link_id(row)))
+        .collect(alloc)
+}
+
+/// The jobs that follow an entry, which makes this next state: by them this server's own operations go on, on the links that the
+/// entry touches, and it mends these links.
 ///
 /// # Errors
 /// Out of memory.
-pub fn stage_jobs(here: &Here, entry: &Command, side: &Side) -> Result<Vec<Job>, NoMemory>
-    ensures { (store : Stored) → IfOk result (λ jobs. jobs.items
-        ≡ rules.stage_jobs here.now.state entry.now (record { pairs = pairs_of side.now; store = store })) }
+pub fn entry_jobs(
+    here: &Here,
+    entry: &Command,
+    side: &Side,
+    next: &GlobalState,
+) -> Result<Vec<Job>, NoMemory>
+    requires { next.now ≡ after here.now.state entry.now }
+    ensures { (store : Stored) → IfOk result (λ jobs. jobs.items ≡ rules.jobs_by here.now.state here.now.me (Some entry.now)
+        (record { pairs = pairs_of side.now; copies = side.now.copies; store = store })) }
 {
-    Ok(stages(here.alloc(), here, entry, &side.locks)?)
+    let mut jobs = stages(here.alloc(), here, entry, &side.locks)?;
+    let mut links = mends(here.alloc(), here, entry, next)?;
+    jobs.append(&mut links)?;
+    Ok(jobs)
 }

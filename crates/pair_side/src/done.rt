@@ -4,15 +4,24 @@ ghost use Rattle.std.specs.Prelude.{◌≡◌};
 ghost use Rattle.pair_side.specs.Done.{only};
 
 use petal_base::{Cell, Sequence};
-use petal_msg::Letter;
+use petal_msg::{Letter, LinkId};
+
+/// The job that follows a job up.
+#[derive(Clone, Copy, Debug, PartialEq, Eq)]
+pub enum FollowUp {
+    /// What is under way on the cell does its next stage.
+    Stage(Cell),
+    /// The link is mended further.
+    Mend(LinkId),
+}
 
 /// What a job leaves to its caller, beside what it changed.
 #[derive(Drop)]
 pub struct Done {
     /// The letters that it sends, with the stamp 0.
     pub letters: Sequence<Letter>,
-    /// The cell whose operation does its next stage as a job of its own.
-    pub follow: Option<Cell>,
+    /// The job that follows it up.
+    pub follow: Option<FollowUp>,
 }
 
 /// Letters and nothing else.

@@ -1,12 +1,12 @@
 //! Where a job is done, and the letters that are sent from there.
 
 ghost use Rattle.std.specs.Prelude.{◌≡◌, [], ◌∷◌, IfOk};
-ghost use Rattle.petal_rules.specs.Crossing.{touches_cell};
+ghost use Rattle.petal_rules.specs.Crossing.{touches_cell, touches_link};
 ghost use Rattle.petal_rules.specs.Server.{letters_of, post_to, sender};
 ghost use Rattle.petal_rules.specs.State as rules;
 
 use global_state::{GlobalState, Hold};
-use petal_base::{Cell, Inc, NoMemory, Rev, Sequence, ServerId};
+use petal_base::{Cell, Inc, MapId, NoMemory, Rev, Sequence, ServerId};
 use petal_command::Command;
 use petal_msg::{Actor, Body, Letter};
 use std::alloc::Global;
@@ -136,6 +136,13 @@ impl<'a> Here<'a> {
         ensures { result ≡ touches_cell self.now.state entry.now cell }
     {
         self.state.touches_cell(entry, cell)
+    }
+
+    /// Whether the entry would change the link, or make one of its two servers In or Out.
+    pub fn touches_link(&self, entry: &Command, map: MapId, link: u8) -> bool
+        ensures { result ≡ touches_link self.now.state entry.now (record { map = map; link = link }) }
+    {
+        self.state.touches_link(entry, map, link)
     }
 
     /// A letter from there: the one of this number of its step.

@@ -4,18 +4,22 @@
 //! what a job has to keep (`IsDone`). It knows nothing of the stages of an operation, of queues, or of how letters travel.
 #![tactic(auto)]
 
+mod copies;
 mod crossing;
 mod done;
 mod error;
 mod here;
+mod links;
 mod replies;
 mod side;
 mod slots;
 
-pub use crossing::{crosses, stage_jobs};
-pub use done::{Done, only};
+pub use copies::Copies;
+pub use crossing::{crosses, entry_jobs};
+pub use done::{Done, FollowUp, only};
 pub use error::WorkError;
 pub use here::Here;
+pub use links::link_id;
 pub use replies::{ended, finishes, says, says_to, silent};
 pub use side::Side;
-pub use slots::{give_back, keep, spend};
+pub use slots::{give_back, keep, put_new, spend};

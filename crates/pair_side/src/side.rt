@@ -1,6 +1,6 @@
 //! What a server has in memory of its pairs.
 
-ghost use Rattle.std.specs.Prelude.{◌≡◌, IfOk, IfSome, is_some};
+ghost use Rattle.std.specs.Prelude.{◌≡◌, ◌||◌, IfOk, IfSome, is_some};
 ghost use Rattle.std.specs.List.Sorted.{IsStrictlySortedBy};
 ghost use Rattle.std.specs.Map.{keys_of};
 ghost use Rattle.std.specs.Ordering.{nat_cmp};
@@ -8,6 +8,7 @@ ghost use Rattle.petal_table.specs.Table.{at};
 ghost use Rattle.petal_rules.specs.Store.{cell_cmp};
 ghost use Rattle.pair_side.specs.Side.{new_side};
 
+use crate::Copies;
 use pair_lock::PairLock;
 use petal_base::{Cell, ClientId, NoMemory, Op};
 use petal_msg::{Finished, LastOp, Pending};
@@ -17,14 +18,15 @@ use std::alloc::Global;
 use std::marker::Model;
 
 /// One server's side of its pairs, for its life: the number of its next operation, what is pending, what it finished for each
-/// client, the last operation that it followed on each cell, and the tickets for the slots set apart, for operations of its
-/// own and for the leads of cells.
+/// client, the last operation that it followed on each cell, what it remembers of copies, and the tickets for the slots set
+/// apart, for operations of its own and for the leads of cells.
 #[derive(Drop)]
 pub struct Side {
     pub next: Op,
     pub locks: PairLock,
     pub finished: Table<ClientId, Finished>,
     pub last: Table<Cell, LastOp>,
+    pub copies: Copies,
     pub own: Table<Cell, Ticket>,
     pub apart: Table<Cell, Ticket>,
 }
@@ -34,7 +36,7 @@ impl Model for Side {
 
     ghost Value = { sides.Side };
 
-    ghost view = { λ s. record { next = s.next; pending = s.locks; finished = s.finished; last = s.last; own = s.own; apart = s.apart } };
+    ghost view = { λ s. record { next = s.next; pending = s.locks; finished = s.finished; last = s.last; copies = s.copies; own = s.own; apart = s.apart } };
 }
 
 impl Side {
@@ -47,6 +49,7 @@ impl Side {
             locks: PairLock::new(alloc),
             finished: Table::new(alloc),
             last: Table::new(alloc),
+            copies: Copies::new(alloc),
             own: Table::new(alloc),
             apart: Table::new(alloc),
         }
@@ -66,11 +69,11 @@ impl Side {
         self.last.get(&cell).copied()
     }
 
-    /// Whether an operation is pending on the cell.
-    pub fn is_busy(&self, cell: Cell) -> bool
-        ensures { result ≡ is_some (at cell_cmp self.now.pending cell) }
+    /// Whether an operation or a copy is under way on the cell.
+    pub fn is_under_way(&self, cell: Cell) -> bool
+        ensures { result ≡ (is_some (at cell_cmp self.now.pending cell) || is_some (at cell_cmp self.now.copies.pending cell)) }
     {
-        self.locks.is_busy(cell)
+        self.locks.is_busy(cell) || self.copies.copying_on(cell).is_some()
     }
 
     /// The operation that is pending on the cell, with an owner more of its block.

@@ -8,10 +8,11 @@ ghost use Rattle.petal_table.specs.Table.{at, put, without};
 ghost use Rattle.petal_rules.specs.Store.{cell_cmp, free_of, with_entry};
 ghost use Rattle.server_store.specs.Tickets as lists;
 ghost use Rattle.kept_chains.specs.Kept.{store_of};
+ghost use Rattle.kept_chains.specs.Marking.{IsChange};
 ghost use Rattle.kept_chains.specs.Standing.{StandsAsEither};
 ghost use Rattle.pair_side.specs.declared.error.WorkError.TheVariants as error;
 ghost use Rattle.pair_side.specs.Done.{HasFault, HoldsAt};
-ghost use Rattle.pair_side.specs.Slots.{IsKept, IsStop, IsOutAt};
+ghost use Rattle.pair_side.specs.Slots.{IsKept, IsStop, IsOutAt, with_new};
 
 use crate::WorkError;
 use kept_chains::set_apart;
@@ -91,5 +92,30 @@ pub fn give_back<D: Disk>(table: &mut Table<Cell, Ticket>, store: &mut Store<D>,
 {
     if let Some(ticket) = table.remove(&cell) {
         store.give_back(ticket);
+    }
+}
+
+/// Puts a block in a free slot; false where none is free, and then nothing changed.
+///
+/// # Errors
+/// Out of memory, before any call of the device; `JournalFull` only where the journal has all its records; `Failed`, where the
+/// device failed. The entries stay as they were.
+pub fn put_new<D: Disk>(
+    store: &mut Store<D>,
+    key: Key,
+    version: Version,
+    block: &SharedBlock,
+) -> Result<bool, StoreError>
+    ensures room { IfOk result (λ put. put ≡ nat_lt 0 (free_of (store_of store.old))) }
+    ensures none { IfOk result (λ put. put ≡ false → store.new ≡ store.old) }
+    ensures change { IsChange D.Disk store.old store.new result
+        (with_new (store_of store.old) key (record { version = version; bytes = block.now }) (nat_lt 0 (free_of (store_of store.old)))) }
+{
+    match set_apart(store)? {
+        None => Ok(false),
+        Some(ticket) => match store.put(ticket, key, version, block.block()) {
+            Ok(()) => Ok(true),
+            Err(error) => Err(error),
+        },
     }
 }

@@ -19,6 +19,7 @@ use Rattle.petal_msg.specs.declared.operation.Pending.{Pending}
 use Rattle.script_lines.specs.declared.script.Script.{Script}
 use Rattle.petal_rules.specs.Clients.{Asked}
 use Rattle.petal_rules.specs.Lists.{In}
+use Rattle.petal_rules.specs.Progress.{has_proposed}
 use Rattle.petal_state.specs.declared.answer.Hold.TheVariants.{No}
 use Rattle.petal_rules.specs.State.{State, first, second, primary, secondary, in_both, is_in, is_lead, leads_link, held}
 use Rattle.petal_rules.specs.Store.{Chain, Store, cell_cmp, chain_in, version_of, is_marked}
@@ -83,14 +84,16 @@ pub record HasFinished (finished : Option Finished) (seq : ℕ) : Type 0 where
   pub past : seq ≤ last.seq
 
 -- a server that is at work by its own state, at the revision of a Write letter, has its request as finished, or by its own state
--- is not the cell's lead, or holds it
+-- is not the cell's lead, or would answer that it is held: a fence covers the cell, or the server has started a ballot for the Caught of
+-- the cell's link
 abbrev pub IsLateAt : Setting → World → Letter → (client seq : ℕ) → Cell → ℕ → Type 0
 IsLateAt setting w letter client seq cell n =
     is_at_work (server_state setting w n) w n ≡ true → rev_of (w.servers n).log ≡ letter.rev
     → HasFinished (at nat_cmp (w.servers n).own.pairs.finished client) seq
     ⊎ (is_lead (server_state setting w n) n cell ≡ false) ⊎ (held (server_state setting w n) cell ≢ No)
+    ⊎ (has_proposed (server_state setting w n) (w.servers n).own cell ≡ true)
 
--- a request that its client has answered is pending at no running server, and its Write letters come too late everywhere
+-- a request that its client has answered is pending at no running server, and its Write letters come too late, or are held, everywhere
 pub record Requests (setting : Setting) (w : World) : Type 0 where
   pub pending : (n : ℕ) (cell : Cell) (op : Pending) → (w.servers n).life.running ≡ true → at cell_cmp (w.servers n).own.pairs.pending cell ≡ Some op → IsOver w op.client op.seq → ⊥
   pub late : (letter : Letter) (client seq epoch : ℕ) (cell : Cell) (bytes : List ℕ) → In letter w.sent → letter.body ≡ body.Write client seq cell epoch bytes → IsOver w client seq

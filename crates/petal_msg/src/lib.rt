@@ -6,11 +6,13 @@
 #![tactic(auto)]
 
 mod body;
+mod copying;
 mod letter;
 mod operation;
 mod owner;
 
 pub use body::Body;
+pub use copying::{CopyAction, Copying, LastCopy, LinkId, NextCopy, Progress};
 pub use letter::{Actor, Letter};
 pub use operation::{Action, Ending, Far, Finished, LastOp, OpKind, Pending, Reply, Stage};
 pub use owner::{Shared, SharedLetter};

@@ -120,15 +120,62 @@ fn servers_that_stop(rt: HostRuntime) -> Result<(), Fail> {
 #[test]
 fn servers_that_start_again(rt: HostRuntime) -> Result<(), Fail> {
     let row = Row {
-        shows: "what a server has missed stays with its neighbour, and what one held alone is served once it starts again",
+        shows: "a server that starts again is brought up to date, and serves what it has missed once its neighbour stops",
         lines: "op stop 0\nwait\na write vol 0 fill 7\nwait\nop start 0\nwait\nop stop 1\nwait\na read vol 0\nb read vol 1\nwait
 op start 1\nop start 1\nwait\nc read vol 0\n",
         written: &[
-            "2: ok\n4: ok\n6: ok\n8: ok\n10: ok\n12: unavailable\n13: data 65536x0\n15: ok\n16: ok\n18: data 65536x7\n",
+            "2: ok\n4: ok\n6: ok\n8: ok\n10: ok\n12: data 65536x7\n13: data 65536x0\n15: ok\n16: ok\n18: data 65536x7\n",
         ],
         ..ON_DISK
     };
     assert!(rt; is_so(&rt, rt.alloc(), &row)?, "{}", row.shows);
+    Ok(())
+}
+
+#[test]
+fn servers_that_are_settled(rt: HostRuntime) -> Result<(), Fail> {
+    let rows: [Row; 5] = [
+        Row {
+            shows: "servers that run are settled",
+            start: "servers 3 slots 4\n",
+            lines: "op settle\n",
+            written: &["2: ok\n"],
+            ..RUN
+        },
+        Row {
+            shows: "a server that starts again is brought up to date, and its neighbour may stop",
+            lines: "a write vol 1 fill 1\nwait\nop stop 2\nwait\na write vol 1 fill 2\nwait\nop start 2\nop settle\nop stop 1\nwait\na read vol 1\n",
+            written: &["2: ok\n4: ok\n6: ok\n8: ok\n10: ok\n11: ok\n12: ok\n14: data 65536x2\n"],
+            ..ON_DISK
+        },
+        Row {
+            shows: "the same, where letters are lost and come twice",
+            start: "servers 5 slots 16\nnet lose 3\nnet twice 2\na disk vol on 0 1 2 3 4\nwait\n",
+            lines: "a write vol 1 fill 1\nwait\nop stop 2\nwait\na write vol 1 fill 2\nwait\nop start 2\nop settle\nop stop 1\nwait\na read vol 1\n",
+            letters: Letters::LostAndTwice,
+            written: &["4: ok\n6: ok\n8: ok\n10: ok\n12: ok\n13: ok\n14: ok\n16: data 65536x2\n"],
+            ..RUN
+        },
+        Row {
+            shows: "servers are settled where one has stopped that alone holds a block, and the block comes back with it",
+            lines: "op stop 1\nwait\na write vol 1 fill 4\nwait\nop stop 2\nop start 1\nop settle\nwait\na read vol 1\nwait\nop start 2\nop settle\nwait
+a read vol 1\n",
+            written: &[
+                "2: ok\n4: ok\n6: ok\n8: ok\n9: ok\n10: ok\n12: unavailable\n14: ok\n15: ok\n17: data 65536x4\n",
+            ],
+            ..ON_DISK
+        },
+        Row {
+            shows: "two blocks were written while a server of one slot was stopped: there is no space for both of them",
+            start: "servers 3 slots 1\na disk vol on 0 1 2\nwait\n",
+            lines: "op stop 1\nwait\na write vol 0 fill 1\nb write vol 1 fill 2\nwait\nop start 1\nop settle\n",
+            written: &["2: ok\n4: ok\n6: ok\n7: ok\n9: ok\n10: nospace\n"],
+            ..RUN
+        },
+    ];
+    for row in &rows {
+        assert!(rt; is_so(&rt, rt.alloc(), row)?, "{}", row.shows);
+    }
     Ok(())
 }
 

@@ -6,7 +6,7 @@ use Rattle.petal_paxos.specs.declared.record.StateRecord.TheVariants.{Inc}
 use Rattle.petal_rules.specs.Entries.{known_run}
 use Rattle.petal_rules.specs.Jobs.{Acted, down_posts, is_overfull}
 use Rattle.petal_rules.specs.Log.{Log, first_log, commits, rev_of}
-use Rattle.petal_rules.specs.Server.{Server, Here, no_pairs, letters_of}
+use Rattle.petal_rules.specs.Server.{Server, Here, no_copies, no_pairs, letters_of}
 use Rattle.petal_rules.specs.State.{servers_of}
 use Rattle.petal_rules.specs.declared.step.CommitEnd.TheVariants.{Before, After}
 use Rattle.petal_rules.specs.declared.step.WorkEnd.{WorkEnd}
@@ -31,7 +31,7 @@ abbrev pub awake : Server → Server
 awake server = record {
   life = record server.life { running = true };
   log = read_log server.log;
-  own = record { pairs = no_pairs; store = record server.own.store { tickets = 0 } };
+  own = record { pairs = no_pairs; copies = no_copies; store = record server.own.store { tickets = 0 } };
   queue = [];
 }
 

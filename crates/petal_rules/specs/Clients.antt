@@ -1,7 +1,9 @@
 -- What a client does: at a call, with a letter that comes, and at a tick.
-use Rattle.std.specs.Prelude.{ℕ, ◌+◌, ◌-◌, ◌%◌, ◌==◌, ◌&&◌, Bool, true, false, nat_le, List, [], ◌∷◌, ◌++◌, length, filter, fold, drop, slice_get, if◌then◌else◌, Option, Some, None, is_some}
+use Rattle.std.specs.Prelude.{ℕ, ◌+◌, ◌-◌, ◌%◌, ◌==◌, ◌&&◌, not, Bool, true, false, nat_le, List, [], ◌∷◌, ◌++◌, length, map, filter, fold, drop, slice_get, if◌then◌else◌, Option, Some, None, is_some}
 use Rattle.std.specs.List.{range_with_len}
 use Rattle.std.specs.Option.{option_map_or}
+use Rattle.std.specs.Ordering.{nat_cmp}
+use Rattle.petal_table.specs.Table.{Table, put}
 use Rattle.petal_base.specs.declared.cell.Cell.{Cell}
 use Rattle.petal_command.specs.declared.command.Command.{Command}
 use Rattle.petal_command.specs.declared.command.Command.TheVariants.{MakeDisk, Witness}
@@ -11,6 +13,7 @@ use Rattle.global_tables.specs.declared.disk.Verdict.TheVariants as verdict
 use Rattle.petal_msg.specs.Kinds.{About, about}
 use Rattle.petal_msg.specs.declared.body.Body.{Body}
 use Rattle.petal_msg.specs.declared.body.Body.TheVariants as body
+use Rattle.petal_msg.specs.declared.letter.Actor.{Actor}
 use Rattle.petal_msg.specs.declared.letter.Actor.TheVariants as actor
 use Rattle.petal_msg.specs.declared.letter.Letter.{Letter}
 use Rattle.script_lines.specs.Pattern.{pattern_block}
@@ -19,6 +22,7 @@ use Rattle.script_lines.specs.declared.answer.Answer.{Answer}
 use Rattle.script_lines.specs.declared.answer.Answer.TheVariants as answer
 use Rattle.script_lines.specs.declared.request.Request.{Request}
 use Rattle.script_lines.specs.declared.request.Request.TheVariants as request
+use Rattle.petal_state.specs.Settled.{is_settled}
 use Rattle.petal_state.specs.State.{latest}
 use Rattle.petal_state.specs.Command.{after}
 use Rattle.petal_state.specs.declared.answer.DiskView.{DiskView}
@@ -26,7 +30,8 @@ use Rattle.petal_rules.specs.State.{State, servers_of, find, snapshot, lead, rea
 use Rattle.petal_rules.specs.Server.{Post, Sender, post_to}
 
 -- a request that is open: its line, its number, how often it was sent, the revision of the latest send, and how many
--- Witnesses of it were applied
+-- Witnesses of it were applied. Of a settle too, in which round of glances it is, counted from 1, and which servers this round
+-- showed so far, each with the incarnation as which it runs
 pub record Asked : Type 0 where
   pub line : ℕ
   pub seq : ℕ
@@ -34,6 +39,8 @@ pub record Asked : Type 0 where
   pub turn : ℕ
   pub rev : ℕ
   pub witnesses : ℕ
+  pub round : ℕ
+  pub seen : Table ℕ (Option ℕ)
 
 -- a client: the entries of the log that it has applied, the number of its last request, which server it asks or proposes to
 -- next, and the request that is open
@@ -185,11 +192,26 @@ asks_and_sends state me client asked = asking state client (goes_out state me cl
 
 -- ### A call
 
+-- only a settle has rounds
+abbrev pub first_round : Request → ℕ
+first_round request.Settle = 1
+first_round _ = 0
+
 -- the request is open under the client's next number, and goes out
 abbrev pub called : State → ℕ → Client → ℕ → Request → Reaction
 called state me client line asked =
     let seq = client.seq + 1 in
-    goes_out state me (record client { seq = seq }) (record { line = line; seq = seq; request = asked; turn = 0; rev = state.rev; witnesses = 0 })
+    let opened : Asked = record {
+      line = line;
+      seq = seq;
+      request = asked;
+      turn = 0;
+      rev = state.rev;
+      witnesses = 0;
+      round = first_round asked;
+      seen = [];
+    } in
+    goes_out state me (record client { seq = seq }) opened
 
 -- ### A reply
 
@@ -209,22 +231,11 @@ replies asked rev what = option_map_or (counts_as asked rev what.any_rev) what.s
 abbrev pub answers : Client → Asked → Answer → Reaction
 answers client asked given = record { client = record client { asked = None }; posts = []; answer = Some (asked.line, given) }
 
-abbrev pub answers_where : Client → Asked → Option Answer → Reaction
-answers_where client asked None = rests client
-answers_where client asked (Some given) = answers client asked given
-
--- what the operator's line is answered, once its server was glanced at: a start has failed where the server doesn't run
-abbrev pub seen_answer : Request → (running : Bool) → Option Answer
-seen_answer (request.Stop server) running = Some answer.Ok
-seen_answer (request.Start server) running = Some (if running then answer.Ok else answer.Failed)
-seen_answer _ running = None
-
 -- Data answers only a read, Written and Full only a write. What was refused for a while, or at another revision, is sent
 -- again, and the client asks what follows
 abbrev pub hears : State → ℕ → Client → Asked → ℕ → Body → Reaction
 hears state me client asked rev (body.Down server inc) = rests client
-hears state me client asked rev (body.Seen line round running inc full) =
-    if line == asked.line then answers_where client asked (seen_answer asked.request running) else rests client
+hears state me client asked rev (body.Seen line round running inc full) = rests client
 hears state me client asked rev (body.Propose command) = rests client
 hears state me client asked rev (body.Pax said) = rests client
 hears state me client asked rev (body.Ask asked_rev) = rests client
@@ -263,6 +274,54 @@ hears state me client asked rev (body.FillFull key) = rests client
 abbrev pub hears_of : State → ℕ → Client → Option Asked → Letter → Reaction
 hears_of state me client None letter = rests client
 hears_of state me client (Some asked) letter = hears state me client asked letter.rev letter.body
+
+-- ### Glances
+
+-- what a glance showed of a server, and for which line and round
+pub record Sight : Type 0 where
+  pub server : ℕ
+  pub line : ℕ
+  pub round : ℕ
+  pub running : Bool
+  pub inc : ℕ
+  pub full : Bool
+
+-- the round so far, with this server
+abbrev pub with_sight : Asked → Sight → Asked
+with_sight asked sight = record asked { seen = put nat_cmp asked.seen sight.server (if sight.running then Some sight.inc else None) }
+
+abbrev pub stays_open : Client → Asked → Reaction
+stays_open client asked = rests (record client { asked = Some asked })
+
+-- a round that has shown each server ends the settle where all is settled by the operator's state, or another round begins
+abbrev pub rounds : State → Client → Asked → Reaction
+rounds state client asked =
+    if not (length asked.seen == servers_of state) then stays_open client asked
+    else if is_settled state (map (λ row. row.1) asked.seen) then answers client asked answer.Ok
+    else stays_open client (record asked { round = asked.round + 1; seen = [] })
+
+-- a settle has no space where a server's last copy found no slot
+abbrev pub settles : State → Client → Asked → Sight → Reaction
+settles state client asked sight =
+    if sight.full then answers client asked answer.NoSpace
+    else if sight.round == asked.round then rounds state client (with_sight asked sight)
+    else rests client
+
+-- a stop is done; a start has failed where the server doesn't run
+abbrev pub sees_for : State → Client → Asked → Sight → Request → Reaction
+sees_for state client asked sight (request.Stop server) = answers client asked answer.Ok
+sees_for state client asked sight (request.Start server) = answers client asked (if sight.running then answer.Ok else answer.Failed)
+sees_for state client asked sight request.Settle = settles state client asked sight
+sees_for state client asked sight _ = rests client
+
+abbrev pub sees : State → Client → Option Asked → Sight → Reaction
+sees state client None sight = rests client
+sees state client (Some asked) sight = if sight.line == asked.line then sees_for state client asked sight asked.request else rests client
+
+-- only servers show themselves
+abbrev pub sees_from : State → Client → Actor → Sight → Reaction
+sees_from state client (actor.Server n) sight = sees state client client.asked (record sight { server = n })
+sees_from state client (actor.Client c) sight = rests client
 
 -- ### News
 
@@ -335,6 +394,8 @@ takes_entries state me client (entry ∷ entries) =
 -- ### A letter and a tick
 
 abbrev pub hears_any : State → ℕ → Client → Letter → Body → Reaction
+hears_any state me client letter (body.Seen line round running inc full) =
+    sees_from state client letter.from (record { server = 0; line = line; round = round; running = running; inc = inc; full = full })
 hears_any state me client letter (body.News from commands) = takes_entries state me client (next_entries client from commands)
 hears_any state me client letter _ = hears_of state me client client.asked letter
 

@@ -1,14 +1,22 @@
 -- What an entry of the log does to a server's own part in the pairs. At an entry that changes a link, or makes one of its two
--- servers In or Out, all that the server keeps of what others asked of it on that link is dropped. Its own pending operations
--- stay, with their slots, and go on by the link as it now is.
-use Rattle.std.specs.Prelude.{ℕ, ◌-◌, ◌&&◌, not, Bool, List, [], map, filter, length, Option, Some, None}
+-- servers In or Out, all is dropped that the server keeps of the link but its own pending operations: what others asked of it,
+-- how far the pages and copies are, and the copies under way. Its own operations stay, with their slots, and go on by the link
+-- as it now is.
+use Rattle.std.specs.Prelude.{ℕ, ◌-◌, ◌&&◌, not, Bool, false, List, [], ◌++◌, map, filter, length, Option, Some, None, is_some}
+use Rattle.std.specs.Option.{option_map_or}
+use Rattle.global_tables.specs.Link.{has_server}
+use Rattle.global_tables.specs.declared.link.LinkRow.{LinkRow}
+use Rattle.global_tables.specs.declared.link.LinkState.{LinkState}
+use Rattle.global_tables.specs.declared.link.LinkState.TheVariants.{Both, Only, Lost}
 use Rattle.petal_base.specs.declared.cell.Cell.{Cell}
 use Rattle.petal_command.specs.declared.command.Command.{Command}
+use Rattle.petal_msg.specs.declared.copying.LinkId.{LinkId}
 use Rattle.petal_msg.specs.declared.operation.LastOp.{LastOp}
-use Rattle.petal_msg.specs.declared.operation.Pending.{Pending}
+use Rattle.petal_state.specs.Command.{after}
+use Rattle.petal_state.specs.Place.{touches}
 pub use Rattle.petal_state.specs.Place.{touches_cell}
-use Rattle.petal_rules.specs.State.{State}
-use Rattle.petal_rules.specs.Server.{Own}
+use Rattle.petal_rules.specs.State.{State, id_of, link_named, other_in}
+use Rattle.petal_rules.specs.Server.{Own, Copies}
 use Rattle.petal_rules.specs.Writes.{has_slot}
 use Rattle.petal_rules.specs.declared.job.Job.{Job}
 use Rattle.petal_rules.specs.declared.job.Job.TheVariants as job
@@ -17,10 +25,23 @@ use Rattle.petal_rules.specs.declared.job.Job.TheVariants as job
 abbrev pub loses_slot : State → Command → Cell × LastOp → Bool
 loses_slot state entry row = touches_cell state entry row.0 && has_slot row.1.far
 
+-- the entry touches the link of this name
+abbrev pub touches_link : State → Command → LinkId → Bool
+touches_link state entry id = option_map_or (touches state entry) (link_named state id) false
+
+-- nothing is left of the copies on the links that the entry touches
+abbrev pub copies_crossed : State → Command → Copies → Copies
+copies_crossed state entry copies = record copies {
+  progress = filter (λ row. not (touches_link state entry row.0)) copies.progress;
+  pending = filter (λ row. not (touches_cell state entry row.0)) copies.pending;
+  last = filter (λ row. not (touches_cell state entry row.0)) copies.last;
+}
+
 -- what others asked of it on the links that the entry touches is dropped, and the slots set apart for them are free
 abbrev pub crossed : State → Command → Own → Own
 crossed state entry own = record {
   pairs = record own.pairs { last = filter (λ row. not (touches_cell state entry row.0)) own.pairs.last };
+  copies = copies_crossed state entry own.copies;
   store = record own.store { tickets = own.store.tickets - length (filter (loses_slot state entry) own.pairs.last) };
 }
 
@@ -28,10 +49,23 @@ crossed state entry own = record {
 abbrev pub stage_jobs : State → Command → Own → List Job
 stage_jobs state entry own = map (λ row. job.Stage row.0) (filter (λ row. touches_cell state entry row.0) own.pairs.pending)
 
+-- the server has something to mend of a link: pages and copies where it holds the link alone and the other server is In, and
+-- old marks in Both
+abbrev pub is_mended : State → ℕ → LinkRow → LinkState → Bool
+is_mended state me row Both = has_server me row
+is_mended state me row (Only holder whole) = is_some (other_in state me row)
+is_mended state me row Lost = false
+
+-- the links that the entry touches, and that are so after it
+abbrev pub link_jobs : State → Command → ℕ → List Job
+link_jobs state entry me =
+    map (λ row. job.Mend (id_of row)) (filter (λ row. touches state entry row && is_mended (after state entry) me row row.state) (after state entry).links)
+
 abbrev pub crossed_by : State → Option Command → Own → Own
 crossed_by state None own = own
 crossed_by state (Some entry) own = crossed state entry own
 
-abbrev pub stage_jobs_by : State → Option Command → Own → List Job
-stage_jobs_by state None own = []
-stage_jobs_by state (Some entry) own = stage_jobs state entry own
+-- the jobs that follow an entry
+abbrev pub jobs_by : State → ℕ → Option Command → Own → List Job
+jobs_by state me None own = []
+jobs_by state me (Some entry) own = stage_jobs state entry own ++ link_jobs state entry me

@@ -1,9 +1,10 @@
 -- What a server does: with the first job of its queue, with a letter that is delivered, and at a tick.
-use Rattle.std.specs.Prelude.{ℕ, ◌==◌, ◌||◌, not, nat_lt, length, map, filter, Bool, true, false, List, [], ◌∷◌, ◌++◌, if◌then◌else◌, Option, Some, None}
+use Rattle.std.specs.Prelude.{ℕ, ◌==◌, ◌||◌, not, nat_lt, length, map, filter, Bool, true, false, List, [], ◌∷◌, ◌++◌, if◌then◌else◌, Option, Some, None, is_some}
 use Rattle.std.specs.List.{flat_map, range_with_len}
 pub use Rattle.petal_msg.specs.Kinds.{asked_by}
 use Rattle.petal_msg.specs.Kinds.{is_logged, subject_of}
 use Rattle.petal_command.specs.declared.command.Command.{Command}
+use Rattle.petal_base.specs.declared.cell.Cell.{Cell}
 use Rattle.petal_msg.specs.declared.body.Body.{Body}
 use Rattle.petal_msg.specs.declared.body.Body.TheVariants as body
 use Rattle.petal_msg.specs.declared.letter.Actor.{Actor}
@@ -12,15 +13,17 @@ use Rattle.petal_msg.specs.declared.letter.Letter.{Letter}
 use Rattle.petal_msg.specs.declared.operation.Action.{Action}
 use Rattle.petal_msg.specs.declared.operation.Action.TheVariants as action
 use Rattle.petal_msg.specs.declared.operation.Pending.{Pending}
-use Rattle.petal_rules.specs.Ballots.{wanted, on_down, on_propose, on_pax, starts, post_of, ballot_posts, ask_posts, asks_next, start_jobs}
+use Rattle.petal_rules.specs.Ballots.{wanted, on_down, on_propose, on_pax, starts, first_wanted, post_of, ballot_posts, ask_posts, asks_next, start_jobs}
 use Rattle.petal_rules.specs.Entries.{on_ask, on_news, applies}
-use Rattle.petal_rules.specs.Log.{Log, LogDone, Voter, keeps, known, next_place}
+use Rattle.petal_rules.specs.Log.{Log, LogDone, Voter, keeps, known, next_place, rev_of}
 use Rattle.petal_rules.specs.State.{State, is_in, servers_of}
 use Rattle.petal_rules.specs.Server.{Server, Own, Here, Post, Sender, Done, silent, says, sender, stopped, letters_of}
-use Rattle.petal_rules.specs.Writes.{next_stage, acts, goes_on, on_write, on_reserve, on_reserved, on_pair_full, on_replicate, on_replicated}
+use Rattle.petal_rules.specs.Writes.{next_stage, acts, goes_on, pending_on, on_write, on_reserve, on_reserved, on_pair_full, on_replicate, on_replicated}
 use Rattle.petal_rules.specs.Reads.{on_read}
-use Rattle.petal_rules.specs.Crossing.{crossed_by, stage_jobs_by}
-use Rattle.petal_rules.specs.Returns.{returning}
+use Rattle.petal_rules.specs.Copies.{copies_on, mends, trims_on, on_hello_ask, on_hello, on_trim, on_trimmed, on_sync, on_synced, on_sync_full, copy_posts, page_posts, mend_jobs}
+use Rattle.petal_rules.specs.Crossing.{crossed_by, jobs_by}
+use Rattle.petal_rules.specs.Progress.{copying_on}
+use Rattle.petal_rules.specs.Returns.{returning, proposed}
 use Rattle.petal_rules.specs.declared.step.CommitEnd.{CommitEnd}
 use Rattle.petal_rules.specs.declared.step.CommitEnd.TheVariants.{Before, After}
 use Rattle.petal_rules.specs.declared.job.Job.{Job}
@@ -48,13 +51,14 @@ handles here own (body.Reserved number cell) = on_reserved here own number cell
 handles here own (body.PairFull number cell) = on_pair_full own number cell
 handles here own (body.Replicate number key version bytes) = on_replicate here own number key bytes
 handles here own (body.Replicated number cell) = on_replicated here own number cell
-handles here own (body.HelloAsk map link after) = silent own
-handles here own (body.Hello map link after block) = silent own
-handles here own (body.Trim number cell epochs) = silent own
-handles here own (body.Trimmed number cell) = silent own
-handles here own (body.Sync number key version index bytes) = silent own
-handles here own (body.Synced number cell index) = silent own
-handles here own (body.SyncFull number cell) = silent own
+handles here own (body.HelloAsk map link after) = on_hello_ask here own (record { map = map; link = link }) after
+handles here own (body.Hello map link after block) = on_hello here own (record { map = map; link = link }) after block
+handles here own (body.Trim number cell epochs) = on_trim here own number cell epochs
+handles here own (body.Trimmed number cell) = on_trimmed here own number cell
+handles here own (body.Sync number key version index bytes) =
+    on_sync here own (record { op = number; key = key; index = index; stored = record { version = version; bytes = bytes } })
+handles here own (body.Synced number cell index) = on_synced here own number cell index
+handles here own (body.SyncFull number cell) = on_sync_full own number cell
 handles here own (body.Fill key bytes) = silent own
 handles here own (body.Filled key) = silent own
 handles here own (body.FillFull key) = silent own
@@ -82,11 +86,19 @@ on_letter here own letter =
     else if not (is_from_in here.state letter.inc letter.from) then silent own
     else handles here own letter.body
 
--- one job of the pairs, with at most one commit; a follow-up stage is a job only while the server is In with its own
--- incarnation
+-- what is under way on the cell does its next stage: an operation, a copy, or the last copy of the cell to this server
+abbrev pub stages : Here → Own → Cell → Done
+stages here own cell =
+    if is_some (pending_on own cell) then goes_on here own cell
+    else if is_some (copying_on own cell) then copies_on here own cell
+    else trims_on here own cell
+
+-- one job of the pairs, with at most one commit; a follow-up stage, and the job of a link, are jobs only while the server is In
+-- with its own incarnation
 unfoldable pub does : Here → Own → Job → Done
 does here own (job.Letter letter) = on_letter here own letter
-does here own (job.Stage cell) = if is_in here.state here.me here.inc then goes_on here own cell else silent own
+does here own (job.Stage cell) = if is_in here.state here.me here.inc then stages here own cell else silent own
+does here own (job.Mend link) = if is_in here.state here.me here.inc then mends here own link else silent own
 does here own job.Apply = silent own
 does here own job.Start = silent own
 
@@ -105,6 +117,7 @@ hears_log voter log letter _ = keeps log
 unfoldable pub log_does : Voter → Log → Job → LogDone
 log_does voter log (job.Letter letter) = hears_log voter log letter letter.body
 log_does voter log (job.Stage cell) = keeps log
+log_does voter log (job.Mend link) = keeps log
 log_does voter log job.Apply = applies log
 log_does voter log job.Start = keeps log
 
@@ -112,6 +125,7 @@ log_does voter log job.Start = keeps log
 abbrev pub is_log_job : Job → Bool
 is_log_job (job.Letter letter) = is_logged (subject_of letter.body)
 is_log_job (job.Stage cell) = false
+is_log_job (job.Mend link) = false
 is_log_job job.Apply = true
 is_log_job job.Start = true
 
@@ -149,7 +163,7 @@ crossing here server rest entry done = record {
   server = record server {
     log = done.log;
     own = crossed_by here.state entry server.own;
-    queue = rest ++ done.jobs ++ stage_jobs_by here.state entry server.own;
+    queue = rest ++ done.jobs ++ jobs_by here.state here.me entry server.own;
   };
   letters = letters_of (sender here) 0 done.posts;
 }
@@ -158,10 +172,23 @@ crossing here server rest entry done = record {
 abbrev pub wanted_by : Here → Server → List Command
 wanted_by here server = wanted (voter_of here) server.log (returning here server.own)
 
+-- the same after the job that starts a ballot for the first command that is wanted
+abbrev pub starting : Here → Server → List Job → List Command → Acted
+starting here server rest wants =
+    let done = starts (voter_of here) server.log wants in
+    record {
+      server = record server {
+        log = done.log;
+        own = proposed here.state server.own (first_wanted server.log.phase (rev_of server.log) wants);
+        queue = rest ++ done.jobs;
+      };
+      letters = letters_of (sender here) 0 done.posts;
+    }
+
 -- what the job leaves where it meets room in both journals
 abbrev pub job_done : Here → Server → Job → List Job → Acted
 job_done here server job.Apply rest = crossing here server rest (known server.log (next_place server.log)) (applies server.log)
-job_done here server job.Start rest = entered here server rest (starts (voter_of here) server.log (wanted_by here server))
+job_done here server job.Start rest = starting here server rest (wanted_by here server)
 job_done here server first rest =
     if is_log_job first then entered here server rest (log_does (voter_of here) server.log first)
     else worked here server rest (does here server.own first)
@@ -202,10 +229,10 @@ abbrev pub faults : Here → Server → List Job → CommitEnd → Acted
 faults here server queue Before = stops here server
 faults here server queue After = stops here (works here server queue).server
 
--- what a glance shows of a server: whether it runs, its incarnation, and whether a copy found no slot, which none does yet
+-- what a glance shows of a server: whether it runs, its incarnation, and whether the copy that ended last found no slot
 abbrev pub shown : (line round : ℕ) → Server → Body
 shown line round server =
-    if server.life.running then body.Seen line round true server.life.inc false else body.Seen line round false 0 false
+    if server.life.running then body.Seen line round true server.life.inc server.own.copies.full else body.Seen line round false 0 false
 
 -- a stopped server's letter has no incarnation and no revision
 abbrev pub glance_sender : Here → Server → Sender
@@ -240,16 +267,27 @@ awaited here own op action.Drop = []
 abbrev pub sent_anew : Here → Own → Pending → List Post
 sent_anew here own op = awaited here own op (next_stage here.state here.me op)
 
+-- of copies too, while the server is In as itself
+abbrev pub copies_anew : Here → Own → List Post
+copies_anew here own = if is_in here.state here.me here.inc then copy_posts here own ++ page_posts here own else []
+
 -- each letter that is not yet answered goes out again, and one of the other servers is asked what follows
 abbrev pub tick_posts : Here → Server → List Post
 tick_posts here server =
     ballot_posts (voter_of here) server.log.phase
     ++ flat_map (λ row. sent_anew here server.own row.1) server.own.pairs.pending
+    ++ copies_anew here server.own
     ++ ask_posts (voter_of here) server.log
 
--- a tick: letters go out again, and an idle proposer is to start a ballot where a command is wanted
+-- an idle proposer is to start a ballot where a command is wanted, and links whose next copy or old mark waits are to be mended
+abbrev pub tick_jobs : Here → Server → List Job
+tick_jobs here server =
+    start_jobs server.log.phase (wanted_by here server)
+    ++ (if is_in here.state here.me here.inc then mend_jobs here server.own else [])
+
+-- a tick: letters go out again, and jobs are queued
 abbrev pub ticks : Here → Server → Acted
 ticks here server = record {
-  server = record server { log = asks_next (voter_of here) server.log; queue = server.queue ++ start_jobs server.log.phase (wanted_by here server) };
+  server = record server { log = asks_next (voter_of here) server.log; queue = server.queue ++ tick_jobs here server };
   letters = letters_of (sender here) 0 (tick_posts here server);
 }

@@ -4,10 +4,12 @@ pub mod Store
 pub mod Posts
 pub mod Log
 pub mod Server
+pub mod Progress
 pub mod Entries
 pub mod Ballots
 pub mod Writes
 pub mod Reads
+pub mod Copies
 pub mod Crossing
 pub mod Returns
 pub mod Jobs

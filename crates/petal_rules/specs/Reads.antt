@@ -1,5 +1,5 @@
 -- Reads: what a server that may read a cell says.
-use Rattle.std.specs.Prelude.{ℕ, ◌&&◌, Bool, true, false, if◌then◌else◌, is_some}
+use Rattle.std.specs.Prelude.{ℕ, ◌&&◌, Bool, true, false, if◌then◌else◌}
 use Rattle.petal_base.specs.declared.cell.Cell.{Cell}
 use Rattle.petal_msg.specs.declared.body.Body.{Body}
 use Rattle.petal_msg.specs.declared.body.Body.TheVariants as body
@@ -10,18 +10,18 @@ use Rattle.petal_state.specs.declared.answer.Hold.TheVariants as hold
 use Rattle.petal_rules.specs.State.{Hold, held, is_lead, readable}
 use Rattle.petal_rules.specs.Store.{chain_in, entry_at, bytes_of}
 use Rattle.petal_rules.specs.Server.{Own, Here, Done, silent, says}
-use Rattle.petal_rules.specs.Writes.{pending_on}
+use Rattle.petal_rules.specs.Writes.{is_under_way}
 
 abbrev pub is_all_held : Hold → Bool
 is_all_held hold.No = false
 is_all_held hold.Writes = false
 is_all_held hold.All = true
 
--- a fence, or an operation at the lead, keeps a read back; else it gives the entry of the greatest epoch not above its own
+-- a fence, or what is under way at the lead, keeps a read back; else it gives the entry of the greatest epoch not above its own
 abbrev pub reply_to : Here → Own → Cell → ℕ → Reply
 reply_to here own cell epoch =
     if is_all_held (held here.state cell) then Held
-    else if is_lead here.state here.me cell && is_some (pending_on own cell) then BlockBusy
+    else if is_lead here.state here.me cell && is_under_way own cell then BlockBusy
     else Data (bytes_of (entry_at (chain_in own.store.chains cell) epoch))
 
 abbrev pub said : ℕ → Reply → Body

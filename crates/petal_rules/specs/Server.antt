@@ -3,6 +3,10 @@ use Rattle.std.specs.Prelude.{ℕ, Bool, false, List, [], ◌∷◌, Option}
 use Rattle.petal_base.specs.declared.cell.Cell.{Cell}
 use Rattle.petal_table.specs.Table.{Table}
 use Rattle.petal_msg.specs.declared.body.Body.{Body}
+use Rattle.petal_msg.specs.declared.copying.Copying.{Copying}
+use Rattle.petal_msg.specs.declared.copying.LastCopy.{LastCopy}
+use Rattle.petal_msg.specs.declared.copying.LinkId.{LinkId}
+use Rattle.petal_msg.specs.declared.copying.Progress.{Progress}
 use Rattle.petal_msg.specs.declared.letter.Actor.{Actor}
 use Rattle.petal_msg.specs.declared.letter.Actor.TheVariants as actor
 use Rattle.petal_msg.specs.declared.operation.Finished.{Finished}
@@ -27,9 +31,18 @@ pub record Pairs : Type 0 where
   pub finished : Table ℕ Finished
   pub last : Table Cell LastOp
 
+-- what a server remembers of copies, for its life: as the holder of a link how far it is, and the copies that are under way; as
+-- the other server the last copy of each cell; and whether the copy that ended last found no slot
+pub record Copies : Type 0 where
+  pub progress : Table LinkId Progress
+  pub pending : Table Cell Copying
+  pub last : Table Cell LastCopy
+  pub full : Bool
+
 -- a server's own part in the pairs of its cells: what a job of the pairs may change
 pub record Own : Type 0 where
   pub pairs : Pairs
+  pub copies : Copies
   pub store : Store
 
 -- a server: its life, its part of the agreed log, its own part in the pairs, and its jobs in the order in which they came
@@ -43,12 +56,16 @@ pub record Server : Type 0 where
 abbrev pub no_pairs : Pairs
 no_pairs = record { pending = []; next = 1; finished = []; last = [] }
 
+-- nothing was asked for and nothing was copied
+abbrev pub no_copies : Copies
+no_copies = record { progress = []; pending = []; last = []; full = false }
+
 -- a server of a run that begins
 abbrev pub first_server : (running : Bool) → ℕ → Server
 first_server running slots = record {
   life = record { running = running; inc = 1 };
   log = first_log;
-  own = record { pairs = no_pairs; store = empty_store slots };
+  own = record { pairs = no_pairs; copies = no_copies; store = empty_store slots };
   queue = [];
 }
 

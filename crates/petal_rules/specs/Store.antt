@@ -1,15 +1,16 @@
 -- What a server keeps of blocks on its data device.
-use Rattle.std.specs.Prelude.{ℕ, ◌+◌, ◌-◌, Bool, false, List, [], ◌∷◌, length, max, sum_by, nat_le, if◌then◌else◌, Option, Some, None, unwrap_or}
+use Rattle.std.specs.Prelude.{ℕ, ◌+◌, ◌-◌, Bool, false, List, [], ◌∷◌, length, map, max, sum_by, nat_le, if◌then◌else◌, Option, Some, None, unwrap_or}
 use Rattle.std.specs.declared.cmp.Ordering.{Ordering}
 use Rattle.std.specs.Ordering.{nat_cmp, ordering_then}
 use Rattle.busy_marks.specs.Marks.{has_mark, with_mark, without_mark}
 use Rattle.busy_marks.specs.declared.marks.Mark.{Mark}
 use Rattle.busy_marks.specs.declared.marks.MarkKind.{MarkKind}
+use Rattle.busy_marks.specs.declared.marks.MarkKind.TheVariants.{Busy, Stale}
 use Rattle.petal_base.specs.declared.cell.Cell.{Cell}
 use Rattle.petal_base.specs.declared.cell.Key.{Key}
 use Rattle.petal_base.specs.Block.{zero_block}
 use Rattle.petal_base.specs.Cells.{cell_of}
-use Rattle.petal_table.specs.Table.{Table, at, put}
+use Rattle.petal_table.specs.Table.{Table, at, put, without}
 
 -- an entry: a block's bytes, and how often its cell had been put
 pub record Stored : Type 0 where
@@ -90,6 +91,22 @@ without_ticket store = record store { tickets = store.tickets - 1 }
 abbrev pub with_entry : Store → Key → Stored → Store
 with_entry store key entry = record store { chains = chains_with store.chains key entry; tickets = store.tickets - 1; records = store.records + 1 }
 
+-- the chains with this chain at the cell; a cell without entries has none
+abbrev pub chains_at : Table Cell Chain → Cell → Chain → Table Cell Chain
+chains_at chains cell [] = without cell_cmp chains cell
+chains_at chains cell (row ∷ later) = put cell_cmp chains cell (row ∷ later)
+
+-- an entry that is there is dropped, which is one record more
+abbrev pub without_entry : Store → Key → Store
+without_entry store key = record store {
+  chains = chains_at store.chains (cell_of key) (without nat_cmp (chain_in store.chains (cell_of key)) key.epoch);
+  records = store.records + 1;
+}
+
+-- the epochs of a chain, rising
+abbrev pub epochs_of : Chain → List ℕ
+epochs_of chain = map (λ row. row.0) chain
+
 -- ### Marks
 
 -- the mark of this kind on the cell
@@ -99,6 +116,13 @@ mark_on kind cell = record { kind = kind; cell = cell }
 -- the cell has a mark of this kind
 abbrev pub is_marked : Store → MarkKind → Cell → Bool
 is_marked store kind cell = has_mark (mark_on kind cell) store.marks
+
+-- the mark to take away first: busy before stale
+abbrev pub mark_left : Store → Cell → Option MarkKind
+mark_left store cell =
+    if is_marked store Busy cell then Some Busy
+    else if is_marked store Stale cell then Some Stale
+    else None
 
 -- the cell is marked, which is one record more where it was not
 abbrev pub with_mark_on : Store → MarkKind → Cell → Store

@@ -275,13 +275,18 @@ IsDone (request.Stop server) n running before = (server ≡ n) × (running ≡ f
 IsDone (request.Start server) n running before = (server ≡ n) × ((running ≡ true) ⊎ (before ≡ Some (n, Booted)))
 IsDone _ n running before = ⊥
 
--- behind the steps that a line gives, or at once where it gives none, stands the line's one glance
+-- behind the steps that a line gives, or at once where it gives none, stands the line's one glance; a settle glances at all
+-- servers in each of its rounds
+abbrev pub IsDue : World → Asked → (n round : ℕ) → Request → Type 0
+IsDue w asked n round request.Settle = round ≡ asked.round
+IsDue w asked n round what = (round ≡ 0) × (w.control.glanced ≢ Some asked.line) × IsDone what n (w.servers n).life.running w.control.hand
+
+-- the operator's open line glances at this server
 pub record MayGlance (w : World) (n line round : ℕ) : Type 0 where
   pub asked : Asked
-  pub opened : IsOpenLine w asked
+  pub is : (w.clients operator).asked ≡ Some asked
   pub line_is : asked.line ≡ line
-  pub done : IsDone asked.request n (w.servers n).life.running w.control.hand
-  pub round_is : round ≡ 0
+  pub due : IsDue w asked n round asked.request
 
 -- the server is not at the operator's hand: between the first step that a line gives a server and its glance, the server
 -- takes no other step
@@ -338,6 +343,10 @@ abbrev pub turn_of : Option Asked → ℕ
 turn_of None = 0
 turn_of (Some asked) = asked.turn
 
+abbrev pub round_of : Option Asked → ℕ
+round_of None = 0
+round_of (Some asked) = asked.round
+
 -- a running server has a number that is the greatest of its type, so that a step could not count on
 abbrev pub is_spent_server : Server → Bool
 is_spent_server server = server.life.running && ((server.own.pairs.next == greatest_u64) || (top_of server.own.store.chains == greatest_u64))
@@ -345,7 +354,8 @@ is_spent_server server = server.life.running && ((server.own.pairs.next == great
 -- the same of any actor
 abbrev pub is_spent : World → Actor → Bool
 is_spent w (actor.Server n) = is_spent_server (w.servers n)
-is_spent w (actor.Client c) = ((w.clients c).seq == greatest_u32) || (turn_of (w.clients c).asked == greatest_u32)
+is_spent w (actor.Client c) =
+    ((w.clients c).seq == greatest_u32) || (turn_of (w.clients c).asked == greatest_u32) || (round_of (w.clients c).asked == greatest_u32)
 
 abbrev pub MayActor : Actor → Step → Setting → World → Type 0
 MayActor (actor.Server n) what setting w = (n < setting.servers) × MayServer what w n

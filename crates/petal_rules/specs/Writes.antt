@@ -1,7 +1,7 @@
 -- Writes: what the lead of a cell does, and what its second server does ("Petal: Distributed Virtual Disks", 1996, 3.2,
 -- over chained declustering; the second server's slot is reserved first, and the lead commits before the second server). A
 -- block is marked at its lead before the lead puts: busy where a second server is to follow, stale where there is none.
-use Rattle.std.specs.Prelude.{ℕ, ◌+◌, ◌==◌, ◌&&◌, ◌||◌, not, Bool, true, false, nat_lt, List, [], ◌∷◌, if◌then◌else◌, Option, Some, None}
+use Rattle.std.specs.Prelude.{ℕ, ◌+◌, ◌==◌, ◌&&◌, ◌||◌, not, Bool, true, false, nat_lt, List, [], ◌∷◌, if◌then◌else◌, Option, Some, None, is_some}
 use Rattle.std.specs.Ordering.{nat_cmp}
 use Rattle.busy_marks.specs.declared.marks.MarkKind.{MarkKind}
 use Rattle.busy_marks.specs.declared.marks.MarkKind.TheVariants as mark
@@ -26,6 +26,7 @@ use Rattle.petal_msg.specs.declared.operation.Stage.{Stage}
 use Rattle.petal_state.specs.declared.answer.Hold.TheVariants as hold
 use Rattle.petal_rules.specs.State.{State, Hold, held, is_lead, leads_link, in_both, is_second, first, second}
 use Rattle.petal_rules.specs.Store.{cell_cmp, chain_in, version_of, free_of, with_ticket, without_ticket, with_entry, with_mark_on, without_mark_on}
+use Rattle.petal_rules.specs.Progress.{copying_on, has_proposed}
 use Rattle.petal_rules.specs.Server.{Own, Here, Done, silent, says, says_to}
 use Rattle.petal_rules.specs.declared.job.Job.TheVariants as job
 
@@ -198,18 +199,26 @@ operation here number want = record {
 abbrev pub opened : Here → Own → Wanted → Own
 opened here own want =
     let with_op = with_pending own (operation here own.pairs.next want) in
-    record { pairs = record with_op.pairs { next = own.pairs.next + 1 }; store = with_ticket own.store }
+    record with_op { pairs = record with_op.pairs { next = own.pairs.next + 1 }; store = with_ticket own.store }
 
 -- a write that is neither finished nor pending
 abbrev pub opens : Here → Own → Wanted → (room : Bool) → Done
 opens here own want false = finishes own want.client want.seq Full
 opens here own want true = goes_on here (opened here own want) want.cell
 
--- what a fence or an operation on its block keeps back is refused, and ends nothing
-abbrev pub takes_newer : Here → Own → Wanted → (fenced : Bool) → Option Pending → Done
-takes_newer here own want true op = says own (actor.Client want.client) (body.Held want.seq)
-takes_newer here own want false (Some op) = says own (actor.Client want.client) (body.BlockBusy want.seq)
-takes_newer here own want false None = opens here own want (nat_lt 0 (free_of own.store))
+-- a fence holds the cell's writes, or this server has started a ballot for its link's Caught
+abbrev pub is_kept_back : State → Own → Cell → Bool
+is_kept_back state own cell = is_writes_held (held state cell) || has_proposed state own cell
+
+-- an operation or a copy is under way on the cell
+abbrev pub is_under_way : Own → Cell → Bool
+is_under_way own cell = is_some (pending_on own cell) || is_some (copying_on own cell)
+
+-- what is kept back, or waits for what is under way on its block, is refused, and ends nothing
+abbrev pub takes_newer : Here → Own → Wanted → (kept_back busy : Bool) → Done
+takes_newer here own want true busy = says own (actor.Client want.client) (body.Held want.seq)
+takes_newer here own want false true = says own (actor.Client want.client) (body.BlockBusy want.seq)
+takes_newer here own want false false = opens here own want (nat_lt 0 (free_of own.store))
 
 abbrev pub is_pending_for : Option Pending → Wanted → Bool
 is_pending_for None want = false
@@ -220,7 +229,7 @@ takes here own want Older = silent own
 takes here own want (Again ending) = says own (actor.Client want.client) (ended want.seq ending)
 takes here own want Newer =
     if is_pending_for (pending_on own want.cell) want then silent own
-    else takes_newer here own want (is_writes_held (held here.state want.cell)) (pending_on own want.cell)
+    else takes_newer here own want (is_kept_back here.state own want.cell) (is_under_way own want.cell)
 
 -- a write is taken by the cell's lead, once
 unfoldable pub on_write : Here → Own → Wanted → Done

@@ -1,8 +1,8 @@
--- The lines that are built: clients make disks, and write and read their blocks; the operator stops and starts servers.
+-- The lines that are built: clients make disks, and write and read their blocks; the operator stops and starts servers, and waits
+-- until they are settled.
 use Rattle.std.specs.Prelude.{ℕ, Bool, true, false, ◌&&◌, ◌||◌, nat_lt, List, [], ◌∷◌, Option, Some, None, if◌then◌else◌}
 use Rattle.script_lines.specs.declared.request.Request.{Request}
-use Rattle.script_lines.specs.declared.request.Request.TheVariants.{Disk, Write, Read, Stop, Start}
-use Rattle.script_lines.specs.Requests.{is_boot, is_stop}
+use Rattle.script_lines.specs.declared.request.Request.TheVariants.{Disk, Write, Read, Stop, Start, Settle}
 use Rattle.script_lines.specs.declared.request.Line.{Line}
 
 abbrev pub is_built_request : Request → Bool
@@ -11,11 +11,19 @@ is_built_request (Write name block pattern) = true
 is_built_request (Read name None block) = true
 is_built_request (Stop server) = true
 is_built_request (Start server) = true
+is_built_request Settle = true
 is_built_request _ = false
 
--- the line asks for what is built; the operator asks for stops and starts alone
+-- the operator may ask for it
+abbrev pub is_operators : Request → Bool
+is_operators (Stop server) = true
+is_operators (Start server) = true
+is_operators Settle = true
+is_operators _ = false
+
+-- the line asks for what is built, and the operator asks for what is the operator's alone
 abbrev pub is_built : Line → Bool
-is_built line = (nat_lt line.client 8 || is_stop line.request || is_boot line.request) && is_built_request line.request
+is_built line = (nat_lt line.client 8 || is_operators line.request) && is_built_request line.request
 
 -- the number of the first line that is not built
 abbrev pub first_not_built : List Line → Option ℕ

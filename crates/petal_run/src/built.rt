@@ -1,7 +1,8 @@
-//! The lines that are built so far: clients make disks, and write and read their blocks; the operator stops and starts servers.
+//! The lines that are built so far: clients make disks, and write and read their blocks; the operator stops and starts servers,
+//! and waits until they are settled.
 
 ghost use Rattle.std.specs.Prelude.{◌≡◌};
-ghost use Rattle.petal_run.specs.Built.{is_built, is_built_request, first_not_built};
+ghost use Rattle.petal_run.specs.Built.{is_built, is_built_request, is_operators, first_not_built};
 
 use petal_base::OPERATOR;
 use script_lines::{Line, Request, Script};
@@ -13,7 +14,8 @@ fn is_built_request(request: &Request) -> bool
         Request::Disk { .. }
         | Request::Write { .. }
         | Request::Stop { .. }
-        | Request::Start { .. } => true,
+        | Request::Start { .. }
+        | Request::Settle => true,
         Request::Read {
             name: _,
             snap,
@@ -23,11 +25,20 @@ fn is_built_request(request: &Request) -> bool
     }
 }
 
+/// Whether the operator may ask for it.
+fn is_operators(request: &Request) -> bool
+    ensures { result ≡ is_operators request.now }
+{
+    match request {
+        Request::Stop { .. } | Request::Start { .. } | Request::Settle => true,
+        _ => false,
+    }
+}
+
 fn is_built(line: &Line) -> bool
     ensures { result ≡ is_built line.now }
 {
-    (line.client < OPERATOR || line.request.is_stop() || line.request.is_boot())
-        && is_built_request(&line.request)
+    (line.client < OPERATOR || is_operators(&line.request)) && is_built_request(&line.request)
 }
 
 /// The number of the first line that is not built, if there is one.

@@ -2,11 +2,12 @@
 use Rattle.std.proofs.Common.{◌≡◌, ◌⊎◌, ◌<◌, inl, inr, ℕ, Bool, true, false, Option, None, refl, sym, ap, subst, ◌∙◌}
 use Rattle.script_lines.specs.declared.request.Request.{Request}
 use Rattle.script_lines.specs.declared.request.Request.TheVariants as request
+use Rattle.petal_rules.specs.Clients.{Asked}
 use Rattle.petal_rules.specs.Server.{Life}
-use Rattle.petal_rules.specs.World.{Setting, Boots, Deed, IsDone, MayBoot, MayGlance, MayStop, Stops, World, greatest_u32}
+use Rattle.petal_rules.specs.World.{Setting, Boots, Deed, IsDue, MayBoot, MayGlance, MayStop, Stops, World, greatest_u32}
 use Rattle.world_desks.specs.Desks.{Desk, desk_of}
 use Rattle.world_desks.proofs.Left.{left_life, left_runs}
-use Rattle.petal_world.specs.Lines.{HasStarted, HasStopped, IsStartedBy, IsStoppedBy}
+use Rattle.petal_world.specs.Lines.{HasStarted, HasStopped, IsSettling, IsStartedBy, IsStoppedBy}
 
 stops_is : (asked : Request) (n : ℕ) → Stops asked n → asked ≡ request.Stop n
 stops_is (request.Stop server) n is = ap request.Stop is
@@ -51,34 +52,63 @@ module _ (w : World) (n : ℕ) where
   may_boot_by line rests raises empty by =
       record { rests = rests; raises = raises; asked = by.asked; opened = by.opened; boots = is_boots by.asked.request n w.control.hand by.request_is empty }
 
+  -- the open line is a settle in this round, or its glance is due behind what it gave the server
+  abbrev pub ShownBy : (line round : ℕ) → Type 0
+  ShownBy line round = IsSettling w line round ⊎ ((round ≡ 0) × (HasStopped w n line ⊎ HasStarted w n line))
+
   -- a line that stops the server is done where it doesn't run, one that starts it where it runs or has booted
   shown_as : (line round : ℕ) (may : MayGlance w n line round) (asked : Request) → may.asked.request ≡ asked
-      → IsDone asked n (w.servers n).life.running w.control.hand → HasStopped w n line ⊎ HasStarted w n line
-  shown_as line round may (request.Stop server) is done = inl (record {
-    by = record { asked = may.asked; opened = may.opened; line_is = may.line_is; request_is = is ∙ ap request.Stop done.0 };
-    rests = done.1;
-  })
-  shown_as line round may (request.Start server) is done = inr (record {
-    by = record { asked = may.asked; opened = may.opened; line_is = may.line_is; request_is = is ∙ ap request.Start done.0 };
-    shows = done.1;
-  })
-  shown_as line round may _ is never = absurd never
+      → IsDue w may.asked n round asked → ShownBy line round
+  shown_as line round may (request.Stop server) is due = inr (
+    due.0,
+    inl (record {
+      by = record {
+        asked = may.asked;
+        opened = record { is = may.is; first = due.1 };
+        line_is = may.line_is;
+        request_is = is ∙ ap request.Stop due.2.0;
+      };
+      rests = due.2.1;
+    }),
+  )
+  shown_as line round may (request.Start server) is due = inr (
+    due.0,
+    inr (record {
+      by = record {
+        asked = may.asked;
+        opened = record { is = may.is; first = due.1 };
+        line_is = may.line_is;
+        request_is = is ∙ ap request.Start due.2.0;
+      };
+      shows = due.2.1;
+    }),
+  )
+  shown_as line round may request.Settle is due =
+      inl (record { asked = may.asked; is = may.is; line_is = may.line_is; round_is = sym due; request_is = is })
+  shown_as line round may _ is due = absurd due.2
 
-  pub shown : (line round : ℕ) → MayGlance w n line round → HasStopped w n line ⊎ HasStarted w n line
-  shown line round may = shown_as line round may may.asked.request refl may.done
+  pub shown : (line round : ℕ) → MayGlance w n line round → ShownBy line round
+  shown line round may = shown_as line round may may.asked.request refl may.due
 
-  pub may_glance_by : (line round : ℕ) → round ≡ 0 → HasStopped w n line ⊎ HasStarted w n line → MayGlance w n line round
-  may_glance_by line round first (inl done) = record {
-    asked = done.by.asked;
-    opened = done.by.opened;
-    line_is = done.by.line_is;
-    done = subst (λ (r : Request). IsDone r n (w.servers n).life.running w.control.hand) (sym done.by.request_is) (refl, done.rests);
-    round_is = first;
+  due_of : (asked : Asked) (round : ℕ) (what : Request) → asked.request ≡ what → IsDue w asked n round what → IsDue w asked n round asked.request
+  due_of asked round what is due = subst (λ (r : Request). IsDue w asked n round r) (sym is) due
+
+  pub may_glance_by : (line round : ℕ) → ShownBy line round → MayGlance w n line round
+  may_glance_by line round (inl now) = record {
+    asked = now.asked;
+    is = now.is;
+    line_is = now.line_is;
+    due = due_of now.asked round request.Settle now.request_is (sym now.round_is);
   }
-  may_glance_by line round first (inr done) = record {
+  may_glance_by line round (inr (first, inl done)) = record {
     asked = done.by.asked;
-    opened = done.by.opened;
+    is = done.by.opened.is;
     line_is = done.by.line_is;
-    done = subst (λ (r : Request). IsDone r n (w.servers n).life.running w.control.hand) (sym done.by.request_is) (refl, done.shows);
-    round_is = first;
+    due = due_of done.by.asked round (request.Stop n) done.by.request_is (first, done.by.opened.first, (refl, done.rests));
+  }
+  may_glance_by line round (inr (first, inr done)) = record {
+    asked = done.by.asked;
+    is = done.by.opened.is;
+    line_is = done.by.line_is;
+    due = due_of done.by.asked round (request.Start n) done.by.request_is (first, done.by.opened.first, (refl, done.shows));
   }

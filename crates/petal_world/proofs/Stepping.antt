@@ -171,6 +171,9 @@ done_posts (job.Letter letter) here server rest stamp =
     by_kind (is_log_job (job.Letter letter)) here server rest (log_does (voter_of here) server.log (job.Letter letter)) (does here server.own (job.Letter letter)) stamp
 done_posts (job.Stage cell) here server rest stamp =
     by_kind (is_log_job (job.Stage cell)) here server rest (log_does (voter_of here) server.log (job.Stage cell)) (does here server.own (job.Stage cell)) stamp
+done_posts (job.Mend link) here server rest stamp =
+    by_kind (is_log_job (job.Mend link)) here server rest (log_does (voter_of here) server.log (job.Mend link))
+    (does here server.own (job.Mend link)) stamp
 done_posts job.Start here server rest stamp =
     record { sender = sender here; posts = (starts (voter_of here) server.log (wanted_by here server)).posts; from = refl; are = refl }
 

@@ -2,6 +2,7 @@
 use Rattle.std.specs.Prelude.{◌≡◌, ◌⊎◌, ℕ, true, false, Option, Some, None}
 use Rattle.script_lines.specs.declared.request.Request.TheVariants as request
 use Rattle.petal_rules.specs.Clients.{Asked}
+use Rattle.petal_rules.specs.Jobs.{operator}
 use Rattle.petal_rules.specs.World.{Deed, Stopped, Booted, IsOpenLine, World}
 use Rattle.petal_world.specs.declared.control.Given.{Given}
 use Rattle.petal_world.specs.declared.control.Given.TheVariants.{Stop, Boot}
@@ -39,3 +40,11 @@ pub record HasStopped (w : World) (n line : ℕ) : Type 0 where
 pub record HasStarted (w : World) (n line : ℕ) : Type 0 where
   pub by : IsStartedBy w n line
   pub shows : ((w.servers n).life.running ≡ true) ⊎ (w.control.hand ≡ Some (n, Booted))
+
+-- the operator's open line is this settle, in this round
+pub record IsSettling (w : World) (line round : ℕ) : Type 0 where
+  pub asked : Asked
+  pub is : (w.clients operator).asked ≡ Some asked
+  pub line_is : asked.line ≡ line
+  pub round_is : asked.round ≡ round
+  pub request_is : asked.request ≡ request.Settle

@@ -2,10 +2,12 @@
 
 ghost use Rattle.std.specs.Prelude.{◌≡◌, ◌↔◌, ℕ, Some, IsTrue, slice_get};
 ghost use Rattle.petal_msg.specs.declared.letter.Actor.TheVariants as actor;
+ghost use Rattle.client_core.specs.Open.{settle_of};
+ghost use Rattle.petal_rules.specs.Jobs.{operator};
 ghost use Rattle.petal_rules.specs.World.{Setting, World, MayAct, MayBoot, MayCall, MayClient, MayGlance, MayReceive, MayServer, MayStep, MayStop, MayWork, received};
 ghost use Rattle.petal_table.specs.Table.{at};
 ghost use Rattle.world_desks.specs.Playable.{AreOrdered};
-ghost use Rattle.petal_world.specs.Lines.{HasStarted, HasStopped, IsStartedBy, IsStoppedBy};
+ghost use Rattle.petal_world.specs.Lines.{HasStarted, HasStopped, IsSettling, IsStartedBy, IsStoppedBy};
 ghost use Rattle.petal_world.specs.Seats.{seat_of};
 ghost use Rattle.world_desks.specs.Desks.{desk_of};
 ghost use Rattle.world_desks.specs.Sent.{name_of, name_cmp};
@@ -184,11 +186,37 @@ impl<H: Host> Actors<H> {
         self.control.has_booted(server)
     }
 
-    /// Whether the server may be glanced at: after the steps that the line gives it, or at once where it gives none.
+    /// The operator's open line and its round, where it is a settle.
+    pub fn settling(&self) -> Option<(u32, u32)>
+        ensures { (setting : Setting) (w : World) → Shows setting w self.now → result ≡ settle_of (w.clients operator).asked }
+    {
+        let Some(seat) = self.seats.get(OPERATOR) else {
+            return None;
+        };
+        seat.core.settles()
+    }
+
+    /// Whether the open line is this one, and a settle in this round.
+    fn is_settling(&self, line: u32, round: u32) -> bool
+        ensures { (setting : Setting) (w : World) → Shows setting w self.now → IsTrue result ↔ IsSettling w line round }
+    {
+        let Some((own, now)) = self.settling() else {
+            return false;
+        };
+        if own != line {
+            return false;
+        }
+        now == round
+    }
+
+    /// Whether the server may be glanced at: after the steps that the line gives it, or in the present round of a settle.
     fn may_glance(&self, desk: &Desk<H>, server: ServerId, line: u32, round: u32) -> bool
         ensures { (setting : Setting) (w : World) → Shows setting w self.now → desk.now ≡ desk_of setting w server
             → IsTrue result ↔ MayGlance w server line round }
     {
+        if self.is_settling(line, round) {
+            return true;
+        }
         if round != 0 {
             return false;
         }

@@ -2,6 +2,8 @@
 
 ghost use Rattle.std.specs.Prelude.{◌≡◌, ◌+◌, ◌++◌, ◌∷◌, [], map, min, false, true, IfOk, OnOk, OnErr, IsErrOf};
 ghost use Rattle.petal_history.specs.Legal.{IsLegal};
+ghost use Rattle.client_core.specs.Open.{settle_of};
+ghost use Rattle.petal_rules.specs.Jobs.{operator};
 ghost use Rattle.petal_rules.specs.World.{MayStep, greatest_u64, setting_of};
 ghost use Rattle.petal_world.specs.Play.{Can, LeavesIn, entered, played, rev_of, told_by, world_of};
 ghost use Rattle.world_desks.specs.Desks.{ended, first_sites};
@@ -176,6 +178,13 @@ impl<H: Host> World<H> {
         ensures { self.now.over ≡ false → result ≡ rev_of (setting_of self.now.script) (world_of self.now) actor }
     {
         self.actors.rev(actor)
+    }
+
+    /// The operator's open line and its round, where it is a settle. Nothing is said of it once a step ran out of memory.
+    pub fn settling(&self) -> Option<(u32, u32)>
+        ensures { self.now.over ≡ false → result ≡ settle_of ((world_of self.now).clients operator).asked }
+    {
+        self.actors.settling()
     }
 
     /// Takes a step, and tells the letters that it sent, the answer that it gave and how its job ended. How a job ends is for

@@ -1,6 +1,6 @@
 //! The map from keys to entries.
 
-ghost use Rattle.std.specs.Prelude.{◌≡◌, ◌≤◌, ◌<◌, ◌+◌, ◌⊎◌, [], vec_len, vec_capacity, is_some, if◌then◌else◌, insert, remove, OnOk, IfOk, IsSome};
+ghost use Rattle.std.specs.Prelude.{◌≡◌, ◌≤◌, ◌<◌, ◌+◌, ◌⊎◌, [], vec_len, vec_capacity, is_some, if◌then◌else◌, insert, remove, slice_get, OnOk, IfOk, IsSome};
 ghost use Rattle.physical_map.specs.Entries.{key_of, slot_of, without_key, chain_of, top_of, version_of, next_block_of, next_map_of};
 ghost use Rattle.physical_map.specs.Keys.{placed, newest, IsInOrder};
 ghost use Rattle.physical_map.specs.Replaced.{entry_of, slot_in, version_in};
@@ -98,6 +98,13 @@ impl PhysicalMap {
         ensures { IfOk result (λ chain. chain ≡ chain_of cell self.now.entries) }
     {
         Ok(Sequence::of(search::chain(&self.entries, &cell).to_vec(alloc)?))
+    }
+
+    /// The entry of a cell at this place of its chain, counted from 0.
+    pub fn nth(&self, cell: Cell, place: usize) -> Option<Entry>
+        ensures { result ≡ slice_get (chain_of cell self.now.entries) place }
+    {
+        search::chain(&self.entries, &cell).get(place).copied()
     }
 
     /// The greatest version of a cell's entries, 0 without one.

@@ -6,13 +6,14 @@ use script_lines::{Line, Request, Script};
 use std::alloc::Global;
 use std::collections::VecDeque;
 
-/// A line that is to be called, its phase, and the server that it stops or starts, where it does that.
+/// A line that is to be called, its phase, the server that it stops or starts, where it does that, and whether it is a settle.
 #[derive(Clone, Copy, Debug, PartialEq, Eq)]
 pub(crate) struct Due {
     pub(crate) number: u32,
     pub(crate) phase: u32,
     pub(crate) stops: Option<ServerId>,
     pub(crate) starts: Option<ServerId>,
+    pub(crate) settles: bool,
 }
 
 /// The server that the request stops, where it stops one.
@@ -31,11 +32,19 @@ fn started_by(request: &Request) -> Option<ServerId> {
     }
 }
 
-/// A client: the lines that it has not called yet, and whether one that it called is not answered.
+/// Whether the request is a settle.
+fn is_settle(request: &Request) -> bool {
+    match request {
+        Request::Settle => true,
+        _ => false,
+    }
+}
+
+/// A client: the lines that it has not called yet, and the one that it called and that is not answered.
 #[derive(Drop)]
 pub(crate) struct Caller {
     due: VecDeque<Due>,
-    pub(crate) is_open: bool,
+    open: Option<Due>,
     pub(crate) patience: Patience,
 }
 
@@ -43,7 +52,7 @@ impl Caller {
     pub(crate) fn new(alloc: Global) -> Caller {
         Caller {
             due: VecDeque::new(alloc),
-            is_open: false,
+            open: None,
             patience: Patience::new(),
         }
     }
@@ -55,13 +64,19 @@ impl Caller {
             phase: line.phase,
             stops: stopped_by(&line.request),
             starts: started_by(&line.request),
+            settles: is_settle(&line.request),
         })?;
         Ok(())
     }
 
+    /// Whether a line that it called is not answered.
+    pub(crate) fn is_open(&self) -> bool {
+        self.open.is_some()
+    }
+
     /// The line that is to be called in this phase, where nothing is open.
     pub(crate) fn next(&self, phase: u32) -> Option<Due> {
-        if self.is_open {
+        if self.is_open() {
             return None;
         }
         match self.due.front() {
@@ -72,15 +87,17 @@ impl Caller {
 
     /// The next line was called.
     pub(crate) fn called(&mut self) {
-        let _ = self.due.pop_front();
-        self.is_open = true;
+        self.open = self.due.pop_front();
         self.patience.renew();
     }
 
-    /// The open line was answered.
-    pub(crate) fn answered(&mut self) {
-        self.is_open = false;
+    /// The open line was answered. Gives whether it was a settle.
+    pub(crate) fn answered(&mut self) -> bool {
         self.patience.renew();
+        match self.open.take() {
+            Some(due) => due.settles,
+            None => false,
+        }
     }
 }
 

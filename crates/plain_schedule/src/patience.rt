@@ -36,6 +36,12 @@ impl Patience {
         self.passed = 0;
     }
 
+    /// The actor got on, and what it sent in this turn is answered by the next: the tick after that is passed on.
+    pub(crate) fn wait_again(&mut self) {
+        self.came = 0;
+        self.passed = 1;
+    }
+
     /// A tick comes. It is passed on only where 2^n came since the last one that was, with n the number of those passed on,
     /// at most 12.
     fn passes(&mut self) -> bool {

@@ -9,11 +9,11 @@ use crate::caller::{Caller, Due, callers_of};
 use crate::patience::Patience;
 use crate::post::{Handing, Post};
 use memory_server::{MemServer, members};
-use petal_base::{CLIENTS, ClientId, NoMemory, ServerId};
+use petal_base::{CLIENTS, ClientId, NoMemory, OPERATOR, ServerId};
 use petal_msg::{Actor, Body, Letter, SharedLetter};
 use petal_rules::{Step, WorkEnd};
 use petal_world::{Stepped, World, WorldError};
-use script_lines::Script;
+use script_lines::{Answer, Script};
 use std::alloc::Global;
 use std::sync::Wait;
 
@@ -23,8 +23,8 @@ const AT_ONCE: u32 = 4;
 /// For so many rounds they come to one client and one server.
 const SPAN: u32 = 8;
 
-/// For so many rounds after a boot the phase goes on: mostly the servers agree within them that the server is back, so that lines of
-/// the next phase find it so.
+/// For so many rounds after a boot the phase goes on, unless a settle is answered `ok` before: mostly the servers agree within them
+/// that the server is back, so that lines of the next phase find it so.
 const AFTER_BOOT: u32 = 128;
 
 /// A world in the middle of a run: the letters that are on their way, what each client has still to call, how long each server
@@ -51,6 +51,15 @@ pub(crate) struct Schedule {
 fn is_refusal(body: &Body) -> bool {
     match body {
         Body::BlockBusy { .. } | Body::Held { .. } | Body::WrongRev { .. } => true,
+        _ => false,
+    }
+}
+
+/// Whether a server that hears this goes on with the pages or with a copy. A copy that is only trimmed may find no slot: were that
+/// counted, it would begin again at once for ever, and its block would never be free for a read.
+fn is_of_copy(body: &Body) -> bool {
+    match body {
+        Body::Hello { .. } | Body::Synced { .. } => true,
         _ => false,
     }
 }
@@ -126,23 +135,29 @@ impl Schedule {
         Ok(())
     }
 
-    // A line of the phase was answered to the client that called it.
-    fn note_answer(&mut self, actor: Actor)
+    // A line of the phase was answered to the client that called it. What is settled need not be waited for.
+    fn note_answer(&mut self, actor: Actor, answer: &Answer)
         ensures { self.new.world ≡ self.old.world }
     {
         self.left = self.left.saturating_sub(1);
-        if let Actor::Client(client) = actor {
-            if let Some(caller) = self.callers.get_mut(client as usize) {
-                caller.answered();
-            }
+        let settles = match actor {
+            Actor::Client(client) => match self.callers.get_mut(client as usize) {
+                Some(caller) => caller.answered(),
+                None => false,
+            },
+            Actor::Server(_) => false,
+        };
+        match answer {
+            Answer::Ok if settles => self.rounds_left = 0,
+            _ => {}
         }
     }
 
     fn note(&mut self, actor: Actor, stepped: &Stepped) -> Result<(), NoMemory>
         ensures { self.new.world ≡ self.old.world }
     {
-        if stepped.answer.is_some() {
-            self.note_answer(actor);
+        if let Some((_, answer)) = &stepped.answer {
+            self.note_answer(actor, answer);
         }
         self.post_all(stepped.letters.as_slice())
     }
@@ -175,12 +190,14 @@ impl Schedule {
     fn note_letter(&mut self, actor: Actor, body: &Body)
         ensures { self.new.world ≡ self.old.world }
     {
-        if !self.brings_on(body) {
-            return;
-        }
+        let brings_on = self.brings_on(body);
         if let Actor::Server(server) = actor {
             if let Some(patience) = self.patience.get_mut(server as usize) {
-                patience.renew();
+                if brings_on {
+                    patience.renew();
+                } else if is_of_copy(body) {
+                    patience.wait_again();
+                }
             }
         }
     }
@@ -326,7 +343,7 @@ impl Schedule {
         let at_once = self.at_once(client, CLIENTS);
         let rev = self.world.rev(Actor::Client(client));
         match self.callers.get_mut(client as usize) {
-            Some(caller) if caller.is_open => {
+            Some(caller) if caller.is_open() => {
                 caller.patience.at_rev(rev);
                 caller.patience.ticks(at_once)
             }
@@ -357,7 +374,26 @@ impl Schedule {
         if self.is_new {
             return Ok(());
         }
-        self.call_next(alloc, client)
+        self.call_next(alloc, client)?;
+        if client == OPERATOR {
+            self.glance_at_all(alloc)?;
+        }
+        Ok(())
+    }
+
+    // While a settle is open, each server is shown to the operator, in the settle's present round. The operator hears of all of them
+    // in its next turn, in which that round ends.
+    fn glance_at_all(&mut self, alloc: Global) -> Result<(), NoMemory>
+        ensures script { self.new.world.script ≡ self.old.world.script }
+        ensures goes_on { GoesOn self.old.world.records self.new.world.records }
+    {
+        let Some((line, round)) = self.world.settling() else {
+            return Ok(());
+        };
+        for server in 0..self.servers {
+            self.take(alloc, Actor::Server(server), &Step::Glance { line, round })?;
+        }
+        Ok(())
     }
 
     fn server_ticks(&mut self, server: ServerId) -> u32
@@ -408,7 +444,7 @@ impl Schedule {
     /// Each client and then each server has its turn, by number. In it an actor gets the letters that were sent to it, ticks are
     /// passed on to it, a client with nothing open calls its next line of the phase, and a server works until its queue is
     /// empty, before the ticks and after them. Where the operator calls a line that stops or starts a server, the stop or the boot
-    /// and its glance follow at once. A tick is passed on where the actor has waited for it long enough. In the round after a loss
+    /// and its glance follow at once; while a settle is open, the operator's turn ends with a glance at each server. A tick is passed on where the actor has waited for it long enough. In the round after a loss
     /// four to six are passed on at once to one client and one server, and each box is emptied from another letter on than in the
     /// round before, so that no loss of every K-th letter hits the same letters for ever. In the first round of a later phase a
     /// client calls nothing, and one that has a line to call asks what was chosen: so it need not find out by an entry of its own
@@ -441,7 +477,8 @@ impl Schedule {
         self.world.enter(phase)
     }
 
-    /// Whether each line of the phase was answered, and the last boot of a server was long enough ago.
+    /// Whether each line of the phase was answered, and the last boot of a server was long enough ago, or the servers were settled
+    /// since.
     pub(crate) fn is_through(&self) -> bool {
         self.left == 0 && self.rounds_left == 0
     }

@@ -25,7 +25,7 @@ fn is_all_held(held: Hold) -> bool
     }
 }
 
-/// What a server that may read the cell says: a fence, or at the lead an operation on the block, keeps the read back; else it
+/// What a server that may read the cell says: a fence, or at the lead what is under way on the block, keeps the read back; else it
 /// gives the bytes of the entry of the greatest epoch not above, or zeros where there is none. Nothing of the store changes,
 /// and the device keeps it as before.
 ///
@@ -49,7 +49,7 @@ pub fn answer_read<D: Disk>(
     if is_all_held(here.held(cell)) {
         return Ok(Reply::Held);
     }
-    if here.is_lead(cell) && side.is_busy(cell) {
+    if here.is_lead(cell) && side.is_under_way(cell) {
         return Ok(Reply::BlockBusy);
     }
     Ok(Reply::Data(read_at(here.alloc(), store, cell, epoch)?))

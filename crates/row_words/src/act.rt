@@ -35,8 +35,8 @@ pub enum Act<'a> {
     Stop(ServerId),
     /// The server boots.
     Boot(ServerId),
-    /// The server is glanced at for this line.
-    Show(ServerId, u32),
+    /// The server is glanced at for this line, in this round of it.
+    Show(ServerId, u32, u32),
     Hand(Mail<'a>),
     Lose(Mail<'a>),
     Again(Mail<'a>),
@@ -148,7 +148,12 @@ pub fn act_of<'a>(words: &'a [&'a str]) -> Result<Act<'a>, usize> {
         [who, "ticks"] => Ok(Act::Tick(actor(who, 1)?)),
         [who, "stops"] => Ok(Act::Stop(server(who, 1)?)),
         [who, "boots"] => Ok(Act::Boot(server(who, 1)?)),
-        [who, "shows", line] => Ok(Act::Show(server(who, 1)?, number(line, 3)?)),
+        [who, "shows", line] => Ok(Act::Show(server(who, 1)?, number(line, 3)?, 0)),
+        [who, "shows", line, "in", round] => Ok(Act::Show(
+            server(who, 1)?,
+            number(line, 3)?,
+            number(round, 5)?,
+        )),
         [who, ..] if actor(who, 1).is_ok() => Err(2),
         [kind, way] => Ok(Act::Hand(mail_of(kind, way, 1)?)),
         _ => longer(words),

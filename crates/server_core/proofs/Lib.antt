@@ -7,3 +7,4 @@ pub mod Refused
 pub mod Ticks
 pub mod Pairing
 pub mod Boots
+pub mod Noting

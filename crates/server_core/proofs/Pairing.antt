@@ -1,5 +1,5 @@
 -- A job of the pairs that was done.
-use Rattle.std.proofs.Common.{◌≡◌, ◌≤◌, Bool, List, ◌++◌, Some, Ok, inl, inr, drop, length, refl, sym, ap, ◌∙◌, subst, arith}
+use Rattle.std.proofs.Common.{◌≡◌, ◌≤◌, List, ◌++◌, Some, Ok, inl, inr, drop, length, refl, sym, ap, ◌∙◌, subst, arith}
 use Rattle.std.specs.Prelude.{slice_get}
 use Rattle.kept_chains.specs.Kept.{store_of}
 use Rattle.kept_chains.specs.Standing.{StandsAsEither}
@@ -84,10 +84,10 @@ module _ {D E : Type 0} (device : Ghosts D) (other : Ghosts E) (old new : Core) 
     stops = λ told also holds kept. full.stops told holds state.records;
   }
 
-  pub full_log : (store : Holdings D) (before after : Keeping E) (fresh : Bool) → store.fresh ≡ fresh → IsFullLog other fresh old new before after
+  pub full_log : (store : Holdings D) (before after : Keeping E) → IsFullLog other (store_of store) old new before after
       → IsFullWork device other old new store store before after
-  full_log store before after fresh same full = record {
+  full_log store before after full = record {
     count = inr full.count;
     same = (full.same.0, refl, full.same.1);
-    stops = λ told also holds kept. full.stops also kept (store_of store) same;
+    stops = λ told also holds kept. full.stops also kept;
   }

@@ -1,5 +1,5 @@
 -- What a tick sends, part after part.
-use Rattle.std.proofs.Common.{◌≡◌, ℕ, suc, ◌+◌, Bool, List, [], ◌∷◌, ◌++◌, length, refl, sym, ap, ◌∙◌, arith}
+use Rattle.std.proofs.Common.{◌≡◌, ℕ, suc, ◌+◌, List, [], ◌∷◌, ◌++◌, length, if◌then◌else◌, refl, sym, ap, ◌∙◌, arith}
 use Rattle.std.specs.List.{flat_map}
 use Rattle.std.specs.Prelude.{◌-◌, ◌%◌}
 use Rattle.petal_rules.proofs.Applied.{servers_after}
@@ -7,12 +7,16 @@ use Rattle.petal_rules.proofs.Letters.{letters_append}
 use Rattle.log_side.specs.Part.{log_of, sender_of}
 use Rattle.petal_msg.specs.declared.letter.Letter.{Letter}
 use Rattle.petal_paxos.specs.declared.record.StateRecord.{StateRecord}
-use Rattle.petal_rules.specs.Ballots.{ballot_posts, ask_posts, start_jobs}
-use Rattle.petal_rules.specs.Jobs.{sent_anew, tick_posts, ticks, voter_of}
+use Rattle.petal_rules.specs.Ballots.{ballot_posts, ask_posts, start_jobs, wanted}
+use Rattle.petal_rules.specs.Copies.{mend_jobs}
+use Rattle.petal_rules.specs.Jobs.{copies_anew, sent_anew, tick_jobs, tick_posts, ticks, voter_of}
 use Rattle.petal_rules.specs.Log.{Voter}
+use Rattle.petal_rules.specs.Returns.{returning}
 use Rattle.petal_rules.specs.Server.{Own, Post, Sender, letters_of, sender}
+use Rattle.petal_rules.specs.State.{is_in}
 use Rattle.petal_rules.specs.Store.{Store}
-use Rattle.server_core.specs.Core.{Core, acted, here_in, server_of, wanted_at}
+use Rattle.petal_rules.specs.declared.job.Job.{Job}
+use Rattle.server_core.specs.Core.{Core, acted, here_in, own_in, server_of, wants_in}
 use Rattle.server_core.proofs.Works.{voter_is}
 
 count_letters : (who : Sender) (n : ℕ) (ps : List Post) → length (letters_of who n ps) ≡ length ps
@@ -26,31 +30,47 @@ with_more who b p before all is more =
     more ∙ ap (λ (ls : List Letter). ls ++ letters_of who (length ls) p) is
     ∙ ap (λ (k : ℕ). letters_of who 0 b ++ letters_of who k p) count ∙ sym (letters_append who 0 b p)
 
-tick_sent : (who : Sender) (b p a : List Post) (ballot pending all : List Letter) → ballot ≡ letters_of who 0 b
-    → pending ≡ ballot ++ letters_of who (length ballot) p → all ≡ pending ++ letters_of who (length pending) a → all ≡ letters_of who 0 (b ++ p ++ a)
-tick_sent who b p a ballot pending all first second last = with_more who (b ++ p) a pending all (with_more who b p ballot pending first second) last
+tick_sent : (who : Sender) (b p k a : List Post) (ballot pending copies all : List Letter) → ballot ≡ letters_of who 0 b
+    → pending ≡ ballot ++ letters_of who (length ballot) p → copies ≡ pending ++ letters_of who (length pending) k
+    → all ≡ copies ++ letters_of who (length copies) a → all ≡ letters_of who 0 (b ++ p ++ k ++ a)
+tick_sent who b p k a ballot pending copies all first second third last =
+    with_more who (b ++ p ++ k) a copies all (with_more who (b ++ p) k pending copies (with_more who b p ballot pending first second) third) last
 
 -- all letters of a tick
-pub tick_all : (core : Core) (store : Store) (records : List StateRecord) (ballot pending all : List Letter)
+pub tick_all : (core : Core) (store : Store) (records : List StateRecord) (ballot pending copies all : List Letter)
     → ballot ≡ letters_of (sender_of core.log) 0 (ballot_posts core.log.voter core.log.phase)
     → ((own : Own) → pending ≡ ballot ++ letters_of (sender (here_in core)) (length ballot) (flat_map (λ row. sent_anew (here_in core) own row.1) core.side.pending))
-    → all ≡ pending ++ letters_of (sender_of core.log) (length pending) (ask_posts core.log.voter (log_of core.log records))
+    → copies ≡ pending ++ letters_of (sender (here_in core)) (length pending) (copies_anew (here_in core) (own_in core.side store))
+    → all ≡ copies ++ letters_of (sender_of core.log) (length copies) (ask_posts core.log.voter (log_of core.log records))
     → all ≡ letters_of (sender (here_in core)) 0 (tick_posts (here_in core) (server_of core store records))
-tick_all core store records ballot pending all first second last = at_voter (voter_of (here_in core)) (voter_is core)
+tick_all core store records ballot pending copies all first second third last = at_voter (voter_of (here_in core)) (voter_is core)
   where
     at_voter : (voter : Voter) → voter ≡ core.log.voter → all ≡ letters_of (sender_of core.log) 0
         (ballot_posts voter core.log.phase
         ++ flat_map (λ row. sent_anew (here_in core) (server_of core store records).own row.1) core.side.pending
+        ++ copies_anew (here_in core) (own_in core.side store)
         ++ ask_posts voter (log_of core.log records))
     at_voter voter is =
-        rw is (tick_sent (sender_of core.log) (ballot_posts core.log.voter core.log.phase) _ (ask_posts core.log.voter (log_of core.log records))
-        ballot pending all first (second (server_of core store records).own) last)
+        rw is (tick_sent (sender_of core.log) (ballot_posts core.log.voter core.log.phase) _ (copies_anew (here_in core) (own_in core.side store))
+        (ask_posts core.log.voter (log_of core.log records)) ballot pending copies all first (second (server_of core store records).own) third last)
+
+-- the jobs that a tick queues
+pub tick_queued : (core : Core) (store : Store) (records : List StateRecord) (starts mends all : List Job)
+    → starts ≡ start_jobs core.log.phase (wants_in core.log core.side store)
+    → mends ≡ (if is_in (here_in core).state core.log.voter.me core.log.voter.inc then mend_jobs (here_in core) (own_in core.side store) else [])
+    → all ≡ starts ++ mends → all ≡ tick_jobs (here_in core) (server_of core store records)
+tick_queued core store records starts mends all first second is =
+    is ∙ (λ i. first i ++ second i)
+    ∙ ap (λ (voter : Voter). start_jobs core.log.phase (wanted voter (log_of core.log records) (returning (here_in core) (own_in core.side store)))
+    ++ (if is_in (here_in core).state core.log.voter.me core.log.voter.inc then mend_jobs (here_in core) (own_in core.side store) else []))
+    (sym (voter_is core))
 
 -- a tick is done as the rule says
-pub ticked : (old new : Core) (store : Store) (records : List StateRecord) (letters : List Letter) (asks : ℕ) (fresh : Bool) → store.fresh ≡ fresh
+pub ticked : (old new : Core) (store : Store) (records : List StateRecord) (letters : List Letter) (asks : ℕ) (jobs : List Job)
     → letters ≡ letters_of (sender (here_in old)) 0 (tick_posts (here_in old) (server_of old store records))
     → asks ≡ (old.log.asks + 1) % (old.log.voter.servers - 1)
-    → new ≡ record old { log = record old.log { asks = asks }; queue = old.queue ++ start_jobs old.log.phase (wanted_at old.log records fresh) }
+    → jobs ≡ tick_jobs (here_in old) (server_of old store records)
+    → new ≡ record old { log = record old.log { asks = asks }; queue = old.queue ++ jobs }
     → acted new store records letters ≡ ticks (here_in old) (server_of old store records)
-ticked old new store records letters asks fresh same sent next is =
-    rw (is, sent, next, ← same) (rw (voter_is old) (rw (servers_after old.log.voter.servers old.log.applied) refl))
+ticked old new store records letters asks jobs sent next queued is =
+    rw (is, sent, next, queued) (rw (servers_after old.log.voter.servers old.log.applied) refl)

@@ -6,22 +6,20 @@ use Rattle.petal_rules.proofs.Applied.{servers_after}
 use Rattle.log_side.specs.Done.{IsBy, follow_ups}
 use Rattle.log_side.specs.Part.{log_of, sender_of}
 use Rattle.log_side.specs.declared.done.LogDone.{LogDone}
-use Rattle.pair_side.specs.Side.{pairs_of}
 use Rattle.petal_command.specs.declared.command.Command.{Command}
 use Rattle.petal_msg.specs.declared.letter.Letter.{Letter}
 use Rattle.petal_paxos.specs.declared.record.StateRecord.{StateRecord}
-use Rattle.petal_rules.specs.Crossing.{crossed_by, stage_jobs_by}
+use Rattle.petal_rules.specs.Crossing.{crossed_by, jobs_by}
 use Rattle.petal_rules.specs.Entries.{applies}
-use Rattle.petal_rules.specs.Jobs.{Acted, crossing, does, entered, is_log_job, job_done, journal_records, stops, voter_of, where_room, worked, works}
+use Rattle.petal_rules.specs.Jobs.{Acted, crossing, does, is_log_job, job_done, journal_records, stops, voter_of, where_room, worked, works}
 use Rattle.petal_rules.specs.Log.{Log, Voter, known, next_place}
-use Rattle.petal_rules.specs.Log.{LogDone as Rule}
-use Rattle.petal_rules.specs.Server.{Done, Here, Own, Server}
+use Rattle.petal_rules.specs.Server.{Done, Here, Own, Server, letters_of, sender}
 use Rattle.petal_rules.specs.Store.{Store}
 use Rattle.petal_rules.specs.declared.job.Job.{Job}
 use Rattle.petal_rules.specs.declared.job.Job.TheVariants as job
-use Rattle.server_core.specs.Core.{Core, acted, after_first, here_in, left_by_first, server_of}
+use Rattle.server_core.specs.Core.{Core, acted, after_first, here_in, left_by_first, own_in, server_of}
 use Rattle.server_core.specs.Kind.{kind_of}
-use Rattle.server_core.specs.Steps.{log_rule}
+use Rattle.server_core.specs.Steps.{IsLeft, log_rule, own_left}
 use Rattle.server_core.specs.declared.queue.Kind.TheVariants.{Applies, OfLog, OfPairs}
 
 -- ### Which part does it
@@ -43,6 +41,7 @@ job_pair : (here : Here) (server : Server) (first : Job) (rest : List Job) → k
 job_pair here server job.Apply rest is = absurd (cc)
 job_pair here server (job.Letter letter) rest is = rw (not_pairs (is_log_job (job.Letter letter)) is) refl
 job_pair here server (job.Stage cell) rest is = refl
+job_pair here server (job.Mend link) rest is = refl
 job_pair here server job.Start rest is = absurd (cc)
 
 -- only the job by which an entry is applied is of both
@@ -51,6 +50,7 @@ apply_first [] none = absurd none
 apply_first (job.Apply ∷ rest) is = refl
 apply_first (job.Letter letter ∷ rest) is = absurd (no_entry (is_log_job (job.Letter letter)) is)
 apply_first (job.Stage cell ∷ rest) is = absurd (cc)
+apply_first (job.Mend link ∷ rest) is = absurd (cc)
 apply_first (job.Start ∷ rest) is = absurd (cc)
 
 -- ### Room
@@ -135,50 +135,57 @@ pub voter_is : (core : Core) → voter_of (here_in core) ≡ core.log.voter
 voter_is core =
     ap (λ (n : ℕ). record { me = core.log.voter.me; inc = core.log.voter.inc; servers = n }) (servers_after core.log.voter.servers core.log.applied)
 
--- at each store that is still to be filled, or at each that is not, the job leaves what this rule says of a voter
-abbrev pub IsEntered : (core : Core) → List StateRecord → (first : Job) → (fresh : Bool) → (Voter → Rule) → Type 0
-IsEntered core records first fresh rule_of = (store : Store) → store.fresh ≡ fresh
-    → job_done (here_in core) (server_of core store records) first (drop 1 core.queue)
-    ≡ entered (here_in core) (server_of core store records) (drop 1 core.queue) (rule_of (voter_of (here_in core)))
+-- what a job of the log leaves, as this voter
+abbrev pub entered_as : Core → Store → List StateRecord → Job → Voter → Acted
+entered_as core store records first voter =
+    let rule = log_rule core.log core.side store records first voter in
+    record {
+      server = record (server_of core store records) {
+        log = rule.log;
+        own = own_left core.log core.side store records first voter;
+        queue = drop 1 core.queue ++ rule.jobs;
+      };
+      letters = letters_of (sender (here_in core)) 0 rule.posts;
+    }
 
-pub log_entered : (core : Core) (records : List StateRecord) (first : Job) (fresh : Bool) → kind_of first ≡ OfLog
-    → IsEntered core records first fresh (log_rule core.log records fresh first)
-log_entered core records job.Apply fresh kind = absurd (cc)
-log_entered core records (job.Letter letter) fresh kind = λ store same. rw (not_log (is_log_job (job.Letter letter)) kind) refl
-log_entered core records (job.Stage cell) fresh kind = absurd (cc)
-log_entered core records job.Start fresh kind = λ store same.
-    ap (λ (unfilled : Bool). entered (here_in core) (server_of core store records) (drop 1 core.queue)
-    (log_rule core.log records unfilled job.Start (voter_of (here_in core)))) same
+log_entered : (core : Core) (store : Store) (records : List StateRecord) (first : Job) → kind_of first ≡ OfLog
+    → job_done (here_in core) (server_of core store records) first (drop 1 core.queue) ≡ entered_as core store records first (voter_of (here_in core))
+log_entered core store records job.Apply kind = absurd (cc)
+log_entered core store records (job.Letter letter) kind = rw (not_log (is_log_job (job.Letter letter)) kind) refl
+log_entered core store records (job.Stage cell) kind = absurd (cc)
+log_entered core store records (job.Mend link) kind = absurd (cc)
+log_entered core store records job.Start kind = refl
 
 module _ (core : Core) (store : Store) (records : List StateRecord)
-    (first : Job) (there : slice_get core.queue 0 ≡ Some first) (fresh : Bool) (same : store.fresh ≡ fresh)
-    (rule_of : Voter → Rule) (enters : IsEntered core records first fresh rule_of) where
+    (first : Job) (there : slice_get core.queue 0 ≡ Some first) (kind : kind_of first ≡ OfLog) where
   abbrev at : Here
   at = here_in core
 
   abbrev it : Server
   it = server_of core store records
 
-  abbrev entered_by : Voter → Acted
-  entered_by voter = entered at it (drop 1 core.queue) (rule_of voter)
+  abbrev left_by : Voter → Acted
+  left_by voter = entered_as core store records first voter
 
-  entered_is : works at it core.queue ≡ where_room at it (entered_by core.log.voter)
+  entered_is : works at it core.queue ≡ where_room at it (left_by core.log.voter)
   entered_is =
       first_done at it core.queue first there
-      ∙ ap (where_room at it) (enters store same)
-      ∙ ap (λ (voter : Voter). where_room at it (entered_by voter)) (voter_is core)
+      ∙ ap (where_room at it) (log_entered core store records first kind)
+      ∙ ap (λ (voter : Voter). where_room at it (left_by voter)) (voter_is core)
 
-  pub log_left : (rule_of core.log.voter).log.records ≡ (left_by_first core store records).log.records
+  pub log_left : (log_rule core.log core.side store records first core.log.voter).log.records ≡ (left_by_first core store records).log.records
   log_left = sym (ap (λ (it : Server). it.log.records)
-      (first_left at it core.queue first there ∙ ap (λ (left : Acted). left.server) (enters store same
-      ∙ ap (λ (voter : Voter). entered_by voter) (voter_is core))))
+      (first_left at it core.queue first there ∙ ap (λ (left : Acted). left.server) (log_entered core store records first kind
+      ∙ ap (λ (voter : Voter). left_by voter) (voter_is core))))
 
-  pub log_works : store.records ≤ journal_records → length (rule_of core.log.voter).log.records ≤ journal_records
-      → works at it core.queue ≡ entered_by core.log.voter
-  log_works few_store few_log = entered_is ∙ fits at it (entered_by core.log.voter) few_store few_log
+  pub log_works : (left_by core.log.voter).server.own.store.records ≤ journal_records
+      → length (log_rule core.log core.side store records first core.log.voter).log.records ≤ journal_records
+      → works at it core.queue ≡ left_by core.log.voter
+  log_works few_store few_log = entered_is ∙ fits at it (left_by core.log.voter) few_store few_log
 
-  pub log_stops : length (rule_of core.log.voter).log.records ≡ journal_records + 1 → works at it core.queue ≡ stops at it
-  log_stops more = entered_is ∙ full_log at it (entered_by core.log.voter) more
+  pub log_stops : length (log_rule core.log core.side store records first core.log.voter).log.records ≡ journal_records + 1
+      → works at it core.queue ≡ stops at it
+  log_stops more = entered_is ∙ full_log at it (left_by core.log.voter) more
 
 unfoldable pub made : Bool → (inc : ℕ) → Log → Own → List Job → List Letter → Acted
 made running inc log own queue letters = record {
@@ -188,20 +195,24 @@ made running inc log own queue letters = record {
 
 -- a job of the log is done as the rule says
 pub log_worked : (old new : Core) (store : Store) (before after : List StateRecord) (first : Job) (done : LogDone)
-    → slice_get old.queue 0 ≡ Some first → (fresh : Bool) → store.fresh ≡ fresh → (rule_of : Voter → Rule) → IsEntered old before first fresh rule_of
-    → IsBy (sender_of old.log) (log_of new.log after) done (rule_of old.log.voter)
-    → new.running ≡ old.running → new.log.voter ≡ old.log.voter → new.side ≡ old.side → new.queue ≡ drop 1 old.queue ++ follow_ups done
+    → slice_get old.queue 0 ≡ Some first → kind_of first ≡ OfLog
+    → IsBy (sender_of old.log) (log_of new.log after) done (log_rule old.log old.side store before first old.log.voter)
+    → IsLeft old.log old.side store before first new.side
+    → new.running ≡ old.running → new.log.voter ≡ old.log.voter → new.queue ≡ drop 1 old.queue ++ follow_ups done
     → store.records ≤ journal_records → length after ≤ journal_records
     → acted new store after done.letters ≡ works (here_in old) (server_of old store before) old.queue
 unfolding made
-log_worked old new store before after first done there fresh same rule_of enters by running voter side queue few_store few_log =
-    let rule = rule_of old.log.voter in
+log_worked old new store before after first done there kind by left running voter queue few_store few_log =
+    let rule = log_rule old.log old.side store before first old.log.voter in
+    let own = left.0 in
     let jobs = queue ∙ ap (λ (js : List Job). drop 1 old.queue ++ js) by.jobs in
     let inc : new.log.voter.inc ≡ old.log.voter.inc = ap (λ (v : Voter). v.inc) voter in
     let records : length rule.log.records ≤ journal_records =
     (let same : length after ≡ length rule.log.records = ap (λ (log : Log). length log.records) by.log in omega (arith, same)) in
-    (λ i. made (running i) (inc i) (by.log i) (record { pairs = pairs_of (side i); store = store }) (jobs i) (by.letters i))
-    ∙ sym (log_works old store before first there fresh same rule_of enters few_store records)
+    let stored : (own_left old.log old.side store before first old.log.voter).store.records ≤ journal_records =
+    (let same : store.records ≡ (own_left old.log old.side store before first old.log.voter).store.records = ap (λ (o : Own). o.store.records) own in omega (arith, same)) in
+    (λ i. made (running i) (inc i) (by.log i) (own i) (jobs i) (by.letters i))
+    ∙ sym (log_works old store before first there kind stored records)
 
 -- ### An entry
 
@@ -219,7 +230,7 @@ module _ (old : Core) (before : Store) (records : List StateRecord) (there : sli
   own_after = crossed_by where_old.state entry was.own
 
   abbrev stages : List Job
-  stages = stage_jobs_by where_old.state entry was.own
+  stages = jobs_by where_old.state where_old.me entry was.own
 
   entry_works : own_after.store.records ≤ journal_records → length (applies was.log).log.records ≤ journal_records
       → works where_old was old.queue ≡ crossing where_old was (drop 1 old.queue) entry (applies was.log)
@@ -227,7 +238,7 @@ module _ (old : Core) (before : Store) (records : List StateRecord) (there : sli
 
   -- an entry is applied as the rule says
   pub entry_worked : (new : Core) (after : Store) (done : LogDone) → IsBy (sender_of old.log) (log_of new.log records) done (applies was.log)
-      → new.running ≡ old.running → new.log.voter ≡ old.log.voter → record { pairs = pairs_of new.side; store = after } ≡ own_after
+      → new.running ≡ old.running → new.log.voter ≡ old.log.voter → own_in new.side after ≡ own_after
       → new.queue ≡ (drop 1 old.queue ++ follow_ups done) ++ stages
       → after.records ≤ journal_records → length records ≤ journal_records
       → acted new after records done.letters ≡ works where_old was old.queue

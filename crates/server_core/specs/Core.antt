@@ -1,6 +1,6 @@
 -- A server in memory, and the server of the rules that it is with its two stores.
 use Rattle.std.specs.Prelude.{◌≡◌, ◌≤◌, ◌<◌, ◌⊎◌, ℕ, ◌==◌, ◌||◌, Bool, List, [], ◌∷◌, Option, None, Some, Result, Err}
-use Rattle.log_side.specs.Part.{Part, log_of, state_of}
+use Rattle.log_side.specs.Part.{Part, log_of, state_of, wants_of}
 use Rattle.pair_side.specs.Side.{Side, pairs_of}
 use Rattle.pair_side.specs.declared.error.WorkError.{WorkError}
 use Rattle.pair_side.specs.declared.error.WorkError.TheVariants.{Failed}
@@ -10,10 +10,9 @@ use Rattle.petal_msg.specs.declared.letter.Letter.{Letter}
 use Rattle.petal_paxos.specs.declared.record.StateRecord.{StateRecord}
 use Rattle.petal_rules.specs.Store.{Store, top_of}
 use Rattle.petal_rules.specs.Log.{Voter}
-use Rattle.petal_rules.specs.Server.{Server, Here, letters_of}
+use Rattle.petal_rules.specs.Server.{Server, Here, Own, letters_of}
 use Rattle.petal_rules.specs.Jobs.{Acted, down_posts, job_done, works}
-use Rattle.petal_rules.specs.Ballots.{wanted}
-use Rattle.petal_rules.specs.Returns.{own_join}
+use Rattle.petal_rules.specs.Returns.{returning}
 use Rattle.petal_rules.specs.World.{greatest_u64}
 use Rattle.petal_rules.specs.declared.job.Job.{Job}
 
@@ -24,20 +23,28 @@ pub record Core : Type 0 where
   pub side : Side
   pub queue : List Job
 
--- what the server wants chosen, with these records on its state device and a store that is still to be filled or not
-abbrev pub wanted_at : Part → List StateRecord → (fresh : Bool) → List Command
-wanted_at part records fresh = wanted part.voter (log_of part records) (own_join (state_of part) part.voter.me part.voter.inc fresh)
+-- where the jobs of a server with this part of the log are done
+abbrev pub here_by : Part → Here
+here_by part = record { state = state_of part; me = part.voter.me; inc = part.voter.inc }
 
 -- where its jobs are done
 abbrev pub here_in : Core → Here
-here_in core = record { state = state_of core.log; me = core.log.voter.me; inc = core.log.voter.inc }
+here_in core = here_by core.log
+
+-- its own part in the pairs, with this store
+abbrev pub own_in : Side → Store → Own
+own_in side store = record { pairs = pairs_of side; copies = side.copies; store = store }
+
+-- what it wants chosen; no record on its state device counts
+abbrev pub wants_in : Part → Side → Store → List Command
+wants_in part side store = wants_of part (returning (here_by part) (own_in side store))
 
 -- the server with this store and these records on its state device
 abbrev pub server_of : Core → Store → List StateRecord → Server
 server_of core store records = record {
   life = record { running = core.running; inc = core.log.voter.inc };
   log = log_of core.log records;
-  own = record { pairs = pairs_of core.side; store = store };
+  own = own_in core.side store;
   queue = core.queue;
 }
 

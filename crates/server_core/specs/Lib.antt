@@ -1,4 +1,5 @@
 pub mod Core
 pub mod Kind
+pub mod Noted
 pub mod Steps
 pub mod Boots

@@ -1,26 +1,29 @@
 -- What a job leaves of a server: one of the pairs, over the store, and one of the agreed log, over the state store.
-use Rattle.std.specs.Prelude.{◌≡◌, ◌≤◌, ◌⊎◌, length, Bool, List, Result, Err, IfOk, OnOk, OnErr}
+use Rattle.std.specs.Prelude.{◌≡◌, ◌≤◌, ◌⊎◌, length, List, Result, Err, IfOk, OnOk, OnErr}
 use Rattle.petal_base.specs.declared.memory.NoMemory.{NoMemory as OutOfMemory}
 use Rattle.kept_chains.specs.Kept.{store_of}
 use Rattle.kept_chains.specs.Standing.{StandsAsEither}
 use Rattle.log_side.specs.Done as logs
-use Rattle.log_side.specs.Part.{Part, log_of, starts_one, state_of}
+use Rattle.log_side.specs.Part.{Part, log_of, state_of}
 use Rattle.pair_side.specs.Done.{HasFault, HoldsAt}
-use Rattle.pair_side.specs.Side.{HasTicketsAt}
+use Rattle.pair_side.specs.Side.{HasTicketsAt, Side}
 use Rattle.pair_side.specs.declared.error.WorkError.{WorkError}
 use Rattle.pair_side.specs.declared.error.WorkError.TheVariants.{Failed, JournalFull, NoMemory}
+use Rattle.petal_command.specs.declared.command.Command.{Command}
 use Rattle.petal_disk.specs.declared.disk.Disk.{Ghosts}
 use Rattle.petal_disk.specs.Disk.{LeavesOnly}
 use Rattle.petal_msg.specs.declared.letter.Letter.{Letter}
 use Rattle.petal_paxos.specs.declared.record.StateRecord.{StateRecord}
 use Rattle.petal_rules.specs.Jobs.{journal_records, log_does, stops, works}
+use Rattle.petal_rules.specs.Ballots.{first_wanted, starts, wanted}
 use Rattle.petal_rules.specs.Log.{Voter}
 use Rattle.petal_rules.specs.Log.{LogDone as Rule}
-use Rattle.petal_rules.specs.Returns.{own_join}
+use Rattle.petal_rules.specs.Returns.{proposed, returning}
+use Rattle.petal_rules.specs.Server.{Own}
 use Rattle.petal_rules.specs.Store.{Store}
 use Rattle.petal_rules.specs.declared.job.Job.{Job}
 use Rattle.petal_rules.specs.declared.job.Job.TheVariants as job
-use Rattle.server_core.specs.Core.{Core, acted, here_in, left_by_first, server_of}
+use Rattle.server_core.specs.Core.{Core, acted, here_by, here_in, left_by_first, own_in, server_of}
 use Rattle.server_store.specs.Holdings.{Holdings}
 use Rattle.state_store.specs.Device.{Keeping, StandsForEither}
 use Rattle.state_store.specs.declared.error.StateError.{StateError}
@@ -39,11 +42,25 @@ abbrev pub Stops : Core → Store → List StateRecord → Type 0
 Stops old store records =
     works (here_in old) (server_of old store records) old.queue ≡ stops (here_in old) (server_of old store records)
 
--- the rule of a job of the agreed log, of a server whose store is still to be filled or not
-abbrev pub log_rule : Part → List StateRecord → (fresh : Bool) → Job → Voter → Rule
-log_rule part records fresh job.Start voter =
-    starts_one (log_of part records) voter (own_join (state_of part) part.voter.me part.voter.inc fresh)
-log_rule part records fresh job voter = log_does voter (log_of part records) job
+-- what a server wants chosen, as this voter
+abbrev pub wanted_by : Part → Side → Store → List StateRecord → Voter → List Command
+wanted_by part side store records voter = wanted voter (log_of part records) (returning (here_by part) (own_in side store))
+
+-- the rule of a job of the agreed log, at a server as this voter
+abbrev pub log_rule : Part → Side → Store → List StateRecord → Job → Voter → Rule
+log_rule part side store records job.Start voter = starts voter (log_of part records) (wanted_by part side store records voter)
+log_rule part side store records first voter = log_does voter (log_of part records) first
+
+-- the own part that it leaves: where a ballot starts for a link's Caught, that is noted of the link
+abbrev pub own_left : Part → Side → Store → List StateRecord → Job → Voter → Own
+own_left part side store records job.Start voter =
+    proposed (state_of part) (own_in side store) (first_wanted part.phase (length part.applied) (wanted_by part side store records voter))
+own_left part side store records first voter = own_in side store
+
+-- of the side such a job changes at most what is remembered of copies, as its rule says
+abbrev pub IsLeft : Part → Side → Store → List StateRecord → Job → Side → Type 0
+IsLeft part side store records first left =
+    (own_in left store ≡ own_left part side store records first part.voter) × (left ≡ record side { copies = left.copies })
 
 module _ {D : Type 0} where
   -- the data device's journal has no room for the record of the first job, and nothing changed
@@ -71,25 +88,25 @@ module _ {D : Type 0} where
     pub run : device.came_to before.disk after.disk
 
   -- the state device's journal has no room for the record of the first job, and nothing changed
-  pub record IsFullLog (device : Ghosts D) (fresh : Bool) (old new : Core) (before after : Keeping D) : Type 0 where
+  pub record IsFullLog (device : Ghosts D) (store : Store) (old new : Core) (before after : Keeping D) : Type 0 where
     pub count : before.region.count ≡ 65536
     pub same : (new ≡ old) × (after ≡ before)
-    pub stops : device.told → logs.HoldsAt device before → (store : Store) → store.fresh ≡ fresh → Stops old store before.records
+    pub stops : device.told → logs.HoldsAt device before → Stops old store before.records
 
-  -- the first job, of the agreed log, is done as the rule says where the device tells its bytes and stands for the records, at
-  -- each store that is still to be filled, or at each that is not; the rest is as of each job of the log
-  pub record IsLogWork (device : Ghosts D) (fresh : Bool) (old new : Core) (before after : Keeping D) (result : Result (List Letter) WorkError) : Type 0 where
-    pub work : IfOk result (λ letters. device.told → logs.HoldsAt device before → (store : Store) → store.fresh ≡ fresh → store.records ≤ journal_records
+  -- the first job, of the agreed log, is done as the rule says at this store, where the device tells its bytes and stands for the
+  -- records; the rest is as of each job of the log. The store is not called
+  pub record IsLogWork (device : Ghosts D) (store : Store) (old new : Core) (before after : Keeping D) (result : Result (List Letter) WorkError) : Type 0 where
+    pub work : IfOk result (λ letters. device.told → logs.HoldsAt device before → store.records ≤ journal_records
         → acted new store after.records letters ≡ works (here_in old) (server_of old store before.records) old.queue)
     pub life : (new.running ≡ old.running) × (new.log.voter ≡ old.log.voter)
-    pub side : new.side ≡ old.side
+    pub side : new.side ≡ record old.side { copies = new.side.copies }
     pub holds : device.told → logs.HoldsAt device before → OnOk result (logs.HoldsAt device after)
-    pub moments : device.told → logs.HoldsAt device before → (store : Store) → store.fresh ≡ fresh
+    pub moments : device.told → logs.HoldsAt device before
         → LeavesOnly device.moment device.left_since before.disk after.disk
         (StandsForEither before.records (left_by_first old store before.records).log.records)
     pub same : result ≡ Err NoMemory → (new ≡ old) × (after ≡ before)
     pub kept : OnErr result (after.records ≡ before.records)
-    pub full : result ≡ Err JournalFull → IsFullLog device fresh old new before after
+    pub full : result ≡ Err JournalFull → IsFullLog device store old new before after
     pub cause : HasFault (device.faults before.disk) (device.faults after.disk) result
     pub run : device.came_to before.disk after.disk
 

@@ -1,25 +1,29 @@
 //! One job.
 
 ghost use Rattle.std.specs.Prelude.{◌≡◌, true, false, IfOk, IfErr, Err};
-ghost use Rattle.petal_msg.specs.Kinds.{asked_by};
+ghost use Rattle.petal_msg.specs.Kinds.{Copied, asked_by, subject_of};
 ghost use Rattle.petal_rules.specs.State.{is_in};
-ghost use Rattle.petal_rules.specs.Jobs.{at_other_rev, does, handles, is_from_in, on_letter};
+ghost use Rattle.petal_rules.specs.Jobs.{at_other_rev, does, handles, is_from_in, on_letter, stages};
 ghost use Rattle.petal_rules.specs.Reads.{on_read};
 ghost use Rattle.pair_side.specs.Side.{own_of, HasTicketsAt};
 ghost use Rattle.pair_side.specs.Done.{HasVersions, IsDone, IsSaid};
 
+use copy_recovery::{
+    Entry, copies_on, mends, on_hello, on_hello_ask, on_sync, on_sync_full, on_synced, on_trim,
+    on_trimmed, trims_on,
+};
 use global_state::GlobalState;
 use kept_chains::ReadError;
 use pair_side::{says, silent};
-use petal_base::{Cell, ClientId, Epoch, Inc, Seq, ServerId};
+use petal_base::{Cell, ClientId, Epoch, Inc, MapId, Seq, ServerId};
 use petal_disk::Disk;
-use petal_msg::{Actor, Body, Letter};
+use petal_msg::{Actor, Body, Letter, LinkId};
 use petal_rules::Job;
 use read_either::{answer_read, said};
 use server_store::Store;
 use write_pair::{Done, Here, Side, WorkError};
 
-fn is_in(state: &GlobalState, server: ServerId, inc: Inc) -> bool
+pub(crate) fn is_in(state: &GlobalState, server: ServerId, inc: Inc) -> bool
     ensures { result ≡ is_in state.now server inc }
 {
     match state.inc_in(server) {
@@ -45,6 +49,12 @@ fn asked_by(body: &Body) -> Option<Seq>
         Body::Read { seq, .. } | Body::Write { seq, .. } => Some(*seq),
         _ => None,
     }
+}
+
+fn link_named(map: MapId, link: u8) -> LinkId
+    ensures { result ≡ record { map = map; link = link } }
+{
+    LinkId { map, link }
 }
 
 /// A letter of another revision: a client is told, a server is not.
@@ -98,6 +108,53 @@ fn on_read<D: Disk>(
     }
 }
 
+/// What is done with a letter of copies.
+#[tactic(auto, unfolding(petal_rules::specs::Jobs::handles))]
+fn copies<D: Disk>(
+    here: &Here,
+    side: &mut Side,
+    store: &mut Store<D>,
+    body: &Body,
+) -> Result<Done, WorkError>
+    requires tickets { HasTicketsAt side.old store.old }
+    requires copies { subject_of body.now ≡ Copied }
+    ensures { IsDone D.Disk here.now side.old side.new store.old store.new result
+        (handles here.now (own_of side.old store.old) body.now) }
+{
+    match body {
+        Body::HelloAsk { map, link, after } => {
+            on_hello_ask(here, side, store, link_named(*map, *link), *after)
+        }
+        Body::Hello {
+            map,
+            link,
+            after,
+            block,
+        } => on_hello(here, side, store, link_named(*map, *link), *after, *block),
+        Body::Trim { op, cell, epochs } => on_trim(here, side, store, *op, *cell, epochs),
+        Body::Trimmed { op, cell } => on_trimmed(here, side, store, *op, *cell),
+        Body::Sync {
+            op,
+            key,
+            version,
+            index,
+            bytes,
+        } => {
+            let entry = Entry {
+                op: *op,
+                key: *key,
+                index: *index,
+                version: *version,
+                bytes,
+            };
+            on_sync(here, side, store, &entry)
+        }
+        Body::Synced { op, cell, index } => on_synced(here, side, store, *op, *cell, *index),
+        Body::SyncFull { op, cell } => on_sync_full(here, side, store, *op, *cell),
+        _ => silent(here, side, store),
+    }
+}
+
 /// What is done with a letter's content, at a server that handles it.
 #[tactic(auto, unfolding(petal_rules::specs::Jobs::handles))]
 fn handles<D: Disk>(
@@ -143,10 +200,10 @@ fn handles<D: Disk>(
         | Body::Trimmed { .. }
         | Body::Sync { .. }
         | Body::Synced { .. }
-        | Body::SyncFull { .. }
-        | Body::Fill { .. }
-        | Body::Filled { .. }
-        | Body::FillFull { .. } => silent(here, side, store),
+        | Body::SyncFull { .. } => copies(here, side, store, &letter.body),
+        Body::Fill { .. } | Body::Filled { .. } | Body::FillFull { .. } => {
+            silent(here, side, store)
+        }
     }
 }
 
@@ -173,6 +230,27 @@ fn on_letter<D: Disk>(
     }
 }
 
+/// What is under way on the cell does its next stage: an operation, a copy, or the last copy of the cell to this server.
+fn stages<D: Disk>(
+    here: &Here,
+    side: &mut Side,
+    store: &mut Store<D>,
+    cell: Cell,
+) -> Result<Done, WorkError>
+    requires tickets { HasTicketsAt side.old store.old }
+    requires versions { HasVersions store.old }
+    ensures { IsDone D.Disk here.now side.old side.new store.old store.new result
+        (stages here.now (own_of side.old store.old) cell) }
+{
+    if side.locks.is_busy(cell) {
+        write_pair::goes_on(here, side, store, cell)
+    } else if side.copies.copying_on(cell).is_some() {
+        copies_on(here, side, store, cell)
+    } else {
+        trims_on(here, side, store, cell)
+    }
+}
+
 /// One job, with at most one commit.
 #[tactic(auto, unfolding(petal_rules::specs::Jobs::does))]
 pub fn does<D: Disk>(
@@ -190,7 +268,14 @@ pub fn does<D: Disk>(
         Job::Letter(letter) => on_letter(here, side, store, letter.get()),
         Job::Stage(cell) => {
             if is_in(here.state(), here.me(), here.inc()) {
-                write_pair::goes_on(here, side, store, *cell)
+                stages(here, side, store, *cell)
+            } else {
+                silent(here, side, store)
+            }
+        }
+        Job::Mend(link) => {
+            if is_in(here.state(), here.me(), here.inc()) {
+                mends(here, side, store, *link)
             } else {
                 silent(here, side, store)
             }

@@ -11,6 +11,8 @@ mod queue;
 mod recent;
 mod server;
 mod step;
+mod wants;
 
+pub use kept_chains::ReadError;
 pub use server::ServerCore;
 pub use write_pair::WorkError;

@@ -8,7 +8,8 @@ ghost use Rattle.petal_msg.specs.Kinds.{is_logged, subject_of};
 ghost use Rattle.petal_rules.specs.Jobs.{is_log_job};
 ghost use Rattle.server_core.specs.Kind.{kind_of};
 
-use petal_base::{Cell, NoMemory};
+use pair_side::FollowUp;
+use petal_base::NoMemory;
 use petal_msg::{Body, SharedLetter};
 use petal_rules::Job;
 use std::collections::VecDeque;
@@ -33,7 +34,7 @@ pub fn is_log_job(job: &Job) -> bool
 {
     match job {
         Job::Letter(letter) => is_logged(&letter.get().body),
-        Job::Stage(_) => false,
+        Job::Stage(_) | Job::Mend(_) => false,
         Job::Apply | Job::Start => true,
     }
 }
@@ -43,7 +44,7 @@ pub fn is_log_job(job: &Job) -> bool
 pub enum Kind {
     /// A job of the pairs.
     OfPairs,
-    /// A job of the agreed log, which changes nothing else.
+    /// A job of the agreed log, which at most notes of a link that a ballot for its `Caught` was started.
     OfLog,
     /// The next entry of the log is applied, which changes the pairs too.
     Applies,
@@ -83,14 +84,16 @@ pub fn add_all(jobs: &mut VecDeque<Job>, more: Vec<Job>)
     }
 }
 
-/// The first job is done, and a stage may follow it up. It takes no memory.
-pub fn go_on(jobs: &mut VecDeque<Job>, follow: Option<Cell>)
+/// The first job is done, and another may follow it up. It takes no memory.
+pub fn go_on(jobs: &mut VecDeque<Job>, follow: Option<FollowUp>)
     requires { 0 < deque_len jobs.old }
     ensures { jobs.new.items ≡ drop 1 jobs.old.items ++ follow_up follow }
 {
     let _ = jobs.pop_front();
-    if let Some(cell) = follow {
-        jobs.push_back_reserved(Job::Stage(cell));
+    match follow {
+        Some(FollowUp::Stage(cell)) => jobs.push_back_reserved(Job::Stage(cell)),
+        Some(FollowUp::Mend(link)) => jobs.push_back_reserved(Job::Mend(link)),
+        None => {}
     }
 }
 

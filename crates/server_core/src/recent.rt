@@ -8,8 +8,8 @@ use petal_rules::Job;
 use petal_table::Table;
 use std::alloc::Global;
 
-/// For each cell the block that was last written or read, so that a read of an unchanged block sends a share of it in place
-/// of a copy. It changes no answer: what the device gave is compared.
+/// For each cell the block that was last written, read or copied, so that a read or a copy of an unchanged block sends a share
+/// of it in place of the bytes that the device gave. It changes no answer: what the device gave is compared.
 #[derive(Drop)]
 pub struct RecentBlocks {
     blocks: Table<Cell, SharedBlock>,
@@ -48,8 +48,10 @@ impl RecentBlocks {
     fn reuse_in(&mut self, cell: Cell, letter: &mut Letter)
         ensures { letter.new ≡ letter.old }
     {
-        if let Body::Data { bytes, .. } = &mut letter.body {
-            self.reuse(cell, bytes);
+        match &mut letter.body {
+            Body::Data { bytes, .. } => self.reuse(cell, bytes),
+            Body::Sync { bytes, .. } => self.reuse(cell, bytes),
+            _ => {}
         }
     }
 
@@ -71,9 +73,12 @@ impl RecentBlocks {
             return letters;
         };
         match &letter.get().body {
-            Body::Read { cell, .. } => return self.reuse_in_reply(*cell, letters),
+            Body::Read { cell, .. } | Body::Trimmed { cell, .. } | Body::Synced { cell, .. } => {
+                return self.reuse_in_reply(*cell, letters);
+            }
             Body::Write { cell, bytes, .. } => self.keep(*cell, bytes),
             Body::Replicate { key, bytes, .. } => self.keep(key.cell(), bytes),
+            Body::Sync { key, bytes, .. } => self.keep(key.cell(), bytes),
             _ => {}
         }
         letters

@@ -1,20 +1,30 @@
 //! A server.
 
 ghost use Rattle.std.specs.Prelude.{◌≡◌, ◌++◌, ◌∷◌, ◌||◌, ◌↔◌, List, [], true, false, length, if◌then◌else◌, IsTrue, IfOk, OnOk, OnErr};
-ghost use Rattle.log_side.specs.Part.{log_of, new_part, state_of};
+ghost use Rattle.log_side.specs.Part.{new_part, state_of};
 ghost use Rattle.petal_paxos.specs.declared.record.StateRecord.{StateRecord};
 ghost use Rattle.petal_rules.specs.Ballots.{start_jobs};
 ghost use Rattle.petal_rules.specs.Jobs as jobs;
-ghost use Rattle.petal_rules.specs.Jobs.{tick_posts, ticks};
+ghost use Rattle.petal_rules.specs.Copies.{mend_jobs};
+ghost use Rattle.petal_rules.specs.Jobs.{copies_anew, tick_posts, ticks};
+ghost use Rattle.petal_rules.specs.State.{is_in};
 ghost use Rattle.petal_rules.specs.Server.{letters_of, sender};
 ghost use Rattle.petal_rules.specs.Store as stores;
 ghost use Rattle.petal_rules.specs.declared.job.Job.TheVariants as job;
+ghost use Rattle.petal_disk.specs.Keeping.{KeepsDevice};
+ghost use Rattle.kept_chains.specs.Reading.{IsReadFault};
+ghost use Rattle.pair_side.specs.Done.{HoldsAt};
 ghost use Rattle.kept_chains.specs.Kept.{store_of};
 ghost use Rattle.pair_side.specs.Side.{new_side};
-ghost use Rattle.server_core.specs.Core.{acted, here_in, is_spent, server_of, wanted_at};
+ghost use Rattle.server_core.specs.Core.{acted, here_in, is_spent, own_in, server_of, wants_in};
 
+use crate::jobs::is_in;
+use crate::queue::{add_all, make_room};
 use crate::recent::RecentBlocks;
+use crate::wants::returning;
+use copy_recovery::mend_jobs;
 use global_state::GlobalState;
+use kept_chains::ReadError;
 use log_side::{Envelope, LogSide, farewell};
 use petal_base::{Inc, NoMemory, OPERATOR, Rev, Sequence, ServerId};
 use petal_command::ServerNumber;
@@ -48,6 +58,38 @@ impl Model for ServerCore {
     ghost view = { λ c. record { running = c.running; log = c.log; side = c.side; queue = c.queue.items } };
 
     ghost invariant = { λ c. c.running ≡ true → c.farewell ≡ farewell_of c.log.voter };
+}
+
+/// These letters of a step, and after them those of copies and pages that are not yet answered, while the server is In as itself.
+fn copies_after<D: Disk>(
+    here: &Here,
+    side: &Side,
+    store: &mut Store<D>,
+    before: Sequence<Letter>,
+) -> Result<Sequence<Letter>, ReadError>
+    ensures letters { IfOk result (λ letters. D.told → letters
+        ≡ before ++ letters_of (sender here.now) (length before) (copies_anew here.now (own_in side.now (store_of store.old)))) }
+    ensures same { store.new ≡ record store.old { disk = store.new.disk } }
+    ensures device { KeepsDevice D.size D.seen D.may_leave D.moment D.left_since store.old.disk store.new.disk }
+    ensures holds { D.told → HoldsAt D.Disk store.old → HoldsAt D.Disk store.new }
+    ensures cause { IsReadFault (D.faults store.old.disk) (D.faults store.new.disk) result }
+    ensures run { D.came_to store.old.disk store.new.disk }
+{
+    if !is_in(here.state(), here.me(), here.inc()) {
+        return Ok(before);
+    }
+    copy_recovery::letters_after(here, side, store, before)
+}
+
+/// That a ballot is started, where one may be.
+fn start_job(alloc: Global, may: bool) -> Result<Vec<Job>, NoMemory>
+    ensures { IfOk result (λ queued. queued.items ≡ (if may then job.Start ∷ [] else [])) }
+{
+    let mut queued = Vec::new(alloc);
+    if may {
+        queued.push(Job::Start)?;
+    }
+    Ok(queued)
 }
 
 fn either(a: bool, b: bool) -> bool
@@ -114,7 +156,11 @@ impl ServerCore {
             round,
             running: self.running,
             inc: if self.running { self.log.inc() } else { 0 },
-            full: false,
+            full: if self.running {
+                self.side.copies.is_full()
+            } else {
+                false
+            },
         };
         Sequence::one(alloc, envelope.letter(Actor::Client(OPERATOR), 0, body))
     }
@@ -166,57 +212,96 @@ impl ServerCore {
         Ok(())
     }
 
-    /// A tick: each letter of a ballot or of a pending operation that is not yet answered goes out again, another server is
-    /// asked what follows, and an idle proposer is to start a ballot where a command is wanted: its own Join among them, where it
-    /// is Out, which tells whether its store is still to be filled. The letters have the stamp 0.
+    /// A tick: each letter of a ballot, of a pending operation or of a copy that is not yet answered goes out again, another server
+    /// is asked what follows, an idle proposer is to start a ballot where a command is wanted, and links of which something waits
+    /// are to be mended. The letters have the stamp 0. Of the store nothing changes; the entry that a copy sends again is read.
     ///
     /// # Errors
-    /// Out of memory. Nothing changed.
-    pub fn tick(&mut self, alloc: Global, fresh: bool) -> Result<Sequence<Letter>, NoMemory>
-        ensures ok { IfOk result (λ letters. (store : stores.Store) (records : List StateRecord) → store.fresh ≡ fresh
-            → acted self.new store records letters ≡ ticks (here_in self.old) (server_of self.old store records)) }
+    /// `Failed` where the data device failed, and out of memory. The server is as it was.
+    pub fn tick<D: Disk>(
+        &mut self,
+        alloc: Global,
+        store: &mut Store<D>,
+    ) -> Result<Sequence<Letter>, ReadError>
+        ensures ok { IfOk result (λ letters. D.told → (records : List StateRecord) → acted self.new (store_of store.new) records letters
+            ≡ ticks (here_in self.old) (server_of self.old (store_of store.old) records)) }
         ensures life { (self.new.running ≡ self.old.running) × (self.new.log.voter ≡ self.old.log.voter) × (self.new.side ≡ self.old.side) }
         ensures err { OnErr result (self.new ≡ self.old) }
+        ensures same { store.new ≡ record store.old { disk = store.new.disk } }
+        ensures device { KeepsDevice D.size D.seen D.may_leave D.moment D.left_since store.old.disk store.new.disk }
+        ensures holds { D.told → HoldsAt D.Disk store.old → HoldsAt D.Disk store.new }
+        ensures cause { IsReadFault (D.faults store.old.disk) (D.faults store.new.disk) result }
+        ensures run { D.came_to store.old.disk store.new.disk }
     {
-        let letters = self.tick_letters(alloc)?;
+        let letters = self.tick_letters(alloc, store)?;
         let asks = self.log.asks_next()?;
-        self.queue_start(alloc, fresh)?;
+        let jobs = self.tick_jobs(alloc, store)?;
+        self.queue_all(jobs)?;
         self.log.ask_at(asks);
         Ok(letters)
     }
 
-    /// An idle proposer is to start a ballot where a command is wanted.
-    fn queue_start(&mut self, alloc: Global, fresh: bool) -> Result<(), NoMemory>
-        ensures ok { (records : List StateRecord) → OnOk result (self.new ≡ record self.old {
-          queue = self.old.queue
-              ++ start_jobs self.old.log.phase (wanted_at self.old.log records fresh);
-        }) }
+    /// Jobs more at the end of the queue.
+    fn queue_all(&mut self, jobs: Vec<Job>) -> Result<(), NoMemory>
+        ensures ok { OnOk result (self.new ≡ record self.old { queue = self.old.queue ++ jobs.items }) }
         ensures err { OnErr result (self.new ≡ self.old) }
     {
-        if self.may_start(alloc, fresh)? {
-            self.queue.push_back(Job::Start)?;
-        }
+        make_room(&mut self.queue, jobs.len())?;
+        add_all(&mut self.queue, jobs);
         Ok(())
     }
 
-    /// Whether a tick is to start a ballot.
-    fn may_start(&self, alloc: Global, fresh: bool) -> Result<bool, NoMemory>
-        ensures { IfOk result (λ may. (records : List StateRecord) → (if may then job.Start ∷ [] else [])
-            ≡ start_jobs self.now.log.phase (wanted_at self.now.log records fresh)) }
+    /// What a tick queues.
+    fn tick_jobs<D: Disk>(&self, alloc: Global, store: &Store<D>) -> Result<Vec<Job>, NoMemory>
+        ensures { IfOk result (λ queued. (records : List StateRecord)
+            → queued.items ≡ jobs.tick_jobs (here_in self.now) (server_of self.now (store_of store.now) records)) }
     {
-        let returning = self.log.own_join(alloc, fresh)?;
-        self.log.may_start(alloc, returning.as_slice())
+        let mut queued = self.start_jobs(alloc, store)?;
+        let mut mends = self.link_jobs(alloc, store)?;
+        queued.append(&mut mends)?;
+        Ok(queued)
+    }
+
+    /// An idle proposer is to start a ballot where a command is wanted.
+    fn start_jobs<D: Disk>(&self, alloc: Global, store: &Store<D>) -> Result<Vec<Job>, NoMemory>
+        ensures { IfOk result (λ jobs. jobs.items ≡ start_jobs self.now.log.phase (wants_in self.now.log self.now.side (store_of store.now))) }
+    {
+        let wants = returning(alloc, &self.log, &self.side, store)?;
+        let may = self.log.may_start(alloc, wants.as_slice())?;
+        start_job(alloc, may)
+    }
+
+    /// Links of which something waits are to be mended.
+    fn link_jobs<D: Disk>(&self, alloc: Global, store: &Store<D>) -> Result<Vec<Job>, NoMemory>
+        ensures { IfOk result (λ jobs. jobs.items ≡ (if is_in (state_of self.now.log) self.now.log.voter.me self.now.log.voter.inc
+            then mend_jobs (here_in self.now) (own_in self.now.side (store_of store.now)) else [])) }
+    {
+        if !is_in(self.log.state(), self.log.me(), self.log.inc()) {
+            return Ok(Vec::new(alloc));
+        }
+        let here = Here::new(alloc, self.log.state(), self.log.me(), self.log.inc());
+        mend_jobs(&here, &self.side, store)
     }
 
     /// What a tick sends.
-    fn tick_letters(&self, alloc: Global) -> Result<Sequence<Letter>, NoMemory>
-        ensures { IfOk result (λ letters. (store : stores.Store) (records : List StateRecord)
-            → letters ≡ letters_of (sender (here_in self.now)) 0 (tick_posts (here_in self.now) (server_of self.now store records))) }
+    fn tick_letters<D: Disk>(
+        &self,
+        alloc: Global,
+        store: &mut Store<D>,
+    ) -> Result<Sequence<Letter>, ReadError>
+        ensures letters { IfOk result (λ letters. D.told → (records : List StateRecord) → letters
+            ≡ letters_of (sender (here_in self.now)) 0 (tick_posts (here_in self.now) (server_of self.now (store_of store.old) records))) }
+        ensures same { store.new ≡ record store.old { disk = store.new.disk } }
+        ensures device { KeepsDevice D.size D.seen D.may_leave D.moment D.left_since store.old.disk store.new.disk }
+        ensures holds { D.told → HoldsAt D.Disk store.old → HoldsAt D.Disk store.new }
+        ensures cause { IsReadFault (D.faults store.old.disk) (D.faults store.new.disk) result }
+        ensures run { D.came_to store.old.disk store.new.disk }
     {
         let here = Here::new(alloc, self.log.state(), self.log.me(), self.log.inc());
         let ballot = self.log.ballot_letters(alloc)?;
         let pending = letters_after(&here, &self.side, ballot)?;
-        self.log.with_ask(pending)
+        let copies = copies_after(&here, &self.side, store, pending)?;
+        Ok(self.log.with_ask(copies)?)
     }
 
     /// Whether a number of the server is the greatest of its type, so that a job could not count on.

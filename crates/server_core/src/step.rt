@@ -2,31 +2,31 @@
 
 ghost use Rattle.std.specs.Prelude.{◌≡◌, ◌<◌, ◌-◌, ◌^◌, ◌↔◌, ◌≢◌, ℕ, List, [], false, length, slice_get, IsSomeAnd, IfSome, option_map, IfOk, OnOk, OnErr, None, Ok, Err};
 ghost use Rattle.log_side.specs.Done as logs;
-ghost use Rattle.log_side.specs.Entered.{entry_of};
-ghost use Rattle.log_side.specs.Part.{Part, log_of, state_of};
+ghost use Rattle.log_side.specs.Entered.{entry_in, entry_of};
+ghost use Rattle.log_side.specs.Part.{Part, state_of};
 ghost use Rattle.petal_disk.specs.Disk.{LeavesOnly};
-ghost use Rattle.petal_rules.specs.Crossing.{crossed_by, stage_jobs_by};
-ghost use Rattle.petal_rules.specs.Log.{known, next_place};
+ghost use Rattle.petal_rules.specs.Crossing.{crossed_by, jobs_by};
+ghost use Rattle.petal_state.specs.Command.{after};
 ghost use Rattle.petal_rules.specs.State.{State};
 ghost use Rattle.petal_rules.specs.Store as stores;
 ghost use Rattle.petal_rules.specs.World.{greatest_u64};
-ghost use Rattle.petal_rules.specs.declared.job.Job.TheVariants as job;
 ghost use Rattle.kept_chains.specs.Kept.{store_of};
 ghost use Rattle.kept_chains.specs.Standing.{StandsAsEither};
 ghost use Rattle.pair_side.specs.declared.error.WorkError.TheVariants as error;
-ghost use Rattle.pair_side.specs.Side.{HasTicketsAt, own_of, pairs_of};
+ghost use Rattle.pair_side.specs.Side.{HasTicketsAt, own_of};
 ghost use Rattle.pair_side.specs.Done.{HasVersions, HoldsAt};
-ghost use Rattle.server_core.specs.Core.{HasFaults, IsWork, is_spent, left_by_first};
+ghost use Rattle.server_core.specs.Core.{HasFaults, IsWork, is_spent, left_by_first, own_in};
 ghost use Rattle.server_core.specs.Kind.{kind_of};
-ghost use Rattle.server_core.specs.Steps.{IsApplied, IsFullWork, IsLogWork, IsPairWork, log_rule, of_state};
+ghost use Rattle.server_core.specs.Steps.{IsApplied, IsFullWork, IsLeft, IsLogWork, IsPairWork, log_rule, of_state};
 ghost use Rattle.state_store.specs.Device.{StandsForEither};
 ghost use Rattle.server_core.specs.declared.queue.Kind.TheVariants.{Applies, OfLog, OfPairs};
 
 use crate::jobs::does;
 use crate::queue::{Kind, add_all, enter, go_on, kind_of, make_room};
 use crate::server::ServerCore;
-use log_side::{Entered, LogDone, LogSide};
-use pair_side::{crosses, stage_jobs};
+use crate::wants::start_wanted;
+use log_side::{Entered, LogDone, LogSide, Next};
+use pair_side::{crosses, entry_jobs};
 use petal_base::{Inc, NoMemory, Sequence, ServerId};
 use petal_disk::Disk;
 use petal_msg::Letter;
@@ -80,53 +80,43 @@ fn crosses_by<D: Disk>(
     }
 }
 
-/// The jobs by which this server's own operations go on, once the next entry is applied.
-fn stages_of_next<D: Disk>(
+/// The jobs that follow the next entry, once it is applied.
+fn jobs_of_next(
     alloc: Global,
     log: &LogSide,
     side: &Side,
-    state: &StateStore<D>,
+    next: &Option<Next>,
 ) -> Result<Vec<Job>, NoMemory>
-    ensures { (store : stores.Store) → IfOk result (λ jobs. jobs.items ≡ stage_jobs_by (state_of log.now)
-        (known (log_of log.now state.now.records) (next_place (log_of log.now state.now.records)))
-        (record { pairs = pairs_of side.now; store = store })) }
+    requires { IfSome next.now (λ it. it.state ≡ after (state_of log.now) it.entry) }
+    ensures { (store : stores.Store) → IfOk result (λ jobs. jobs.items
+        ≡ jobs_by (state_of log.now) log.now.voter.me (option_map entry_in next.now) (own_in side.now store)) }
 {
-    match log.next_entry(state)? {
-        Some(entry) => {
+    match next {
+        Some(next) => {
             let here = Here::new(alloc, log.state(), log.me(), log.inc());
-            stage_jobs(&here, &entry, side)
+            entry_jobs(&here, &next.entry, side, &next.state)
         }
         None => Ok(Vec::new(alloc)),
     }
 }
 
-/// Starts a ballot for the first command that is wanted. The server wants its Join, where it is Out, with an empty store or not.
-fn start_wanted<E: Disk>(
+/// Does a job of the agreed log. Where it starts a ballot for a link's `Caught`, that is noted of the link first.
+fn does_log<D: Disk, E: Disk>(
     alloc: Global,
-    fresh: bool,
     log: &mut LogSide,
-    state: &mut StateStore<E>,
-) -> Result<LogDone, StateError>
-    ensures { logs.IsLogDone E.Disk log.old log.new state.old state.new result
-        (log_rule log.old state.old.records fresh job.Start log.old.voter) }
-{
-    let returning = log.own_join(alloc, fresh)?;
-    log.start_ballot(alloc, state, returning.as_slice())
-}
-
-/// Does a job of the agreed log, with a store that is still to be filled or not.
-fn does_log<E: Disk>(
-    alloc: Global,
-    fresh: bool,
-    log: &mut LogSide,
+    side: &mut Side,
+    store: &Store<D>,
     state: &mut StateStore<E>,
     job: &Job,
 ) -> Result<LogDone, StateError>
-    ensures { logs.IsLogDone E.Disk log.old log.new state.old state.new result (log_rule log.old state.old.records fresh job.now log.old.voter) }
+    ensures done { logs.IsLogDone E.Disk log.old log.new state.old state.new result
+        (log_rule log.old side.old (store_of store.now) state.old.records job.now log.old.voter) }
+    ensures left { OnOk result (IsLeft log.old side.old (store_of store.now) state.old.records job.now side.new) }
+    ensures same { OnErr result (side.new ≡ side.old) }
 {
     match job {
-        Job::Start => start_wanted(alloc, fresh, log, state),
-        Job::Letter(_) | Job::Stage(_) | Job::Apply => log.does(alloc, state, job),
+        Job::Start => start_wanted(alloc, log, side, store, state),
+        Job::Letter(_) | Job::Stage(_) | Job::Mend(_) | Job::Apply => log.does(alloc, state, job),
     }
 }
 
@@ -176,7 +166,7 @@ impl ServerCore {
         };
         match first {
             Kind::OfPairs => Ok(Some(self.work_pair(alloc, store)?)),
-            Kind::OfLog => Ok(Some(self.work_log(alloc, store.fresh(), state)?)),
+            Kind::OfLog => Ok(Some(self.work_log(alloc, store, state)?)),
             Kind::Applies => Ok(Some(self.work_apply(alloc, store, state)?)),
         }
     }
@@ -203,21 +193,21 @@ impl ServerCore {
         Ok(letters)
     }
 
-    /// Does the first job, of the agreed log, with a store that is still to be filled or not.
-    fn work_log<E: Disk>(
+    /// Does the first job, of the agreed log.
+    fn work_log<D: Disk, E: Disk>(
         &mut self,
         alloc: Global,
-        fresh: bool,
+        store: &Store<D>,
         state: &mut StateStore<E>,
     ) -> Result<Sequence<Letter>, WorkError>
         requires first { IsSomeAnd (slice_get self.old.queue 0) (λ job. kind_of job ≡ OfLog) }
-        ensures { IsLogWork E.Disk fresh self.old self.new state.old state.new result }
+        ensures { IsLogWork E.Disk (store_of store.now) self.old self.new state.old state.new result }
     {
         make_room(&mut self.queue, 0)?;
         let Some(job) = self.queue.front() else {
             return Ok(Sequence::new(alloc));
         };
-        match does_log(alloc, fresh, &mut self.log, state, job) {
+        match does_log(alloc, &mut self.log, &mut self.side, store, state, job) {
             Ok(done) => {
                 enter(&mut self.queue, done.apply, done.again);
                 Ok(done.letters)
@@ -237,13 +227,14 @@ impl ServerCore {
         requires first { IsSomeAnd (slice_get self.old.queue 0) (λ job. kind_of job ≡ Applies) }
         ensures { IsApplied self.old self.new store.old store.new state.now.records result }
     {
-        let stages = stages_of_next(alloc, &self.log, &self.side, state)?;
-        make_room(&mut self.queue, stages.len())?;
+        let next = self.log.next_entry(alloc, state)?;
+        let jobs = jobs_of_next(alloc, &self.log, &self.side, &next)?;
+        make_room(&mut self.queue, jobs.len())?;
         let (me, inc) = (self.log.me(), self.log.inc());
-        let (done, entered) = self.log.apply(alloc, state)?;
+        let (done, entered) = self.log.apply(alloc, state, next)?;
         crosses_by(alloc, me, inc, &entered, &mut self.side, store);
         enter(&mut self.queue, done.apply, done.again);
-        add_all(&mut self.queue, stages);
+        add_all(&mut self.queue, jobs);
         Ok(done.letters)
     }
 }

@@ -1,6 +1,6 @@
 //! The store of one server, over its device.
 
-ghost use Rattle.std.specs.Prelude.{◌==◌, ◌≡◌, ℕ, ◌⊎◌, ◌≤◌, ◌<◌, ◌+◌, ◌^◌, ◌++◌, ◌∷◌, ◌↔◌, [], Bool, List, length, take, Contains, Err, IfOk, OnOk, IfErr, OnErr, IsErrOf, IfNone, true, false, not, is_some, if◌then◌else◌, Some, None};
+ghost use Rattle.std.specs.Prelude.{◌==◌, ◌≡◌, ℕ, ◌⊎◌, ◌≤◌, ◌<◌, ◌+◌, ◌^◌, ◌++◌, ◌∷◌, ◌↔◌, [], Bool, List, length, slice_get, take, Contains, Err, IfOk, OnOk, IfErr, OnErr, IsErrOf, IfNone, true, false, not, is_some, if◌then◌else◌, Some, None};
 ghost use Rattle.busy_marks.specs.Marks.{has_mark, with_mark, without_mark, next_marked};
 ghost use Rattle.block_journal.specs.Records.{Counts};
 ghost use Rattle.petal_base.specs.Block.{zero_block};
@@ -460,6 +460,13 @@ impl<D: Disk> Store<D> {
         ensures { IfOk result (λ chain. chain ≡ chain_of cell (listed self.now.entries)) }
     {
         self.ledger.map().chain(alloc, cell)
+    }
+
+    /// The entry of a cell at this place of its chain, counted from 0.
+    pub fn nth(&self, cell: Cell, place: usize) -> Option<Entry>
+        ensures { result ≡ slice_get (chain_of cell (listed self.now.entries)) place }
+    {
+        self.ledger.map().nth(cell, place)
     }
 
     /// The greatest version of a cell's entries, 0 without one.

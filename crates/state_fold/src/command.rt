@@ -339,7 +339,8 @@ pub fn may_join(member: Option<Member>, inc: Inc) -> bool
     }
 }
 
-fn is_alone(holder: ServerId, state: LinkState) -> bool
+/// Whether the server holds a link of this state alone.
+pub fn is_alone(holder: ServerId, state: LinkState) -> bool
     ensures { result ≡ is_alone holder state }
 {
     match state {
@@ -351,7 +352,8 @@ fn is_alone(holder: ServerId, state: LinkState) -> bool
     }
 }
 
-fn other_of(server: ServerId, row: &LinkRow) -> ServerId
+/// The other one of the link's two servers.
+pub fn other_of(server: ServerId, row: &LinkRow) -> ServerId
     ensures { result ≡ other_of server row.now }
 {
     if row.primary == server {

@@ -11,7 +11,7 @@ mod pass;
 mod snapshot;
 mod tables;
 
-pub use command::{may_catch, may_join};
+pub use command::{is_alone, may_catch, may_join, other_of};
 pub use moving::{is_fenced, leaves, move_region};
 pub use snapshot::snapshot_named;
 pub use tables::Tables;

@@ -11,4 +11,6 @@ mod faults;
 #[cfg(test)]
 mod rows;
 #[cfg(test)]
+mod settles;
+#[cfg(test)]
 mod takeovers;

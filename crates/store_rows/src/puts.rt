@@ -100,6 +100,29 @@ fn entries(rt: HostRuntime) -> Result<(), Fail> {
     look_and_drop(&rt, rt.alloc(), &mut store)
 }
 
+fn drop_and_reopen<D: Disk>(
+    rt: &impl Abort,
+    alloc: Global,
+    store: &mut Store<D>,
+) -> Result<(), Fail> {
+    let zeros = Block::zero(alloc)?;
+    put(store, 5, &zeros)?;
+    put(store, 6, &zeros)?;
+    assert_eq!(rt; store.nth(CELL, 0).map(|e| e.version), Some(3));
+    store.drop_key(key(5))?;
+    assert!(rt; store.reopen(alloc)?);
+    assert!(rt; store.nth(CELL, 0).is_none());
+    assert_eq!(rt; store.next_block(0, None), Some(6));
+    assert_eq!(rt; store.free(), 1);
+    Ok(())
+}
+
+#[test]
+fn a_dropped_entry_stays_dropped(rt: HostRuntime) -> Result<(), Fail> {
+    let mut store = two_slots(rt.alloc(), false)?;
+    drop_and_reopen(&rt, rt.alloc(), &mut store)
+}
+
 fn mark_and_unmark<D: Disk>(rt: &impl Abort, store: &mut Store<D>) -> Result<(), Fail> {
     store.mark(MarkKind::Busy, CELL)?;
     assert!(rt; store.has(MarkKind::Busy, CELL));

@@ -3,7 +3,7 @@ use Rattle.std.specs.Prelude.{ℕ, Bool, true, not, List, [], map, if◌then◌e
 use Rattle.std.specs.List.{range_with_len}
 use Rattle.script_lines.specs.declared.script.Script.{Script}
 use Rattle.petal_rules.specs.Log.{first_log, state_in}
-use Rattle.petal_rules.specs.Server.{Server, no_pairs}
+use Rattle.petal_rules.specs.Server.{Server, no_copies, no_pairs}
 use Rattle.petal_rules.specs.Jobs.{Acted}
 pub use Rattle.petal_rules.specs.World.{is_spent_server}
 use Rattle.petal_rules.specs.World.{Setting, World, server_step, setting_of, start}
@@ -19,7 +19,7 @@ abbrev pub on_devices : Server → Server
 on_devices server = record {
   life = server.life;
   log = record first_log { records = server.log.records };
-  own = record { pairs = no_pairs; store = record server.own.store { tickets = 0 } };
+  own = record { pairs = no_pairs; copies = no_copies; store = record server.own.store { tickets = 0 } };
   queue = [];
 }
 

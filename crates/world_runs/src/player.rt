@@ -43,9 +43,10 @@ fn changed(alloc: Global, letter: &SharedLetter) -> Result<SharedLetter, NoMemor
 /// The block that a letter brings.
 fn block_of(body: &Body) -> Option<&SharedBlock> {
     match body {
-        Body::Write { bytes, .. } | Body::Replicate { bytes, .. } | Body::Data { bytes, .. } => {
-            Some(bytes)
-        }
+        Body::Write { bytes, .. }
+        | Body::Replicate { bytes, .. }
+        | Body::Sync { bytes, .. }
+        | Body::Data { bytes, .. } => Some(bytes),
         _ => None,
     }
 }
@@ -275,7 +276,7 @@ impl<H: Host> Player<H> {
             Act::Tick(actor) => self.run.tick(alloc, *actor),
             Act::Stop(server) => self.run.stop(alloc, *server),
             Act::Boot(server) => self.run.boot(alloc, *server),
-            Act::Show(server, line) => self.run.show(alloc, *server, *line),
+            Act::Show(server, line, round) => self.run.show(alloc, *server, *line, *round),
             Act::Hand(mail) => self.hand_over(alloc, mail),
             Act::Lose(mail) => self.lose(mail),
             Act::Again(mail) => self.hand_again(alloc, mail),

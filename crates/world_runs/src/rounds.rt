@@ -49,13 +49,14 @@ fn call_all<H: Host>(alloc: Global, run: &mut Run<H>) -> Result<(), NoMemory> {
     Ok(())
 }
 
-// A tick comes to the clients, and to the server whose turn it is: servers that tick together can outbid one another for ever.
+// A tick comes to the clients, the operator too, and to the server whose turn it is: servers that tick together can outbid one
+// another for ever.
 fn tick_some<H: Host>(alloc: Global, run: &mut Run<H>, turn: u32) -> Result<(), NoMemory> {
     let servers = u32::from(run.script().servers);
     if servers > 0 {
         run.tick(alloc, Actor::Server((turn % servers) as u8))?;
     }
-    for client in 0..OPERATOR {
+    for client in 0..=OPERATOR {
         run.tick(alloc, Actor::Client(client))?;
     }
     Ok(())
@@ -63,7 +64,7 @@ fn tick_some<H: Host>(alloc: Global, run: &mut Run<H>, turn: u32) -> Result<(), 
 
 /// Plays a run until each line is answered: in each round the letters of the round before are handed over, then each server
 /// works until it is idle, each client and the operator calls, what the operator's line asks for is done, and in every eighth
-/// round the clients and one of the servers tick. Gives whether it came to that.
+/// round the clients, the operator and one of the servers tick. Gives whether it came to that.
 pub fn play<H: Host>(alloc: Global, run: &mut Run<H>) -> Result<bool, NoMemory> {
     let mut handed = 0;
     for round in 0..MOST_ROUNDS {

@@ -85,10 +85,32 @@ impl<H: Host> Run<H> {
         self.take(alloc, Actor::Server(server), &Step::Boot(WorkEnd::Done))
     }
 
-    /// The server is glanced at for this line.
-    pub fn show(&mut self, alloc: Global, server: ServerId, line: u32) -> Result<bool, NoMemory> {
-        let glance = Step::Glance { line, round: 0 };
+    /// The server is glanced at for this line, in this round of it.
+    pub fn show(
+        &mut self,
+        alloc: Global,
+        server: ServerId,
+        line: u32,
+        round: u32,
+    ) -> Result<bool, NoMemory> {
+        let glance = Step::Glance { line, round };
         self.take(alloc, Actor::Server(server), &glance)
+    }
+
+    /// The operator's open line and its round, where it is a settle.
+    pub fn settling(&self) -> Option<(u32, u32)> {
+        self.world.settling()
+    }
+
+    // Each server is glanced at, where a settle is open.
+    fn show_all(&mut self, alloc: Global) -> Result<bool, NoMemory> {
+        let Some((line, round)) = self.settling() else {
+            return Ok(false);
+        };
+        for server in 0..self.script().servers {
+            self.show(alloc, server, line, round)?;
+        }
+        Ok(true)
     }
 
     /// The operator's open line, what it asks for, and of which server.
@@ -115,13 +137,13 @@ impl<H: Host> Run<H> {
     }
 
     /// What the operator's open line asks for is done: its server stops, where it runs, or boots, where it does not, and is glanced
-    /// at. Gives whether it was done only now.
+    /// at; or all servers are, in a settle's present round. Gives whether it was done only now.
     pub fn obey(&mut self, alloc: Global) -> Result<bool, NoMemory> {
         match self.open_order() {
-            None => Ok(false),
+            None => self.show_all(alloc),
             Some((line, order, server)) => {
                 self.follow(alloc, order, server)?;
-                self.show(alloc, server, line)
+                self.show(alloc, server, line, 0)
             }
         }
     }

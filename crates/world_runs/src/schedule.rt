@@ -14,6 +14,7 @@
 //! | `1 stops` | the server stops: the operator's open line is its stop |
 //! | `1 boots` | the stopped server boots: the operator's open line is its start |
 //! | `1 shows 4` | the server is glanced at, for the operator's open line 4, which has given it each of its steps |
+//! | `1 shows 4 in 2` | the server is glanced at in the second round of the operator's open line 4, which is a settle |
 //! | `1 ticks`, `a ticks` | the server or the client sends again what is not answered |
 //! | `agree` | rounds in which everyone gets its letters and works, and in some of which they tick, until each line that was called is answered and all that run are at one revision, but for the operator, who takes no part; what is then on its way is lost |
 //! | `agree without 1`, `agree without b` | the same without this actor |

@@ -62,7 +62,8 @@ pub fn script_with_stops(alloc: Global, chance: &mut Chance) -> Result<String, A
     Ok(text)
 }
 
-/// The same over five servers, of which the operator again and again stops two and starts them.
+/// The same over five servers, of which the operator again and again stops two and starts them, and at last waits until they are
+/// settled.
 pub fn script_with_starts(alloc: Global, chance: &mut Chance) -> Result<String, AllocError> {
     let slots = 3 + chance.below(3);
     let mut text = format!(in alloc;
@@ -75,6 +76,7 @@ pub fn script_with_starts(alloc: Global, chance: &mut Chance) -> Result<String, 
         )?;
         text.push_str(orders.as_str())?;
     }
+    text.push_str("op settle\n")?;
     add_lines(alloc, chance, &mut text)?;
     Ok(text)
 }

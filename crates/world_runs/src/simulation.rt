@@ -98,13 +98,27 @@ impl Choice {
         }
     }
 
+    // One of the servers is glanced at in a settle's present round.
+    fn show<H: Host>(
+        &mut self,
+        alloc: Global,
+        run: &mut Run<H>,
+        (line, round): (u32, u32),
+    ) -> Result<bool, NoMemory> {
+        let server = self.server(run);
+        run.show(alloc, server, line, round)
+    }
+
     // The operator calls its next line, or its open line goes on: its server stops or boots, or is glanced at.
     fn operate<H: Host>(&mut self, alloc: Global, run: &mut Run<H>) -> Result<bool, NoMemory> {
+        if let Some(settling) = run.settling() {
+            return self.show(alloc, run, settling);
+        }
         match (run.open_order(), self.chance.below(4)) {
             (None, 0) => run.call(alloc, OPERATOR),
             (None, _) => Ok(false),
             (Some((_line, order, server)), 0) => run.follow(alloc, order, server),
-            (Some((line, _order, server)), _) => run.show(alloc, server, line),
+            (Some((line, _order, server)), _) => run.show(alloc, server, line, 0),
         }
     }
 

@@ -1,7 +1,6 @@
 -- The step of each record is of a kind, and of these only the lead's put changes a chain that it leads.
-use Rattle.law_steps.proofs.Firms.{always_firm}
 use Rattle.law_copies.proofs.First.{marks_first}
 use Rattle.law_copies.proofs.leads_put_on_marked_blocks.Goals as goal
 
 pub returns : goal.returns
-returns c script records sound legal = marks_first script records sound (always_firm script records sound legal) legal
+returns c script records sound legal = marks_first script records sound legal

@@ -1,15 +1,12 @@
 -- Entry by entry.
-use Rattle.law_state.proofs.Touching.{log_entry_stays, log_join_stays, places_grow, same_place, touched_by_entry}
+use Rattle.law_state.proofs.Touching.{log_entry_stays, log_touched, places_grow, same_place}
 use Rattle.law_state.proofs.an_entry_that_does_not_touch_a_link.Goals as goal
 
 pub returns-clause-stays : goal.returns-clause-stays
 returns-clause-stays c = log_entry_stays
 
 pub returns-clause-touched : goal.returns-clause-touched
-returns-clause-touched c = touched_by_entry
-
-pub returns-clause-joined : goal.returns-clause-joined
-returns-clause-joined c = log_join_stays
+returns-clause-touched c = log_touched
 
 pub returns-clause-grows : goal.returns-clause-grows
 returns-clause-grows c = places_grow

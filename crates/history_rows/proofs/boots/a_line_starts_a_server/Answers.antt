@@ -5,7 +5,7 @@ use Rattle.petal_rules.specs.Clients.{heard, refusal}
 use Rattle.petal_rules.specs.World.{Booted, IsOpenLine, MayAct, step}
 use Rattle.petal_rules.specs.declared.step.WorkEnd.TheVariants.{Done}
 use Rattle.history_rows.specs.Boots.{boot_acts, comeback_after, start_acts}
-use Rattle.history_rows.proofs.Lines.{apart, none_yet, one_life, one_of_three, start_of, three_steps, two_steps}
+use Rattle.history_rows.proofs.Lines.{apart, none_yet, one_life, one_of_three, start_of, two_steps, few}
 use Rattle.history_rows.proofs.boots.a_line_starts_a_server.Goals as goal
 
 glanced_before : (comeback_after start_acts).control.glanced ≡ Some 2
@@ -43,8 +43,8 @@ returns c = record {
   told = refl;
   waits = waits;
   glance = record {
-    may = (one_of_three, record { asked = start_of 3 2; opened = booted; line_is = refl; done = (refl, inr refl); round_is = refl });
-    clock = three_steps;
+    may = (one_of_three, record { asked = start_of 3 2; is = booted.is; line_is = refl; due = (refl, booted.first, (refl, inr refl)) });
+    clock = few 3 refl;
     receives = none_yet;
     goes_on = refl;
   };

@@ -4,7 +4,7 @@ use Rattle.petal_rules.specs.Lists.{put_at}
 use Rattle.petal_rules.specs.Clients.{heard, refusal}
 use Rattle.petal_rules.specs.World.{IsOpenLine, MayBoot, step}
 use Rattle.history_rows.specs.Boots.{asked_again_acts, comeback_after}
-use Rattle.history_rows.proofs.Lines.{apart, four_steps, none_yet, one_of_three, start_of}
+use Rattle.history_rows.proofs.Lines.{apart, few, none_yet, one_of_three, start_of}
 use Rattle.history_rows.proofs.boots.a_start_of_a_running_server_does_nothing.Goals as goal
 
 runs : ((comeback_after asked_again_acts).servers 1).life.running ≡ true
@@ -27,8 +27,8 @@ unfolding put_at heard refusal step
 returns c = record {
   may_not = may_not;
   glance = record {
-    may = (one_of_three, record { asked = start_of 4 3; opened = asked; line_is = refl; done = (refl, inl runs); round_is = refl });
-    clock = four_steps;
+    may = (one_of_three, record { asked = start_of 4 3; is = asked.is; line_is = refl; due = (refl, asked.first, (refl, inl runs)) });
+    clock = few 4 refl;
     receives = none_yet;
     goes_on = refl;
   };

@@ -22,6 +22,6 @@ returns c = record {
   may = record { may = (one_of_three, record { runs = refl; asked = asked_for 3 1; opened = asked; stops = refl }); clock = none_yet; receives = none_yet; goes_on = refl };
   stopped = refl;
   told = refl;
-  glance = record { may = (one_of_three, record { asked = asked_for 3 1; opened = stopped; line_is = refl; done = (refl, refl); round_is = refl }); clock = one_step; receives = none_yet; goes_on = refl };
+  glance = record { may = (one_of_three, record { asked = asked_for 3 1; is = stopped.is; line_is = refl; due = (refl, stopped.first, (refl, refl)) }); clock = one_step; receives = none_yet; goes_on = refl };
   answered = refl;
 }

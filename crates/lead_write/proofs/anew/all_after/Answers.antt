@@ -2,7 +2,7 @@ use Rattle.petal_base.specs.declared.cell.Cell.{Cell}
 use Rattle.petal_msg.specs.declared.operation.Pending.{Pending}
 use Rattle.petal_rules.specs.Server.{sender}
 use Rattle.petal_rules.specs.Jobs.{sent_anew}
-use Rattle.lead_write.proofs.Letters.{next_letters, last_letters}
+use Rattle.pair_side.proofs.Letters.{next_letters, last_letters}
 use Rattle.lead_write.proofs.anew.all_after.Goals as goal
 
 pub loop-op-preserved : goal.loop-op-preserved

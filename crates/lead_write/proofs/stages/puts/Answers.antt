@@ -20,6 +20,7 @@ returns-clause-job g c =
       pending = c.side.inside.locks;
       finished = c.side.inside.finished;
       last = c.side.inside.last;
+      copies = c.side.inside.copies;
       own = c.side.inside.own;
       apart = c.side.inside.apart;
     } in

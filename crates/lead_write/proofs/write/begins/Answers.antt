@@ -23,6 +23,7 @@ returns-in-Err-clause-err g c =
       pending = c.side.inside.locks;
       finished = c.side.inside.finished;
       last = c.side.inside.last;
+      copies = c.side.inside.copies;
       own = c.side.inside.own;
       apart = c.side.inside.apart;
     } in

@@ -9,6 +9,7 @@ frees-requires-clause-below g c = λ _ _.
       pending = c.side.inside.locks;
       finished = c.side.inside.finished;
       last = c.side.inside.last;
+      copies = c.side.inside.copies;
       own = c.side.inside.own;
       apart = c.side.inside.apart;
     } in
@@ -22,8 +23,10 @@ returns g c =
       pending = c.side.inside.locks;
       finished = c.side.inside.finished;
       last = c.side.inside.last;
+      copies = c.side.inside.copies;
       own = c.side.inside.own;
       apart = c.side.inside.apart;
     } in
     crossed_is c.args.here.now.state c.args.entry.now side c.args.store.now c.frees.new.store (rw (← c.side.view_is) at c.requires)
-    c.drops_last.new.last c.frees.new.apart c.frees.ensures.sorted c.drops_last.ensures.sorted c.frees.ensures.freed c.drops_last.ensures.rows)
+    c.drops_cells.new.table c.frees.new.apart c.frees.ensures.sorted c.drops_cells.ensures.sorted c.frees.ensures.freed c.drops_cells.ensures.rows
+    c.crosses.new.self c.crosses.ensures)

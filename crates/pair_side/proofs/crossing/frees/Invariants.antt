@@ -1,5 +1,5 @@
 -- The tickets that are left to be given back are those of the rows that are left.
-use Rattle.std.proofs.Common.{◌≡◌, ◌≤◌, ℕ, length}
+use Rattle.std.proofs.Common.{◌≤◌, ℕ, length}
 use Rattle.std.specs.Map.{values_of}
 use Rattle.petal_base.specs.declared.cell.Cell.{Cell}
 use Rattle.petal_table.specs.Table.{Table}

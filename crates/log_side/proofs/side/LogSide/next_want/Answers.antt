@@ -1,25 +1,11 @@
 use Rattle.std.proofs.Common.{arith}
 use Rattle.std.proofs.lemmas.Result.{IfOk-weaker}
 use Rattle.log_side.specs.Part.{Part}
-use Rattle.log_side.proofs.Wanted.{none_wanted, some_wanted}
+use Rattle.log_side.proofs.Wanted.{idle_want}
 use Rattle.log_side.proofs.side.LogSide.next_want.Goals as goal
 
-pub returns-clause-none : goal.returns-clause-none
-returns-clause-none c =
-    let it = c.self.inside in
-    let part : Part = record {
-      voter = record { me = it.proposer.me; inc = it.inc; servers = it.proposer.servers };
-      phase = it.proposer.phase;
-      refused = it.refused;
-      applied = it.applied;
-      leaves = it.leaves;
-      wants = it.wants;
-      asks = it.asks;
-    } in
-    rw (← c.self.view_is) (IfOk-weaker c.most_urgent.result _ _ (none_wanted part c.args.returning.now c.in-Idle.is) (rw (← c.self.view_is) at c.most_urgent.ensures))
-
-pub returns-clause-some : goal.returns-clause-some
-returns-clause-some c =
+pub returns : goal.returns
+returns c =
     let it = c.self.inside in
     let part : Part = record {
       voter = record { me = it.proposer.me; inc = it.inc; servers = it.proposer.servers };
@@ -33,4 +19,4 @@ returns-clause-some c =
     let entries = rw (← c.self.view_is) at c.rev.ensures.entries in
     let below = c.if-rev-ge-GREATEST_PLACE.false in
     rw (← c.self.view_is)
-    (IfOk-weaker c.most_urgent.result _ _ (some_wanted part c.args.returning.now c.in-Idle.is (omega (arith, entries, below))) (rw (← c.self.view_is) at c.most_urgent.ensures))
+    (IfOk-weaker c.most_urgent.result _ _ (idle_want part c.args.returning.now c.in-Idle.is (omega (arith, entries, below))) (rw (← c.self.view_is) at c.most_urgent.ensures))

@@ -17,8 +17,7 @@ returns-in-Ok g c =
     let want = c.in-Some.want in
     let entry = kind.Promise place (record { round = round; server = part.voter.me }) in
     let next : IsNext part old.records place round = record { place_is = c.in_ok-place.ensures; round_is = c.in_ok-round.ensures } in
-    let wanted = rw c.in-Some.is at c.in_ok-found.ensures.some in
-    rw (wanted old.records) (record {
+    rw c.in-Some.is (record {
       done = rw c.only.ensures (record {
         log = log_is part old.records place round want c.begin-prepare.new.self new.records next
             (commits_is old.records new.records entry (rw c.me.ensures at c.in-Ok.ensures.ok)) c.begin-prepare.ensures.begun;
@@ -49,13 +48,11 @@ returns-in-Err g c =
     let entry = kind.Promise place (record { round = round; server = part.voter.me }) in
     let next : IsNext part old.records place round = record { place_is = c.in_ok-place.ensures; round_is = c.in_ok-round.ensures } in
     let refused = rw c.me.ensures at c.in-Err.ensures in
-    let wanted = rw c.in-Some.is at c.in_ok-found.ensures.some in
-    rw (wanted old.records)
+    rw c.in-Some.is
     (refused_done g.D.Disk part old c.promise.new.self (committed old.records entry) c.in-Err.error _
     (records_are part old.records place round c.in-Some.want next) (one_over old.records entry)
     _ refl refused.full refused.memory refused.failed refused.err refused.only refused.any_moment refused.later refused.run)
 
 pub returns-in_default : goal.returns-in_default
 returns-in_default g c =
-    let none = rw c.in_default.is at c.in_ok-found.ensures.none in
-    rw (none c.args.state.now.records) c.quiet.ensures
+    rw c.in_default.is c.quiet.ensures

@@ -22,10 +22,10 @@ pub returns-in_ok-work_pair-in-OfPairs-clause-moments : goal.returns-in_ok-work_
 returns-in_ok-work_pair-in-OfPairs-clause-moments g c = λ told holds. c.work_pair.ensures.moments told holds c.args.state.now.records
 
 pub returns-in_err-work_log-in-OfLog-clause-state_moments : goal.returns-in_err-work_log-in-OfLog-clause-state_moments
-returns-in_err-work_log-in-OfLog-clause-state_moments g c = λ told holds. c.work_log.ensures.moments told holds (store_of c.args.store.now) (sym c.fresh.ensures)
+returns-in_err-work_log-in-OfLog-clause-state_moments g c = λ told holds. c.work_log.ensures.moments told holds
 
 pub returns-in_ok-work_log-in-OfLog-clause-state_moments : goal.returns-in_ok-work_log-in-OfLog-clause-state_moments
-returns-in_ok-work_log-in-OfLog-clause-state_moments g c = λ told holds. c.work_log.ensures.moments told holds (store_of c.args.store.now) (sym c.fresh.ensures)
+returns-in_ok-work_log-in-OfLog-clause-state_moments g c = λ told holds. c.work_log.ensures.moments told holds
 
 pub returns-in_err-work_pair-in-OfPairs-clause-full : goal.returns-in_err-work_pair-in-OfPairs-clause-full
 returns-in_err-work_pair-in-OfPairs-clause-full g c full =
@@ -36,4 +36,4 @@ pub returns-in_err-work_log-in-OfLog-clause-full : goal.returns-in_err-work_log-
 returns-in_err-work_log-in-OfLog-clause-full g c full =
     let is : c.work_log.result ≡ Err error.JournalFull = search rules in
     full_log g.D.Disk g.E.Disk c.args.self.now c.work_log.new.self c.args.store.now c.args.state.now c.work_log.new.state
-    c.fresh.result (sym c.fresh.ensures) (c.work_log.ensures.full is)
+    (c.work_log.ensures.full is)

@@ -1,9 +1,11 @@
-use Rattle.std.proofs.Common.{◌≤◌, ◌++◌, length, refl, ap, ◌∙◌, arith}
+use Rattle.std.proofs.Common.{◌≤◌, ◌++◌, length, Option, refl, ap, ◌∙◌, arith}
 use Rattle.log_side.specs.Part.{state_of}
 use Rattle.kept_chains.specs.Kept.{store_of}
+use Rattle.petal_command.specs.declared.command.Command.{Command}
+use Rattle.petal_rules.specs.Crossing.{jobs_by}
 use Rattle.petal_rules.specs.Jobs.{journal_records}
 use Rattle.server_store.specs.Holdings.{Holdings}
-use Rattle.server_core.specs.Core.{Core}
+use Rattle.server_core.specs.Core.{Core, own_in}
 use Rattle.server_core.proofs.Works.{apply_first, entry_worked}
 use Rattle.server_core.proofs.server.ServerCore.work_apply.Goals as goal
 
@@ -18,7 +20,8 @@ returns g c =
     let there = apply_first it.queue.items (rw (← c.self.view_is) at c.requires.first) in
     let own = rw done.entry at (crossed.own (state_of it.log) done.before) in
     let jobs = rw c.make_room.ensures.same at c.enter.ensures.jobs in
-    let stages = c.in_ok-stages.ensures before in
+    let stages = c.in_ok-jobs.ensures before
+    ∙ ap (λ (entry : Option Command). jobs_by (state_of it.log) it.log.voter.me entry (own_in it.side before)) c.in_ok-next.ensures.0 in
     record {
       work = λ few_stored few_log.
           let same = ap (λ (s : Holdings _). length s.log.records) crossed.store in

@@ -1,0 +1,170 @@
+//! The operator's settle, glance by glance. All three servers are In as their first incarnation by the operator's state.
+
+use client_core::ClientCore;
+use petal_base::{OPERATOR, ServerId};
+use petal_msg::{Actor, Body, Letter};
+use script_lines::{Answer, Request};
+use std::alloc::Global;
+use std::test::Fail;
+
+/// What a glance of the settle shows.
+#[derive(Clone, Copy)]
+enum Shows {
+    Runs,
+    Stopped,
+    /// It runs, and its last copy found no slot.
+    NoSlot,
+}
+
+/// The glances of a settle, each of a server in a round; and which of them answers the settle, counted from 0, and how.
+#[derive(Clone, Copy)]
+struct Row {
+    shows: &'static str,
+    glances: &'static [(ServerId, u32, Shows)],
+    answered: Option<(usize, Ending)>,
+}
+
+/// How a settle is answered.
+#[derive(Clone, Copy, Debug, PartialEq, Eq)]
+enum Ending {
+    Ok,
+    NoSpace,
+}
+
+/// The settle's line.
+const LINE: u32 = 5;
+
+fn letter(server: ServerId, round: u32, shows: Shows) -> Letter {
+    let (running, full) = match shows {
+        Shows::Runs => (true, false),
+        Shows::Stopped => (false, false),
+        Shows::NoSlot => (true, true),
+    };
+    Letter {
+        from: Actor::Server(server),
+        inc: u32::from(running),
+        to: Actor::Client(OPERATOR),
+        rev: 0,
+        stamp: 9,
+        nth: 0,
+        body: Body::Seen {
+            line: LINE,
+            round,
+            running,
+            inc: u32::from(running),
+            full,
+        },
+    }
+}
+
+fn ending_of(answer: Option<(u32, Answer)>) -> Option<Ending> {
+    match answer {
+        Some((LINE, Answer::Ok)) => Some(Ending::Ok),
+        Some((LINE, Answer::NoSpace)) => Some(Ending::NoSpace),
+        _ => None,
+    }
+}
+
+/// Which glance answers the settle, and how.
+fn answered_by(
+    alloc: Global,
+    client: &mut ClientCore,
+    row: &Row,
+) -> Result<Option<(usize, Ending)>, Fail> {
+    let mut found = None;
+    for (at, (server, round, shows)) in row.glances.iter().enumerate() {
+        let glance = letter(*server, *round, *shows);
+        if let Some(answer) = ending_of(client.deliver(alloc, &glance)?.answer) {
+            found = Some((at, answer));
+        }
+    }
+    Ok(found)
+}
+
+/// Whether the settle ends as the row says.
+fn is_so(alloc: Global, row: &Row) -> Result<bool, Fail> {
+    let mut client = ClientCore::new(alloc, OPERATOR, 3)?;
+    if !client.is_free() {
+        return Ok(false);
+    }
+    client.call(alloc, LINE, Request::Settle)?;
+    Ok(answered_by(alloc, &mut client, row)? == row.answered)
+}
+
+#[test]
+fn a_settle_goes_round_by_round(rt: HostRuntime) -> Result<(), Fail> {
+    let rows: [Row; 7] = [
+        Row {
+            shows: "the last server of a round that runs as the state says ends the settle",
+            glances: &[
+                (2, 1, Shows::Runs),
+                (0, 1, Shows::Runs),
+                (1, 1, Shows::Runs),
+            ],
+            answered: Some((2, Ending::Ok)),
+        },
+        Row {
+            shows: "a server that was shown twice counts once",
+            glances: &[
+                (0, 1, Shows::Runs),
+                (1, 1, Shows::Runs),
+                (1, 1, Shows::Runs),
+                (0, 1, Shows::Runs),
+            ],
+            answered: None,
+        },
+        Row {
+            shows: "what was shown of a server last counts",
+            glances: &[
+                (0, 1, Shows::Stopped),
+                (0, 1, Shows::Runs),
+                (1, 1, Shows::Runs),
+                (2, 1, Shows::Runs),
+            ],
+            answered: Some((3, Ending::Ok)),
+        },
+        Row {
+            shows: "a server that is In by the state has stopped: another round begins",
+            glances: &[
+                (0, 1, Shows::Runs),
+                (1, 1, Shows::Stopped),
+                (2, 1, Shows::Runs),
+                (0, 2, Shows::Runs),
+                (1, 2, Shows::Runs),
+                (2, 2, Shows::Runs),
+            ],
+            answered: Some((5, Ending::Ok)),
+        },
+        Row {
+            shows: "a glance of a round before does not count",
+            glances: &[
+                (0, 1, Shows::Runs),
+                (1, 1, Shows::Stopped),
+                (2, 1, Shows::Runs),
+                (0, 2, Shows::Runs),
+                (1, 1, Shows::Runs),
+                (2, 2, Shows::Runs),
+            ],
+            answered: None,
+        },
+        Row {
+            shows: "a copy found no slot",
+            glances: &[(0, 1, Shows::Runs), (1, 1, Shows::NoSlot)],
+            answered: Some((1, Ending::NoSpace)),
+        },
+        Row {
+            shows: "so it is in a glance of a round before",
+            glances: &[
+                (0, 1, Shows::Runs),
+                (1, 1, Shows::Stopped),
+                (2, 1, Shows::Runs),
+                (0, 1, Shows::NoSlot),
+            ],
+            answered: Some((3, Ending::NoSpace)),
+        },
+    ];
+    for row in &rows {
+        assert!(rt; is_so(rt.alloc(), row)?, "{}", row.shows);
+    }
+    Ok(())
+}

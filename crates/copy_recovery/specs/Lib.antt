@@ -1,0 +1,5 @@
+pub mod Walks
+pub mod Entries
+pub mod Stages
+pub mod Found
+pub mod Again

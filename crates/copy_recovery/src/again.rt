@@ -1,0 +1,169 @@
+//! What a tick sends again.
+
+ghost use Rattle.std.specs.Prelude.{◌≡◌, ◌+◌, ◌++◌, length, IfOk, Some};
+ghost use Rattle.petal_disk.specs.Keeping.{KeepsDevice};
+ghost use Rattle.petal_msg.specs.declared.copying.CopyAction.TheVariants as copy_action;
+ghost use Rattle.petal_rules.specs.Copies as copies;
+ghost use Rattle.petal_rules.specs.Server.{letters_of, sender};
+ghost use Rattle.petal_rules.specs.State.{other_in};
+ghost use Rattle.kept_chains.specs.Kept.{store_of};
+ghost use Rattle.kept_chains.specs.Reading.{IsReadFault};
+ghost use Rattle.pair_side.specs.Side.{Side as Sides, own_of};
+ghost use Rattle.pair_side.specs.Done.{HoldsAt};
+ghost use Rattle.copy_recovery.specs.Again.{IsLook, other_of_cell, posts_of};
+
+use crate::copy::{copy_stage, sync_body, trim_body};
+use crate::next::next_copy;
+use crate::page::page_wanted;
+use crate::roles::{other_in, other_on};
+use global_state::LinkRow;
+use kept_chains::{ReadError, read_nth};
+use pair_side::{Here, Side};
+use petal_base::{Cell, NoMemory, Sequence, ServerId};
+use petal_disk::Disk;
+use petal_msg::{Actor, Body, CopyAction, Copying, Letter, NextCopy};
+use server_store::Store;
+
+/// The letters of the step so far with one letter more, if any, and the number of the next letter.
+fn with_letter(
+    here: &Here,
+    mut letters: Sequence<Letter>,
+    nth: u32,
+    found: Option<(ServerId, Body)>,
+) -> Result<(Sequence<Letter>, u32), NoMemory>
+    ensures { IfOk result (λ more. (more.0 ≡ letters ++ letters_of (sender here.now) nth (posts_of found)) × (more.1 ≡ nth + length (posts_of found))) }
+{
+    match found {
+        None => Ok((letters, nth)),
+        Some((to, body)) => {
+            letters.push(here.letter(Actor::Server(to), nth, body))?;
+            Ok((letters, nth.checked_add(1).ok_or(NoMemory)?))
+        }
+    }
+}
+
+/// The letter of an entry that is not yet answered.
+fn entry_awaited<D: Disk>(
+    here: &Here,
+    store: &mut Store<D>,
+    to: ServerId,
+    cell: Cell,
+    copy: Copying,
+) -> Result<Option<(ServerId, Body)>, ReadError>
+    ensures letter { IfOk result (λ found. D.told → (side : Sides) → other_of_cell here.now cell ≡ Some to
+        → posts_of found ≡ (copies.copy_acts here.now (own_of side store.old) cell copy copy_action.Sync).posts) }
+    ensures look { IsLook D.Disk store.old store.new result }
+{
+    match read_nth(here.alloc(), store, cell, copy.index as usize)? {
+        Some(found) => Ok(Some((to, sync_body(cell, copy, found)))),
+        None => Ok(None),
+    }
+}
+
+/// The letter of which a copy waits for the answer.
+fn awaited<D: Disk>(
+    here: &Here,
+    store: &mut Store<D>,
+    cell: Cell,
+    copy: Copying,
+) -> Result<Option<(ServerId, Body)>, ReadError>
+    ensures letter { IfOk result (λ found. D.told → (side : Sides)
+        → posts_of found ≡ copies.copy_awaited here.now (own_of side store.old) cell copy (copies.copy_stage (store_of store.old) cell copy)) }
+    ensures look { IsLook D.Disk store.old store.new result }
+{
+    let Some(to) = other_on(here, cell) else {
+        return Ok(None);
+    };
+    match copy_stage(store, cell, copy) {
+        CopyAction::Trim => Ok(Some((to, trim_body(here, store, cell, copy)?))),
+        CopyAction::Sync => entry_awaited(here, store, to, cell, copy),
+        CopyAction::Unmark(_) | CopyAction::Close => Ok(None),
+    }
+}
+
+/// The page of the link that is not yet answered.
+fn page_awaited<D: Disk>(
+    here: &Here,
+    side: &Side,
+    store: &Store<D>,
+    row: &LinkRow,
+) -> Option<(ServerId, Body)>
+    ensures { posts_of result ≡ copies.page_for here.now.state (own_of side.now store.now) row.now (other_in here.now.state here.now.me row.now) }
+{
+    let other = other_in(here, row)?;
+    match next_copy(here, side, store, row) {
+        NextCopy::Ask => Some((other, page_wanted(side, row))),
+        NextCopy::Block(_) | NextCopy::Wait | NextCopy::Nothing => None,
+    }
+}
+
+/// Letters of the step, and after them those of the pages that are not yet answered.
+fn pages_after<D: Disk>(
+    here: &Here,
+    side: &Side,
+    store: &Store<D>,
+    before: Sequence<Letter>,
+) -> Result<Sequence<Letter>, NoMemory>
+    ensures { IfOk result (λ letters. letters
+        ≡ before ++ letters_of (sender here.now) (length before) (copies.page_posts here.now (own_of side.now store.now))) }
+{
+    let Ok(mut nth) = u32::try_from(before.len()) else {
+        return Err(NoMemory);
+    };
+    let mut letters = before;
+    for row in here.state().links() {
+        let found = page_awaited(here, side, store, row);
+        let more = with_letter(here, letters, nth, found)?;
+        letters = more.0;
+        nth = more.1;
+    }
+    Ok(letters)
+}
+
+/// Letters of the step, and after them those of the copies that are not yet answered.
+fn copies_after<D: Disk>(
+    here: &Here,
+    side: &Side,
+    store: &mut Store<D>,
+    before: Sequence<Letter>,
+) -> Result<Sequence<Letter>, ReadError>
+    ensures letters { IfOk result (λ letters. D.told → letters
+        ≡ before ++ letters_of (sender here.now) (length before) (copies.copy_posts here.now (own_of side.now store.old))) }
+    ensures look { IsLook D.Disk store.old store.new result }
+{
+    let Ok(mut nth) = u32::try_from(before.len()) else {
+        return Err(ReadError::NoMemory);
+    };
+    let mut letters = before;
+    for (cell, copy) in side.copies.iter() {
+        let found = awaited(here, store, *cell, *copy)?;
+        let more = with_letter(here, letters, nth, found)?;
+        letters = more.0;
+        nth = more.1;
+    }
+    Ok(letters)
+}
+
+/// These letters of a step, and after them those of all copies and pages that are not yet answered. The entry that a copy sends
+/// again is read. Nothing that the store has changed, and the device keeps it as before.
+///
+/// # Errors
+/// `Failed` where the device failed, and out of memory.
+pub fn letters_after<D: Disk>(
+    here: &Here,
+    side: &Side,
+    store: &mut Store<D>,
+    before: Sequence<Letter>,
+) -> Result<Sequence<Letter>, ReadError>
+    ensures letters { IfOk result (λ letters. D.told → letters
+        ≡ before ++ letters_of (sender here.now) (length before)
+        (copies.copy_posts here.now (own_of side.now store.old) ++ copies.page_posts here.now (own_of side.now store.old))) }
+    ensures same { store.new ≡ record store.old { disk = store.new.disk } }
+    ensures device { KeepsDevice D.size D.seen D.may_leave D.moment D.left_since store.old.disk store.new.disk }
+    ensures holds { D.told → HoldsAt D.Disk store.old → HoldsAt D.Disk store.new }
+    ensures cause { IsReadFault (D.faults store.old.disk) (D.faults store.new.disk) result }
+    ensures run { D.came_to store.old.disk store.new.disk }
+{
+    let letters = copies_after(here, side, store, before)?;
+    Ok(pages_after(here, side, store, letters)?)
+}

@@ -1,0 +1,189 @@
+//! What a job for a link does: the next page, the next copy, or the next old mark.
+
+ghost use Rattle.std.specs.Prelude.{◌≡◌, filter, map, Some, IfOk};
+ghost use Rattle.petal_rules.specs.Copies as copies;
+ghost use Rattle.petal_rules.specs.State.{id_of, other_in};
+ghost use Rattle.petal_rules.specs.declared.job.Job.TheVariants as job;
+ghost use Rattle.pair_side.specs.Side.{own_of, HasTicketsAt};
+ghost use Rattle.pair_side.specs.Done.{IsDone, IsSaid};
+
+use crate::begin::begins;
+use crate::copy::followed;
+use crate::next::next_copy;
+use crate::page::page_wanted;
+use crate::roles::other_in;
+use crate::walk::{cell_at, idle_mark};
+use global_state::{LinkRow, LinkState};
+use kept_chains::{mark_left, unmark};
+use pair_side::{Done, FollowUp, Here, Side, WorkError, link_id, says_to, silent};
+use petal_base::{BlockNo, NoMemory, ServerId};
+use petal_disk::Disk;
+use petal_msg::{LinkId, NextCopy};
+use petal_rules::Job;
+use server_store::Store;
+use std::alloc::{AllocError, Global};
+
+/// What is next of the link.
+fn goes_for<D: Disk>(
+    here: &Here,
+    side: &mut Side,
+    store: &Store<D>,
+    row: &LinkRow,
+    other: ServerId,
+    next: NextCopy,
+) -> Result<Done, WorkError>
+    requires { HasTicketsAt side.old store.now }
+    ensures { IsSaid here.now side.old side.new store.now store.now result
+        (copies.goes_for here.now (own_of side.old store.now) row.now other next) }
+{
+    match next {
+        NextCopy::Ask => says_to(here, side, store, Some(other), page_wanted(side, row)),
+        NextCopy::Block(cell) => begins(here, side, store, cell),
+        NextCopy::Wait | NextCopy::Nothing => silent(here, side, store),
+    }
+}
+
+/// Of a link that the server holds alone the next page is asked for, or the next copy begins.
+fn catches_up<D: Disk>(
+    here: &Here,
+    side: &mut Side,
+    store: &Store<D>,
+    row: &LinkRow,
+) -> Result<Done, WorkError>
+    requires { HasTicketsAt side.old store.now }
+    ensures { IsSaid here.now side.old side.new store.now store.now result
+        (copies.catches_up here.now (own_of side.old store.now) row.now (other_in here.now.state here.now.me row.now)) }
+{
+    match other_in(here, row) {
+        None => silent(here, side, store),
+        Some(other) => {
+            let next = next_copy(here, side, store, row);
+            goes_for(here, side, store, row, other, next)
+        }
+    }
+}
+
+/// The first mark of the block is taken away.
+fn takes_mark<D: Disk>(
+    here: &Here,
+    side: &Side,
+    store: &mut Store<D>,
+    row: &LinkRow,
+    block: BlockNo,
+) -> Result<Done, WorkError>
+    requires { HasTicketsAt side.now store.old }
+    ensures { IsDone D.Disk here.now side.now side.now store.old store.new result
+        (copies.tidies (own_of side.now store.old) row.now (Some block)) }
+{
+    let cell = cell_at(row, block);
+    match mark_left(store, cell) {
+        None => silent(here, side, store),
+        Some(kind) => {
+            unmark(store, kind, cell)?;
+            Ok(followed(here, Some(FollowUp::Mend(link_id(row)))))
+        }
+    }
+}
+
+/// In Both a mark that an earlier life left is taken away.
+fn tidies<D: Disk>(
+    here: &Here,
+    side: &Side,
+    store: &mut Store<D>,
+    row: &LinkRow,
+) -> Result<Done, WorkError>
+    requires { HasTicketsAt side.now store.old }
+    ensures { IsDone D.Disk here.now side.now side.now store.old store.new result
+        (copies.tidies (own_of side.now store.old) row.now (copies.idle_mark here.now.state row.now (own_of side.now store.old))) }
+{
+    match idle_mark(here, side, store, row) {
+        None => silent(here, side, store),
+        Some(block) => takes_mark(here, side, store, row, block),
+    }
+}
+
+fn mends_row<D: Disk>(
+    here: &Here,
+    side: &mut Side,
+    store: &mut Store<D>,
+    row: &LinkRow,
+) -> Result<Done, WorkError>
+    requires { HasTicketsAt side.old store.old }
+    ensures { IsDone D.Disk here.now side.old side.new store.old store.new result
+        (copies.mends_row here.now (own_of side.old store.old) row.now row.now.state) }
+{
+    match row.state {
+        LinkState::Both => tidies(here, side, store, row),
+        LinkState::Only { .. } => catches_up(here, side, store, row),
+        LinkState::Lost => silent(here, side, store),
+    }
+}
+
+/// One job for a link, with at most one commit to the store.
+///
+/// # Errors
+/// As of [`copies_on`](crate::copies_on).
+#[tactic(auto, unfolding(petal_rules::specs::Copies::mends))]
+pub fn mends<D: Disk>(
+    here: &Here,
+    side: &mut Side,
+    store: &mut Store<D>,
+    link: LinkId,
+) -> Result<Done, WorkError>
+    requires { HasTicketsAt side.old store.old }
+    ensures { IsDone D.Disk here.now side.old side.new store.old store.new result
+        (copies.mends here.now (own_of side.old store.old) link) }
+{
+    match here.state().link_row(link.map, link.link) {
+        None => silent(here, side, store),
+        Some(row) => mends_row(here, side, store, row),
+    }
+}
+
+fn is_block(next: NextCopy) -> bool
+    ensures { result ≡ copies.is_block next }
+{
+    match next {
+        NextCopy::Block(_) => true,
+        NextCopy::Ask | NextCopy::Wait | NextCopy::Nothing => false,
+    }
+}
+
+/// Whether a copy waits to be begun, or a mark to be taken away.
+fn waits_for_job<D: Disk>(here: &Here, side: &Side, store: &Store<D>, row: &LinkRow) -> bool
+    ensures { result ≡ copies.waits_for_job here.now (own_of side.now store.now) row.now row.now.state }
+{
+    match row.state {
+        LinkState::Both => idle_mark(here, side, store, row).is_some(),
+        LinkState::Only { .. } => {
+            other_in(here, row).is_some() && is_block(next_copy(here, side, store, row))
+        }
+        LinkState::Lost => false,
+    }
+}
+
+fn jobs_of<D: Disk>(
+    alloc: Global,
+    here: &Here,
+    side: &Side,
+    store: &Store<D>,
+    rows: &[LinkRow],
+) -> Result<Vec<Job>, AllocError>
+    ensures { IfOk result (λ jobs. jobs.items
+        ≡ map (λ row. job.Mend (id_of row)) (filter (λ row. copies.waits_for_job here.now (own_of side.now store.now) row row.state) rows.now)) }
+{
+    rows.iter()
+        .filter(|row| waits_for_job(here, side, store, row))
+        .map(|row| Job::Mend(link_id(row)))
+        .collect(alloc)
+}
+
+/// The jobs of the links that have something to mend for which no letter is waited for.
+///
+/// # Errors
+/// Out of memory.
+pub fn mend_jobs<D: Disk>(here: &Here, side: &Side, store: &Store<D>) -> Result<Vec<Job>, NoMemory>
+    ensures { IfOk result (λ jobs. jobs.items ≡ copies.mend_jobs here.now (own_of side.now store.now)) }
+{
+    Ok(jobs_of(here.alloc(), here, side, store, here.state().links())?)
+}

@@ -1,0 +1,47 @@
+//! The other server of a cell's link, for its holder and for that other one.
+
+ghost use Rattle.std.specs.Prelude.{◌≡◌, option_and_then};
+ghost use Rattle.petal_state.specs.CellState.{cell_link};
+ghost use Rattle.petal_rules.specs.Copies as copies;
+ghost use Rattle.petal_rules.specs.State as rules;
+
+use global_state::{LinkRow, LinkState, holder_of};
+use pair_side::Here;
+use petal_base::{Cell, ServerId};
+
+/// For the server that holds the cell's link alone, the other one, where that is In.
+pub fn other_on(here: &Here, cell: Cell) -> Option<ServerId>
+    ensures { result ≡ option_and_then (rules.other_in here.now.state here.now.me) (cell_link here.now.state cell) }
+{
+    match here.state().cell_row(cell) {
+        Some(row) => here.state().other_in(here.me(), row),
+        None => None,
+    }
+}
+
+/// For the other server of the cell's link, the one that holds it alone.
+pub fn holder_on(here: &Here, cell: Cell) -> Option<ServerId>
+    ensures { result ≡ copies.cell_holder here.now cell }
+{
+    match here.state().cell_row(cell) {
+        Some(row) => holder_of(here.me(), row),
+        None => None,
+    }
+}
+
+/// Whether the other server came back with nothing, so that all is to be copied.
+pub fn is_whole(state: LinkState) -> bool
+    ensures { result ≡ rules.is_whole state }
+{
+    match state {
+        LinkState::Only { holder: _, whole } => whole,
+        LinkState::Both | LinkState::Lost => false,
+    }
+}
+
+/// For the holder of the link, the other one, where that is In.
+pub fn other_in(here: &Here, row: &LinkRow) -> Option<ServerId>
+    ensures { result ≡ rules.other_in here.now.state here.now.me row.now }
+{
+    here.state().other_in(here.me(), row)
+}

@@ -1,0 +1,255 @@
+-- What a walk over the entries or the marks finds.
+use Rattle.std.proofs.Common.{◌≡◌, inl, inr, ℕ, zero, suc, ◌<◌, ◌==◌, ◌&&◌, ◌||◌, Bool, true, false, cond, T, nat_lt, nat_le, List, [], ◌∷◌, map, length, Option, Some, None, is_some, option_map, refl, sym, subst, ap, ◌∙◌, arith}
+use Rattle.std.proofs.lemmas.Bool.{cases_Bool}
+use Rattle.std.proofs.lemmas.Bool.Decides.{nat_tests}
+use Rattle.std.proofs.lemmas.Option.{slice_get-map}
+use Rattle.std.specs.Prelude.{filter, slice_get, nat_eq, if◌then◌else◌}
+use Rattle.std.specs.List.{list_any}
+use Rattle.std.specs.declared.cmp.Ordering.TheVariants.{Less, Equal, Greater}
+use Rattle.std.specs.Ordering.{nat_cmp, is_lt, match_ordering}
+use Rattle.std.specs.BTreeMap.{insert_entry}
+use Rattle.std.specs.FinMap.Entries as rows
+use Rattle.busy_marks.specs.declared.marks.Mark.{Mark}
+use Rattle.busy_marks.specs.Marks as marks
+use Rattle.busy_marks.specs.Marks.{above, lesser, next_marked}
+use Rattle.petal_base.specs.declared.cell.Cell.{Cell}
+use Rattle.petal_base.specs.declared.cell.Key.{Key}
+use Rattle.petal_base.specs.Cells.{cell_of}
+use Rattle.petal_table.specs.Table.{Table, at, put}
+use Rattle.petal_rules.specs.Copies.{least}
+use Rattle.petal_rules.specs.Store.{Chain, Stored, bytes_of, cell_cmp, chain_in, entry_at, epochs_of, or_else}
+use Rattle.petal_rules.proofs.CellTables.{cell_cmp_same}
+use Rattle.physical_map.specs.declared.entry.Entry.{Entry}
+use Rattle.physical_map.specs.Entries as entries
+use Rattle.physical_map.specs.Entries.{chain_of, in_cell, next_block_of, slot_of}
+use Rattle.physical_map.specs.Keys.{same_key, IsInOrder}
+use Rattle.server_store.specs.Holdings.{Held, key_held, listed}
+use Rattle.kept_chains.specs.Kept.{chains_of, stored_of}
+use Rattle.kept_chains.specs.Walking.{marked_in, place_of, stored_in}
+use Rattle.kept_chains.proofs.Puts.{IsSorted}
+use Rattle.kept_chains.proofs.Chains.{well_by}
+use Rattle.kept_chains.proofs.Drops.{chain_held}
+use Rattle.kept_chains.proofs.InOrder.{chain_is, new_first}
+
+-- the least marked block above a number
+pub marked_is : (of : ℕ) (after : Option ℕ) (ms : List Mark) → next_marked of after ms ≡ least (filter (above after) (marked_in of ms))
+marked_is of after [] = refl
+marked_is of after (m ∷ ms) =
+    let rest = marked_is of after ms in
+    elim (cases_Bool (m.cell.map == of)) [
+      | inl own ↦ elim (cases_Bool (above after m.cell.block)) [
+        | inl over ↦ rw (own, over) (ap (lesser (Some m.cell.block)) rest)
+        | inr over ↦ rw (own, over) rest
+      ]
+      | inr own ↦ rw own rest
+    ]
+
+module _ (of : ℕ) (after : Option ℕ) where
+  -- the least block so far with one more
+  abbrev step : Cell → Option ℕ → Option ℕ
+  step c o = cond (c.map == of && above after c.block) (lesser (Some c.block) o) o
+
+  abbrev walked : Table Cell Chain → Option ℕ
+  walked [] = None
+  walked (row ∷ later) = step row.0 (walked later)
+
+  walked_is : (t : Table Cell Chain) → walked t ≡ least (filter (above after) (stored_in of t))
+  walked_is [] = refl
+  walked_is (row ∷ later) =
+      let rest = walked_is later in
+      elim (cases_Bool (row.0.map == of)) [
+        | inl own ↦ elim (cases_Bool (above after row.0.block)) [
+          | inl over ↦ rw (own, over) (ap (lesser (Some row.0.block)) rest)
+          | inr over ↦ rw (own, over) rest
+        ]
+        | inr own ↦ rw own rest
+      ]
+
+  lesser_twice : (n : ℕ) (o : Option ℕ) → lesser (Some n) (lesser (Some n) o) ≡ lesser (Some n) o
+  lesser_twice n None = grind (arith, nat_tests)
+  lesser_twice n (Some m) = grind (arith, nat_tests)
+
+  lesser_swap : (n m : ℕ) (o : Option ℕ) → lesser (Some n) (lesser (Some m) o) ≡ lesser (Some m) (lesser (Some n) o)
+  lesser_swap n m None = grind (arith, nat_tests)
+  lesser_swap n m (Some k) = grind (arith, nat_tests)
+
+  step_twice : (c : Cell) (o : Option ℕ) → step c (step c o) ≡ step c o
+  step_twice c o = elim (cases_Bool (c.map == of && above after c.block)) [
+    | inl is ↦ rw is (lesser_twice c.block o)
+    | inr is ↦ rw is refl
+  ]
+
+  step_swap : (c d : Cell) (o : Option ℕ) → step c (step d o) ≡ step d (step c o)
+  step_swap c d o = elim (cases_Bool (c.map == of && above after c.block)) [
+    | inl is ↦ elim (cases_Bool (d.map == of && above after d.block)) [
+      | inl also ↦ rw (is, also) (lesser_swap c.block d.block o)
+      | inr also ↦ rw (is, also) refl
+    ]
+    | inr is ↦ rw is refl
+  ]
+
+  walked_inserted : (t : Table Cell Chain) (c : Cell) (chain : Chain) → walked (insert_entry cell_cmp t c chain) ≡ step c (walked t)
+  walked_inserted [] c chain = refl
+  walked_inserted (row ∷ later) c chain =
+      let rest = walked_inserted later c chain in
+      elim (cell_cmp c row.0) as (λ o. cell_cmp c row.0 ≡ o
+      → walked (match_ordering o ((c, chain) ∷ row ∷ later) ((row.0, chain) ∷ later) (row ∷ insert_entry cell_cmp later c chain)) ≡ step c (step row.0 (walked later))) [
+        | Less ↦ λ _. refl
+        | Equal ↦ λ tie. sym (ap (λ (d : Cell). step d (step row.0 (walked later))) (cell_cmp_same c row.0 tie) ∙ step_twice row.0 (walked later))
+        | Greater ↦ λ _. ap (step row.0) rest ∙ step_swap row.0 c (walked later)
+      ] refl
+
+  walked_put : (t : Table Cell Chain) (c : Cell) (chain : Chain) → walked (put cell_cmp t c chain) ≡ step c (walked t)
+  unfolding put
+  walked_put t c chain = walked_inserted t c chain
+
+  same_above : (n : ℕ) → entries.above after n ≡ above after n
+  same_above n = elim after as (λ a. entries.above a n ≡ above a n) [
+    | None ↦ refl
+    | Some m ↦ refl
+  ]
+
+  same_lesser : (n : ℕ) (o : Option ℕ) → entries.lesser (Some n) o ≡ lesser (Some n) o
+  same_lesser n None = refl
+  same_lesser n (Some m) = refl
+
+  walked_held : (es : List Held) → next_block_of of after (listed es) ≡ walked (chains_of es)
+  walked_held [] = refl
+  walked_held (e ∷ es) =
+      let c = cell_of e.entry.key in
+      let rest = walked_held es in
+      let put_is = walked_put (chains_of es) c _ in
+      elim (cases_Bool (c.map == of)) [
+        | inl own ↦ elim (cases_Bool (above after c.block)) [
+          | inl over ↦
+              let right : walked (chains_of (e ∷ es)) ≡ lesser (Some c.block) (walked (chains_of es)) = put_is ∙ rw (own, over) refl in
+              let left : next_block_of of after (listed (e ∷ es)) ≡ lesser (Some c.block) (walked (chains_of es)) =
+              rw (own, same_above c.block ∙ over) (same_lesser c.block _ ∙ ap (lesser (Some c.block)) rest) in
+              left ∙ sym right
+          | inr over ↦ rw (own, same_above c.block ∙ over) (rest ∙ sym (put_is ∙ rw (own, over) refl))
+        ]
+        | inr own ↦ rw own (rest ∙ sym (put_is ∙ rw own refl))
+      ]
+
+  -- the least block above a number that has an entry
+  pub stored_is : (es : List Held) → next_block_of of after (listed es) ≡ least (filter (above after) (stored_in of (chains_of es)))
+  stored_is es = walked_held es ∙ walked_is (chains_of es)
+
+-- the entries of a cell stand in its chain
+places_are : (es : List Held) (cell : Cell) → map (λ (e : Entry). (e.key.epoch, e.version)) (chain_of cell (listed es)) ≡ map place_of (chain_held cell es)
+places_are [] cell = refl
+places_are (e ∷ es) cell = elim (cases_Bool (in_cell cell e.entry.key)) [
+  | inl own ↦ rw own (ap (λ (l : List (ℕ × ℕ)). (e.entry.key.epoch, e.entry.version) ∷ l) (places_are es cell))
+  | inr own ↦ rw own (places_are es cell)
+]
+
+epochs_are : (es : List Held) (cell : Cell) → map (λ (e : Entry). e.key.epoch) (chain_of cell (listed es)) ≡ epochs_of (chain_held cell es)
+epochs_are [] cell = refl
+epochs_are (e ∷ es) cell = elim (cases_Bool (in_cell cell e.entry.key)) [
+  | inl own ↦ rw own (ap (λ (l : List ℕ). e.entry.key.epoch ∷ l) (epochs_are es cell))
+  | inr own ↦ rw own (epochs_are es cell)
+]
+
+pub nth_is : (es : List Held) (cell : Cell) (place : ℕ) → IsInOrder key_held es
+    → option_map (λ (e : Entry). (e.key.epoch, e.version)) (slice_get (chain_of cell (listed es)) place) ≡ option_map place_of (slice_get (chain_in (chains_of es) cell) place)
+nth_is es cell place order =
+    sym (slice_get-map (λ (e : Entry). (e.key.epoch, e.version)) (chain_of cell (listed es)) place)
+    ∙ ap (λ (l : List (ℕ × ℕ)). slice_get l place) (places_are es cell)
+    ∙ slice_get-map place_of (chain_held cell es) place
+    ∙ ap (λ (chain : Chain). option_map place_of (slice_get chain place)) (sym (chain_is key_held stored_of es cell order))
+
+pub epochs_is : (es : List Held) (cell : Cell) → IsInOrder key_held es
+    → map (λ (e : Entry). e.key.epoch) (chain_of cell (listed es)) ≡ epochs_of (chain_in (chains_of es) cell)
+epochs_is es cell order = epochs_are es cell ∙ ap epochs_of (sym (chain_is key_held stored_of es cell order))
+
+-- an entry is there where its epoch is one of its chain
+slot_by : (es : List Held) (k : Key) → is_some (slot_of (listed es) k) ≡ list_any (nat_eq k.epoch) (epochs_of (chain_held (cell_of k) es))
+slot_by [] k = refl
+slot_by (e ∷ es) k = elim (cases_Bool (same_key e.entry.key k)) [
+  | inl same ↦ let own = own_key e.entry.key k same in let here = own_epoch e.entry.key k same in rw (same, own, here) refl
+  | inr same ↦ elim (cases_Bool (in_cell (cell_of k) e.entry.key)) [
+    | inl own ↦ let there = other_epoch e.entry.key k same own in rw (same, own, there) (slot_by es k)
+    | inr own ↦ rw (same, own) (slot_by es k)
+  ]
+]
+  where
+    own_key : (j k : Key) → same_key j k ≡ true → in_cell (cell_of k) j ≡ true
+    own_key j k same = grind (arith, nat_tests)
+
+    own_epoch : (j k : Key) → same_key j k ≡ true → nat_eq k.epoch j.epoch ≡ true
+    own_epoch j k same = grind (arith, nat_tests)
+
+    other_epoch : (j k : Key) → same_key j k ≡ false → in_cell (cell_of k) j ≡ true → nat_eq k.epoch j.epoch ≡ false
+    other_epoch j k differ own = grind (arith, nat_tests)
+
+pub slot_is : (es : List Held) (k : Key) → IsInOrder key_held es
+    → list_any (nat_eq k.epoch) (epochs_of (chain_in (chains_of es) (cell_of k))) ≡ true → is_some (slot_of (listed es) k) ≡ true
+slot_is es k order there =
+    slot_by es k ∙ ap (λ (chain : Chain). list_any (nat_eq k.epoch) (epochs_of chain)) (sym (chain_is key_held stored_of es (cell_of k) order)) ∙ there
+
+first_of : (a b : Bool) → T (a && b) → T a
+first_of true b h = tt
+first_of false b h = h
+
+second_of : (a b : Bool) → T (a && b) → T b
+second_of true b h = h
+second_of false b h = absurd h
+
+less_of : (a b : ℕ) → T (is_lt (nat_cmp a b)) → a < b
+less_of a b h = elim (cases_Bool (is_lt (nat_cmp a b))) [
+  | inl is ↦ grind (arith, nat_tests, is)
+  | inr is ↦ absurd (rw is at h)
+]
+
+-- nothing of a chain that begins later is found
+none_at : (chain : Chain) (epoch : ℕ) → T (rows.below_all nat_cmp epoch chain) → entry_at chain epoch ≡ None
+none_at [] epoch above = refl
+none_at (row ∷ later) epoch above =
+    let less = less_of epoch row.0 (first_of _ _ above) in
+    let over : nat_le row.0 epoch ≡ false = grind (arith, nat_tests, less) in
+    rw over refl
+
+later_nth : (chain : Chain) (epoch place : ℕ) (row : ℕ × Stored) → T (rows.below_all nat_cmp epoch chain) → slice_get chain place ≡ Some row → epoch < row.0
+later_nth [] epoch place row above is = absurd (cc)
+later_nth (r ∷ rs) epoch zero row above is =
+    let same : r ≡ row = cc in subst (λ (x : ℕ × Stored). epoch < x.0) same (less_of epoch r.0 (first_of _ _ above))
+later_nth (r ∷ rs) epoch (suc place) row above is = later_nth rs epoch place row (second_of _ _ above) is
+
+-- an entry of a chain is what a read at its epoch finds
+entry_nth : (chain : Chain) (place : ℕ) (row : ℕ × Stored) → IsSorted nat_cmp chain → slice_get chain place ≡ Some row → entry_at chain row.0 ≡ Some row.1
+entry_nth [] place row sorted is = absurd (cc)
+entry_nth (r ∷ rs) zero row sorted is =
+    let same : r ≡ row = cc in
+    let not_over : nat_le r.0 r.0 ≡ true = grind (arith, nat_tests) in
+    let here : entry_at (r ∷ rs) r.0 ≡ Some r.1 = rw not_over (ap (λ (o : Option Stored). Some (or_else o r.1)) (none_at rs r.0 (first_of _ _ sorted))) in
+    subst (λ (x : ℕ × Stored). entry_at (r ∷ rs) x.0 ≡ Some x.1) same here
+entry_nth (r ∷ rs) (suc place) row sorted is =
+    let less = later_nth rs r.0 place row (first_of _ _ sorted) is in
+    let not_over : nat_le r.0 row.0 ≡ true = grind (arith, nat_tests, less) in
+    rw not_over (ap (λ (o : Option Stored). Some (or_else o r.1)) (entry_nth rs place row (second_of _ _ sorted) is))
+
+-- the row of a place, by its epoch, its version and what a read at its epoch finds
+read_row : (chain : Chain) (o : Option (ℕ × Stored)) (epoch version : ℕ) (bytes : List ℕ)
+    → ((row : ℕ × Stored) → o ≡ Some row → entry_at chain row.0 ≡ Some row.1)
+    → Some (epoch, version) ≡ option_map place_of o → bytes ≡ bytes_of (entry_at chain epoch)
+    → Some (epoch, record { version = version; bytes = bytes }) ≡ o
+read_row chain None epoch version bytes finds is read = absurd (cc)
+read_row chain (Some row) epoch version bytes finds is read =
+    let place : (epoch, version) ≡ place_of row = cc in
+    let epoch_is : epoch ≡ row.0 = ap (λ (p : ℕ × ℕ). p.0) place in
+    let version_is : version ≡ row.1.version = ap (λ (p : ℕ × ℕ). p.1) place in
+    let bytes_is : bytes ≡ row.1.bytes = read ∙ ap (λ (n : ℕ). bytes_of (entry_at chain n)) epoch_is ∙ ap bytes_of (finds row refl) in
+    λ i. Some (epoch_is i, record { version = version_is i; bytes = bytes_is i })
+
+pub read_is : (es : List Held) (cell : Cell) (place epoch version : ℕ) (bytes : List ℕ)
+    → Some (epoch, version) ≡ option_map place_of (slice_get (chain_in (chains_of es) cell) place)
+    → bytes ≡ bytes_of (entry_at (chain_in (chains_of es) cell) epoch)
+    → Some (epoch, record { version = version; bytes = bytes }) ≡ slice_get (chain_in (chains_of es) cell) place
+read_is es cell place epoch version bytes is read =
+    let chain = chain_in (chains_of es) cell in
+    read_row chain (slice_get chain place) epoch version bytes
+    (λ row found. entry_nth chain place row ((well_by key_held stored_of es).each cell) found) is read
+
+pub none_row : (o : Option (ℕ × Stored)) → None ≡ option_map place_of o → None ≡ o
+none_row None is = refl
+none_row (Some row) is = absurd (cc)

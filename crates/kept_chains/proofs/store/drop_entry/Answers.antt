@@ -1,0 +1,33 @@
+use Rattle.std.proofs.Common.{◌∙◌, ◌++◌, ◌∷◌, [], List, ap, refl, length, length-append, arith}
+use Rattle.std.specs.Prelude.{if◌then◌else◌}
+use Rattle.std.proofs.lemmas.Grind.{common_steps}
+use Rattle.server_store.proofs.Commits.{on_ok}
+use Rattle.server_store.specs.Holdings.{Holdings}
+use Rattle.store_record.specs.declared.record.StoreRecord.{StoreRecord}
+use Rattle.store_record.specs.declared.record.StoreRecord.TheVariants as kind
+use Rattle.kept_chains.proofs.Commits.{drop_moments}
+use Rattle.kept_chains.proofs.Drops.{dropped_is}
+use Rattle.kept_chains.proofs.Walks.{slot_is}
+use Rattle.kept_chains.proofs.store.drop_entry.Goals as goal
+
+pub returns-clause-change : goal.returns-clause-change
+returns-clause-change g c =
+    let order = c.free.ensures.order in
+    let old = c.args.store.now in
+    let new = c.drop_key.new.self in
+    let there = slot_is old.entries c.args.key order c.requires in
+    record {
+      done = on_ok c.drop_key.result _ _ _
+          (λ content records told. dropped_is old new c.args.key order (content told) c.drop_key.ensures.rest
+          (ap length (rw there at records) ∙ length-append old.log.records (kind.Drop c.args.key ∷ [])))
+          c.drop_key.ensures.content c.drop_key.ensures.records;
+      holds = c.drop_key.ensures.holds;
+      moments = λ told holds. drop_moments g.D.Disk old new c.args.key order (c.drop_key.ensures.any_moment told holds);
+      tickets = ap (λ (s : Holdings _). s.tickets) c.drop_key.ensures.rest;
+      kept = c.drop_key.ensures.kept;
+      errors = grind (arith, common_steps);
+      memory = grind (arith, common_steps);
+      full = λ is. record { count = (c.drop_key.ensures.full.0 is).0; over = refl; same = c.drop_key.ensures.full_rest is };
+      cause = c.drop_key.ensures.cause;
+      run = c.drop_key.ensures.run;
+    }

@@ -1,0 +1,151 @@
+-- What a ballot that a server starts keeps of a cell: of one whose link it holds alone, nothing is left to copy once it starts.
+use Rattle.std.proofs.Common.{◌≡◌, ℕ, true, Option, Some, None, refl, sym, ap, ◌∙◌, subst, inl, inr, arith}
+use Rattle.std.specs.Prelude.{is_some}
+use Rattle.std.specs.Ordering.{eq_by_cmp}
+use Rattle.global_tables.specs.declared.link.LinkRow.{LinkRow}
+use Rattle.petal_base.specs.declared.cell.Cell.{Cell}
+use Rattle.petal_command.specs.declared.command.Command.{Command}
+use Rattle.petal_command.specs.declared.command.Command.TheVariants.{Join, Leave, Caught, MakeDisk, Snap, StartMove, Drained, Moved, Witness}
+use Rattle.petal_msg.specs.declared.body.Body.{Body}
+use Rattle.petal_msg.specs.declared.copying.LinkId.{LinkId}
+use Rattle.petal_msg.specs.declared.copying.Progress.{Progress}
+use Rattle.petal_state.specs.CellState.{cell_link}
+use Rattle.petal_rules.specs.Progress.{progress_on, with_progress}
+use Rattle.petal_rules.specs.Returns.{holds_link, proposed}
+use Rattle.petal_rules.specs.Server.{Own, Pairs, Here}
+use Rattle.petal_rules.specs.State.{State, id_of, link_cmp, link_named}
+use Rattle.petal_rules.specs.Store.{Store, chain_in}
+use Rattle.petal_rules.proofs.Tests.{by_bool, none_some, true_false}
+use Rattle.law_log.proofs.Flags.{flag_put, same_id}
+use Rattle.law_steps.specs.Happens.{IsBallotFor, Starts}
+use Rattle.law_copies.specs.Copied.{AreCopying, HasPage, IsCovered, Is_equal, Is_marked_here, Is_marked_there, IsTrimming}
+use Rattle.law_copies.specs.Steps.{BallotKeeps}
+use Rattle.law_copies.proofs.Frames.{IsAlikeOwn, keeps_alike}
+use Rattle.law_copies.proofs.HolderSteps as steps
+use Rattle.law_copies.proofs.Holding.{HolderStep, alike_by, alike_still, below, holder_copying, holder_told, trimmed_or}
+use Rattle.law_copies.proofs.Left.{IsDone, nothing_left}
+use Rattle.law_copies.proofs.Pacing.{IsPaced, paced_beside, progress_itself}
+use Rattle.law_copies.proofs.Standing.{named_id, one_named}
+
+-- the link has a ballot in mind, and nothing else is changed
+abbrev pub flagged_on : Own → LinkRow → Own
+flagged_on own row = with_progress own row (record (progress_on own row) { caught = true })
+
+-- ### Of the ballot's own link
+
+module _ (row : LinkRow) (cell : Cell) (vo : Option Own) (own : Own) (old : AreCopying row cell (Some own) vo) where
+  module _ (state : State) (done : IsDone state row own cell) where
+    abbrev to : Own
+    to = flagged_on own row
+
+    stands : progress_on to row ≡ record (progress_on own row) { caught = true }
+    stands = progress_itself own row (record (progress_on own row) { caught = true })
+
+    flagged_page : HasPage to row → HasPage own row
+    flagged_page (inl paged) = inl (sym (ap (λ (p : Progress). p.paged) stands) ∙ paged)
+    flagged_page (inr after) = inr (sym (ap (λ (p : Progress). is_some p.after) stands) ∙ after)
+
+    no_trimming : {A : Type 0} (number : ℕ) → IsTrimming own cell number → A
+    no_trimming number t = none_some done.idle t.is
+
+    covered_equal : (now : Store) → IsCovered row cell own.store now (Some own) → chain_in own.store.chains cell ≡ chain_in now.chains cell
+    covered_equal now (Is_equal e) = e
+    covered_equal now (Is_marked_here m) = absurd (done.unmarked m)
+    covered_equal now (Is_marked_there m np) = true_false done.paged np.0
+
+    flagged_keeps : BallotKeeps row cell own vo to
+    flagged_keeps = record {
+      copying = holder_copying row cell vo to (old.risen own refl) (λ copy is. none_some done.idle is)
+          (λ o last met is. record {
+            by = to;
+            met = refl;
+            below = below (λ (b : Body). Unit {0}) row cell vo own old o last met is;
+            trimmed = elim (trimmed_or (λ (b : Body). Unit {0}) row cell vo own old o last met is) [
+              | inl none ↦ inl none
+              | inr t ↦ no_trimming last.op t
+            ];
+          })
+          (λ flag. record {
+            paged = ap (λ (p : Progress). p.paged) stands ∙ done.paged;
+            free = done.free;
+            idle = done.idle;
+            unmarked = done.unmarked;
+          })
+          (λ page. old.met own refl (flagged_page page));
+      told = holder_told row cell vo to own (λ number t. no_trimming number t) (λ o last index epoch met is there e m. m)
+          (λ number index r h copy is op. none_some done.idle is);
+      store = refl;
+      alike = λ now a. (let e = covered_equal now a.covered in alike_by row cell own to now (Is_equal e) (λ flag. e));
+      flagged = λ flag. flag_put own row (record (progress_on own row) { caught = true }) refl;
+    }
+
+  -- ### Of another link
+
+  apart_keeps : (to : Own) → IsAlikeOwn own to → to.pairs ≡ own.pairs → to.store ≡ own.store → IsPaced row own to
+      → BallotKeeps row cell own vo to
+  apart_keeps to same pairs store paced =
+      let step : HolderStep (λ b. Unit {0}) row cell vo own to = steps.kept_step (λ b. Unit {0}) row cell vo own old to
+      (keeps_alike cell own to same)
+      (let e = ap (λ (p : Pairs). p.next) pairs in omega arith) paced in
+      record {
+        copying = step.copying;
+        told = step.told;
+        store = store;
+        alike = alike_still row cell own to store paced.paged paced.after paced.flag;
+        flagged = λ flag. paced.flag ∙ flag;
+      }
+
+module _ (here : Here) (row : LinkRow) (cell : Cell) (vo : Option Own) (own : Own) (old : AreCopying row cell (Some own) vo)
+    (is : cell_link here.state cell ≡ Some row) where
+  same_keeps : BallotKeeps row cell own vo own
+  same_keeps = apart_keeps row cell vo own old own
+      (record { pending = refl; followed = refl; copying = refl; last = refl; chains = refl; marks = refl }) refl refl
+      (record { paged = refl; after = refl; flag = refl })
+
+  held_keeps : (id : LinkId) → IsBallotFor here own id → BallotKeeps row cell own vo (holds_link own (link_named here.state id))
+  held_keeps id b = subst (λ o. BallotKeeps row cell own vo (holds_link own o)) (sym b.held.is)
+      (by_bool (eq_by_cmp link_cmp (id_of row) (id_of b.row))
+      (λ t.
+      let same : row ≡ b.row = one_named here.state cell row id b.row is b.held.is
+      (same_id (id_of row) (id_of b.row) t ∙ named_id here.state id b.row b.held.is) in
+      subst (λ (r : LinkRow). BallotKeeps row cell own vo (flagged_on own r)) same
+      (flagged_keeps row cell vo own old here.state
+      (subst (λ (r : LinkRow). IsDone here.state r own cell) (sym same)
+      (nothing_left here.state id b.row own b.held.is cell (is ∙ ap Some same) b.nothing))))
+      (λ no. apart_keeps row cell vo own old (flagged_on own b.row)
+      (record { pending = refl; followed = refl; copying = refl; last = refl; chains = refl; marks = refl }) refl refl
+      (paced_beside own b.row (record (progress_on own b.row) { caught = true }) row no)))
+
+  -- what the ballot keeps
+  pub ballot_keeps : (started : Option Command) → Starts here own started → BallotKeeps row cell own vo (proposed here.state own started)
+  ballot_keeps None starts = same_keeps
+  ballot_keeps (Some (Caught of link holder inc other other_inc)) starts = held_keeps (record { map = of; link = link }) starts
+  ballot_keeps (Some (Join server inc blank)) starts = same_keeps
+  ballot_keeps (Some (Leave server inc)) starts = same_keeps
+  ballot_keeps (Some (MakeDisk client seq name tuple)) starts = same_keeps
+  ballot_keeps (Some (Snap client seq disk name)) starts = same_keeps
+  ballot_keeps (Some (StartMove client seq disk tuple)) starts = same_keeps
+  ballot_keeps (Some (Drained server inc fence)) starts = same_keeps
+  ballot_keeps (Some (Moved of region link)) starts = same_keeps
+  ballot_keeps (Some (Witness client seq turn)) starts = same_keeps
+
+-- of any cell but how far a link is, it keeps all
+abbrev pub IsBallot : Own → Own → Type 0
+IsBallot own to = IsAlikeOwn own to × (to.pairs ≡ own.pairs) × (to.store ≡ own.store)
+
+held_alike : (own : Own) (o : Option LinkRow) → IsBallot own (holds_link own o)
+held_alike own None = (record { pending = refl; followed = refl; copying = refl; last = refl; chains = refl; marks = refl }, refl, refl)
+held_alike own (Some row) = (record { pending = refl; followed = refl; copying = refl; last = refl; chains = refl; marks = refl }, refl, refl)
+
+pub ballot_alike : (state : State) (own : Own) (started : Option Command) → IsBallot own (proposed state own started)
+ballot_alike state own None = held_alike own None
+ballot_alike state own (Some (Caught of link holder inc other other_inc)) = held_alike own
+    (link_named state (record { map = of; link = link }))
+ballot_alike state own (Some (Join server inc blank)) = held_alike own None
+ballot_alike state own (Some (Leave server inc)) = held_alike own None
+ballot_alike state own (Some (MakeDisk client seq name tuple)) = held_alike own None
+ballot_alike state own (Some (Snap client seq disk name)) = held_alike own None
+ballot_alike state own (Some (StartMove client seq disk tuple)) = held_alike own None
+ballot_alike state own (Some (Drained server inc fence)) = held_alike own None
+ballot_alike state own (Some (Moved of region link)) = held_alike own None
+ballot_alike state own (Some (Witness client seq turn)) = held_alike own None

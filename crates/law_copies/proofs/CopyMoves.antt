@@ -1,0 +1,405 @@
+-- The changes of a copy at its holder: it begins, the other server has trimmed, has put an entry; the block is unmarked; the copy ends.
+use Rattle.std.proofs.Common.{◌≡◌, ◌≤◌, ◌<◌, ◌+◌, ℕ, true, false, [], length, Option, Some, None, refl, sym, ap, ◌∙◌, subst, inl, inr, arith}
+use Rattle.std.specs.Prelude.{is_some, slice_get}
+use Rattle.std.specs.Ordering.{nat_cmp}
+use Rattle.std.proofs.lemmas.Option.{slice_get_within}
+use Rattle.busy_marks.specs.declared.marks.MarkKind.{MarkKind}
+use Rattle.global_tables.specs.declared.link.LinkRow.{LinkRow}
+use Rattle.petal_base.specs.declared.cell.Cell.{Cell}
+use Rattle.petal_msg.specs.declared.body.Body.{Body}
+use Rattle.petal_msg.specs.declared.body.Body.TheVariants as body
+use Rattle.petal_msg.specs.declared.copying.Copying.{Copying}
+use Rattle.petal_msg.specs.declared.copying.LastCopy.{LastCopy}
+use Rattle.petal_history.specs.Claims.{IsMarked}
+use Rattle.petal_rules.specs.Copies.{begins_copy, epochs_beyond}
+use Rattle.petal_rules.specs.Progress.{copying_on, last_copy, progress_on, with_copying}
+use Rattle.petal_rules.specs.Server.{Own, Pairs}
+use Rattle.petal_rules.specs.State.{id_of}
+use Rattle.petal_rules.specs.Store.{Chain, Store, Stored, chain_in, epochs_of, without_mark_on}
+use Rattle.petal_rules.specs.Writes.{pending_on}
+use Rattle.petal_rules.proofs.CellTables.{cell_same}
+use Rattle.petal_rules.proofs.Tests.{none_some, same_some, some_or_none, true_false}
+use Rattle.law_state.specs.Started.{is_flagged}
+use Rattle.law_steps.specs.DidHolder.{first_copy}
+use Rattle.law_steps.specs.Ready.{IsRising}
+use Rattle.law_copies.specs.Copied.{AreCopying, HasPut, HasSent, HasTrimmed, IsCopying, Is_equal, IsFollowed, IsLastCopy, IsPast, IsSent, IsTold, IsTrimming, number_above}
+use Rattle.law_copies.proofs.Epochs.{epoch_at, epoch_place, same_chains, within}
+use Rattle.law_copies.proofs.Holding.{HolderStep, alike_by, alike_still, below, holder_copying, holder_told, trimmed_or}
+
+module _ (heard : Body → Type 0) (row : LinkRow) (cell : Cell) (vo : Option Own) (own : Own) (old : AreCopying row cell (Some own) vo) where
+  abbrev Step : Own → Type 0
+  Step to = HolderStep heard row cell vo own to
+
+  abbrev chain : Chain
+  chain = chain_in own.store.chains cell
+
+  -- once a ballot was started no copy is under way
+  not_flagged : {A : Type 0} (copy : Copying) → copying_on own cell ≡ Some copy → is_flagged own (id_of row) ≡ true → A
+  not_flagged copy is flag = none_some (old.caught own refl flag).idle is
+
+  -- ### A copy begins
+
+  module _ (paged : (progress_on own row).paged ≡ true) (free : pending_on own cell ≡ None) (idle : copying_on own cell ≡ None)
+      (marked : IsMarked own.store cell) where
+    abbrev begun : Own
+    begun = begins_copy own cell
+
+    pub begun_is : copying_on begun cell ≡ Some (first_copy own.pairs.next)
+    begun_is = cell_same own.copies.pending cell (first_copy own.pairs.next)
+
+    -- each last copy is an older one
+    older : (o : Own) (last : LastCopy) → vo ≡ Some o → last_copy o cell ≡ Some last → last.op < own.pairs.next
+    older o last met is = subst (λ c. last.op < number_above c own.pairs.next) idle (below heard row cell vo own old o last met is)
+
+    met_other : (o : Own) × (vo ≡ Some o)
+    met_other = elim (some_or_none vo) [ inl there ↦ there | inr none ↦ true_false (old.met own refl (inl paged)) (ap is_some none) ]
+
+    begun_copying_is : (copy : Copying) → copying_on begun cell ≡ Some copy → IsCopying begun vo cell copy
+    begun_copying_is copy is = subst (IsCopying begun vo cell) (same_some (sym begun_is ∙ is)) (record {
+      below = omega arith;
+      free = free;
+      begun = λ fresh. refl;
+      marked = λ w. marked;
+      beside = met_other.0;
+      met = met_other.1;
+      followed = λ t. true_false t refl;
+      heard = λ last fresh there op. let lt = older met_other.0 last met_other.1 there in absurd (omega arith);
+    })
+
+    begun_lasts : (o : Own) (last : LastCopy) → vo ≡ Some o → last_copy o cell ≡ Some last → IsLastCopy (Some begun) o cell last
+    begun_lasts o last met is = record {
+      by = begun;
+      met = refl;
+      below = subst (λ c. last.op < number_above c begun.pairs.next) (sym begun_is) (let lt = older o last met is in omega arith);
+      trimmed = elim (trimmed_or heard row cell vo own old o last met is) [ inl none ↦ inl none | inr t ↦ none_some idle t.is ];
+    }
+
+    unflagged : {A : Type 0} → is_flagged own (id_of row) ≡ true → A
+    unflagged flag = absurd ((old.caught own refl flag).unmarked marked)
+
+    pub begun_step : Step begun
+    begun_step = record {
+      copying = holder_copying row cell vo begun (old.risen own refl) begun_copying_is begun_lasts (λ flag. unflagged flag)
+          (λ page. old.met own refl page);
+      told = holder_told row cell vo begun own (λ number t. none_some idle t.is) (λ o last index epoch met is there e m. m)
+          (λ number index r h copy is op.
+          let p = h.trimmed.past in
+          let lt = older p.own p.last p.met p.is in
+          let le = p.past in
+          let first : own.pairs.next ≡ copy.op = ap (λ (c : Copying). c.op) (same_some (sym begun_is ∙ is)) in
+          absurd (omega arith));
+      marks = λ m. inl m;
+      alike = λ now still pages rises a. alike_still row cell own begun refl refl refl refl now a;
+      caught = λ flag. unflagged flag;
+    }
+
+  -- ### A copy that is under way
+
+  module _ (copy : Copying) (is : copying_on own cell ≡ Some copy) where
+    abbrev c : IsCopying own vo cell copy
+    c = old.copying own copy refl is
+
+    -- the last copy at the other server has no greater number
+    up_to : (o : Own) (last : LastCopy) → vo ≡ Some o → last_copy o cell ≡ Some last → last.op ≤ copy.op
+    up_to o last met there =
+        let lt = subst (λ x. last.op < number_above x own.pairs.next) is (below heard row cell vo own old o last met there) in
+        omega arith
+
+    -- what the other server has beside is one thing
+    one_last : (o : Own) (last : LastCopy) → vo ≡ Some o → last_copy o cell ≡ Some last → last_copy c.beside cell ≡ Some last
+    one_last o last met there = ap (λ x. last_copy x cell) (same_some (sym c.met ∙ met)) ∙ there
+
+    -- what waits for the other server to trim is this copy
+    waits_not : {A : Type 0} (number : ℕ) → copy.trimmed ≡ true → IsTrimming own cell number → A
+    waits_not number trimmed t = true_false trimmed (ap (λ (x : Copying). x.trimmed) (same_some (sym is ∙ t.is)) ∙ t.waits)
+
+    changed : (to : Own) (new : Copying) → copying_on to cell ≡ Some new → IsCopying to vo cell new → (x : Copying)
+        → copying_on to cell ≡ Some x
+        → IsCopying to vo cell x
+    changed to new there so x at_cell = subst (IsCopying to vo cell) (same_some (sym there ∙ at_cell)) so
+
+    -- #### The other server has trimmed
+
+    module _ (fresh : copy.trimmed ≡ false) (said : HasTrimmed vo cell copy.op) where
+      abbrev trimmed : Copying
+      trimmed = record copy { trimmed = true }
+
+      abbrev to_trimmed : Own
+      to_trimmed = with_copying own cell trimmed
+
+      pub trimmed_is : copying_on to_trimmed cell ≡ Some trimmed
+      trimmed_is = cell_same own.copies.pending cell trimmed
+
+      abbrev said_last : LastCopy
+      said_last = said.past.last
+
+      there_last : last_copy c.beside cell ≡ Some said_last
+      there_last = one_last said.past.own said_last said.past.met said.past.is
+
+      same_op : copy.op ≡ said_last.op
+      same_op = let le = up_to said.past.own said_last said.past.met said.past.is in let ge = said.past.past in omega arith
+
+      all_trimmed : epochs_beyond said.past.own cell said_last.epochs ≡ []
+      all_trimmed = said.trimmed same_op
+
+      beside_trimmed : epochs_beyond c.beside cell said_last.epochs ≡ []
+      beside_trimmed = ap (λ x. epochs_beyond x cell said_last.epochs) (same_some (sym c.met ∙ said.past.met)) ∙ all_trimmed
+
+      trimmed_followed : IsFollowed to_trimmed c.beside cell trimmed
+      trimmed_followed =
+          let h = c.heard said_last fresh there_last (sym same_op) in
+          let first = c.begun fresh in
+          let none = h.1 in
+          record {
+            last = said_last;
+            is = there_last;
+            op_is = sym same_op;
+            epochs_are = h.0;
+            past = omega arith;
+            trimmed = beside_trimmed;
+            put = λ i r lt there. absurd (omega arith);
+          }
+
+      trimmed_copying : (x : Copying) → copying_on to_trimmed cell ≡ Some x → IsCopying to_trimmed vo cell x
+      trimmed_copying = changed to_trimmed trimmed trimmed_is (record {
+        below = c.below;
+        free = c.free;
+        begun = λ f. true_false refl f;
+        marked = λ w. c.marked (inl fresh);
+        beside = c.beside;
+        met = c.met;
+        followed = λ t. trimmed_followed;
+        heard = λ last f there op. true_false refl f;
+      })
+
+      trimmed_lasts : (o : Own) (last : LastCopy) → vo ≡ Some o → last_copy o cell ≡ Some last → IsLastCopy (Some to_trimmed) o cell last
+      trimmed_lasts o last met there =
+          let le = up_to o last met there in
+          let own_is : said.past.own ≡ o = same_some (sym said.past.met ∙ met) in
+          let last_is : said_last ≡ last = same_some (sym said.past.is ∙ ap (λ x. last_copy x cell) own_is ∙ there) in
+          record {
+            by = to_trimmed;
+            met = refl;
+            below = subst (λ x. last.op < number_above x to_trimmed.pairs.next) (sym trimmed_is) (omega arith);
+            trimmed = inl (ap (λ x. epochs_beyond x cell last.epochs) (sym own_is)
+                ∙ ap (λ (l : LastCopy). epochs_beyond said.past.own cell l.epochs) (sym last_is)
+                ∙ all_trimmed);
+          }
+
+      pub trimmed_step : Step to_trimmed
+      trimmed_step = record {
+        copying = holder_copying row cell vo to_trimmed (old.risen own refl) trimmed_copying trimmed_lasts
+            (λ flag. not_flagged copy is flag)
+            (λ page. old.met own refl page);
+        told = holder_told row cell vo to_trimmed own
+            (λ number t. inl (subst (IsPast vo cell) (ap (λ (x : Copying). x.op) (same_some (sym is ∙ t.is)) ∙ t.op_is) said.past))
+            (λ o last index epoch met there at_index e m. m)
+            (λ number index r h x there op.
+            let same : trimmed ≡ x = same_some (sym trimmed_is ∙ there) in
+            true_false (h.sent own copy refl is (ap (λ (y : Copying). y.op) same ∙ op)).0 fresh);
+        marks = λ m. inl m;
+        alike = λ now still pages rises a. alike_still row cell own to_trimmed refl refl refl refl now a;
+        caught = λ flag. not_flagged copy is flag;
+      }
+
+    module _ (done : copy.trimmed ≡ true) where
+      abbrev g : IsFollowed own c.beside cell copy
+      g = c.followed done
+
+      -- the last copy of a letter is the one that follows
+      the_last : (o : Own) (last : LastCopy) → vo ≡ Some o → last_copy o cell ≡ Some last → last ≡ g.last
+      the_last o last met there = same_some (sym (one_last o last met there) ∙ g.is)
+
+      -- nothing waits for it to be trimmed
+      trimmed_last : (o : Own) (last : LastCopy) → vo ≡ Some o → last_copy o cell ≡ Some last → epochs_beyond o cell last.epochs ≡ []
+      trimmed_last o last met there = elim (trimmed_or heard row cell vo own old o last met there) [
+        | inl none ↦ none
+        | inr t ↦ waits_not last.op done t
+      ]
+
+      -- #### The other server has put an entry
+
+      module _ (lt : copy.index < length chain) (said : HasPut vo cell copy.op copy.index) where
+        abbrev synced : Copying
+        synced = record copy { index = copy.index + 1 }
+
+        abbrev to_synced : Own
+        to_synced = with_copying own cell synced
+
+        pub synced_is : copying_on to_synced cell ≡ Some synced
+        synced_is = cell_same own.copies.pending cell synced
+
+        synced_past : copy.index + 1 ≤ g.last.index
+        synced_past =
+            let same = the_last said.past.own said.past.last said.past.met said.past.is in
+            let put : copy.index < said.past.last.index = said.put (sym g.op_is ∙ ap (λ (l : LastCopy). l.op) (sym same)) in
+            subst (λ (l : LastCopy). copy.index < l.index → copy.index + 1 ≤ g.last.index) (sym same) (λ less. omega arith) put
+
+        synced_copying : (x : Copying) → copying_on to_synced cell ≡ Some x → IsCopying to_synced vo cell x
+        synced_copying = changed to_synced synced synced_is (record {
+          below = c.below;
+          free = c.free;
+          begun = λ f. true_false done f;
+          marked = λ w. c.marked (inr lt);
+          beside = c.beside;
+          met = c.met;
+          followed = λ t. record {
+            last = g.last;
+            is = g.is;
+            op_is = g.op_is;
+            epochs_are = g.epochs_are;
+            past = synced_past;
+            trimmed = g.trimmed;
+            put = g.put;
+          };
+          heard = λ last f there op. true_false done f;
+        })
+
+        pub synced_step : Step to_synced
+        synced_step = record {
+          copying = holder_copying row cell vo to_synced (old.risen own refl) synced_copying
+              (λ o last met there. record {
+                by = to_synced;
+                met = refl;
+                below = subst (λ x. last.op < number_above x to_synced.pairs.next) (sym synced_is)
+                    (let le = up_to o last met there in omega arith);
+                trimmed = inl (trimmed_last o last met there);
+              })
+              (λ flag. not_flagged copy is flag) (λ page. old.met own refl page);
+          told = holder_told row cell vo to_synced own (λ number t. waits_not number done t)
+              (λ o last index epoch met there at_index e m. m)
+              (λ number index r h x there op.
+              let same : synced ≡ x = same_some (sym synced_is ∙ there) in
+              let s = h.sent own copy refl is (ap (λ (y : Copying). y.op) same ∙ op) in
+              subst (λ (y : Copying). IsSent to_synced cell y index r) same (s.0, (let le = s.1 in omega arith), s.2));
+          marks = λ m. inl m;
+          alike = λ now still pages rises a. alike_still row cell own to_synced refl refl refl refl now a;
+          caught = λ flag. not_flagged copy is flag;
+        }
+
+      -- #### All entries are put
+
+      module _ (past : length chain ≤ copy.index) where
+        -- the other server has the holder's chain
+        pub copied_chain : IsRising nat_cmp (chain_in c.beside.store.chains cell) → chain ≡ chain_in c.beside.store.chains cell
+        copied_chain rises = same_chains chain (chain_in c.beside.store.chains cell) (old.risen own refl) rises
+            (within c.beside cell (epochs_of chain) (ap (λ epochs. epochs_beyond c.beside cell epochs) (sym g.epochs_are) ∙ g.trimmed))
+            (λ i r there. g.put i r (let lt = slice_get_within chain i r there in let le = g.past in omega arith) there)
+
+        -- no entry is left to be put
+        none_left_to_put : {A : Type 0} (o : Own) (last : LastCopy) (index epoch : ℕ) → vo ≡ Some o → last_copy o cell ≡ Some last
+            → slice_get last.epochs index ≡ Some epoch → index ≡ last.index → A
+        none_left_to_put o last index epoch met there at_index e =
+            let same = the_last o last met there in
+            let lt = epoch_place chain index epoch
+            (ap (λ epochs. slice_get epochs index) (sym g.epochs_are ∙ ap (λ (l : LastCopy). l.epochs) (sym same)) ∙ at_index) in
+            let le = g.past in
+            let last_is : last.index ≡ g.last.index = ap (λ (l : LastCopy). l.index) same in
+            absurd (omega arith)
+
+        -- #### A mark of the block is taken away
+
+        module _ (kind : MarkKind) where
+          abbrev unmarked : Own
+          unmarked = record own { store = without_mark_on own.store kind cell }
+
+          unmarked_copying : (x : Copying) → copying_on unmarked cell ≡ Some x → IsCopying unmarked vo cell x
+          unmarked_copying = changed unmarked copy is (record {
+            below = c.below;
+            free = c.free;
+            begun = c.begun;
+            marked = λ w. elim w [ inl f ↦ true_false done f | inr lt ↦ absurd (omega arith) ];
+            beside = c.beside;
+            met = c.met;
+            followed = λ t. record {
+              last = g.last;
+              is = g.is;
+              op_is = g.op_is;
+              epochs_are = g.epochs_are;
+              past = g.past;
+              trimmed = g.trimmed;
+              put = g.put;
+            };
+            heard = λ last f there op. true_false done f;
+          })
+
+          pub unmarked_step : Step unmarked
+          unmarked_step = record {
+            copying = holder_copying row cell vo unmarked (old.risen own refl) unmarked_copying
+                (λ o last met there. record {
+                  by = unmarked;
+                  met = refl;
+                  below = below heard row cell vo own old o last met there;
+                  trimmed = inl (trimmed_last o last met there);
+                })
+                (λ flag. not_flagged copy is flag) (λ page. old.met own refl page);
+            told = holder_told row cell vo unmarked own (λ number t. waits_not number done t)
+                (λ o last index epoch met there at_index e m. none_left_to_put o last index epoch met there at_index e)
+                (λ number index r h x there op. h.sent own x refl there op);
+            marks = λ m. inr (ap is_some c.met);
+            alike = λ now still pages rises a. alike_by row cell own unmarked now
+                (let same = still c.beside c.met in Is_equal (copied_chain (subst (IsRising nat_cmp) (sym same) rises) ∙ same))
+                (λ flag. not_flagged copy is flag);
+            caught = λ flag. not_flagged copy is flag;
+          }
+
+      -- #### The copy ends
+
+      module _ (to : Own) (gone : copying_on to cell ≡ None) (store : to.store ≡ own.store) (pairs : to.pairs ≡ own.pairs)
+          (paged : (progress_on to row).paged ≡ (progress_on own row).paged)
+          (after : (progress_on to row).after ≡ (progress_on own row).after)
+          (flag_is : is_flagged to (id_of row) ≡ is_flagged own (id_of row)) where
+        pub ended_step : Step to
+        ended_step = record {
+          copying = holder_copying row cell vo to
+              (subst (λ (s : Store). IsRising nat_cmp (chain_in s.chains cell)) (sym store) (old.risen own refl))
+              (λ x there. none_some gone there)
+              (λ o last met there. record {
+                by = to;
+                met = refl;
+                below = subst (λ x. last.op < number_above x to.pairs.next) (sym gone) (subst (λ (p : Pairs). last.op < p.next) (sym pairs)
+                    (let le = up_to o last met there in let lt = c.below in omega arith));
+                trimmed = inl (trimmed_last o last met there);
+              })
+              (λ flag. not_flagged copy is (sym flag_is ∙ flag))
+              (λ page. old.met own refl (elim page [ inl p ↦ inl (sym paged ∙ p) | inr a ↦ inr (ap is_some (sym after) ∙ a) ]));
+          told = holder_told row cell vo to own (λ number t. waits_not number done t)
+              (λ o last index epoch met there at_index e m. subst (λ (s : Store). IsMarked s cell) (sym store) m)
+              (λ number index r h x there op. none_some gone there);
+          marks = λ m. inl (subst (λ (s : Store). IsMarked s cell) (sym store) m);
+          alike = λ now still pages rises a. alike_still row cell own to store paged after flag_is now a;
+          caught = λ flag. not_flagged copy is flag;
+        }
+
+    -- ### What is sent of it
+
+    pub trim_told : copy.trimmed ≡ false → IsTold (Some own) vo (body.Trim copy.op cell (epochs_of chain))
+    trim_told fresh = inr (record {
+      own = own;
+      met = refl;
+      trimming = record { copy = copy; is = is; op_is = refl; waits = fresh };
+      epochs_are = refl;
+    })
+
+    pub entry_told : (r : ℕ × Stored) → copy.trimmed ≡ true → slice_get chain copy.index ≡ Some r
+        → HasSent (Some own) vo cell copy.op copy.index r
+    entry_told r done at_index =
+        let f = c.followed done in
+        let op = f.op_is in
+        record {
+          trimmed = record {
+            past = record { own = c.beside; met = c.met; last = f.last; is = f.is; past = omega arith };
+            trimmed = λ same. f.trimmed;
+          };
+          of_last = λ same. record {
+            epoch_is = ap (λ epochs. slice_get epochs copy.index) f.epochs_are ∙ epoch_at chain copy.index r at_index;
+            near = f.past;
+            own = own;
+            met = refl;
+            marked = λ at_last. c.marked (inr (slice_get_within chain copy.index r at_index));
+          };
+          sent = λ x other own_is there same.
+              let one : copy ≡ other = same_some (sym is ∙ ap (λ y. copying_on y cell) (same_some own_is) ∙ there) in
+              subst (λ (y : Own). IsSent y cell other copy.index r) (same_some own_is)
+              (subst (λ (y : Copying). IsSent own cell y copy.index r) one (done, omega arith, at_index));
+        }

@@ -1,0 +1,468 @@
+-- Each step that is allowed keeps what is kept of two copies, and so does every legal history.
+use Rattle.std.proofs.Common.{◌≡◌, ◌≤◌, ◌+◌, ◌++◌, ℕ, true, false, List, [], ◌∷◌, Option, Some, None, refl, sym, ap, ◌∙◌, subst, ◌⊎◌, inl, inr, arith, append_assoc}
+use Rattle.std.specs.Prelude.{map, unwrap_or}
+use Rattle.std.specs.Option.{option_map_or}
+use Rattle.std.specs.Ordering.{nat_cmp}
+use Rattle.busy_marks.specs.Marks.{has_mark}
+use Rattle.std.proofs.lemmas.List.{append-nil}
+use Rattle.global_tables.specs.Link.{other_of}
+use Rattle.petal_base.specs.declared.cell.Cell.{Cell}
+use Rattle.petal_command.specs.declared.command.Command.{Command}
+use Rattle.petal_command.specs.declared.command.Command.TheVariants.{Caught}
+use Rattle.petal_table.specs.Table.{at}
+use Rattle.petal_table.proofs.Rows.{at-empty}
+use Rattle.petal_msg.specs.Kinds.{subject_of}
+use Rattle.petal_msg.specs.declared.body.Body.TheVariants as body
+use Rattle.petal_msg.specs.declared.copying.Progress.{Progress}
+use Rattle.petal_msg.specs.declared.letter.Letter.{Letter}
+use Rattle.script_lines.specs.declared.script.Script.{Script}
+use Rattle.petal_state.specs.CellState.{cell_link}
+use Rattle.petal_state.specs.Command.{state_after}
+use Rattle.petal_state.specs.State.{start as first_state}
+use Rattle.petal_history.specs.Claims.{IsPrefix}
+use Rattle.petal_history.specs.Legal.{IsLegal, world_after}
+use Rattle.petal_history.specs.Sound.{IsSound}
+use Rattle.petal_history.specs.declared.record.Record.{Record}
+use Rattle.petal_rules.specs.Ballots.{post_of}
+use Rattle.petal_rules.specs.Boots.{awake, raised, stays, wakes}
+use Rattle.petal_rules.specs.Clients.{Reaction, client_sender}
+use Rattle.petal_rules.specs.Crossing.{crossed}
+use Rattle.petal_rules.specs.Jobs.{Acted}
+use Rattle.petal_rules.specs.Lists.{In}
+use Rattle.petal_rules.specs.Log.{state_in}
+use Rattle.petal_rules.specs.Progress.{no_progress}
+use Rattle.petal_rules.specs.Returns.{proposed}
+use Rattle.petal_rules.specs.Server.{Own, Copies, Pairs, Server, Post, Sender, Done, no_copies, no_pairs, silent, sender, letters_of}
+use Rattle.petal_rules.specs.State.{State, id_of, is_in, link_cmp}
+use Rattle.petal_rules.specs.Store.{cell_cmp, chain_in, empty_store, mark_on}
+use Rattle.petal_rules.specs.World.{Setting, World, acts, chosen_log, chosen_state, reacts, server_state, setting_of, stamped, start}
+use Rattle.petal_rules.specs.declared.step.Step.{Step}
+use Rattle.petal_rules.proofs.ListLemmas.{in-append, put_apart, put_same}
+use Rattle.petal_rules.proofs.Tests.{by_bool, none_some, true_false}
+use Rattle.law_log.proofs.Histories.{chosen_caught_was, history_grows, history_is_firm, out_has_stopped, who_is_in_has_begun}
+use Rattle.law_state.specs.Firm.{Firm}
+use Rattle.law_state.specs.Started.{is_flagged}
+use Rattle.law_state.proofs.Entries.{start_plain}
+use Rattle.law_state.proofs.Rows.{past_link}
+use Rattle.law_steps.specs.Happens.{Happens, Serves, Turns, Serving, Goes, Ends, Stays, Wakes, Fails, By_job, By_ballot, By_entry, Starts, served_so, stopped_so, shown_so, is_between, own_place, without_rev}
+use Rattle.law_steps.specs.Ready.{IsRising, Rests}
+use Rattle.law_steps.specs.Waking.{AllMayWake}
+use Rattle.law_steps.proofs.Firms.{always_firm}
+use Rattle.law_steps.proofs.Fronts.{below_itself, front_itself, front_more, front_on}
+use Rattle.law_steps.proofs.Histories.{front_legal, last_happens, rests_after, start_rests}
+use Rattle.law_steps.proofs.Sending.{turned_asks}
+use Rattle.law_steps.proofs.Waking.{may_wake}
+use Rattle.law_copies.specs.Copied.{Is_equal}
+use Rattle.law_copies.specs.Good.{Good, IsUnheard}
+use Rattle.law_copies.specs.Pair.{HaveMarks}
+use Rattle.law_copies.specs.Visits.{Visits, place_by}
+use Rattle.law_copies.proofs.Beyond as jobs
+use Rattle.law_copies.proofs.Entered as entries
+use Rattle.law_copies.proofs.Framed.{store_itself, store_same}
+use Rattle.law_copies.proofs.Growing.{IsBehind, grow, new_alone, new_twins}
+use Rattle.law_copies.proofs.Keeping.{ballot_keeping, job_keeping}
+use Rattle.law_copies.proofs.Later.{AllStarted}
+use Rattle.law_copies.proofs.Mute.{asked_mute, logged_mute}
+use Rattle.law_copies.proofs.Quiet as quiet
+use Rattle.law_copies.proofs.Quiet.{posts_mute}
+use Rattle.law_copies.proofs.Stepping.{GoesOn, IsSoundOwn, IsTrue}
+use Rattle.law_copies.proofs.Worked.{IsJob, IsKeeping}
+use Rattle.law_copies.proofs.Visited.{IsStep, counted, later, none_before_none, split_last}
+
+-- what a server that stops tells the others
+all_down : (me inc : ℕ) (others : List ℕ) (post : Post) → In post (map (post_of (body.Down me inc)) others) → is_between (subject_of post.body) ≡ false
+unfolding In
+all_down me inc [] post h = absurd h
+all_down me inc (n ∷ others) post (inl e) = ap (λ (p : Post). is_between (subject_of p.body)) e
+all_down me inc (n ∷ others) post (inr h) = all_down me inc others post h
+
+-- a server that is not In as itself starts no ballot for a Caught
+out_ballot : (setting : Setting) (w : World) (k : ℕ) (o : Option Command) → Starts (own_place setting w k) (w.servers k).own o
+    → is_in (server_state setting w k) k (w.servers k).life.inc ≡ false → proposed (server_state setting w k) (w.servers k).own o ≡ (w.servers k).own
+out_ballot setting w k None starts out = refl
+out_ballot setting w k (Some (Caught of link holder inc other other_inc)) starts out = true_false starts.seated out
+out_ballot setting w k (Some _) starts out = refl
+
+-- ### A world
+
+-- what is known of a world of a legal history: its log; each stopped server may boot, and is not In as its next incarnation; what rests;
+-- and the ballots of the Caughts that are chosen
+pub record IsKnown (setting : Setting) (records : List Record) (w : World) : Type 0 where
+  pub firm : Firm setting w
+  pub wake : AllMayWake setting w
+  pub next : (n : ℕ) → is_in (server_state setting w n) n ((w.servers n).life.inc + 1) ≡ false
+  pub rests : Rests setting w
+  pub started : AllStarted setting records w
+
+module _ (setting : Setting) (records : List Record) (w : World) (known : IsKnown setting records w) (good : Good setting records (chosen_log setting w) w)
+    (own : Record) where
+  abbrev top : List Command
+  top = chosen_log setting w
+
+  abbrev GoesTo : World → Type 0
+  GoesTo v = world_after setting (start setting) (records ++ own ∷ []) ≡ v → GoesOn setting records top top w v good own
+
+  -- ### A step of a server
+
+  module _ (k stamp : ℕ) (what : Step) (acted : Acted) where
+    abbrev v : World
+    v = (acts w k what stamp acted).world
+
+    step_of : IsPrefix (w.servers k).log.applied acted.server.log.applied → IsPrefix acted.server.log.applied top → IsStep setting top w v k acted.server
+    step_of onward within = record {
+      here = put_same w.servers k acted.server;
+      others = put_apart w.servers k acted.server;
+      plain = known.firm.plain;
+      before = known.firm.servers;
+      onward = onward;
+      within = within;
+    }
+
+    same_step : acted.server.log.applied ≡ (w.servers k).log.applied → IsStep setting top w v k acted.server
+    same_step applied =
+        step_of (subst (IsPrefix (w.servers k).log.applied) (sym applied) (front_itself (w.servers k).log.applied))
+        (subst (λ f. IsPrefix f top) (sym applied) (known.firm.servers k))
+
+    -- each letter was sent before, or in this step
+    sent_by : (P : Letter → Type 0) → ((letter : Letter) → In letter (stamped stamp acted.letters) → P letter) → (letter : Letter) → In letter v.sent
+        → In letter w.sent ⊎ P letter
+    sent_by P new letter i = elim (in-append letter (stamped stamp acted.letters) w.sent i) [ inl n ↦ inr (new letter n) | inr old ↦ inl old ]
+
+    -- the server's own part is as it was
+    module _ (own_same : acted.server.own ≡ (w.servers k).own) (applied : acted.server.log.applied ≡ (w.servers k).log.applied) where
+      same_sound : IsSoundOwn setting top acted.server
+      same_sound = record {
+        born = λ cell none. ap (λ (o : Own). chain_in o.store.chains cell) own_same ∙ good.born cell none k;
+        unheard = λ cell none. subst (λ (o : Own). IsUnheard o cell) (sym own_same)
+            (good.unheard k cell (ap (λ f. cell_link (state_after setting.servers f) cell) (sym applied) ∙ none));
+        rising = λ cell. subst (λ (o : Own). IsRising nat_cmp (chain_in o.store.chains cell)) (sym own_same) (good.rising k cell);
+        counts = subst (λ (o : Own). 1 ≤ o.pairs.next) (sym own_same) (good.counts k);
+        marks = subst (λ (o : Own). HaveMarks o.pairs.pending o.store) (sym own_same) (good.marks k);
+      }
+
+      -- and it says nothing of pairs or copies
+      quiet_goes : acted.server.life.inc ≡ (w.servers k).life.inc → (who : Sender) (posts : List Post) → acted.letters ≡ letters_of who 0 posts
+          → ((post : Post) → In post posts → is_between (subject_of post.body) ≡ false) → GoesTo v
+      quiet_goes inc who posts is mute then_is =
+          let step = same_step applied in
+          quiet.quiet_good setting records top w v k acted.server good step
+          (quiet.same_visits setting records top w v k acted.server good step own_same applied inc)
+          (λ cell. store_same (w.servers k).own.store acted.server.own.store cell (ap (λ (o : Own). o.store) own_same))
+          own then_is same_sound
+          (sent_by (IsTrue setting top v (later setting records top w v k acted.server good step) (counted setting records top w v k acted.server good step))
+          (λ letter i. posts_mute setting top v (later setting records top w v k acted.server good step) (counted setting records top w v k acted.server good step)
+          who stamp posts mute letter (subst (λ letters. In letter (stamped stamp letters)) is i)))
+
+    -- a server that is not In as itself then, with its blocks and marks as they were
+    module _ (out : is_in (state_in setting.servers acted.server.log) k acted.server.life.inc ≡ false)
+        (step : IsStep setting top w v k acted.server) (chains : acted.server.own.store.chains ≡ (w.servers k).own.store.chains)
+        (marks : acted.server.own.store.marks ≡ (w.servers k).own.store.marks) (sound : IsSoundOwn setting top acted.server) where
+      out_goes : (who : Sender) (posts : List Post) → acted.letters ≡ letters_of who 0 posts
+          → ((post : Post) → In post posts → is_between (subject_of post.body) ≡ false) → GoesTo v
+      out_goes who posts is mute then_is =
+          quiet.quiet_good setting records top w v k acted.server good step
+          (quiet.out_visits setting records top w v k acted.server good step out)
+          (λ cell. record { chain = ap (λ t. chain_in t cell) chains; marks = λ kind. ap (λ ms. has_mark (mark_on kind cell) ms) marks })
+          own then_is sound
+          (sent_by (IsTrue setting top v (later setting records top w v k acted.server good step) (counted setting records top w v k acted.server good step))
+          (λ letter i. posts_mute setting top v (later setting records top w v k acted.server good step) (counted setting records top w v k acted.server good step)
+          who stamp posts mute letter (subst (λ letters. In letter (stamped stamp letters)) is i)))
+
+    -- a server that is In as itself does a job, or starts a ballot
+    module _ (runs : (w.servers k).life.running ≡ true) (seat : is_in (server_state setting w k) k (w.servers k).life.inc ≡ true) (done : Done)
+        (keeping : IsKeeping setting w k done) (own_is : acted.server.own ≡ done.own) (applied : acted.server.log.applied ≡ (w.servers k).log.applied)
+        (inc : acted.server.life.inc ≡ (w.servers k).life.inc) where
+      job : IsJob setting w v k acted.server done
+      job = record {
+        step = same_step applied;
+        firm = known.firm;
+        rests = known.rests;
+        runs = runs;
+        seat = seat;
+        keeping = keeping;
+        own_is = own_is;
+        applied = applied;
+        inc = inc;
+      }
+
+      abbrev IsTold : Letter → Type 0
+      IsTold = IsTrue setting top v (later setting records top w v k acted.server good (same_step applied))
+          (counted setting records top w v k acted.server good (same_step applied))
+
+      job_goes : ((letter : Letter) → In letter (stamped stamp acted.letters) → IsTold letter) → GoesTo v
+      job_goes told then_is =
+          jobs.job_good setting records w v k acted.server good done job known.started own then_is (sent_by IsTold told)
+
+      -- its letters go
+      job_sends : acted.letters ≡ letters_of (sender (own_place setting w k)) 0 done.posts → GoesTo v
+      job_sends is = job_goes (λ letter i.
+          jobs.sends setting records w v k acted.server good done job known.started stamp letter (subst (λ letters. In letter (stamped stamp letters)) is i))
+
+      -- or it stops, and tells the others that
+      job_stops : (who : Sender) (posts : List Post) → acted.letters ≡ letters_of who 0 posts
+          → ((post : Post) → In post posts → is_between (subject_of post.body) ≡ false) → GoesTo v
+      job_stops who posts is mute = job_goes (λ letter i.
+          posts_mute setting top v (later setting records top w v k acted.server good (same_step applied))
+          (counted setting records top w v k acted.server good (same_step applied)) who stamp posts mute letter
+          (subst (λ letters. In letter (stamped stamp letters)) is i))
+
+    -- it applies an entry
+    module _ (runs : (w.servers k).life.running ≡ true) (entry : Command) (more : acted.server.log.applied ≡ (w.servers k).log.applied ++ entry ∷ [])
+        (within : IsPrefix acted.server.log.applied top) (own_is : acted.server.own ≡ crossed (server_state setting w k) entry (w.servers k).own)
+        (inc : acted.server.life.inc ≡ (w.servers k).life.inc) where
+      entry_step : IsStep setting top w v k acted.server
+      entry_step = step_of (subst (IsPrefix (w.servers k).log.applied) (sym more) (front_more (w.servers k).log.applied entry)) within
+
+      entry_goes : (who : Sender) (posts : List Post) → acted.letters ≡ letters_of who 0 posts
+          → ((post : Post) → In post posts → is_between (subject_of post.body) ≡ false) → GoesTo v
+      entry_goes who posts is mute then_is =
+          entries.entered_good setting records w v k acted.server good entry_step known.firm known.rests runs entry more own_is inc
+          own then_is
+          (sent_by (IsTrue setting top v (later setting records top w v k acted.server good entry_step) (counted setting records top w v k acted.server good entry_step))
+          (λ letter i. posts_mute setting top v (later setting records top w v k acted.server good entry_step)
+          (counted setting records top w v k acted.server good entry_step) who stamp posts mute letter
+          (subst (λ letters. In letter (stamped stamp letters)) is i)))
+
+  -- what a server's own part is that has nothing in memory
+  woken_sound : (k : ℕ) (server : Server) → server.own.pairs ≡ no_pairs → server.own.copies ≡ no_copies
+      → server.own.store.chains ≡ (w.servers k).own.store.chains → IsSoundOwn setting top server
+  woken_sound k server pairs copies chains = record {
+    born = λ cell none. ap (λ t. chain_in t cell) chains ∙ good.born cell none k;
+    unheard = λ cell none. record {
+      last = ap (λ (p : Pairs). at cell_cmp p.last cell) pairs ∙ at-empty cell_cmp cell;
+      pages = λ row same. ap (λ (c : Copies). unwrap_or (at link_cmp c.progress (id_of row)) no_progress) copies
+          ∙ ap (λ o. unwrap_or o no_progress) (at-empty link_cmp (id_of row));
+    };
+    rising = λ cell. subst (λ t. IsRising nat_cmp (chain_in t cell)) (sym chains) (good.rising k cell);
+    counts = subst (λ (p : Pairs). 1 ≤ p.next) (sym pairs) (omega arith);
+    marks = λ cell op there. none_some (at-empty cell_cmp cell) (ap (λ (p : Pairs). at cell_cmp p.pending cell) (sym pairs) ∙ there);
+  }
+
+  no_posts : (post : Post) → In post [] → is_between (subject_of post.body) ≡ false
+  unfolding In
+  no_posts post i = absurd i
+
+  server_goes : (k stamp : ℕ) (what : Step) (acted : Acted) → Serving setting w k what acted → GoesTo (acts w k what stamp acted).world
+  server_goes k stamp what _ (Goes _ _ queue runs (By_job log done same did (inl seat)) queued works) =
+      job_sends k stamp what (served_so setting w k log done queue) runs seat done
+      (job_keeping setting records w k good known.firm known.rests runs seat done did) refl same refl refl
+  server_goes k stamp what _ (Goes _ _ queue runs (By_job log done same did (inr apart)) queued works) =
+      quiet_goes k stamp what (served_so setting w k log done queue) apart.same same refl (sender (own_place setting w k)) done.posts refl apart.mute
+  server_goes k stamp what _ (Goes _ _ queue runs (By_ballot log started posts same starts logged) queued works) =
+      let done : Done = record { own = proposed (server_state setting w k) (w.servers k).own started; posts = posts; jobs = [] } in
+      let acted = served_so setting w k log done queue in
+      by_bool (is_in (server_state setting w k) k (w.servers k).life.inc)
+      (λ seat. job_sends k stamp what acted runs seat done
+      (ballot_keeping setting records w k good known.firm known.rests runs seat started posts starts logged) refl same refl refl)
+      (λ out. quiet_goes k stamp what acted (out_ballot setting w k started starts out) same refl (sender (own_place setting w k)) posts refl
+      (λ post i. logged_mute (subject_of post.body) (logged post i)))
+  server_goes k stamp what _ (Goes _ _ queue runs (By_entry log entry more front) queued works) =
+      entry_goes k stamp what (served_so setting w k log (silent (crossed (server_state setting w k) entry (w.servers k).own)) queue) runs entry more front refl refl
+      (sender (own_place setting w k)) [] refl no_posts
+  server_goes k stamp what _ (Ends _ _ runs (By_job log done same did (inl seat))) =
+      job_stops k stamp what (stopped_so setting w k log done) runs seat done
+      (job_keeping setting records w k good known.firm known.rests runs seat done did) refl same refl (without_rev (own_place setting w k)) _ refl
+      (all_down k (w.servers k).life.inc _)
+  server_goes k stamp what _ (Ends _ _ runs (By_job log done same did (inr apart))) =
+      quiet_goes k stamp what (stopped_so setting w k log done) apart.same same refl (without_rev (own_place setting w k)) _ refl
+      (all_down k (w.servers k).life.inc _)
+  server_goes k stamp what _ (Ends _ _ runs (By_ballot log started posts same starts logged)) =
+      let done : Done = record { own = proposed (server_state setting w k) (w.servers k).own started; posts = posts; jobs = [] } in
+      let acted = stopped_so setting w k log done in
+      by_bool (is_in (server_state setting w k) k (w.servers k).life.inc)
+      (λ seat. job_stops k stamp what acted runs seat done
+      (ballot_keeping setting records w k good known.firm known.rests runs seat started posts starts logged) refl same refl
+      (without_rev (own_place setting w k)) _ refl (all_down k (w.servers k).life.inc _))
+      (λ out. quiet_goes k stamp what acted (out_ballot setting w k started starts out) same refl (without_rev (own_place setting w k)) _ refl
+      (all_down k (w.servers k).life.inc _))
+  server_goes k stamp what _ (Ends _ _ runs (By_entry log entry more front)) =
+      entry_goes k stamp what (stopped_so setting w k log (silent (crossed (server_state setting w k) entry (w.servers k).own))) runs entry more front refl refl
+      (without_rev (own_place setting w k)) _ refl (all_down k (w.servers k).life.inc _)
+  server_goes k stamp what _ (Stays who posts from shown) =
+      quiet_goes k stamp what (shown_so w k who posts) refl refl refl who posts refl (λ post i. ap is_between (shown post i))
+  server_goes k stamp what _ (Wakes booted asleep) =
+      let woken = awake (raised (w.servers k)) in
+      let acted = wakes (own_place setting w k) woken in
+      let wake = known.wake k in
+      out_goes k stamp what acted wake.out (step_of k stamp what acted wake.onward wake.chosen) refl refl (woken_sound k woken refl refl refl) _ _ refl
+      (all_down k (w.servers k).life.inc _)
+  server_goes k stamp what _ (Fails booted asleep) =
+      let acted = stays (raised (w.servers k)) in
+      out_goes k stamp what acted (known.next k) (same_step k stamp what acted refl) refl refl (same_sound k stamp what acted refl refl) (sender (own_place setting w k)) [] refl no_posts
+
+  -- ### A turn of a client
+
+  client_goes : (c stamp : ℕ) (reacted : Reaction) → ((post : Post) → In post reacted.posts → is_between (subject_of post.body) ≡ false)
+      → GoesTo (reacts w c stamp reacted).world
+  client_goes c stamp reacted mute then_is =
+      let v = (reacts w c stamp reacted).world in
+      let step : IsStep setting top w v 0 (w.servers 0) = record {
+        here = refl;
+        others = λ n ne. refl;
+        plain = known.firm.plain;
+        before = known.firm.servers;
+        onward = front_itself (w.servers 0).log.applied;
+        within = known.firm.servers 0;
+      } in
+      let visits = later setting records top w v 0 (w.servers 0) good step in
+      let reached = counted setting records top w v 0 (w.servers 0) good step in
+      quiet.quiet_good setting records top w v 0 (w.servers 0) good step
+      (quiet.same_visits setting records top w v 0 (w.servers 0) good step refl refl refl)
+      (λ cell. store_itself (w.servers 0).own.store cell)
+      own then_is
+      (record {
+        born = λ cell none. good.born cell none 0;
+        unheard = good.unheard 0;
+        rising = good.rising 0;
+        counts = good.counts 0;
+        marks = good.marks 0;
+      })
+      (λ letter i. elim (in-append letter (stamped stamp (letters_of (client_sender c reacted.client) 0 reacted.posts)) w.sent i) [
+        | inl new ↦ inr (posts_mute setting top v visits reached (client_sender c reacted.client) stamp reacted.posts mute letter new)
+        | inr old ↦ inl old
+      ])
+
+  pub happens_goes : (state : State) (v : World) → Happens setting state w v → GoesTo v
+  happens_goes state _ (Serves k stamp what acted lt small serving) = server_goes k stamp what acted serving
+  happens_goes state _ (Turns c stamp in_call reacted lt c_lt turned onward) =
+      client_goes c stamp reacted (λ post i. asked_mute (subject_of post.body) (turned_asks _ _ _ _ _ _ _ turned post i))
+
+-- ### The start
+
+start_unlinked : (servers : ℕ) (cell : Cell) → cell_link (state_after servers []) cell ≡ None
+start_unlinked servers cell = past_link servers (first_state servers) (start_plain servers) cell (omega arith)
+
+no_chain : (slots : ℕ) (cell : Cell) → chain_in (empty_store slots).chains cell ≡ []
+no_chain slots cell = ap (λ o. unwrap_or o []) (at-empty cell_cmp cell)
+
+pub start_good : (setting : Setting) → Good setting [] (chosen_log setting (start setting)) (start setting)
+unfolding In
+start_good setting =
+    let w = start setting in
+    let visits : Visits = λ n place cell. None in
+    let reached : Cell → ℕ = λ cell. 0 in
+    let same : (n m : ℕ) (cell : Cell) → chain_in (w.servers n).own.store.chains cell ≡ chain_in (w.servers m).own.store.chains cell =
+    λ n m cell. no_chain setting.slots cell ∙ sym (no_chain setting.slots cell) in
+    record {
+      visits = visits;
+      reached = reached;
+      reaching = record { below = λ front cell row n own prefix is serving visit. none_some refl visit; by = λ cell. inl refl };
+      here = λ n cell row is seat. none_some (start_unlinked setting.servers cell) is;
+      been = λ n place cell own visit. none_some refl visit;
+      born = λ cell none n. no_chain setting.slots cell;
+      unheard = λ n cell none. record {
+        last = at-empty cell_cmp cell;
+        pages = λ row of. ap (λ o. unwrap_or o no_progress) (at-empty link_cmp (id_of row));
+      };
+      rising = λ n cell. subst (IsRising nat_cmp) (sym (no_chain setting.slots cell)) tt;
+      counts = λ n. omega arith;
+      marks = λ n cell op there. none_some (at-empty cell_cmp cell) there;
+      both = λ front cell row prefix is both. record {
+        twins = λ last. new_twins w visits (place_by setting front row) cell row.primary row.secondary (λ n. refl) (same row.primary row.secondary cell);
+      };
+      alone = λ front cell row holder prefix is alone.
+          new_alone setting (chosen_log setting w) w visits reached front cell row holder (λ n. refl) (Is_equal (same holder (other_of holder row) cell));
+      revs = λ letter i. absurd i;
+      letters = λ letter i. absurd i;
+      pages = λ letter i. absurd i;
+      started = λ holder inc front cell row prefix is alone seat was. true_false was.minded
+          (ap (λ u. is_flagged ((world_after setting w u).servers holder).own (id_of row)) (none_before_none was.before was.later was.is)
+          ∙ ap (λ o. option_map_or (λ (p : Progress). p.caught) o false) (at-empty link_cmp (id_of row)));
+    }
+
+-- no server has been anywhere then
+pub start_visits : (setting : Setting) (n place : ℕ) (cell : Cell) → (start_good setting).visits n place cell ≡ None
+unfolding start_good
+start_visits setting n place cell = refl
+
+-- ### Legal histories
+
+pub known_after : (script : Script) (records : List Record) → IsSound script → IsLegal script records
+    → IsKnown (setting_of script) records (world_after (setting_of script) (start (setting_of script)) records)
+known_after script records sound legal =
+    let setting = setting_of script in
+    let w = world_after setting (start setting) records in
+    record {
+      firm = history_is_firm script records sound legal;
+      wake = may_wake script records sound legal;
+      next = λ n. by_bool (is_in (server_state setting w n) n ((w.servers n).life.inc + 1))
+          (λ up. by_bool (is_in (chosen_state setting w) n ((w.servers n).life.inc + 1))
+          (λ now. let begun = who_is_in_has_begun script records sound legal n ((w.servers n).life.inc + 1) now in absurd (omega arith))
+          (λ gone. elim (out_has_stopped script records sound legal n ((w.servers n).life.inc + 1) (w.servers n).log.applied
+          ((history_is_firm script records sound legal).servers n) up gone) [
+            | inl rests ↦ (let le = rests.1 in absurd (omega arith))
+            | inr past ↦ absurd (omega arith)
+          ]))
+          (λ out. out);
+      rests = rests_after setting (start setting) records (always_firm script records sound legal) (start_rests script) legal;
+      started = chosen_caught_was script records sound legal;
+    }
+
+-- the part of a history before its last record
+pub before_last : (script : Script) (records : List Record) (own : Record) → IsLegal script (records ++ own ∷ []) → IsLegal script records
+before_last script records own legal = (front_legal (setting_of script) (start (setting_of script)) records (own ∷ []) legal).0
+
+module _ (script : Script) (records : List Record) (own : Record) (sound : IsSound script) (legal : IsLegal script (records ++ own ∷ [])) where
+  abbrev setting : Setting
+  setting = setting_of script
+
+  abbrev all : List Record
+  all = records ++ own ∷ []
+
+  abbrev w : World
+  w = world_after setting (start setting) records
+
+  abbrev next : World
+  next = world_after setting (start setting) all
+
+  legal_before : IsLegal script records
+  legal_before = before_last script records own legal
+
+  -- no server was beyond what was chosen before the last record
+  behind : ((n : ℕ) → IsPrefix (next.servers n).log.applied (chosen_log setting w)) → IsBehind setting all (chosen_log setting w) next
+  behind now = record {
+    now = now;
+    ever = λ before rest is n. elim (split_last records own before rest is) [
+      | inl whole ↦ subst (λ rs. IsPrefix ((world_after setting (start setting) rs).servers n).log.applied (chosen_log setting w)) (sym whole) (now n)
+      | inr more ↦ (
+          let legal_there = (front_legal setting (start setting) before more.0 (subst (IsLegal script) more.1 legal_before)).0 in
+          front_on _ (chosen_log setting (world_after setting (start setting) before)) (chosen_log setting w)
+          ((history_is_firm script before sound legal_there).servers n)
+          (history_grows script records sound legal_before before more.0 more.1))
+    ];
+  }
+
+  -- one record more
+  pub step_goes : (good : Good setting records (chosen_log setting w) w) → GoesOn setting records (chosen_log setting w) (chosen_log setting next) w next good own
+  step_goes good =
+      let state = chosen_state setting next in
+      let happens = last_happens script records own (always_firm script all sound legal) legal state (below_itself state) in
+      let goes = happens_goes setting records w (known_after script records sound legal_before) good own state next happens refl in
+      let known = known_after script all sound legal in
+      let grown = grow setting all next known.firm known.started goes.good.visits goes.good.reached (chosen_log setting w)
+      (history_grows script all sound legal records (own ∷ []) refl) (behind goes.behind)
+      (record { good = goes.good; visits_are = refl; reached_is = refl }) in
+      record {
+        good = grown.good;
+        visits = λ n place cell. ap (λ (f : Visits). f n place cell) grown.visits_are ∙ goes.visits n place cell;
+        reached = λ cell. (let le = goes.reached cell in let e = ap (λ (f : Cell → ℕ). f cell) grown.reached_is in omega arith);
+        behind = goes.behind;
+      }
+
+-- what is kept after these records of a script
+abbrev pub KeptAfter : Script → List Record → Type 0
+KeptAfter script records =
+    Good (setting_of script) records (chosen_log (setting_of script) (world_after (setting_of script) (start (setting_of script)) records))
+    (world_after (setting_of script) (start (setting_of script)) records)
+
+-- after each legal history
+good_from : (script : Script) (done later : List Record) → IsSound script → IsLegal script (done ++ later) → KeptAfter script done → KeptAfter script (done ++ later)
+good_from script done [] sound legal good = subst (KeptAfter script) (sym (append-nil done)) good
+good_from script done (own ∷ later) sound legal good =
+    let e = append_assoc done (own ∷ []) later in
+    let legal' : IsLegal script ((done ++ own ∷ []) ++ later) = subst (IsLegal script) (sym e) legal in
+    let part = (front_legal (setting_of script) (start (setting_of script)) (done ++ own ∷ []) later legal').0 in
+    subst (KeptAfter script) e (good_from script (done ++ own ∷ []) later sound legal' (step_goes script done own sound part good).good)
+
+pub good_after : (script : Script) (records : List Record) → IsSound script → IsLegal script records → KeptAfter script records
+good_after script records sound legal = good_from script [] records sound legal (start_good (setting_of script))

@@ -1,0 +1,219 @@
+-- What a job, and a ballot that is started, keeps by itself.
+use Rattle.std.proofs.Common.{◌≡◌, ℕ, true, false, List, [], Option, Some, None, refl, sym, ap, ◌∙◌, subst, inl, arith}
+use Rattle.std.specs.Ordering.{eq_by_cmp, nat_cmp}
+use Rattle.global_tables.specs.declared.link.LinkRow.{LinkRow}
+use Rattle.petal_base.specs.declared.cell.Cell.{Cell}
+use Rattle.petal_command.specs.declared.command.Command.{Command}
+use Rattle.petal_command.specs.declared.command.Command.TheVariants.{Caught}
+use Rattle.petal_table.specs.Table.{at}
+use Rattle.petal_msg.specs.Kinds.{is_logged, subject_of}
+use Rattle.petal_msg.specs.declared.copying.LinkId.{LinkId}
+use Rattle.petal_history.specs.Claims.{IsMarked}
+use Rattle.petal_history.specs.declared.record.Record.{Record}
+use Rattle.petal_rules.specs.Lists.{In}
+use Rattle.petal_rules.specs.Progress.{progress_on}
+use Rattle.petal_rules.specs.Returns.{holds_link, proposed}
+use Rattle.petal_rules.specs.Server.{Own, Pairs, Here, Post, Done}
+use Rattle.petal_rules.specs.State.{holder_of, id_of, is_in, link_cmp, link_named}
+use Rattle.petal_rules.specs.Store.{Store, cell_cmp, chain_in}
+use Rattle.petal_rules.specs.World.{Setting, World, chosen_log, server_state}
+use Rattle.law_state.specs.Firm.{Firm}
+use Rattle.law_state.specs.Tables.{IsPlainState}
+use Rattle.law_state.proofs.Alone.{so_both}
+use Rattle.law_state.proofs.Entries.{log_plain}
+use Rattle.law_state.proofs.Steady.{front_plain}
+use Rattle.law_log.proofs.Flags.{progress_beside}
+use Rattle.law_steps.specs.Did.{Did}
+use Rattle.law_steps.specs.Happens.{Handled, Starts, is_between, own_place}
+use Rattle.law_steps.specs.Ready.{IsRising, Rests}
+use Rattle.law_copies.specs.Good.{Good}
+use Rattle.law_copies.specs.Pair.{HaveMarks, IsRecalled, Keeps, PairOk, pair_of}
+use Rattle.law_copies.specs.Steps.{HolderKeeps, IsFollowing, IsHolding, OtherKeeps}
+use Rattle.law_copies.proofs.Apart.{not_of_idle, unlinked_keeps}
+use Rattle.law_copies.proofs.Ballots.{IsBallot, ballot_alike, ballot_keeps}
+use Rattle.law_copies.proofs.Following.{kept_copying, kept_told}
+use Rattle.law_copies.proofs.Frames.{keeps_alike}
+use Rattle.law_copies.proofs.HolderJobs as holders
+use Rattle.law_copies.proofs.Marking.{job_marked}
+use Rattle.law_copies.proofs.Moves as moves
+use Rattle.law_copies.proofs.Mute.{known_mute, logged_mute, no_page, told_mute}
+use Rattle.law_copies.proofs.OtherJobs as others
+use Rattle.law_copies.proofs.Rising.{did_rising}
+use Rattle.law_copies.proofs.Seated as seated
+use Rattle.law_copies.proofs.Sent.{page_link, page_map, page_sent, pages_sent}
+use Rattle.law_copies.proofs.Speaking.{idle_silent}
+use Rattle.law_copies.proofs.Standing.{named_id, one_named}
+use Rattle.law_copies.proofs.Twins.{lead_step, second_step}
+use Rattle.law_copies.proofs.Unheard.{did_next, did_pages, unlinked_apart}
+use Rattle.law_copies.proofs.Worked.{IsKeeping}
+
+module _ (setting : Setting) (records : List Record) (w : World) (k : ℕ) (good : Good setting records (chosen_log setting w) w) (firm : Firm setting w)
+    (rests : Rests setting w) (runs : (w.servers k).life.running ≡ true) (seat : is_in (server_state setting w k) k (w.servers k).life.inc ≡ true) where
+  abbrev here : Here
+  here = own_place setting w k
+
+  abbrev own : Own
+  own = (w.servers k).own
+
+  plain_here : IsPlainState setting.servers (server_state setting w k)
+  plain_here = log_plain setting.servers (w.servers k).log.applied
+      (front_plain setting.servers (w.servers k).log.applied (chosen_log setting w) firm.plain (firm.servers k))
+
+  -- ### A job
+
+  pub job_keeping : (done : Done) → Did (Handled w k) here own done → IsKeeping setting w k done
+  job_keeping done did =
+      let steady = seated.steady setting records w k good firm rests runs seat in
+      let fit = seated.fit setting records w k good firm rests runs seat in
+      let idle = seated.idle_copies setting records w k good firm rests runs seat in
+      record {
+        lead = λ cell row second is both leads ok known.
+            lead_step (Handled w k) here own steady cell row is both leads second (rests.pending k) (good.marks k) idle (good.rising k) ok known done did;
+        second = λ cell row first is both follows ok known.
+            second_step (Handled w k) here own steady cell row is both follows first (rests.pending k) (good.rising k) ok known done did;
+        holder = λ cell row other f. holders.holds (Handled w k) here row other own cell f done did;
+        other = λ cell row holder f. others.follows (Handled w k) here row holder own cell f done did;
+        unlinked = λ cell none. unlinked_keeps (Handled w k) here own fit cell none done did;
+        silent = λ cell not_of. idle_silent (Handled w k) here own fit cell (not_of_idle here steady cell not_of) done did;
+        paged = λ cell row is post i after block e.
+            let a = page_sent (Handled w k) here own done did post i row.map row.link after block e in
+            let same = sym a.is ∙ e in
+            let name : id_of a.row ≡ id_of row = (λ j. record { map = ap page_map same j; link = ap page_link same j }) in
+            let one : row ≡ a.row = one_named here.state cell row a.id a.row is a.named (sym name ∙ named_id here.state a.id a.row a.named) in
+            (a.holder, ap (holder_of k) one ∙ a.held);
+        pages = pages_sent (Handled w k) here own done did;
+        rising = did_rising (Handled w k) here own (good.rising k) done did;
+        counts = did_next (Handled w k) here own done did;
+        marks = (job_marked (Handled w k) here own steady (rests.pending k) (good.marks k) idle done did).marks;
+        unheard = λ cell none unheard. record {
+          last = (unlinked_keeps (Handled w k) here own fit cell none done did).rest.followed ∙ unheard.last;
+          pages = λ row map_is.
+              did_pages (Handled w k) here own row (unlinked_apart setting.servers (server_state setting w k) plain_here cell none row map_is) done did
+              ∙ unheard.pages row map_is;
+        };
+      }
+
+  -- ### A ballot
+
+  module _ (started : Option Command) (posts : List Post) (starts : Starts here own started)
+      (logged : (post : Post) → In post posts → is_logged (subject_of post.body) ≡ true) where
+    abbrev to : Own
+    to = proposed (server_state setting w k) own started
+
+    abbrev begun : Done
+    begun = record { own = to; posts = posts; jobs = [] }
+
+    alike : IsBallot own to
+    alike = ballot_alike (server_state setting w k) own started
+
+    mute : (post : Post) → In post posts → is_between (subject_of post.body) ≡ false
+    mute post i = logged_mute (subject_of post.body) (logged post i)
+
+    store_same : to.store ≡ own.store
+    store_same = alike.2
+
+    pairs_same : to.pairs ≡ own.pairs
+    pairs_same = alike.1
+
+    marked : (cell : Cell) → IsMarked to.store cell → IsMarked own.store cell
+    marked cell m = subst (λ (s : Store). IsMarked s cell) store_same m
+
+    rises : (cell : Cell) → IsRising nat_cmp (chain_in own.store.chains cell) → IsRising nat_cmp (chain_in to.store.chains cell)
+    rises cell r = subst (λ (s : Store). IsRising nat_cmp (chain_in s.chains cell)) (sym store_same) r
+
+    first_keeps : (second : Own) (cell : Cell) → PairOk (pair_of own second cell) → Keeps (pair_of own second cell) (pair_of to second cell)
+    first_keeps second cell ok =
+        subst (Keeps (pair_of own second cell)) (λ i. record {
+          first = chain_in (sym store_same i).chains cell;
+          second = chain_in second.store.chains cell;
+          pending = at cell_cmp (sym pairs_same i).pending cell;
+          next = (sym pairs_same i).next;
+          last = at cell_cmp second.pairs.last cell;
+        })
+        (moves.stays (pair_of own second cell) own.pairs.next ok (omega arith))
+
+    second_keeps : (first : Own) (cell : Cell) → PairOk (pair_of first own cell) → Keeps (pair_of first own cell) (pair_of first to cell)
+    second_keeps first cell ok =
+        subst (Keeps (pair_of first own cell)) (λ i. record {
+          first = chain_in first.store.chains cell;
+          second = chain_in (sym store_same i).chains cell;
+          pending = at cell_cmp first.pairs.pending cell;
+          next = first.pairs.next;
+          last = at cell_cmp (sym pairs_same i).last cell;
+        })
+        (moves.stays (pair_of first own cell) first.pairs.next ok (omega arith))
+
+    -- of a link that the server's state has not it has nothing in mind
+    held_pages : (row : LinkRow) → ((id : LinkId) (of : LinkRow) → link_named (server_state setting w k) id ≡ Some of → eq_by_cmp link_cmp (id_of row) (id_of of) ≡ false)
+        → (id : LinkId) (o : Option LinkRow) → link_named (server_state setting w k) id ≡ o → progress_on (holds_link own o) row ≡ progress_on own row
+    held_pages row apart id None is = refl
+    held_pages row apart id (Some of) is = progress_beside own of (record (progress_on own of) { caught = true }) row (apart id of is)
+
+    ballot_pages : (row : LinkRow)
+        → ((id : LinkId) (of : LinkRow) → link_named (server_state setting w k) id ≡ Some of → eq_by_cmp link_cmp (id_of row) (id_of of) ≡ false)
+        → (o : Option Command) → progress_on (proposed (server_state setting w k) own o) row ≡ progress_on own row
+    ballot_pages row apart None = refl
+    ballot_pages row apart (Some (Caught of link holder inc other other_inc)) =
+        held_pages row apart (record { map = of; link = link }) (link_named (server_state setting w k) (record { map = of; link = link })) refl
+    ballot_pages row apart (Some _) = refl
+
+    holder_keeps : (cell : Cell) (row : LinkRow) (other : Option Own) → IsHolding (Handled w k) here row cell own other → HolderKeeps (Handled w k) row cell own other begun
+    holder_keeps cell row other f =
+        let b = ballot_keeps here row cell other own f.old f.is started starts in
+        record {
+          copying = b.copying;
+          told = b.told;
+          says = λ post i of. told_mute (Some to) other post.body (mute post i);
+          marks = λ m. inl (subst (λ (s : Store). IsMarked s cell) (sym store_same) m);
+          alike = λ now still pages rising a. b.alike now a;
+          caught = λ flagged. (ap (λ (s : Store). chain_in s.chains cell) store_same, λ m. (f.old.caught own refl flagged).unmarked (marked cell m), b.flagged flagged);
+        }
+
+    other_keeps : (cell : Cell) (row : LinkRow) (holder : Option Own) → IsFollowing (Handled w k) here row cell holder own → OtherKeeps row cell holder own begun
+    other_keeps cell row holder f =
+        let keeps = keeps_alike cell own to alike.0 in
+        record {
+          copying = kept_copying row cell holder own f.old to keeps.rest;
+          told = kept_told row cell holder own f.old to keeps.rest;
+          says = λ post i of. told_mute holder (Some to) post.body (mute post i);
+          marks = keeps.marks;
+          changes = inl keeps.rest.chain;
+          pages = λ post i after block e. no_page post.body (mute post i) row.map row.link after block e;
+          rising = rises cell (good.rising k cell);
+        }
+
+    pub ballot_keeping : IsKeeping setting w k begun
+    ballot_keeping = record {
+      lead = λ cell row second is both leads ok known. record {
+        keeps = first_keeps second cell ok;
+        recalled = λ op there.
+            let was = ap (λ (p : Pairs). at cell_cmp p.pending cell) (sym pairs_same) ∙ there in
+            let marks = good.marks k cell op was in
+            subst (λ (s : Store). IsRecalled op s cell) (sym store_same)
+            (record { rests = ((rests.pending k).staged cell op was).stage (so_both (server_state setting w k) cell row is both); marks = marks });
+        says = λ post i of. known_mute (pair_of to second cell) post.body (mute post i);
+        rising = rises cell;
+      };
+      second = λ cell row first is both follows ok known. record {
+        keeps = second_keeps first cell ok;
+        says = λ post i of. known_mute (pair_of first to cell) post.body (mute post i);
+        rising = rises cell;
+      };
+      holder = holder_keeps;
+      other = other_keeps;
+      unlinked = λ cell none. keeps_alike cell own to alike.0;
+      silent = λ cell not_of post i of. mute post i;
+      paged = λ cell row is post i after block e. no_page post.body (mute post i) row.map row.link after block e;
+      pages = λ post i map link block after e. no_page post.body (mute post i) map link after (Some block) e;
+      rising = λ cell. rises cell (good.rising k cell);
+      counts = (let e = ap (λ (p : Pairs). p.next) pairs_same in omega arith);
+      marks = subst (λ (s : Store). HaveMarks to.pairs.pending s) (sym store_same)
+          (subst (λ (p : Pairs). HaveMarks p.pending own.store) (sym pairs_same) (good.marks k));
+      unheard = λ cell none unheard. record {
+        last = alike_last cell ∙ unheard.last;
+        pages = λ row map_is. ballot_pages row (unlinked_apart setting.servers (server_state setting w k) plain_here cell none row map_is) started ∙ unheard.pages row map_is;
+      };
+    }
+      where
+        alike_last : (cell : Cell) → at cell_cmp to.pairs.last cell ≡ at cell_cmp own.pairs.last cell
+        alike_last cell = ap (λ (p : Pairs). at cell_cmp p.last cell) pairs_same

@@ -1,0 +1,326 @@
+-- What a step of the first server of a cell in Both keeps of its two copies.
+use Rattle.std.proofs.Common.{◌≡◌, ◌≢◌, ℕ, ◌+◌, ◌≤◌, List, [], ◌∷◌, true, false, Some, None, refl, ap, sym, ◌∙◌, subst, inl, inr, arith}
+use Rattle.std.specs.Ordering.{nat_cmp}
+use Rattle.busy_marks.specs.declared.marks.MarkKind.TheVariants.{Busy, Stale}
+use Rattle.global_tables.specs.declared.link.LinkRow.{LinkRow}
+use Rattle.global_tables.specs.declared.link.LinkState.TheVariants.{Both}
+use Rattle.petal_base.specs.declared.cell.Cell.{Cell}
+use Rattle.petal_base.specs.Cells.{cell_of}
+use Rattle.petal_table.specs.Table.{at, put, without}
+use Rattle.petal_msg.specs.Kinds.{about, is_logged, subject_of}
+use Rattle.petal_msg.specs.declared.body.Body.{Body}
+use Rattle.petal_msg.specs.declared.body.Body.TheVariants as body
+use Rattle.petal_msg.specs.declared.letter.Actor.TheVariants as actor
+use Rattle.petal_msg.specs.declared.operation.Ending.{Ending}
+use Rattle.petal_msg.specs.declared.operation.Ending.TheVariants as ending
+use Rattle.petal_msg.specs.declared.operation.Pending.{Pending}
+use Rattle.petal_msg.specs.declared.operation.Stage.{Stage}
+use Rattle.petal_state.specs.CellState.{cell_link}
+use Rattle.petal_rules.specs.Lists.{In}
+use Rattle.petal_rules.specs.Progress.{has_proposed}
+use Rattle.petal_rules.specs.State.{in_both, is_alone_on, second}
+use Rattle.petal_rules.specs.Store.{Chain, Store, cell_cmp, chain_in, version_of}
+use Rattle.petal_rules.specs.Server.{Own, Here, Post, Done, post_to}
+use Rattle.petal_rules.specs.Writes.{operation, opened, with_reserved, with_paired, with_mark_at, ended, finishes, gives_back, marks, puts, unmarks, with_pending, without_pending, Wanted}
+use Rattle.petal_rules.proofs.CellTables.{cell_same, cell_apart, cell_gone, cell_gone_apart}
+use Rattle.petal_rules.proofs.Tests.{same_some, true_false}
+use Rattle.law_state.proofs.Alone.{both_not_alone, so_both}
+use Rattle.law_steps.specs.Operations.{waiting, putting, copying}
+use Rattle.law_steps.specs.DidLead.{DidLead, Asks_for, Repeats, Is_full, Opens, Marks, Puts, Gives_up, Unmarks, Closes, Opens_alone, Marks_alone, Puts_alone, Unmarks_alone, Closes_alone, Asks, A_slot, A_copy, A_trim, A_copied_entry, A_page, Of_the_log, IsNew, Taken}
+use Rattle.law_steps.specs.Ready.{IsReady}
+use Rattle.law_steps.proofs.Letters.{one_post, posted}
+use Rattle.law_steps.proofs.Staged.{same_cell_or_apart, put_put}
+use Rattle.law_steps.proofs.Taking.{taking}
+use Rattle.law_copies.specs.BothSteps.{SaysKnown}
+use Rattle.law_copies.specs.Pair.{Pair, pair_of, PairOk, Keeps, Known, ceiling_of}
+use Rattle.law_copies.proofs.Chains.{chain_put, chain_apart}
+use Rattle.law_copies.proofs.Moves as moves
+
+-- letters that speak of no pair tell nothing of it
+pub logged_known : (pair : Pair) (said : Body) → is_logged (subject_of said) ≡ true → Known pair said
+logged_known pair (body.Reserve number cell) e = cc
+logged_known pair (body.Reserved number cell) e = cc
+logged_known pair (body.PairFull number cell) e = cc
+logged_known pair (body.Replicate number key version bytes) e = cc
+logged_known pair (body.Replicated number cell) e = cc
+logged_known pair _ e = tt
+
+pub ended_known : (pair : Pair) (seq : ℕ) (how : Ending) → Known pair (ended seq how)
+ended_known pair seq ending.Written = tt
+ended_known pair seq ending.Full = tt
+
+-- what a step leaves of the cell, and of what it tells
+pub record IsKept (own new : Own) (posts : List Post) (second : Own) (cell : Cell) : Type 0 where
+  pub keeps : Keeps (pair_of own second cell) (pair_of new second cell)
+  pub says : SaysKnown posts cell (pair_of new second cell)
+
+module _ (heard : Body → Type 0) (here : Here) (own : Own) (ready : IsReady here.state here.me (has_proposed here.state own) own.pairs.pending)
+    (cell : Cell) (row : LinkRow) (is_row : cell_link here.state cell ≡ Some row) (both_row : row.state ≡ Both) (second_own : Own)
+    (ok : PairOk (pair_of own second_own cell))
+    (known : (said : Body) → heard said → (about said).cell ≡ Some cell → Known (pair_of own second_own cell) said) where
+  abbrev K : Own → List Post → Type 0
+  K new posts = IsKept own new posts second_own cell
+
+  cell_both : in_both here.state cell ≡ true
+  cell_both = so_both here.state cell row is_row both_row
+
+  -- the same at the cell of an operation, where it is this one
+  ok_at : (q : Cell) → q ≡ cell → PairOk (pair_of own second_own q)
+  ok_at q e = subst (λ (c : Cell). PairOk (pair_of own second_own c)) (sym e) ok
+
+  known_at : (said : Body) → heard said → (q : Cell) → (about said).cell ≡ Some q → q ≡ cell → Known (pair_of own second_own q) said
+  known_at said h q is e = subst (λ (c : Cell). Known (pair_of own second_own c) said) (sym e) (known said h (is ∙ ap Some e))
+
+  -- ### Frames
+
+  -- copy and operation stay, and the number of the next one only grows
+  pub off : (new : Own) → chain_in new.store.chains cell ≡ chain_in own.store.chains cell
+      → at cell_cmp new.pairs.pending cell ≡ at cell_cmp own.pairs.pending cell → own.pairs.next ≤ new.pairs.next
+      → Keeps (pair_of own second_own cell) (pair_of new second_own cell)
+  off new chain pending next =
+      subst (Keeps (pair_of own second_own cell)) (λ i. record {
+        first = sym chain i;
+        second = chain_in second_own.store.chains cell;
+        pending = sym pending i;
+        next = new.pairs.next;
+        last = at cell_cmp second_own.pairs.last cell;
+      })
+      (moves.stays (pair_of own second_own cell) new.pairs.next ok next)
+
+  -- a step that changes the copy and the operation of one cell
+  at_cell : (q : Cell) (new : Own) → ((c : Cell) → c ≢ q → chain_in new.store.chains c ≡ chain_in own.store.chains c)
+      → ((c : Cell) → c ≢ q → at cell_cmp new.pairs.pending c ≡ at cell_cmp own.pairs.pending c) → own.pairs.next ≤ new.pairs.next
+      → (q ≡ cell → Keeps (pair_of own second_own q) (pair_of new second_own q))
+      → Keeps (pair_of own second_own cell) (pair_of new second_own cell)
+  at_cell q new chains pending next keeps = elim (same_cell_or_apart cell q) [
+    | inl e ↦ subst (λ (c : Cell). Keeps (pair_of own second_own c) (pair_of new second_own c)) (sym e) (keeps (sym e))
+    | inr ne ↦ off new (chains cell ne) (pending cell ne) next
+  ]
+
+  -- what is sent tells nothing of the pair
+  mute : (new : Own) (posts : List Post) → ((post : Post) → In post posts → (pair : Pair) → Known pair post.body) → SaysKnown posts cell (pair_of new second_own cell)
+  mute new posts h post i is = h post i (pair_of new second_own cell)
+
+  mute_one : (new : Own) (posts : List Post) (said : Body) → ((post : Post) → In post posts → post.body ≡ said) → ((pair : Pair) → Known pair said)
+      → SaysKnown posts cell (pair_of new second_own cell)
+  mute_one new posts said all h post i is = subst (Known (pair_of new second_own cell)) (sym (all post i)) (h (pair_of new second_own cell))
+
+  none_said : (new : Own) → SaysKnown [] cell (pair_of new second_own cell)
+  unfolding In
+  none_said new post i is = absurd i
+
+  -- what is sent tells of an operation's cell
+  says_at : (q : Cell) (new : Own) (posts : List Post) (said : Body) → ((post : Post) → In post posts → post.body ≡ said) → (about said).cell ≡ Some q
+      → (q ≡ cell → Known (pair_of new second_own q) said) → SaysKnown posts cell (pair_of new second_own cell)
+  says_at q new posts said all of h post i is =
+      let e : q ≡ cell = same_some (sym of ∙ sym (ap (λ b. (about b).cell) (all post i)) ∙ is) in
+      subst (Known (pair_of new second_own cell)) (sym (all post i)) (subst (λ (c : Cell). Known (pair_of new second_own c) said) e (h e))
+
+  pub same_part : (new : Own) (posts : List Post) → new.pairs ≡ own.pairs → new.store.chains ≡ own.store.chains
+      → SaysKnown posts cell (pair_of new second_own cell) → K new posts
+  same_part new posts pairs chains says = record {
+    keeps = off new (ap (λ c. chain_in c cell) chains) (ap (λ p. at cell_cmp p.pending cell) pairs) (let e = ap (λ p. p.next) pairs in omega arith);
+    says = says;
+  }
+
+  -- a cell that one server holds alone is another one
+  not_alone : (q : Cell) (n : ℕ) → is_alone_on here.state n q ≡ true → {B : Type 0} → q ≡ cell → B
+  not_alone q n on e = true_false (subst (λ (c : Cell). is_alone_on here.state n c ≡ true) e on) (both_not_alone here.state n cell cell_both)
+
+  -- ### What it asks for
+
+  asks_known : (post : Post) → Asks here own post → (about post.body).cell ≡ Some cell → Known (pair_of own second_own cell) post.body
+  asks_known _ (A_slot op to is stage e) of =
+      let same : op.cell ≡ cell = same_some of in
+      let there : at cell_cmp own.pairs.pending cell ≡ Some op = ap (at cell_cmp own.pairs.pending) (sym same) ∙ is in
+      let above : ceiling_of (at cell_cmp own.pairs.pending cell) own.pairs.next ≡ op.op + 1 = ap (λ o. ceiling_of o own.pairs.next) there in
+      omega arith
+  asks_known _ (A_copy op to is stage e) of =
+      let same : op.cell ≡ cell = sym ((ready.staged op.cell op is).keyed) ∙ same_some of in
+      inl (record {
+        op = op;
+        is = ap (at cell_cmp own.pairs.pending) (sym same) ∙ is;
+        number_is = refl;
+        put = ap (λ (s : Stage). s.put) stage;
+        key_is = refl;
+        bytes_is = refl;
+      })
+  asks_known _ (A_trim q copy to is fresh e) of = tt
+  asks_known _ (A_copied_entry q copy entry to is trimmed got e) of = tt
+  asks_known _ (A_page other to there e fresh) of = tt
+  asks_known post (Of_the_log _ e) of = logged_known (pair_of own second_own cell) post.body e
+
+  -- ### Its own operations
+
+  -- an operation changes as told, in two steps of its table
+  moved_twice : (op one two : Pending) (new : Own) → new.store.chains ≡ own.store.chains → new.pairs.next ≡ own.pairs.next
+      → new.pairs.pending ≡ put cell_cmp (put cell_cmp own.pairs.pending op.cell one) op.cell two
+      → (op.cell ≡ cell → Keeps (pair_of own second_own op.cell) (record (pair_of own second_own op.cell) { pending = Some two }))
+      → Keeps (pair_of own second_own cell) (pair_of new second_own cell)
+  moved_twice op one two new chains next pending keeps =
+      let t = own.pairs.pending in
+      let there : at cell_cmp new.pairs.pending op.cell ≡ Some two =
+      ap (λ u. at cell_cmp u op.cell) pending ∙ cell_same (put cell_cmp t op.cell one) op.cell two in
+      at_cell op.cell new (λ q ne. ap (λ c. chain_in c q) chains) (λ q ne. ap (λ u. at cell_cmp u q) pending ∙ put_put t op.cell one two q ne) (omega arith)
+      (λ e. subst (Keeps (pair_of own second_own op.cell)) (λ i. record {
+        first = chain_in (sym chains i) op.cell;
+        second = chain_in second_own.store.chains op.cell;
+        pending = sym there i;
+        next = sym next i;
+        last = at cell_cmp second_own.pairs.last op.cell;
+      }) (keeps e))
+
+  -- one is done with
+  done_with : (op : Pending) (new : Own) → new.store.chains ≡ own.store.chains → new.pairs.next ≡ own.pairs.next
+      → new.pairs.pending ≡ without cell_cmp own.pairs.pending op.cell
+      → (op.cell ≡ cell → Keeps (pair_of own second_own op.cell) (record (pair_of own second_own op.cell) { pending = None }))
+      → Keeps (pair_of own second_own cell) (pair_of new second_own cell)
+  done_with op new chains next pending keeps =
+      let gone : at cell_cmp new.pairs.pending op.cell ≡ None = ap (λ t. at cell_cmp t op.cell) pending ∙ cell_gone own.pairs.pending op.cell in
+      at_cell op.cell new (λ q ne. ap (λ c. chain_in c q) chains) (λ q ne. ap (λ t. at cell_cmp t q) pending ∙ cell_gone_apart own.pairs.pending op.cell q ne) (omega arith)
+      (λ e. subst (Keeps (pair_of own second_own op.cell)) (λ i. record {
+        first = chain_in (sym chains i) op.cell;
+        second = chain_in second_own.store.chains op.cell;
+        pending = sym gone i;
+        next = sym next i;
+        last = at cell_cmp second_own.pairs.last op.cell;
+      }) (keeps e))
+
+  opens_keeps : (want : Wanted) → IsNew heard here own want
+      → K (opened here own want) (post_to (second here.state want.cell) (body.Reserve own.pairs.next want.cell))
+  opens_keeps want fresh =
+      let q = want.cell in
+      let op = operation here own.pairs.next want in
+      let new = opened here own want in
+      let there : at cell_cmp new.pairs.pending q ≡ Some op = cell_same own.pairs.pending q op in
+      record {
+        keeps = at_cell q new (λ c ne. refl) (λ c ne. cell_apart own.pairs.pending q op c ne) (omega arith)
+            (λ e. subst (Keeps (pair_of own second_own q)) (λ i. record (pair_of new second_own q) { pending = sym there i })
+            (moves.opens (pair_of own second_own q) op (ok_at q e) fresh.none refl refl refl));
+        says = says_at q new _ (body.Reserve own.pairs.next q) (λ post i. posted _ _ post i) refl
+            (λ e. subst (λ o. Known (record (pair_of new second_own q) { pending = o }) (body.Reserve own.pairs.next q)) (sym there) (omega arith));
+      }
+
+  marks_keeps : (op : Pending) → heard (body.Reserved op.op op.cell) → at cell_cmp own.pairs.pending op.cell ≡ Some op → op.stage ≡ waiting
+      → K (marks (with_pending own (with_reserved op)) (with_reserved op) Busy).own []
+  marks_keeps op h is stage =
+      let one = with_reserved op in
+      let two = with_mark_at one Busy true in
+      let new = (marks (with_pending own one) one Busy).own in
+      let at_put = ap (λ (s : Stage). s.put) stage in
+      record {
+        keeps = moved_twice op one two new refl refl refl
+            (λ e. moves.marks (pair_of own second_own op.cell) op two (ok_at op.cell e) is at_put (known_at _ h op.cell refl e) refl at_put);
+        says = none_said new;
+      }
+
+  puts_keeps : (op : Pending) → at cell_cmp own.pairs.pending op.cell ≡ Some op → op.stage ≡ putting → K (puts own op).own []
+  puts_keeps op is stage =
+      let chains = own.store.chains in
+      let keyed = (ready.staged op.cell op is).keyed in
+      let version = version_of (chain_in chains op.cell) + 1 in
+      let two : Pending = record op { version = version; stage = record op.stage { put = true } } in
+      let new = (puts own op).own in
+      let chain : Chain = put nat_cmp (chain_in chains (cell_of op.key)) op.key.epoch (record { version = version; bytes = op.bytes }) in
+      let there : at cell_cmp new.pairs.pending op.cell ≡ Some two = cell_same own.pairs.pending op.cell two in
+      let copied : put nat_cmp (chain_in chains op.cell) op.key.epoch (record { version = version; bytes = op.bytes }) ≡ chain_in new.store.chains op.cell =
+      ap (λ (c : Cell). put nat_cmp (chain_in chains c) op.key.epoch (record { version = version; bytes = op.bytes })) (sym keyed)
+      ∙ sym (chain_put chains (cell_of op.key) chain) ∙ ap (chain_in new.store.chains) keyed in
+      record {
+        keeps = at_cell op.cell new (λ q ne. chain_apart chains (cell_of op.key) chain q (λ e. ne (e ∙ keyed)))
+            (λ q ne. cell_apart own.pairs.pending op.cell two q ne) (omega arith)
+            (λ e. subst (Keeps (pair_of own second_own op.cell)) (λ i. record (pair_of new second_own op.cell) { first = copied i; pending = sym there i })
+            (moves.puts (pair_of own second_own op.cell) op two (ok_at op.cell e) is (ap (λ (s : Stage). s.reserved) stage)
+            (ap (λ (s : Stage). s.put) stage) refl refl refl refl (ap (λ (s : Stage). s.paired) stage)));
+        says = none_said new;
+      }
+
+  unmarks_keeps : (op : Pending) → heard (body.Replicated op.op op.cell) → at cell_cmp own.pairs.pending op.cell ≡ Some op → op.stage ≡ copying
+      → K (unmarks (with_pending own (with_paired op)) (with_paired op) Busy).own []
+  unmarks_keeps op h is stage =
+      let one = with_paired op in
+      let two = with_mark_at one Busy false in
+      let new = (unmarks (with_pending own one) one Busy).own in
+      let at_put = ap (λ (s : Stage). s.put) stage in
+      record {
+        keeps = moved_twice op one two new refl refl refl
+            (λ e. moves.unmarks (pair_of own second_own op.cell) op two (ok_at op.cell e) is at_put (known_at _ h op.cell refl e) refl at_put);
+        says = none_said new;
+      }
+
+  -- ### Another cell, which it holds alone
+
+  opens_alone : (want : Wanted) → is_alone_on here.state here.me want.cell ≡ true → K (marks (opened here own want) (operation here own.pairs.next want) Stale).own []
+  opens_alone want on =
+      let op = operation here own.pairs.next want in
+      let new = (marks (opened here own want) op Stale).own in
+      record {
+        keeps = at_cell want.cell new (λ q ne. refl) (λ q ne. put_put own.pairs.pending want.cell op (with_mark_at op Stale true) q ne) (omega arith)
+            (λ e. not_alone want.cell here.me on e);
+        says = none_said new;
+      }
+
+  taken_keeps : (now : Own) (op : Pending) → Taken own now op → is_alone_on here.state here.me op.cell ≡ true → (new : Own) (posts : List Post)
+      → ((q : Cell) → q ≢ op.cell → chain_in new.store.chains q ≡ chain_in now.store.chains q)
+      → ((q : Cell) → q ≢ op.cell → at cell_cmp new.pairs.pending q ≡ at cell_cmp now.pairs.pending q)
+      → new.pairs.next ≡ now.pairs.next → SaysKnown posts cell (pair_of new second_own cell) → K new posts
+  taken_keeps now op taken on new posts chains pending next says =
+      let t = taking own now op taken in
+      let same : new.pairs.next ≡ own.pairs.next = next ∙ t.next in
+      record {
+        keeps = at_cell op.cell new (λ q ne. chains q ne ∙ ap (λ (s : Store). chain_in s.chains q) t.store) (λ q ne. pending q ne ∙ t.others q ne) (omega arith)
+            (λ e. not_alone op.cell here.me on e);
+        says = says;
+      }
+
+  taken_keyed : (now : Own) (op : Pending) → Taken own now op → cell_of op.key ≡ op.cell
+  taken_keyed now op taken =
+      let t = taking own now op taken in ap (λ (o : Pending). cell_of o.key) t.is ∙ (ready.staged op.cell t.old t.was).keyed
+
+  -- a request ends
+  ended_says : (new : Own) (client seq : ℕ) (how : Ending)
+      → SaysKnown (record { to = actor.Client client; body = ended seq how } ∷ []) cell (pair_of new second_own cell)
+  ended_says new client seq how =
+      mute_one new (record { to = actor.Client client; body = ended seq how } ∷ []) (ended seq how)
+      (λ post i. (one_post (actor.Client client) (ended seq how) post i).1) (λ pair. ended_known pair seq how)
+
+  -- ### Each kind of its jobs
+
+  pub lead_keeps : (done : Done) → DidLead heard here own done → K done.own done.posts
+  lead_keeps _ (Asks_for posts h) = same_part own posts refl refl (λ post i of. asks_known post (h post i) of)
+  lead_keeps _ (Repeats want last h lead is e) = same_part own _ refl refl (ended_says own want.client want.seq last.ending)
+  lead_keeps _ (Is_full want new no_room) =
+      let after = (finishes own want.client want.seq ending.Full).own in
+      record { keeps = off after refl refl (omega arith); says = ended_says after want.client want.seq ending.Full }
+  lead_keeps _ (Gives_up op h is reserved put) =
+      let after = (finishes (gives_back (without_pending own op.cell)) op.client op.seq ending.Full).own in
+      record {
+        keeps = done_with op after refl refl refl (λ e. moves.refuses (pair_of own second_own op.cell) op (ok_at op.cell e) is put);
+        says = ended_says after op.client op.seq ending.Full;
+      }
+  lead_keeps _ (Opens want new both) = opens_keeps want new
+  lead_keeps _ (Marks op h is both stage) = marks_keeps op h is stage
+  lead_keeps _ (Puts op is both stage) = puts_keeps op is stage
+  lead_keeps _ (Unmarks op h is both stage) = unmarks_keeps op h is stage
+  lead_keeps _ (Closes op is both stage) =
+      let after = (finishes (without_pending own op.cell) op.client op.seq ending.Written).own in
+      record {
+        keeps = done_with op after refl refl refl
+            (λ e. moves.closes (pair_of own second_own op.cell) op (ok_at op.cell e) is (ap (λ (s : Stage). s.put) stage) (ap (λ (s : Stage). s.paired) stage));
+        says = ended_says after op.client op.seq ending.Written;
+      }
+  lead_keeps _ (Opens_alone want new on) = opens_alone want on
+  lead_keeps _ (Marks_alone now op taken on fresh) =
+      let after = (marks now op Stale).own in
+      taken_keeps now op taken on after [] (λ q ne. refl) (λ q ne. cell_apart now.pairs.pending op.cell _ q ne) refl (none_said after)
+  lead_keeps _ (Puts_alone now op taken on stale put) =
+      let after = (puts now op).own in
+      taken_keeps now op taken on after [] (λ q ne. chain_apart now.store.chains (cell_of op.key) _ q (λ e. ne (e ∙ taken_keyed now op taken)))
+      (λ q ne. cell_apart now.pairs.pending op.cell _ q ne) refl (none_said after)
+  lead_keeps _ (Unmarks_alone now op taken on stale put busy) =
+      let after = (unmarks now op Busy).own in
+      taken_keeps now op taken on after [] (λ q ne. refl) (λ q ne. cell_apart now.pairs.pending op.cell _ q ne) refl (none_said after)
+  lead_keeps _ (Closes_alone now op taken on stale put free) =
+      let after = (finishes (without_pending now op.cell) op.client op.seq ending.Written).own in
+      taken_keeps now op taken on after _ (λ q ne. refl) (λ q ne. cell_gone_apart now.pairs.pending op.cell q ne) refl
+      (ended_says after op.client op.seq ending.Written)

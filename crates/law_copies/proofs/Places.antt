@@ -1,0 +1,127 @@
+-- Fronts of one log, and the places of a link by them.
+use Rattle.std.proofs.Common.{◌≡◌, ◌+◌, ◌≤◌, ◌<◌, ◌++◌, ℕ, List, [], ◌∷◌, length, length-append, true, false, if◌then◌else◌, Some, sym, ap, ◌∙◌, subst, ◌⊎◌, inl, inr, arith}
+use Rattle.std.proofs.lemmas.Grind.{fold-append}
+use Rattle.global_tables.specs.declared.link.LinkRow.{LinkRow}
+use Rattle.petal_base.specs.declared.cell.Cell.{Cell}
+use Rattle.petal_command.specs.declared.command.Command.{Command}
+use Rattle.petal_history.specs.Claims.{IsPrefix}
+use Rattle.petal_state.specs.CellState.{cell_link}
+use Rattle.petal_state.specs.Command.{after, state_after}
+use Rattle.petal_state.specs.Place.{touches}
+use Rattle.petal_state.specs.State.{start}
+use Rattle.petal_rules.specs.State.{State}
+use Rattle.petal_rules.specs.World.{Setting}
+use Rattle.petal_rules.proofs.Tests.{same_some}
+use Rattle.law_state.specs.Below.{IsBelow}
+use Rattle.law_state.specs.Places.{StaysSo}
+use Rattle.law_state.specs.Plain.{IsPlainLog}
+use Rattle.law_state.specs.Rows.{IsLater}
+use Rattle.law_state.proofs.Again.{places_later}
+use Rattle.law_state.proofs.Steady.{front_plain, log_below}
+use Rattle.law_state.proofs.Touching.{places_grow, places_on, same_place}
+use Rattle.law_steps.proofs.Fronts.{front_itself, front_long, front_more, front_within, one_front}
+use Rattle.law_copies.specs.Visits.{IsLinked, place_by}
+
+-- ### Fronts
+
+-- of two numbers the first is at most the other one, or above it
+pub at_most_or_above : (a b : ℕ) → (a ≤ b) ⊎ (b < a)
+at_most_or_above a b = grind arith
+
+-- of two fronts of one log one stands at the front of the other
+pub fronts_meet : (a b whole : List Command) → IsPrefix a whole → IsPrefix b whole → IsPrefix a b ⊎ IsPrefix b a
+fronts_meet a b whole one two = elim (at_most_or_above (length a) (length b)) [
+  | inl le ↦ inl (front_within a b whole one two le)
+  | inr lt ↦ inr (front_within b a whole two one (omega arith))
+]
+
+-- a front of a log with one entry more is a front of the log, or the whole
+pub front_or_all : (front log : List Command) (entry : Command) → IsPrefix front (log ++ entry ∷ []) → IsPrefix front log ⊎ (front ≡ log ++ entry ∷ [])
+front_or_all front log entry p = elim (at_most_or_above (length front) (length log)) [
+  | inl le ↦ inl (front_within front log (log ++ entry ∷ []) p (front_more log entry) le)
+  | inr lt ↦ inr (one_front front (log ++ entry ∷ []) (log ++ entry ∷ []) p (front_itself (log ++ entry ∷ []))
+      (let most = front_long front (log ++ entry ∷ []) p in omega (arith, length-append log (entry ∷ []))))
+]
+
+-- ### Places
+
+module _ (setting : Setting) where
+  -- the state after one entry more
+  pub state_next : (log : List Command) (entry : Command)
+      → state_after setting.servers (log ++ entry ∷ []) ≡ after (state_after setting.servers log) entry
+  state_next log entry = fold-append after (start setting.servers) log (entry ∷ [])
+
+  counted : (log : List Command) (entry : Command) (row : LinkRow)
+      → place_by setting (log ++ entry ∷ []) row ≡ place_by setting log row + (if touches (state_after setting.servers log) entry row then 1 else 0)
+  counted log entry row = places_on row (start setting.servers) log (entry ∷ [])
+
+  -- an entry that touches the link makes a new place of it, and no other one does
+  pub place_touched : (log : List Command) (entry : Command) (row : LinkRow) → touches (state_after setting.servers log) entry row ≡ true
+      → place_by setting (log ++ entry ∷ []) row ≡ place_by setting log row + 1
+  place_touched log entry row on = counted log entry row ∙ ap (λ b. place_by setting log row + (if b then 1 else 0)) on
+
+  pub place_untouched : (log : List Command) (entry : Command) (row : LinkRow) → touches (state_after setting.servers log) entry row ≡ false
+      → place_by setting (log ++ entry ∷ []) row ≡ place_by setting log row
+  place_untouched log entry row off =
+      let e : place_by setting (log ++ entry ∷ []) row ≡ place_by setting log row + 0 =
+      counted log entry row ∙ ap (λ b. place_by setting log row + (if b then 1 else 0)) off in
+      omega arith
+
+  module _ (whole : List Command) (all : IsPlainLog setting.servers whole) where
+    below_at : (front more : List Command) → IsPrefix front more → IsPrefix more whole
+        → IsBelow (state_after setting.servers front) (state_after setting.servers more)
+    below_at front more one two = log_below setting.servers front more (front_plain setting.servers more whole all two) one
+
+    -- a cell that has a link has it later
+    pub linked_on : (front more : List Command) (cell : Cell) (row : LinkRow) → IsPrefix front more → IsPrefix more whole → IsLinked setting front cell row
+        → (now : LinkRow) × IsLinked setting more cell now
+    linked_on front more cell row one two is = let h = (below_at front more one two).rows cell row is in (h.now, h.is)
+
+    pub rows_later : (front more : List Command) (cell : Cell) (row now : LinkRow) → IsPrefix front more → IsPrefix more whole
+        → IsLinked setting front cell row → IsLinked setting more cell now → IsLater row now
+    rows_later front more cell row now one two is end =
+        let h = (below_at front more one two).rows cell row is in
+        subst (IsLater row) (same_some (sym h.is ∙ end)) h.so
+
+    -- the later row counts the same places
+    pub place_of_later : (front more counted_by : List Command) (cell : Cell) (row now : LinkRow) → IsPrefix front more → IsPrefix more whole
+        → IsLinked setting front cell row → IsLinked setting more cell now → place_by setting counted_by now ≡ place_by setting counted_by row
+    place_of_later front more counted_by cell row now one two is end =
+        places_later row now (rows_later front more cell row now one two is end) counted_by (start setting.servers)
+
+    -- places only rise
+    pub places_up : (front more : List Command) (cell : Cell) (row now : LinkRow) → IsPrefix front more → IsPrefix more whole
+        → IsLinked setting front cell row → IsLinked setting more cell now → place_by setting front row ≤ place_by setting more now
+    places_up front more cell row now one two is end =
+        let up = places_grow setting.servers front more row one in
+        let same = place_of_later front more more cell row now one two is end in
+        omega arith
+
+    one_place_up : (front more : List Command) (cell : Cell) (row now : LinkRow) → IsPrefix front more → IsPrefix more whole
+        → IsLinked setting front cell row → IsLinked setting more cell now → place_by setting front row ≡ place_by setting more now
+        → StaysSo cell row (state_after setting.servers front) (state_after setting.servers more)
+    one_place_up front more cell row now one two is end same =
+        same_place setting.servers front more cell row (front_plain setting.servers more whole all two) one is
+        (sym (place_of_later front more more cell row now one two is end) ∙ sym same)
+
+    -- two fronts at one place of a link, the longer one before or behind, say the same of it
+    pub one_place : (front more : List Command) (cell : Cell) (row now : LinkRow) → IsPrefix front whole → IsPrefix more whole
+        → IsLinked setting front cell row → IsLinked setting more cell now → place_by setting front row ≡ place_by setting more now
+        → StaysSo cell row (state_after setting.servers front) (state_after setting.servers more)
+    one_place front more cell row now one two is end same = elim (fronts_meet front more whole one two) [
+      | inl p ↦ one_place_up front more cell row now p two is end same
+      | inr p ↦ (
+          let h = one_place_up more front cell now row p one end is (sym same) in
+          let as_row : now ≡ row = same_some (sym h.same ∙ is) in
+          turned cell row (state_after setting.servers more) (state_after setting.servers front) is
+          (subst (λ r. StaysSo cell r (state_after setting.servers more) (state_after setting.servers front)) as_row h)
+          (end ∙ ap Some as_row))
+    ]
+      where
+        turned : (cell : Cell) (row : LinkRow) (s t : State) → cell_link t cell ≡ Some row → StaysSo cell row s t → cell_link s cell ≡ Some row → StaysSo cell row t s
+        turned cell row s t is h there = record { same = there; primary = sym h.primary; secondary = sym h.secondary }
+
+    -- and have one row
+    pub one_row : (front more : List Command) (cell : Cell) (row now : LinkRow) → IsPrefix front whole → IsPrefix more whole
+        → IsLinked setting front cell row → IsLinked setting more cell now → place_by setting front row ≡ place_by setting more now → now ≡ row
+    one_row front more cell row now one two is end same = same_some (sym end ∙ (one_place front more cell row now one two is end same).same)

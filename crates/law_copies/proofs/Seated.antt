@@ -1,0 +1,200 @@
+-- What a server that is In as itself has before a job, at the place of each cell's link by its own entries.
+use Rattle.std.proofs.Common.{◌≡◌, ◌≢◌, ◌≤◌, ◌&&◌, ℕ, List, true, false, if◌then◌else◌, Option, Some, None, refl, sym, ap, ◌∙◌, subst, inl, inr}
+use Rattle.global_tables.specs.Link.{has_server, other_of}
+use Rattle.global_tables.specs.declared.link.LinkRow.{LinkRow}
+use Rattle.global_tables.specs.declared.link.LinkState.TheVariants.{Both, Only}
+use Rattle.petal_base.specs.declared.cell.Cell.{Cell}
+use Rattle.petal_command.specs.declared.command.Command.{Command}
+use Rattle.petal_msg.specs.Kinds.{about}
+use Rattle.petal_msg.specs.declared.body.Body.{Body}
+use Rattle.petal_msg.specs.declared.body.Body.TheVariants as body
+use Rattle.petal_msg.specs.declared.copying.Copying.{Copying}
+use Rattle.petal_history.specs.declared.record.Record.{Record}
+use Rattle.petal_state.specs.Command.{is_alone}
+use Rattle.petal_rules.specs.Progress.{copying_on}
+use Rattle.petal_rules.specs.Server.{Own, Here}
+use Rattle.petal_rules.specs.State.{holder_of, is_in}
+use Rattle.petal_rules.specs.World.{Setting, World, chosen_log, server_state}
+use Rattle.petal_rules.specs.Writes.{pending_on}
+use Rattle.petal_rules.proofs.Tests.{number_itself, same_numbers}
+use Rattle.law_state.specs.Firm.{Firm}
+use Rattle.law_state.specs.Rows.{ByBoth, ByOne}
+use Rattle.law_state.specs.Steady.{IsSteady}
+use Rattle.law_state.proofs.Leaves.{other_between}
+use Rattle.law_state.proofs.Roles.{primary_is_one, secondary_is_one}
+use Rattle.law_state.proofs.Steady.{front_plain, log_steady}
+use Rattle.law_steps.specs.Happens.{Handled, own_place}
+use Rattle.law_steps.specs.Ready.{Rests}
+use Rattle.law_copies.specs.Copied.{AreCopying, IsTold}
+use Rattle.law_copies.specs.Good.{AloneOk, AreTwins, Good, SaidOk, pair_at, store_of}
+use Rattle.law_copies.specs.Pair.{Known, PairOk, pair_of}
+use Rattle.law_copies.specs.Steps.{IsFit, IsFollowing, IsHolding, PagesOf}
+use Rattle.law_copies.specs.Visits.{IsLinked, half, place_by}
+use Rattle.law_copies.proofs.Later.{both_last}
+use Rattle.law_copies.proofs.Standing.{copying_held, other_alone}
+
+-- ### The other one of a link's two servers
+
+-- of two servers of a link each is the other one's
+pub other_back : (row : LinkRow) (n m : ℕ) → has_server n row ≡ true → has_server m row ≡ true → n ≢ m → other_of n row ≡ m
+other_back row n m one two ne = elim (other_between row n one) [
+  | inl p ↦ elim (other_between row m two) [ inl q ↦ absurd (ne (sym p.1 ∙ q.1)) | inr q ↦ sym p.0 ∙ q.0 ]
+  | inr p ↦ elim (other_between row m two) [ inl q ↦ sym p.1 ∙ q.1 | inr q ↦ absurd (ne (sym p.0 ∙ q.0)) ]
+]
+
+-- it knows the other one as the holder
+pub holder_other : (row : LinkRow) (n holder : ℕ) → has_server n row ≡ true → other_of n row ≡ holder → row.state ≡ Only holder false → holder_of n row ≡ Some holder
+holder_other row n holder has other alone =
+    ap (λ b. if b && is_alone (other_of n row) row.state then Some (other_of n row) else None) has
+    ∙ ap (λ b. if b then Some (other_of n row) else None)
+    (ap (λ m. is_alone m row.state) other ∙ ap (is_alone holder) alone ∙ number_itself holder)
+    ∙ ap Some other
+
+-- ### At its own place
+
+module _ (setting : Setting) (records : List Record) (w : World) (k : ℕ) (good : Good setting records (chosen_log setting w) w) (firm : Firm setting w)
+    (rests : Rests setting w) (runs : (w.servers k).life.running ≡ true) (seat : is_in (server_state setting w k) k (w.servers k).life.inc ≡ true) where
+  abbrev pub front : List Command
+  front = (w.servers k).log.applied
+
+  abbrev pub here : Here
+  here = own_place setting w k
+
+  abbrev pub own : Own
+  own = (w.servers k).own
+
+  abbrev pub heard : Body → Type 0
+  heard = Handled w k
+
+  pub steady : IsSteady (server_state setting w k)
+  steady = log_steady setting.servers front (front_plain setting.servers front (chosen_log setting w) firm.plain (firm.servers k))
+
+  pub here_visit : (cell : Cell) (row : LinkRow) → IsLinked setting front cell row → good.visits k (place_by setting front row) cell ≡ Some own
+  here_visit cell row is = let h = good.here k cell row is seat in h.is ∙ ap Some h.same
+
+  -- what it handles tells what is known of it at the place
+  pub heard_said : (said : Body) → heard said → (cell : Cell) (row : LinkRow) → IsLinked setting front cell row
+      → SaidOk setting (chosen_log setting w) w good.visits good.reached front said cell row
+  heard_said said h cell row is =
+      subst (λ b. SaidOk setting (chosen_log setting w) w good.visits good.reached front b cell row) h.is
+      (good.letters h.letter h.sent front cell row (firm.servers k) (sym h.at) is)
+
+  pub fit : IsFit heard here own
+  fit = record {
+    steady = steady;
+    ready = rests.pending k;
+    resting = rests.resting k;
+    marks = good.marks k;
+    rising = good.rising k;
+    pages = λ q link after h. good.pages h.letter h.sent front (firm.servers k) (sym h.at) q.map link q.block after h.is;
+  }
+
+  module _ (cell : Cell) (row : LinkRow) (is : IsLinked setting front cell row) where
+    abbrev place : ℕ
+    place = place_by setting front row
+
+    -- ### In Both
+
+    module _ (both : row.state ≡ Both) (has : has_server k row ≡ true) where
+      -- no server of the link has been at a later place
+      pub last_here : good.reached cell ≤ place
+      last_here = both_last setting records w firm good k runs seat cell row is both has
+
+      pub twins_here : AreTwins w good.visits place cell row.primary row.secondary
+      twins_here = (good.both front cell row (firm.servers k) is both).twins last_here
+
+      pub known_here : (said : Body) → heard said → (about said).cell ≡ Some cell → Known (pair_at w good.visits place cell row.primary row.secondary) said
+      known_here said h of = (heard_said said h cell row is).both both last_here of
+
+    -- what the other server is, by its store as it is now
+    abbrev pub beside : ℕ → Own
+    beside n = half (good.visits n place cell) (store_of w n)
+
+    first_pair : (m : ℕ) → pair_at w good.visits place cell k m ≡ pair_of own (beside m) cell
+    first_pair m = λ i. pair_of (half (here_visit cell row is i) own.store) (beside m) cell
+
+    second_pair : (n : ℕ) → pair_at w good.visits place cell n k ≡ pair_of (beside n) own cell
+    second_pair n = λ i. pair_of (beside n) (half (here_visit cell row is i) own.store) cell
+
+    -- as the first server
+    module _ (both : row.state ≡ Both) (leads : row.primary ≡ k) where
+      pub first_at : pair_at w good.visits place cell row.primary row.secondary ≡ pair_of own (beside row.secondary) cell
+      first_at = (λ i. pair_at w good.visits place cell (leads i) row.secondary) ∙ first_pair row.secondary
+
+      pub first_ok : PairOk (pair_of own (beside row.secondary) cell)
+      first_ok = subst PairOk first_at (twins_here both (primary_is_one row k leads)).pair
+
+      pub first_known : (said : Body) → heard said → (about said).cell ≡ Some cell → Known (pair_of own (beside row.secondary) cell) said
+      first_known said h of = subst (λ p. Known p said) first_at (known_here both (primary_is_one row k leads) said h of)
+
+    -- as the second one
+    module _ (both : row.state ≡ Both) (follows : row.secondary ≡ k) where
+      pub second_at : pair_at w good.visits place cell row.primary row.secondary ≡ pair_of (beside row.primary) own cell
+      second_at = (λ i. pair_at w good.visits place cell row.primary (follows i)) ∙ second_pair row.primary
+
+      pub second_ok : PairOk (pair_of (beside row.primary) own cell)
+      second_ok = subst PairOk second_at (twins_here both (secondary_is_one row k follows)).pair
+
+      pub second_known : (said : Body) → heard said → (about said).cell ≡ Some cell → Known (pair_of (beside row.primary) own cell) said
+      second_known said h of = subst (λ p. Known p said) second_at (known_here both (secondary_is_one row k follows) said h of)
+
+    -- ### Alone
+
+    pub alone_here : (holder : ℕ) → row.state ≡ Only holder false → AloneOk setting (chosen_log setting w) w good.visits good.reached front cell row holder
+    alone_here holder alone = good.alone front cell row holder (firm.servers k) is alone
+
+    -- as the holder
+    module _ (alone : row.state ≡ Only k false) where
+      abbrev pub visit_beside : Option Own
+      visit_beside = good.visits (other_of k row) place cell
+
+      pub copying_here : AreCopying row cell (Some own) visit_beside
+      copying_here = subst (λ o. AreCopying row cell o visit_beside) (here_visit cell row is) (alone_here k alone).copying
+
+      pub holding : IsHolding heard here row cell own visit_beside
+      holding = record {
+        fit = fit;
+        is = is;
+        held = alone;
+        old = copying_here;
+        told = λ said h of. subst (λ o. IsTold o visit_beside said) (here_visit cell row is) ((heard_said said h cell row is).alone k alone of);
+        met = λ after block h. (heard_said (body.Hello row.map row.link after block) h cell row is).met k after block alone refl;
+      }
+
+      -- pages that it handles tell of the other server's store as it is now, where no server has been at a later place
+      pub pages_here : good.reached cell ≤ place → PagesOf heard row cell (store_of w (other_of k row)) visit_beside
+      pages_here last after block h = (heard_said (body.Hello row.map row.link after block) h cell row is).page k after block alone refl last
+
+    -- as the other server
+    module _ (holder : ℕ) (alone : row.state ≡ Only holder false) (other : other_of holder row ≡ k) where
+      abbrev pub visit_holder : Option Own
+      visit_holder = good.visits holder place cell
+
+      other_visit : good.visits (other_of holder row) place cell ≡ Some own
+      other_visit = ap (λ n. good.visits n place cell) other ∙ here_visit cell row is
+
+      pub follows_here : AreCopying row cell visit_holder (Some own)
+      follows_here = subst (AreCopying row cell visit_holder) other_visit (alone_here holder alone).copying
+
+      pub following : has_server k row ≡ true → other_of k row ≡ holder → IsFollowing heard here row cell visit_holder own
+      following has back = record {
+        fit = fit;
+        is = is;
+        by = holder;
+        held = holder_other row k holder has back alone;
+        old = follows_here;
+        told = λ said h of. subst (λ o. IsTold visit_holder o said) other_visit ((heard_said said h cell row is).alone holder alone of);
+      }
+
+  -- a cell of which a copy is under way has no operation
+  pub idle_copies : (q : Cell) (copy : Copying) → copying_on own q ≡ Some copy → pending_on own q ≡ None
+  idle_copies q copy there =
+      let held = copying_held heard here own fit q copy there in
+      let alone = other_alone here.state k held.other held.row held.other_is in
+      elim (steady.linked q held.row held.is).served [
+        | ByBoth so one other ↦ (let f : false ≡ true = sym (ap (is_alone k) so) ∙ alone in absurd cc)
+        | ByOne holder other so pair out ↦ (
+            let mine : holder ≡ k = same_numbers holder k (sym (ap (is_alone k) so) ∙ alone) in
+            let is_mine : held.row.state ≡ Only k false = so ∙ ap (λ n. Only n false) mine in
+            ((copying_here q held.row held.is is_mine).copying own copy refl there).free)
+      ]

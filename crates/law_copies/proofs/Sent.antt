@@ -1,0 +1,285 @@
+-- What a job sends of copies: each letter is about the cell that the job works on, or tells of a page.
+use Rattle.std.proofs.Common.{◌≡◌, ◌⊎◌, ℕ, Bool, true, false, List, [], Option, Some, None, refl, sym, ap, ◌∙◌, inl, inr}
+use Rattle.std.specs.Prelude.{filter}
+use Rattle.busy_marks.specs.Marks.{above}
+use Rattle.global_tables.specs.declared.link.LinkRow.{LinkRow}
+use Rattle.petal_base.specs.declared.cell.Cell.{Cell}
+use Rattle.petal_base.specs.Cells.{cell_of, key_at}
+use Rattle.petal_msg.specs.Kinds.{Subject, Answered, Copied, Paired, Refused, about, is_logged, subject_of}
+use Rattle.petal_msg.specs.declared.body.Body.{Body}
+use Rattle.petal_msg.specs.declared.body.Body.TheVariants as body
+use Rattle.petal_msg.specs.declared.copying.Copying.{Copying}
+use Rattle.petal_msg.specs.declared.copying.LastCopy.{LastCopy}
+use Rattle.petal_msg.specs.declared.copying.LinkId.{LinkId}
+use Rattle.petal_msg.specs.declared.operation.Ending.{Ending}
+use Rattle.petal_msg.specs.declared.operation.Ending.TheVariants as ending
+use Rattle.petal_state.specs.CellState.{cell_link}
+use Rattle.petal_rules.specs.Copies.{begins_copy, least, marked_blocks, page_wanted}
+use Rattle.petal_rules.specs.Lists.{In}
+use Rattle.petal_rules.specs.Server.{Own, Here, Post, Done, post_to}
+use Rattle.petal_rules.specs.State.{holder_of, link_named}
+use Rattle.petal_rules.specs.Store.{chain_in, epochs_of}
+use Rattle.petal_rules.specs.Writes.{ended}
+use Rattle.petal_rules.proofs.Tests.{none_some, same_some, true_false}
+use Rattle.law_steps.specs.DidLead.{DidLead, Asks, A_slot, A_copy, A_trim, A_copied_entry, A_page, Of_the_log, Asks_for, Repeats, Is_full, Opens, Marks, Puts, Gives_up, Unmarks, Closes, Opens_alone, Marks_alone, Puts_alone, Unmarks_alone, Closes_alone}
+use Rattle.law_steps.specs.DidHolder.{DidHolder, CopyStep, Asks_to_trim, Sends, Unmarks_copied, Closes_copy, Asks_page, Turns_page, Begins_copy, Goes_on_copying, Finds_it_full, Tidies, first_copy}
+use Rattle.law_steps.specs.DidOther.{DidOther, first_last, TrimStep, Is_trimmed, Drops_entry, Answers_page, Is_copied_to, Goes_on_trimming, Puts_entry, Has_entry, Has_no_slot}
+use Rattle.law_steps.specs.Did.{Did, Ignores, Refuses, By_read, By_lead, By_second, By_holder, By_other}
+use Rattle.law_steps.proofs.Letters.{one_post, posted}
+use Rattle.law_steps.proofs.Resting.{among_least}
+use Rattle.law_steps.proofs.Subjects.{of_read, of_second}
+use Rattle.law_copies.specs.Copied.{IsOfLink, IsTold}
+use Rattle.law_copies.proofs.Left.{marked_on}
+use Rattle.law_copies.proofs.Rows.{in_left}
+use Rattle.law_copies.proofs.Working.{Away, holder_cell, other_cell}
+
+-- of what isn't about copies nothing need be known
+pub untold : (holder other : Option Own) (said : Body) → (subject_of said ≡ Copied → ⊥) → IsTold holder other said
+untold holder other (body.Trim number cell epochs) ne = absurd (ne refl)
+untold holder other (body.Trimmed number cell) ne = absurd (ne refl)
+untold holder other (body.Sync number key version index bytes) ne = absurd (ne refl)
+untold holder other (body.Synced number cell index) ne = absurd (ne refl)
+untold holder other _ ne = tt
+
+abbrev pub is_page : Body → Bool
+is_page (body.Hello map link after block) = true
+is_page _ = false
+
+-- what a page tells
+abbrev pub page_map : Body → ℕ
+page_map (body.Hello map link after block) = map
+page_map _ = 0
+
+abbrev pub page_link : Body → ℕ
+page_link (body.Hello map link after block) = link
+page_link _ = 0
+
+abbrev pub page_after : Body → Option ℕ
+page_after (body.Hello map link after block) = after
+page_after _ = None
+
+abbrev pub page_block : Body → Option ℕ
+page_block (body.Hello map link after block) = block
+page_block _ = None
+
+page_copied : (said : Body) → is_page said ≡ true → subject_of said ≡ Copied
+page_copied (body.Hello map link after block) e = refl
+page_copied _ e = true_false e refl
+
+pub logged_not : (subject : Subject) → is_logged subject ≡ true → subject ≡ Copied → ⊥
+logged_not subject logged copied = true_false logged (ap is_logged copied)
+
+pub answered_not : (said : Body) → subject_of said ≡ Answered → subject_of said ≡ Copied → ⊥
+answered_not said e f = let g : Answered ≡ Copied = sym e ∙ f in absurd cc
+
+pub refused_not : (said : Body) → subject_of said ≡ Refused → subject_of said ≡ Copied → ⊥
+refused_not said e f = let g : Refused ≡ Copied = sym e ∙ f in absurd cc
+
+pub paired_not : (said : Body) → subject_of said ≡ Paired → subject_of said ≡ Copied → ⊥
+paired_not said e f = let g : Paired ≡ Copied = sym e ∙ f in absurd cc
+
+ended_answers : (seq : ℕ) (how : Ending) → subject_of (ended seq how) ≡ Answered
+ended_answers seq ending.Written = refl
+ended_answers seq ending.Full = refl
+
+pub none_in : {A : Type 0} (post : Post) → In post [] → A
+unfolding In
+none_in post i = absurd i
+
+-- a post stands where there is somebody to send it to
+addressed : (to : Option ℕ) (what : Body) (post : Post) → In post (post_to to what) → (n : ℕ) × (to ≡ Some n)
+unfolding In
+addressed None what post i = absurd i
+addressed (Some n) what post i = (n, refl)
+
+-- about a cell that there is not
+abbrev pub IsAt : Cell → Option Cell → Type 0
+IsAt q None = ⊥
+IsAt q (Some cell) = q ≡ cell
+
+pub at_away : {A : Type 0} (q : Cell) (o : Option Cell) → IsAt q o → Away q o → A
+at_away q None here_it away_it = absurd here_it
+at_away q (Some cell) here_it away_it = absurd (away_it here_it)
+
+module _ (heard : Body → Type 0) (here : Here) (own : Own) where
+  -- ### Leads
+
+  pub lead_sends : (done : Done) → DidLead heard here own done → (post : Post) → In post done.posts
+      → (Asks here own post × (done.own ≡ own)) ⊎ (subject_of post.body ≡ Copied → ⊥)
+  lead_sends _ (Asks_for posts h) post i = inl (h post i, refl)
+  lead_sends _ (Repeats want last h lead is e) post i = inr
+      (answered_not post.body (ap subject_of (one_post _ _ post i).1 ∙ ended_answers want.seq last.ending))
+  lead_sends _ (Is_full want new no_room) post i = inr (answered_not post.body (ap subject_of (one_post _ _ post i).1))
+  lead_sends _ (Gives_up op h is reserved put) post i = inr (answered_not post.body (ap subject_of (one_post _ _ post i).1))
+  lead_sends _ (Opens want new both) post i = inr
+      (paired_not post.body (ap subject_of (posted _ (body.Reserve own.pairs.next want.cell) post i)))
+  lead_sends _ (Marks op h is both stage) post i = none_in post i
+  lead_sends _ (Puts op is both stage) post i = none_in post i
+  lead_sends _ (Unmarks op h is both stage) post i = none_in post i
+  lead_sends _ (Closes op is both stage) post i = inr (answered_not post.body (ap subject_of (one_post _ _ post i).1))
+  lead_sends _ (Opens_alone want new alone) post i = none_in post i
+  lead_sends _ (Marks_alone now op taken alone fresh) post i = none_in post i
+  lead_sends _ (Puts_alone now op taken alone stale put) post i = none_in post i
+  lead_sends _ (Unmarks_alone now op taken alone stale put busy) post i = none_in post i
+  lead_sends _ (Closes_alone now op taken alone stale put free) post i = inr
+      (answered_not post.body (ap subject_of (one_post _ _ post i).1))
+
+  -- ### Holders and other servers
+
+  -- what is said of a cell is of the one that is worked on
+  said_at : (post : Post) (what : Body) (cell q : Cell) → post.body ≡ what → (about what).cell ≡ Some cell
+      → (about post.body).cell ≡ Some q → q ≡ cell
+  said_at post what cell q is e f = same_some (sym f ∙ ap (λ (b : Body). (about b).cell) is ∙ e)
+
+  said_none : {A : Type 0} (post : Post) (what : Body) (q : Cell) → post.body ≡ what → (about what).cell ≡ None
+      → (about post.body).cell ≡ Some q → A
+  said_none post what q is e f = none_some (ap (λ (b : Body). (about b).cell) is ∙ e) f
+
+  step_says : (now : Own) (cell : Cell) (copy : Copying) (done : Done) → CopyStep here now cell copy done → (post : Post)
+      → In post done.posts
+      → (q : Cell) → (about post.body).cell ≡ Some q → q ≡ cell
+  step_says now cell copy _ (Asks_to_trim fresh) post i q e = said_at post _ cell q
+      (posted _ (body.Trim copy.op cell (epochs_of (chain_in now.store.chains cell))) post i) refl e
+  step_says now cell copy _ (Sends row trimmed is) post i q e =
+      said_at post _ cell q (posted _ (body.Sync copy.op (key_at cell row.0) row.1.version copy.index row.1.bytes) post i) refl e
+  step_says now cell copy _ (Unmarks_copied kind synced left) post i q e = none_in post i
+  step_says now cell copy _ (Closes_copy synced left) post i q e = none_in post i
+
+  pub holder_says : (done : Done) (d : DidHolder heard here own done) (post : Post) → In post done.posts → (q : Cell)
+      → (about post.body).cell ≡ Some q
+      → IsAt q (holder_cell heard here own done d)
+  holder_says _ (Asks_page id row other held fresh) post i q e = said_none post _ q
+      (posted (Some other) (page_wanted own row) post i) refl e
+  holder_says _ (Turns_page id row other after block h held fresh at) post i q e = none_in post i
+  holder_says done (Begins_copy id row other cell _ held next step) post i q e =
+      step_says (begins_copy own cell) cell (first_copy own.pairs.next) done step post i q e
+  holder_says done (Goes_on_copying cell now copy _ taken step) post i q e = step_says now cell copy done step post i q e
+  holder_says _ (Finds_it_full cell copy h is trimmed lt) post i q e = none_in post i
+  holder_says _ (Tidies id row block kind is both idle left) post i q e = none_in post i
+
+  trim_says : (now : Own) (cell : Cell) (last : LastCopy) (holder : ℕ) (done : Done) → TrimStep now cell last holder done → (post : Post)
+      → In post done.posts
+      → post.body ≡ body.Trimmed last.op cell
+  trim_says now cell last holder _ (Is_trimmed none) post i = posted (Some holder) (body.Trimmed last.op cell) post i
+  trim_says now cell last holder _ (Drops_entry epoch epochs is) post i = none_in post i
+
+  pub other_says : (done : Done) (d : DidOther heard here own done) (post : Post) → In post done.posts → (q : Cell)
+      → (about post.body).cell ≡ Some q
+      → IsAt q (other_cell heard here own done d)
+  other_says _ (Answers_page id row after h is) post i q e =
+      said_none post (body.Hello row.map row.link after (least (filter (above after) (marked_blocks here.state row own)))) q
+      (posted _ _ post i) refl e
+  other_says done (Is_copied_to number cell epochs holder _ h held newer step) post i q e =
+      said_at post _ cell q (trim_says _ cell (first_last number epochs) holder done step post i) refl e
+  other_says done (Goes_on_trimming cell holder last _ held is step) post i q e = said_at post _ cell q
+      (trim_says own cell last holder done step post i) refl e
+  other_says _ (Puts_entry entry holder last of_copy at room) post i q e =
+      said_at post _ (cell_of entry.key) q (posted (Some holder) (body.Synced entry.op (cell_of entry.key) entry.index) post i) refl e
+  other_says _ (Has_entry entry holder last of_copy lt) post i q e =
+      said_at post _ (cell_of entry.key) q (posted (Some holder) (body.Synced entry.op (cell_of entry.key) entry.index) post i) refl e
+  other_says _ (Has_no_slot entry holder last of_copy at full) post i q e =
+      said_at post _ (cell_of entry.key) q (posted (Some holder) (body.SyncFull entry.op (cell_of entry.key)) post i) refl e
+
+  -- ### Pages
+
+  -- a page is sent to the holder of a link that is found by its name, and leaves the server's own part
+  pub record IsAnswered (done : Done) (said : Body) : Type 0 where
+    pub id : LinkId
+    pub row : LinkRow
+    pub after : Option ℕ
+    pub named : link_named here.state id ≡ Some row
+    pub holder : ℕ
+    pub held : holder_of here.me row ≡ Some holder
+    pub is : said ≡ body.Hello row.map row.link after (least (filter (above after) (marked_blocks here.state row own)))
+    pub same : done.own ≡ own
+
+  no_page : {A : Type 0} (post : Post) (what : Body) → post.body ≡ what → is_page what ≡ false → is_page post.body ≡ true → A
+  no_page post what is e f = true_false f (ap is_page is ∙ e)
+
+  copied_page : {A : Type 0} (post : Post) → (subject_of post.body ≡ Copied → ⊥) → is_page post.body ≡ true → A
+  copied_page post ne f = absurd (ne (page_copied post.body f))
+
+  asks_no_page : {A : Type 0} (post : Post) → Asks here own post → is_page post.body ≡ true → A
+  asks_no_page _ (A_slot op to is stage so) f = true_false f refl
+  asks_no_page _ (A_copy op to is stage so) f = true_false f refl
+  asks_no_page _ (A_trim cell copy to is fresh so) f = true_false f refl
+  asks_no_page _ (A_copied_entry cell copy row to is trimmed at so) f = true_false f refl
+  asks_no_page _ (A_page row to on so fresh) f = true_false f refl
+  asks_no_page post (Of_the_log _ logged) f = copied_page post (logged_not (subject_of post.body) logged) f
+
+  step_no_page : {A : Type 0} (now : Own) (cell : Cell) (copy : Copying) (done : Done) → CopyStep here now cell copy done → (post : Post)
+      → In post done.posts → is_page post.body ≡ true → A
+  step_no_page now cell copy _ (Asks_to_trim fresh) post i = no_page post _
+      (posted _ (body.Trim copy.op cell (epochs_of (chain_in now.store.chains cell))) post i) refl
+  step_no_page now cell copy _ (Sends row trimmed is) post i =
+      no_page post _ (posted _ (body.Sync copy.op (key_at cell row.0) row.1.version copy.index row.1.bytes) post i) refl
+  step_no_page now cell copy _ (Unmarks_copied kind synced left) post i = none_in post i
+  step_no_page now cell copy _ (Closes_copy synced left) post i = none_in post i
+
+  holder_no_page : {A : Type 0} (done : Done) → DidHolder heard here own done → (post : Post) → In post done.posts
+      → is_page post.body ≡ true → A
+  holder_no_page _ (Asks_page id row other held fresh) post i = no_page post _ (posted (Some other) (page_wanted own row) post i) refl
+  holder_no_page _ (Turns_page id row other after block h held fresh at) post i = none_in post i
+  holder_no_page done (Begins_copy id row other cell _ held next step) post i =
+      step_no_page (begins_copy own cell) cell (first_copy own.pairs.next) done step post i
+  holder_no_page done (Goes_on_copying cell now copy _ taken step) post i = step_no_page now cell copy done step post i
+  holder_no_page _ (Finds_it_full cell copy h is trimmed lt) post i = none_in post i
+  holder_no_page _ (Tidies id row block kind is both idle left) post i = none_in post i
+
+  other_page : (done : Done) → DidOther heard here own done → (post : Post) → In post done.posts → is_page post.body ≡ true
+      → IsAnswered done post.body
+  other_page _ (Answers_page id row after h named) post i f = record {
+    id = id;
+    row = row;
+    after = after;
+    named = named;
+    holder = (addressed (holder_of here.me row) _ post i).0;
+    held = (addressed (holder_of here.me row) _ post i).1;
+    is = posted _ (body.Hello row.map row.link after (least (filter (above after) (marked_blocks here.state row own)))) post i;
+    same = refl;
+  }
+  other_page done (Is_copied_to number cell epochs holder _ h held newer step) post i f =
+      no_page post _ (trim_says _ cell (first_last number epochs) holder done step post i) refl f
+  other_page done (Goes_on_trimming cell holder last _ held is step) post i f = no_page post _
+      (trim_says own cell last holder done step post i) refl f
+  other_page _ (Puts_entry entry holder last of_copy at room) post i f =
+      no_page post _ (posted (Some holder) (body.Synced entry.op (cell_of entry.key) entry.index) post i) refl f
+  other_page _ (Has_entry entry holder last of_copy lt) post i f =
+      no_page post _ (posted (Some holder) (body.Synced entry.op (cell_of entry.key) entry.index) post i) refl f
+  other_page _ (Has_no_slot entry holder last of_copy at full) post i f =
+      no_page post _ (posted (Some holder) (body.SyncFull entry.op (cell_of entry.key)) post i) refl f
+
+  data_not : (post : Post) (seq : ℕ) (bytes : List ℕ) → post.body ≡ body.Data seq bytes → subject_of post.body ≡ Copied → ⊥
+  data_not post seq bytes is = answered_not post.body (ap subject_of is)
+
+  page_answered : (done : Done) → Did heard here own done → (post : Post) → In post done.posts → is_page post.body ≡ true
+      → IsAnswered done post.body
+  page_answered _ Ignores post i f = none_in post i
+  page_answered _ (Refuses to said is why) post i f = copied_page post
+      (refused_not post.body (ap subject_of (one_post _ _ post i).1 ∙ is)) f
+  page_answered _ (By_read done d) post i f =
+      let r = (of_read heard here own done d).says post i in
+      copied_page post (data_not post r.seq r.bytes r.is) f
+  page_answered _ (By_lead done d) post i f = elim
+      (lead_sends done d post i) [ inl asks ↦ asks_no_page post asks.0 f | inr ne ↦ copied_page post ne f ]
+  page_answered _ (By_second done d) post i f = copied_page post (paired_not post.body ((of_second heard here own done d).says post i)) f
+  page_answered _ (By_holder done d) post i f = holder_no_page done d post i f
+  page_answered _ (By_other done d) post i f = other_page done d post i f
+
+  pub page_sent : (done : Done) → Did heard here own done → (post : Post) → In post done.posts → (map link : ℕ) (after block : Option ℕ)
+      → post.body ≡ body.Hello map link after block → IsAnswered done post.body
+  page_sent done d post i map link after block e = page_answered done d post i (ap is_page e)
+
+  -- a page that is sent tells of a block of its own link
+  pub pages_sent : (done : Done) → Did heard here own done → (post : Post) → In post done.posts → (map link block : ℕ) (after : Option ℕ)
+      → post.body ≡ body.Hello map link after (Some block) → IsOfLink here.state (record { map = map; block = block }) link
+  pages_sent done d post i map link block after e =
+      let p = page_sent done d post i map link after (Some block) e in
+      let same = sym p.is ∙ e in
+      let map_is : p.row.map ≡ map = ap page_map same in
+      let link_is : p.row.link ≡ link = ap page_link same in
+      let block_is : least (filter (above p.after) (marked_blocks here.state p.row own)) ≡ Some block = ap page_block same in
+      let among = among_least (filter (above p.after) (marked_blocks here.state p.row own)) block block_is in
+      let on = marked_on here.state p.id p.row own block p.named
+      (in_left (above p.after) (marked_blocks here.state p.row own) block among).0 in
+      record { row = p.row; is = (λ j. cell_link here.state (record { map = sym map_is j; block = block })) ∙ on.is; link_is = link_is }

@@ -1,0 +1,111 @@
+-- What is kept after a step of one server, from what the step keeps at each front, and of what it sends.
+use Rattle.std.proofs.Common.{◌≡◌, ◌≤◌, ◌++◌, ℕ, List, [], ◌∷◌, length, true, false, Option, Some, None, sym, subst, ◌⊎◌, inl, inr}
+use Rattle.std.specs.Ordering.{nat_cmp}
+use Rattle.global_tables.specs.declared.link.LinkRow.{LinkRow}
+use Rattle.global_tables.specs.declared.link.LinkState.TheVariants.{Both, Only}
+use Rattle.petal_base.specs.declared.cell.Cell.{Cell}
+use Rattle.petal_command.specs.declared.command.Command.{Command}
+use Rattle.petal_msg.specs.Kinds.{subject_of}
+use Rattle.petal_msg.specs.declared.body.Body.TheVariants as body
+use Rattle.petal_msg.specs.declared.letter.Letter.{Letter}
+use Rattle.petal_history.specs.Claims.{IsPrefix}
+use Rattle.petal_history.specs.Legal.{world_after}
+use Rattle.petal_history.specs.declared.record.Record.{Record}
+use Rattle.petal_state.specs.CellState.{cell_link}
+use Rattle.petal_state.specs.Command.{state_after}
+use Rattle.petal_rules.specs.Lists.{In}
+use Rattle.petal_rules.specs.Log.{state_in}
+use Rattle.petal_rules.specs.Server.{Own, Server}
+use Rattle.petal_rules.specs.Store.{chain_in}
+use Rattle.petal_rules.specs.World.{Setting, World, start}
+use Rattle.petal_rules.proofs.Tests.{same_or_apart}
+use Rattle.law_steps.specs.Happens.{is_between}
+use Rattle.law_steps.specs.Ready.{IsRising}
+use Rattle.law_copies.specs.Copied.{IsOfLink}
+use Rattle.law_copies.specs.Good.{AloneOk, BothOk, Good, IsUnheard, SaidOk}
+use Rattle.law_copies.specs.Pair.{HaveMarks}
+use Rattle.law_copies.specs.Visits.{IsLinked}
+use Rattle.law_copies.proofs.Visited.{IsStep, KeepsFlags, all_visited, been_now, counted, counted_up, here_now, later, reaching_now, seen, started_now}
+
+-- a letter that is sent tells what is so, by the link at the front of its sender
+pub record IsTrue (setting : Setting) (top : List Command) (v : World) (visits : (n place : ℕ) → Cell → Option Own) (reached : Cell → ℕ) (letter : Letter) : Type 0 where
+  pub rev : is_between (subject_of letter.body) ≡ true → letter.rev ≤ length top
+  pub said : (front : List Command) (cell : Cell) (row : LinkRow) → IsPrefix front top → length front ≡ letter.rev → IsLinked setting front cell row
+      → SaidOk setting top v visits reached front letter.body cell row
+  pub page : (front : List Command) → IsPrefix front top → length front ≡ letter.rev → (map link block : ℕ) (after : Option ℕ)
+      → letter.body ≡ body.Hello map link after (Some block) → IsOfLink (state_after setting.servers front) (record { map = map; block = block }) link
+
+-- what is kept after one record more; with where servers have been then; places that count only rise, and no server has
+-- applied an entry beyond those known before
+pub record GoesOn (setting : Setting) (records : List Record) (top next : List Command) (w v : World) (old : Good setting records top w) (own : Record) : Type 0 where
+  pub good : Good setting (records ++ own ∷ []) next v
+  pub visits : (n place : ℕ) (cell : Cell) → good.visits n place cell ≡ seen setting old.visits v n place cell
+  pub reached : (cell : Cell) → old.reached cell ≤ good.reached cell
+  pub behind : (n : ℕ) → IsPrefix (v.servers n).log.applied top
+
+-- the server's own part, by its own state then
+pub record IsSoundOwn (setting : Setting) (top : List Command) (server : Server) : Type 0 where
+  pub born : (cell : Cell) → cell_link (state_after setting.servers top) cell ≡ None → chain_in server.own.store.chains cell ≡ []
+  pub unheard : (cell : Cell) → cell_link (state_in setting.servers server.log) cell ≡ None → IsUnheard server.own cell
+  pub rising : (cell : Cell) → IsRising nat_cmp (chain_in server.own.store.chains cell)
+  pub counts : 1 ≤ server.own.pairs.next
+  pub marks : HaveMarks server.own.pairs.pending server.own.store
+
+module _ (setting : Setting) (records : List Record) (top : List Command) (w v : World) (k : ℕ) (server : Server)
+    (good : Good setting records top w) (step : IsStep setting top w v k server) where
+  abbrev visits : (n place : ℕ) → Cell → Option Own
+  visits = later setting records top w v k server good step
+
+  abbrev reached : Cell → ℕ
+  reached = counted setting records top w v k server good step
+
+  -- what holds of each server holds then
+  all_servers : (P : ℕ → Server → Type 0) → ((n : ℕ) → P n (w.servers n)) → P k server → (n : ℕ) → P n (v.servers n)
+  all_servers P old new n = elim (same_or_apart n k) [
+    | inl e ↦ subst (λ m. P m (v.servers m)) (sym e) (subst (P k) (sym step.here) new)
+    | inr ne ↦ subst (P n) (sym (step.others n ne)) (old n)
+  ]
+
+  -- at each front, what the step keeps
+  pub record KeepsFronts : Type 0 where
+    pub both : (front : List Command) (cell : Cell) (row : LinkRow) → IsPrefix front top → IsLinked setting front cell row → row.state ≡ Both
+        → BothOk setting top v visits reached front cell row
+    pub alone : (front : List Command) (cell : Cell) (row : LinkRow) (holder : ℕ) → IsPrefix front top → IsLinked setting front cell row
+        → row.state ≡ Only holder false → AloneOk setting top v visits reached front cell row holder
+    pub said : (letter : Letter) → In letter w.sent → (front : List Command) (cell : Cell) (row : LinkRow) → IsPrefix front top
+        → length front ≡ letter.rev → IsLinked setting front cell row → SaidOk setting top v visits reached front letter.body cell row
+
+  good_now : (own : Record) → world_after setting (start setting) (records ++ own ∷ []) ≡ v → KeepsFlags setting records top w v k server good step
+      → IsSoundOwn setting top server → KeepsFronts
+      → ((letter : Letter) → In letter v.sent → In letter w.sent ⊎ IsTrue setting top v visits reached letter)
+      → Good setting (records ++ own ∷ []) top v
+  good_now own then_is flags sound keeps sent = record {
+    visits = visits;
+    reached = reached;
+    reaching = reaching_now setting records top w v k server good step;
+    here = here_now setting records top w v k server good step;
+    been = been_now setting records top w v k server good step;
+    born = λ cell none. all_servers (λ n (s : Server). chain_in s.own.store.chains cell ≡ []) (good.born cell none) (sound.born cell none);
+    unheard = all_servers (λ n (s : Server). (cell : Cell) → cell_link (state_in setting.servers s.log) cell ≡ None → IsUnheard s.own cell) good.unheard sound.unheard;
+    rising = all_servers (λ n (s : Server). (cell : Cell) → IsRising nat_cmp (chain_in s.own.store.chains cell)) good.rising sound.rising;
+    counts = all_servers (λ n (s : Server). 1 ≤ s.own.pairs.next) good.counts sound.counts;
+    marks = all_servers (λ n (s : Server). HaveMarks s.own.pairs.pending s.own.store) good.marks sound.marks;
+    both = keeps.both;
+    alone = keeps.alone;
+    revs = λ letter i. elim (sent letter i) [ inl old ↦ good.revs letter old | inr new ↦ new.rev ];
+    letters = λ letter i. elim (sent letter i) [ inl old ↦ keeps.said letter old | inr new ↦ new.said ];
+    pages = λ letter i. elim (sent letter i) [ inl old ↦ good.pages letter old | inr new ↦ new.page ];
+    started = started_now setting records top w v k server good step own then_is flags;
+  }
+
+  pub good_after : (own : Record) → world_after setting (start setting) (records ++ own ∷ []) ≡ v → KeepsFlags setting records top w v k server good step
+      → IsSoundOwn setting top server → KeepsFronts
+      → ((letter : Letter) → In letter v.sent → In letter w.sent ⊎ IsTrue setting top v visits reached letter)
+      → GoesOn setting records top top w v good own
+  unfolding good_now
+  good_after own then_is flags sound keeps sent = record {
+    good = good_now own then_is flags sound keeps sent;
+    visits = all_visited setting records top w v k server good step;
+    reached = counted_up setting records top w v k server good step;
+    behind = all_servers (λ n (s : Server). IsPrefix s.log.applied top) step.before step.within;
+  }

@@ -1,0 +1,143 @@
+-- What a job leaves of a cell without a link, and that the number of the next operation only grows.
+use Rattle.std.proofs.Common.{◌≡◌, ◌≤◌, ℕ, true, false, length, Option, Some, None, refl, sym, ap, ◌∙◌, inl, inr, arith}
+use Rattle.std.specs.Ordering.{eq_by_cmp}
+use Rattle.busy_marks.specs.Marks.{above}
+use Rattle.global_tables.specs.Link.{link_at}
+use Rattle.global_tables.specs.declared.link.LinkRow.{LinkRow}
+use Rattle.petal_base.specs.declared.cell.Cell.{Cell}
+use Rattle.petal_msg.specs.declared.body.Body.{Body}
+use Rattle.petal_msg.specs.declared.copying.Copying.{Copying}
+use Rattle.petal_msg.specs.declared.copying.LastCopy.{LastCopy}
+use Rattle.petal_msg.specs.declared.copying.LinkId.{LinkId}
+use Rattle.petal_state.specs.CellState.{cell_link}
+use Rattle.petal_rules.specs.Copies.{begins_copy, with_copied}
+use Rattle.petal_rules.specs.Progress.{progress_on, without_copying, with_last_copy}
+use Rattle.petal_rules.specs.Server.{Own, Copies, Here, Done}
+use Rattle.petal_rules.specs.State.{State, id_of, link_cmp, link_named}
+use Rattle.petal_rules.proofs.Tests.{by_bool, by_test, none_some}
+use Rattle.law_log.proofs.Flags.{progress_beside, same_id}
+use Rattle.law_state.specs.Tables.{IsPlainState}
+use Rattle.law_state.proofs.Making.{map_past}
+use Rattle.law_state.proofs.Places.{get_within}
+use Rattle.law_state.proofs.Steady.{linked}
+use Rattle.law_steps.specs.Did.{Did, Ignores, Refuses, By_read, By_lead, By_second, By_holder, By_other}
+use Rattle.law_steps.specs.DidLead.{DidLead, Asks_for, Repeats, Is_full, Opens, Marks, Puts, Gives_up, Unmarks, Closes, Opens_alone, Marks_alone, Puts_alone, Unmarks_alone, Closes_alone}
+use Rattle.law_steps.specs.DidHolder.{DidHolder, CopyStep, Asks_to_trim, Sends, Unmarks_copied, Closes_copy, TakenCopy, Copy_as_is, Copy_trimmed, Copy_synced, Asks_page, Turns_page, Begins_copy, Goes_on_copying, Finds_it_full, Tidies, first_copy}
+use Rattle.law_steps.specs.DidOther.{DidOther, TrimStep, Is_trimmed, Drops_entry, Answers_page, Is_copied_to, Goes_on_trimming, Puts_entry, Has_entry, Has_no_slot, first_last}
+use Rattle.law_steps.proofs.CopyFrames.{of_holder, of_other}
+use Rattle.law_steps.proofs.Resting.{row_named}
+use Rattle.law_steps.proofs.Subjects.{of_lead, of_read, of_second}
+use Rattle.law_steps.proofs.Taking.{taking}
+use Rattle.law_copies.proofs.Places.{at_most_or_above}
+use Rattle.law_copies.proofs.Standing.{named_id}
+
+-- ### Links
+
+-- where a cell has no link its map has none
+map_unlinked : (servers : ℕ) (state : State) → IsPlainState servers state → (cell : Cell) → cell_link state cell ≡ None → (link : ℕ)
+    → link_at state.links cell.map link ≡ None
+map_unlinked servers state plain cell none link = elim (at_most_or_above (length state.disks.rows) cell.map) [
+  | inl past ↦ plain.unlinked cell.map link (map_past state.maps cell.map (let e = plain.count in omega arith))
+  | inr within ↦ (
+      let there = get_within state.disks.rows cell.map within in
+      none_some none (linked servers state plain cell there.0 there.1).1)
+]
+
+-- a link of its map is none that is found by its name
+pub unlinked_apart : (servers : ℕ) (state : State) → IsPlainState servers state → (cell : Cell) → cell_link state cell ≡ None → (row : LinkRow)
+    → row.map ≡ cell.map → (id : LinkId) (of : LinkRow) → link_named state id ≡ Some of → eq_by_cmp link_cmp (id_of row) (id_of of) ≡ false
+unlinked_apart servers state plain cell none row map_is id of named = by_bool (eq_by_cmp link_cmp (id_of row) (id_of of))
+    (λ t.
+    let same : id_of row ≡ id = same_id (id_of row) (id_of of) t ∙ named_id state id of named in
+    none_some (map_unlinked servers state plain cell none row.link)
+    (ap (λ map. link_at state.links map row.link) (sym map_is) ∙ ap (link_named state) same ∙ named))
+    (λ off. off)
+
+-- ### How far a link is that the server's state has not
+
+module _ (heard : Body → Type 0) (here : Here) (own : Own) (row : LinkRow)
+    (apart : (id : LinkId) (of : LinkRow) → link_named here.state id ≡ Some of → eq_by_cmp link_cmp (id_of row) (id_of of) ≡ false) where
+  abbrev P : Own → Type 0
+  P to = progress_on to row ≡ progress_on own row
+
+  -- the same table
+  table_same : (to : Own) → to.copies ≡ own.copies → P to
+  table_same to same = ap (λ (c : Copies). progress_on (record own { copies = c }) row) same
+
+  step_pages : (now : Own) → P now → (cell : Cell) (copy : Copying) (done : Done) → CopyStep here now cell copy done → P done.own
+  step_pages now p cell copy _ (Asks_to_trim fresh) = p
+  step_pages now p cell copy _ (Sends entry trimmed is) = p
+  step_pages now p cell copy _ (Unmarks_copied kind synced left) = p
+  step_pages now p cell copy _ (Closes_copy synced left) = by (cell_link here.state cell) refl ∙ p
+    where
+      by : (o : Option LinkRow) → cell_link here.state cell ≡ o → progress_on (with_copied o (without_copying now cell) cell.block) row ≡ progress_on now row
+      by None e = refl
+      by (Some of) e = by_test (λ (x : Own). progress_on x row ≡ progress_on now row) (above (progress_on now of).copied cell.block) _ _
+          (λ t. progress_beside (without_copying now cell) of (record (progress_on now of) { copied = Some cell.block }) row
+          (apart (id_of of) of (row_named here.state cell of e)))
+          (λ f. refl)
+
+  holder_pages : (done : Done) → DidHolder heard here own done → P done.own
+  holder_pages _ (Asks_page id of other held fresh) = refl
+  holder_pages _ (Turns_page id of other after None h held fresh at) = progress_beside own of (record (progress_on own of) { paged = true }) row (apart id of held.is)
+  holder_pages _ (Turns_page id of other after (Some block) h held fresh at) =
+      progress_beside own of (record (progress_on own of) { after = Some block }) row (apart id of held.is)
+  holder_pages done (Begins_copy id of other cell _ held next step) = step_pages (begins_copy own cell) refl cell (first_copy own.pairs.next) done step
+  holder_pages done (Goes_on_copying cell now copy _ taken step) = step_pages now (taken_pages now copy taken) cell copy done step
+    where
+      taken_pages : (now : Own) (copy : Copying) → TakenCopy heard own cell now copy → P now
+      taken_pages _ _ (Copy_as_is copy is) = refl
+      taken_pages _ _ (Copy_trimmed copy h is fresh) = refl
+      taken_pages _ _ (Copy_synced copy h is trimmed lt) = refl
+  holder_pages _ (Finds_it_full cell copy h is trimmed lt) = refl
+  holder_pages _ (Tidies id of block kind named both idle left) = refl
+
+  trim_pages : (now : Own) → P now → (cell : Cell) (last : LastCopy) (holder : ℕ) (done : Done) → TrimStep now cell last holder done → P done.own
+  trim_pages now p cell last holder _ (Is_trimmed none) = p
+  trim_pages now p cell last holder _ (Drops_entry epoch epochs is) = p
+
+  other_pages : (done : Done) → DidOther heard here own done → P done.own
+  other_pages _ (Answers_page id of after h is) = refl
+  other_pages done (Is_copied_to number cell epochs holder _ h held newer step) =
+      trim_pages (with_last_copy own cell (first_last number epochs)) refl cell (first_last number epochs) holder done step
+  other_pages done (Goes_on_trimming cell holder last _ held is step) = trim_pages own refl cell last holder done step
+  other_pages _ (Puts_entry entry holder last of_copy at room) = refl
+  other_pages _ (Has_entry entry holder last of_copy lt) = refl
+  other_pages _ (Has_no_slot entry holder last of_copy at full) = refl
+
+  pub did_pages : (done : Done) → Did heard here own done → P done.own
+  did_pages _ Ignores = refl
+  did_pages _ (Refuses to said is why) = refl
+  did_pages _ (By_read done d) = ap (λ (o : Own). progress_on o row) (of_read heard here own done d).same
+  did_pages _ (By_lead done d) = table_same done.own (of_lead heard here own done d).copies
+  did_pages _ (By_second done d) = table_same done.own (of_second heard here own done d).copies
+  did_pages _ (By_holder done d) = holder_pages done d
+  did_pages _ (By_other done d) = other_pages done d
+
+-- ### The number of the next operation
+
+module _ (heard : Body → Type 0) (here : Here) (own : Own) where
+  lead_next : (done : Done) → DidLead heard here own done → own.pairs.next ≤ done.own.pairs.next
+  lead_next _ (Asks_for posts h) = omega arith
+  lead_next _ (Repeats want last h lead is e) = omega arith
+  lead_next _ (Is_full want new no_room) = omega arith
+  lead_next _ (Gives_up op h is reserved put) = omega arith
+  lead_next _ (Opens want new both) = omega arith
+  lead_next _ (Marks op h is both stage) = omega arith
+  lead_next _ (Puts op is both stage) = omega arith
+  lead_next _ (Unmarks op h is both stage) = omega arith
+  lead_next _ (Closes op is both stage) = omega arith
+  lead_next _ (Opens_alone want new on) = omega arith
+  lead_next _ (Marks_alone now op taken on fresh) = let e = (taking own now op taken).next in omega arith
+  lead_next _ (Puts_alone now op taken on stale put) = let e = (taking own now op taken).next in omega arith
+  lead_next _ (Unmarks_alone now op taken on stale put busy) = let e = (taking own now op taken).next in omega arith
+  lead_next _ (Closes_alone now op taken on stale put free) = let e = (taking own now op taken).next in omega arith
+
+  pub did_next : (done : Done) → Did heard here own done → own.pairs.next ≤ done.own.pairs.next
+  did_next _ Ignores = omega arith
+  did_next _ (Refuses to said is why) = omega arith
+  did_next _ (By_read done d) = let e = ap (λ (o : Own). o.pairs.next) (of_read heard here own done d).same in omega arith
+  did_next _ (By_lead done d) = lead_next done d
+  did_next _ (By_second done d) = let e = (of_second heard here own done d).next in omega arith
+  did_next _ (By_holder done d) = (of_holder heard here own done d).next
+  did_next _ (By_other done d) = (of_other heard here own done d).next

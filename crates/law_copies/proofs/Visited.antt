@@ -1,0 +1,394 @@
+-- Where servers have been, once one of them has done a step.
+use Rattle.std.proofs.Common.{◌≡◌, ◌≢◌, ◌≤◌, ◌++◌, ◌==◌, ◌&&◌, ℕ, List, [], ◌∷◌, true, false, if◌then◌else◌, Option, Some, None, is_some, refl, sym, ap, ◌∙◌, subst, ◌⊎◌, inl, inr, arith}
+use Rattle.std.specs.Prelude.{max, nat_eq, option_map}
+use Rattle.std.specs.Option.{option_map_or}
+use Rattle.global_tables.specs.declared.link.LinkRow.{LinkRow}
+use Rattle.global_tables.specs.declared.link.LinkState.TheVariants.{Only}
+use Rattle.petal_base.specs.declared.cell.Cell.{Cell}
+use Rattle.petal_command.specs.declared.command.Command.{Command}
+use Rattle.petal_history.specs.Claims.{IsPrefix}
+use Rattle.petal_history.specs.Legal.{world_after}
+use Rattle.petal_history.specs.declared.record.Record.{Record}
+use Rattle.petal_state.specs.CellState.{cell_link, serves}
+use Rattle.petal_state.specs.Command.{state_after}
+use Rattle.petal_rules.specs.Log.{state_in}
+use Rattle.petal_rules.specs.Server.{Own, Server}
+use Rattle.petal_rules.specs.State.{id_of, is_in}
+use Rattle.petal_rules.specs.World.{Setting, World, server_state, start}
+use Rattle.petal_rules.proofs.Tests.{both_true, by_bool, number_itself, same_numbers, same_or_apart, some_or_none, true_false}
+use Rattle.law_log.specs.Requested.{WasStarted}
+use Rattle.law_state.specs.Plain.{IsPlainLog}
+use Rattle.law_state.specs.Started.{is_flagged}
+use Rattle.law_copies.specs.Good.{Good}
+use Rattle.law_copies.specs.Visits.{AreReached, HasBeen, HasReached, IsHere, IsLinked, Visits, is_at, place_by, place_on, visited}
+use Rattle.law_copies.proofs.Places.{linked_on, one_row, places_up}
+
+-- ### Before the last record
+
+heads : {A : Type 0} {x z : A} {xs zs : List A} → x ∷ xs ≡ z ∷ zs → x ≡ z
+heads e = cc
+
+tails : {A : Type 0} {x z : A} {xs zs : List A} → x ∷ xs ≡ z ∷ zs → xs ≡ zs
+tails e = cc
+
+-- nothing stands before nothing
+pub none_before_none : {A : Type 0} (xs zs : List A) → [] ≡ xs ++ zs → xs ≡ []
+none_before_none [] zs e = refl
+none_before_none (x ∷ xs) zs e = cc
+
+-- a part of a list with one element more is all of it, or a part of the list
+pub split_last : {A : Type 0} (xs : List A) (y : A) (before later : List A) → xs ++ y ∷ [] ≡ before ++ later
+    → (before ≡ xs ++ y ∷ []) ⊎ ((rest : List A) × (xs ≡ before ++ rest))
+split_last xs y [] later e = inr (xs, refl)
+split_last [] y (b ∷ before) later e = inl (ap (λ zs. b ∷ zs) (none_before_none before later (tails e)) ∙ ap (λ x. x ∷ []) (sym (heads e)))
+split_last (x ∷ xs) y (b ∷ before) later e = elim (split_last xs y before later (tails e)) [
+  | inl same ↦ inl (ap (λ zs. b ∷ zs) same ∙ ap (λ z. z ∷ (xs ++ y ∷ [])) (sym (heads e)))
+  | inr more ↦ inr (more.0, ap (λ zs. x ∷ zs) more.1 ∙ ap (λ z. z ∷ (before ++ more.0)) (heads e))
+]
+
+-- ### Where a server is
+
+-- the server is In as itself, at this place of the cell's link
+pub record IsAt (setting : Setting) (n : ℕ) (server : Server) (place : ℕ) (cell : Cell) : Type 0 where
+  pub row : LinkRow
+  pub linked : IsLinked setting server.log.applied cell row
+  pub seat : is_in (state_in setting.servers server.log) n server.life.inc ≡ true
+  pub at : place ≡ place_by setting server.log.applied row
+
+module _ (setting : Setting) (n : ℕ) (server : Server) where
+  pub is_at_so : (cell : Cell) (row : LinkRow) → IsLinked setting server.log.applied cell row
+      → is_in (state_in setting.servers server.log) n server.life.inc ≡ true → is_at setting n server (place_by setting server.log.applied row) cell ≡ true
+  is_at_so cell row is seat =
+      let place = place_by setting server.log.applied row in
+      ap (λ b. b && option_map_or (nat_eq place) (place_on setting server cell) false) seat
+      ∙ ap (λ o. option_map_or (nat_eq place) (option_map (λ r. place_by setting server.log.applied r) o) false) is
+      ∙ number_itself place
+
+  pub at_by : (place : ℕ) (cell : Cell) → is_at setting n server place cell ≡ true → IsAt setting n server place cell
+  at_by place cell e =
+      let two = both_true (is_in (state_in setting.servers server.log) n server.life.inc) (option_map_or (nat_eq place) (place_on setting server cell) false) e in
+      elim (some_or_none (cell_link (state_in setting.servers server.log) cell)) [
+        | inl h ↦ record {
+          row = h.0;
+          linked = h.1;
+          seat = two.0;
+          at = same_numbers place (place_by setting server.log.applied h.0)
+              (sym (ap (λ o. option_map_or (nat_eq place) (option_map (λ r. place_by setting server.log.applied r) o) false) h.1) ∙ two.1);
+        }
+        | inr none ↦ true_false two.1 (ap (λ o. option_map_or (nat_eq place) (option_map (λ r. place_by setting server.log.applied r) o) false) none)
+      ]
+
+  -- the place at which it serves the link, or 0
+  abbrev pub served_at : Cell → ℕ
+  served_at cell =
+      if is_in (state_in setting.servers server.log) n server.life.inc
+      then option_map_or (λ row. if serves n row row.state then place_by setting server.log.applied row else 0) (cell_link (state_in setting.servers server.log) cell) 0
+      else 0
+
+  pub served_so : (cell : Cell) (row : LinkRow) → IsLinked setting server.log.applied cell row
+      → is_in (state_in setting.servers server.log) n server.life.inc ≡ true → serves n row row.state ≡ true
+      → served_at cell ≡ place_by setting server.log.applied row
+  served_so cell row is seat serving =
+      ap (λ b. if b then option_map_or (λ r. if serves n r r.state then place_by setting server.log.applied r else 0) (cell_link (state_in setting.servers server.log) cell) 0 else 0) seat
+      ∙ ap (λ o. option_map_or (λ r. if serves n r r.state then place_by setting server.log.applied r else 0) o 0) is
+      ∙ ap (λ b. if b then place_by setting server.log.applied row else 0) serving
+
+  -- it serves the link there
+  pub record ServesAt (cell : Cell) (place : ℕ) : Type 0 where
+    pub row : LinkRow
+    pub linked : IsLinked setting server.log.applied cell row
+    pub seat : is_in (state_in setting.servers server.log) n server.life.inc ≡ true
+    pub serving : serves n row row.state ≡ true
+    pub at : place_by setting server.log.applied row ≡ place
+
+  pub served_by : (cell : Cell) → (served_at cell ≡ 0) ⊎ ServesAt cell (served_at cell)
+  served_by cell = by_bool (is_in (state_in setting.servers server.log) n server.life.inc)
+      (λ seat. elim (some_or_none (cell_link (state_in setting.servers server.log) cell)) [
+        | inl h ↦ by_bool (serves n h.0 h.0.state)
+            (λ on. inr (record { row = h.0; linked = h.1; seat = seat; serving = on; at = sym (served_so cell h.0 h.1 seat on) }))
+            (λ off. inl (seated seat ∙ ap (λ o. option_map_or (λ r. if serves n r r.state then place_by setting server.log.applied r else 0) o 0) h.1
+            ∙ ap (λ b. if b then place_by setting server.log.applied h.0 else 0) off))
+        | inr none ↦ inl (seated seat ∙ ap (λ o. option_map_or (λ r. if serves n r r.state then place_by setting server.log.applied r else 0) o 0) none)
+      ])
+      (λ out. inl (ap (λ b. if b then option_map_or (λ r. if serves n r r.state then place_by setting server.log.applied r else 0) (cell_link (state_in setting.servers server.log) cell) 0 else 0) out))
+    where
+      seated : is_in (state_in setting.servers server.log) n server.life.inc ≡ true
+          → served_at cell ≡ option_map_or (λ r. if serves n r r.state then place_by setting server.log.applied r else 0) (cell_link (state_in setting.servers server.log) cell) 0
+      seated seat = ap (λ b. if b then option_map_or (λ r. if serves n r r.state then place_by setting server.log.applied r else 0) (cell_link (state_in setting.servers server.log) cell) 0 else 0) seat
+
+-- what a server is at a place: its own part as it is in this world, where it is there, and else what it was
+abbrev pub seen : Setting → Visits → World → Visits
+seen setting visits v n place cell = if is_at setting n (v.servers n) place cell then Some (v.servers n).own else visits n place cell
+
+-- ### A step of a server
+
+-- the world after a step of this server, which leaves each other server as it is, and does not take the server beyond the log so far
+pub record IsStep (setting : Setting) (top : List Command) (w v : World) (k : ℕ) (server : Server) : Type 0 where
+  pub here : v.servers k ≡ server
+  pub others : (n : ℕ) → n ≢ k → v.servers n ≡ w.servers n
+  pub plain : IsPlainLog setting.servers top
+  pub before : (n : ℕ) → IsPrefix (w.servers n).log.applied top
+  pub onward : IsPrefix (w.servers k).log.applied server.log.applied
+  pub within : IsPrefix server.log.applied top
+
+module _ (setting : Setting) (records : List Record) (top : List Command) (w v : World) (k : ℕ) (server : Server)
+    (good : Good setting records top w) (step : IsStep setting top w v k server) where
+  abbrev front : List Command
+  front = server.log.applied
+
+  abbrev pub later : Visits
+  later = visited setting good.visits k server
+
+  abbrev pub counted : Cell → ℕ
+  counted cell = max (good.reached cell) (served_at setting k server cell)
+
+  pub counted_up : (cell : Cell) → good.reached cell ≤ counted cell
+  counted_up cell = omega arith
+
+  -- ### Visits
+
+  -- what the server is at a place where it is now
+  pub visited_here : (cell : Cell) (row : LinkRow) → IsLinked setting front cell row → is_in (state_in setting.servers server.log) k server.life.inc ≡ true
+      → later k (place_by setting front row) cell ≡ Some server.own
+  visited_here cell row is seat =
+      ap (λ b. if b && is_at setting k server (place_by setting front row) cell then Some server.own else good.visits k (place_by setting front row) cell) (number_itself k)
+      ∙ ap (λ b. if b then Some server.own else good.visits k (place_by setting front row) cell) (is_at_so setting k server cell row is seat)
+
+  pub visited_apart : (n place : ℕ) (cell : Cell) → n ≢ k → later n place cell ≡ good.visits n place cell
+  visited_apart n place cell ne = by_bool (n == k)
+      (λ same. absurd (ne (same_numbers n k same)))
+      (λ off. ap (λ b. if b && is_at setting k server place cell then Some server.own else good.visits n place cell) off)
+
+  -- another place stays as it was
+  pub visited_beside : (n place : ℕ) (cell : Cell) → (IsAt setting k server place cell → ⊥) → later n place cell ≡ good.visits n place cell
+  visited_beside n place cell away = by_bool ((n == k) && is_at setting k server place cell)
+      (λ on. absurd (away (at_by setting k server place cell (both_true (n == k) (is_at setting k server place cell) on).1)))
+      (λ off. ap (λ b. if b then Some server.own else good.visits n place cell) off)
+
+  -- the visit is the server's as it is now, or as it was
+  pub record IsNow (n place : ℕ) (cell : Cell) : Type 0 where
+    pub who : n ≡ k
+    pub there : IsAt setting k server place cell
+    pub is : later n place cell ≡ Some server.own
+
+  pub visited_by : (n place : ℕ) (cell : Cell) → (later n place cell ≡ good.visits n place cell) ⊎ IsNow n place cell
+  visited_by n place cell = by_bool ((n == k) && is_at setting k server place cell)
+      (λ on.
+      let two = both_true (n == k) (is_at setting k server place cell) on in
+      inr (record {
+        who = same_numbers n k two.0;
+        there = at_by setting k server place cell two.1;
+        is = ap (λ b. if b then Some server.own else good.visits n place cell) on;
+      }))
+      (λ off. inl (ap (λ b. if b then Some server.own else good.visits n place cell) off))
+
+  -- who was at a place still was
+  pub none_before : (n place : ℕ) (cell : Cell) → later n place cell ≡ None → good.visits n place cell ≡ None
+  none_before n place cell none = elim (visited_by n place cell) [ inl same ↦ sym same ∙ none | inr now ↦ none_now now.is none ]
+    where
+      none_now : {B : Type 0} {o : Option Own} {x : Own} → o ≡ Some x → o ≡ None → B
+      none_now e f = true_false (ap is_some e) (ap is_some f)
+
+  pub some_after : (n place : ℕ) (cell : Cell) → is_some (good.visits n place cell) ≡ true → is_some (later n place cell) ≡ true
+  some_after n place cell there = elim (visited_by n place cell) [ inl same ↦ ap is_some same ∙ there | inr now ↦ ap is_some now.is ]
+
+  -- ### Where a server stands then
+
+  seat_now : is_in (server_state setting v k) k (v.servers k).life.inc ≡ true → is_in (state_in setting.servers server.log) k server.life.inc ≡ true
+  seat_now seat = subst (λ (s : Server). is_in (state_in setting.servers s.log) k s.life.inc ≡ true) step.here seat
+
+  pub here_now : (n : ℕ) (cell : Cell) (row : LinkRow) → IsLinked setting (v.servers n).log.applied cell row
+      → is_in (server_state setting v n) n (v.servers n).life.inc ≡ true → IsHere setting v later n cell row
+  here_now n cell row = elim (same_or_apart n k) [
+    | inl e ↦ subst (λ m. IsLinked setting (v.servers m).log.applied cell row → is_in (server_state setting v m) m (v.servers m).life.inc ≡ true → IsHere setting v later m cell row)
+        (sym e)
+        (λ is seat. record {
+          own = server.own;
+          is = ap (λ (s : Server). later k (place_by setting s.log.applied row) cell) step.here
+              ∙ visited_here cell row (subst (λ (s : Server). IsLinked setting s.log.applied cell row) step.here is) (seat_now seat);
+          same = ap (λ (s : Server). s.own) (sym step.here);
+        })
+    | inr ne ↦ (λ is seat.
+        let same = step.others n ne in
+        let was = good.here n cell row (subst (λ (s : Server). IsLinked setting s.log.applied cell row) same is)
+        (subst (λ (s : Server). is_in (state_in setting.servers s.log) n s.life.inc ≡ true) same seat) in
+        record {
+          own = was.own;
+          is = ap (λ (s : Server). later n (place_by setting s.log.applied row) cell) same ∙ visited_apart n _ cell ne ∙ was.is;
+          same = was.same ∙ ap (λ (s : Server). s.own) (sym same);
+        })
+  ]
+
+  has_been : (n place : ℕ) (cell : Cell) → HasBeen setting w n place cell → HasBeen setting v n place cell
+  has_been n place cell was = elim (same_or_apart n k) [
+    | inl e ↦ subst (λ m. HasBeen setting v m place cell) (sym e) (here (subst (λ m. HasBeen setting w m place cell) e was))
+    | inr ne ↦ (
+        let same = sym (step.others n ne) in
+        record {
+          row = was.row;
+          linked = subst (λ (s : Server). IsLinked setting s.log.applied cell was.row) same was.linked;
+          past = subst (λ (s : Server). place ≤ place_by setting s.log.applied was.row) same was.past;
+        })
+  ]
+    where
+      here : HasBeen setting w k place cell → HasBeen setting v k place cell
+      here was =
+          let on = linked_on setting top step.plain (w.servers k).log.applied front cell was.row step.onward step.within was.linked in
+          let up = places_up setting top step.plain (w.servers k).log.applied front cell was.row on.0 step.onward step.within was.linked on.1 in
+          let past = was.past in
+          record {
+            row = on.0;
+            linked = subst (λ (s : Server). IsLinked setting s.log.applied cell on.0) (sym step.here) on.1;
+            past = subst (λ (s : Server). place ≤ place_by setting s.log.applied on.0) (sym step.here) (omega arith);
+          }
+
+  pub been_now : (n place : ℕ) (cell : Cell) (own : Own) → later n place cell ≡ Some own → HasBeen setting v n place cell
+  been_now n place cell own e = elim (visited_by n place cell) [
+    | inl same ↦ has_been n place cell (good.been n place cell own (sym same ∙ e))
+    | inr now ↦
+        let at = now.there.at in
+        subst (λ m. HasBeen setting v m place cell) (sym now.who)
+        (record {
+          row = now.there.row;
+          linked = subst (λ (s : Server). IsLinked setting s.log.applied cell now.there.row) (sym step.here) now.there.linked;
+          past = subst (λ (s : Server). place ≤ place_by setting s.log.applied now.there.row) (sym step.here) (omega arith);
+        })
+  ]
+
+  -- each server's visits then: its own part as it is, where it is at the place, and else what they were
+  pub all_visited : (n place : ℕ) (cell : Cell) → later n place cell ≡ seen setting good.visits v n place cell
+  all_visited n place cell = elim (same_or_apart n k) [
+    | inl e ↦ subst (λ m. later m place cell ≡ seen setting good.visits v m place cell) (sym e) mine
+    | inr ne ↦
+        let was = step.others n ne in
+        visited_apart n place cell ne
+        ∙ by_bool (is_at setting n (w.servers n) place cell)
+        (λ on.
+        let at = at_by setting n (w.servers n) place cell on in
+        let h = good.here n cell at.row at.linked at.seat in
+        ap (λ p. good.visits n p cell) at.at ∙ h.is ∙ ap Some h.same
+        ∙ sym (ap (λ b. if b then Some (w.servers n).own else good.visits n place cell) on))
+        (λ off. sym (ap (λ b. if b then Some (w.servers n).own else good.visits n place cell) off))
+        ∙ ap (λ (s : Server). if is_at setting n s place cell then Some s.own else good.visits n place cell) (sym was)
+  ]
+    where
+      mine : later k place cell ≡ seen setting good.visits v k place cell
+      mine =
+          ap (λ b. if b && is_at setting k server place cell then Some server.own else good.visits k place cell) (number_itself k)
+          ∙ ap (λ (s : Server). if is_at setting k s place cell then Some s.own else good.visits k place cell) (sym step.here)
+
+  -- ### Places that count
+
+  pub reaching_now : AreReached setting top later counted
+  reaching_now = record { below = below; by = by }
+    where
+      below : (f : List Command) (cell : Cell) (row : LinkRow) (n : ℕ) (own : Own) → IsPrefix f top → IsLinked setting f cell row
+          → serves n row row.state ≡ true → later n (place_by setting f row) cell ≡ Some own → place_by setting f row ≤ counted cell
+      below f cell row n own prefix is serving e = elim (visited_by n (place_by setting f row) cell) [
+        | inl same ↦ (
+            let le = good.reaching.below f cell row n own prefix is serving (sym same ∙ e) in
+            let up = counted_up cell in
+            omega arith)
+        | inr now ↦ (
+            let there = now.there in
+            let at = there.at in
+            let one : there.row ≡ row = one_row setting top step.plain f front cell row there.row prefix step.within is there.linked at in
+            let serves_it : serves k there.row there.row.state ≡ true =
+            subst (λ m. serves m there.row there.row.state ≡ true) now.who (subst (λ (r : LinkRow). serves n r r.state ≡ true) (sym one) serving) in
+            let same = served_so setting k server cell there.row there.linked there.seat serves_it in
+            omega arith)
+      ]
+
+      old : (cell : Cell) → HasReached setting top good.visits cell (good.reached cell) → HasReached setting top later cell (good.reached cell)
+      old cell r = elim (visited_by r.server (good.reached cell) cell) [
+        | inl same ↦ record {
+          front = r.front;
+          prefix = r.prefix;
+          row = r.row;
+          linked = r.linked;
+          at = r.at;
+          server = r.server;
+          serving = r.serving;
+          own = r.own;
+          visited = same ∙ r.visited;
+        }
+        | inr now ↦ record {
+          front = r.front;
+          prefix = r.prefix;
+          row = r.row;
+          linked = r.linked;
+          at = r.at;
+          server = r.server;
+          serving = r.serving;
+          own = server.own;
+          visited = now.is;
+        }
+      ]
+
+      either : (a b : ℕ) → (max a b ≡ a) ⊎ (max a b ≡ b)
+      either a b = grind arith
+
+      by : (cell : Cell) → (counted cell ≡ 0) ⊎ HasReached setting top later cell (counted cell)
+      by cell = elim (either (good.reached cell) (served_at setting k server cell)) [
+        | inl e ↦ elim (good.reaching.by cell) [ inl none ↦ inl (e ∙ none) | inr r ↦ inr (subst (HasReached setting top later cell) (sym e) (old cell r)) ]
+        | inr e ↦ elim (served_by setting k server cell) [
+          | inl none ↦ inl (e ∙ none)
+          | inr s ↦ inr (subst (HasReached setting top later cell) (sym e)
+              (record {
+                front = front;
+                prefix = step.within;
+                row = s.row;
+                linked = s.linked;
+                at = s.at;
+                server = k;
+                serving = s.serving;
+                own = server.own;
+                visited = ap (λ place. later k place cell) (sym s.at) ∙ visited_here cell s.row s.linked s.seat;
+              }))
+        ]
+      ]
+
+  -- ### Ballots that were started
+
+  -- the server forgets no ballot for the Caught of a link that it holds alone, while it stays at the link's place
+  abbrev pub KeepsFlags : Type 0
+  KeepsFlags = (cell : Cell) (row : LinkRow) (own : Own) → IsLinked setting front cell row → row.state ≡ Only k false
+      → is_in (state_in setting.servers server.log) k server.life.inc ≡ true
+      → good.visits k (place_by setting front row) cell ≡ Some own → is_flagged own (id_of row) ≡ true → is_flagged server.own (id_of row) ≡ true
+
+  module _ (own : Record) (then_is : world_after setting (start setting) (records ++ own ∷ []) ≡ v) (flags : KeepsFlags) where
+    pub started_now : (holder inc : ℕ) (f : List Command) (cell : Cell) (row : LinkRow) → IsPrefix f top → IsLinked setting f cell row
+        → row.state ≡ Only holder false → is_in (state_after setting.servers f) holder inc ≡ true
+        → WasStarted setting (records ++ own ∷ []) holder inc f (id_of row)
+        → (o : Own) × (later holder (place_by setting f row) cell ≡ Some o) × (is_flagged o (id_of row) ≡ true)
+    started_now holder inc f cell row prefix is alone seat was = elim (split_last records own was.before was.later was.is) [
+      | inl all ↦ now (ap (λ rs. world_after setting (start setting) rs) all ∙ then_is)
+      | inr more ↦ still (good.started holder inc f cell row prefix is alone seat
+          (record { before = was.before; later = more.0; is = more.1; lives = was.lives; at = was.at; minded = was.minded }))
+    ]
+      where
+        now : world_after setting (start setting) was.before ≡ v
+            → (o : Own) × (later holder (place_by setting f row) cell ≡ Some o) × (is_flagged o (id_of row) ≡ true)
+        now e =
+            let at : (v.servers holder).log.applied ≡ f = sym (ap (λ (u : World). (u.servers holder).log.applied) e) ∙ was.at in
+            let lives : (v.servers holder).life.inc ≡ inc = sym (ap (λ (u : World). (u.servers holder).life.inc) e) ∙ was.lives in
+            let minded : is_flagged (v.servers holder).own (id_of row) ≡ true =
+            sym (ap (λ (u : World). is_flagged (u.servers holder).own (id_of row)) e) ∙ was.minded in
+            let h = here_now holder cell row (subst (λ g. IsLinked setting g cell row) (sym at) is)
+            (subst (λ i. is_in (server_state setting v holder) holder i ≡ true) (sym lives)
+            (subst (λ g. is_in (state_after setting.servers g) holder inc ≡ true) (sym at) seat)) in
+            (h.own, ap (λ g. later holder (place_by setting g row) cell) (sym at) ∙ h.is, ap (λ (o : Own). is_flagged o (id_of row)) h.same ∙ minded)
+
+        still : (o : Own) × (good.visits holder (place_by setting f row) cell ≡ Some o) × (is_flagged o (id_of row) ≡ true)
+            → (o : Own) × (later holder (place_by setting f row) cell ≡ Some o) × (is_flagged o (id_of row) ≡ true)
+        still h = elim (visited_by holder (place_by setting f row) cell) [
+          | inl same ↦ (h.0, same ∙ h.1, h.2)
+          | inr is_now ↦ (
+              let there = is_now.there in
+              let one : there.row ≡ row = one_row setting top step.plain f front cell row there.row prefix step.within is there.linked there.at in
+              let before : good.visits k (place_by setting front there.row) cell ≡ Some h.0 =
+              ap (λ place. good.visits k place cell) (sym there.at) ∙ subst (λ m. good.visits m (place_by setting f row) cell ≡ Some h.0) is_now.who h.1 in
+              let mine : there.row.state ≡ Only k false = ap (λ (r : LinkRow). r.state) one ∙ alone ∙ ap (λ n. Only n false) is_now.who in
+              let flagged = flags cell there.row h.0 there.linked mine there.seat before (ap (λ (r : LinkRow). is_flagged h.0 (id_of r)) one ∙ h.2) in
+              (server.own, is_now.is, ap (λ (r : LinkRow). is_flagged server.own (id_of r)) (sym one) ∙ flagged))
+        ]

@@ -1,0 +1,321 @@
+-- The cell that a job works on, if there is one, and why; each other cell it leaves as it is.
+use Rattle.std.proofs.Common.{◌≡◌, ◌≢◌, ◌+◌, ℕ, true, false, Option, Some, None, refl, ap, ◌∙◌}
+use Rattle.busy_marks.specs.declared.marks.MarkKind.{MarkKind}
+use Rattle.busy_marks.specs.declared.marks.MarkKind.TheVariants.{Busy, Stale}
+use Rattle.global_tables.specs.declared.link.LinkRow.{LinkRow}
+use Rattle.petal_base.specs.declared.cell.Cell.{Cell}
+use Rattle.petal_base.specs.Cells.{cell_of, key_at}
+use Rattle.petal_msg.specs.declared.body.Body.{Body}
+use Rattle.petal_msg.specs.declared.copying.Copying.{Copying}
+use Rattle.petal_msg.specs.declared.copying.LastCopy.{LastCopy}
+use Rattle.petal_msg.specs.declared.operation.Ending.TheVariants as ending
+use Rattle.petal_msg.specs.declared.operation.Far.{Far}
+use Rattle.petal_msg.specs.declared.operation.Far.TheVariants as far
+use Rattle.petal_msg.specs.declared.operation.Pending.{Pending}
+use Rattle.petal_state.specs.CellState.{cell_link}
+use Rattle.petal_rules.specs.Copies.{begins_copy, cell_at, cell_holder, with_page}
+use Rattle.petal_rules.specs.Progress.{has_proposed, progress_on, with_last_copy, without_copying}
+use Rattle.petal_rules.specs.Server.{Own, Here, Done}
+use Rattle.petal_rules.specs.State.{is_lead, is_second}
+use Rattle.petal_rules.specs.Store.{Stored, chain_in, version_of, with_entry, with_mark_on, with_ticket, without_mark_on}
+use Rattle.petal_rules.specs.Writes.{Wanted, finishes, marks, operation, opened, puts, tells, unmarks, with_mark_at, with_paired, with_pending, with_reserved, without_pending}
+use Rattle.law_steps.specs.Ready.{IsReady}
+use Rattle.law_steps.specs.DidLead.{DidLead, Asks_for, Repeats, Is_full, Opens, Marks, Puts, Gives_up, Unmarks, Closes, Opens_alone, Marks_alone, Puts_alone, Unmarks_alone, Closes_alone, Taken}
+use Rattle.law_steps.specs.DidSecond.{DidSecond, Sets_apart, Promises, Declines, Follows, with_tickets}
+use Rattle.law_steps.specs.DidHolder.{DidHolder, CopyStep, Asks_to_trim, Sends, Unmarks_copied, Closes_copy, TakenCopy, Copy_as_is, Copy_trimmed, Copy_synced, Asks_page, Turns_page, Begins_copy, Goes_on_copying, Finds_it_full, Tidies, first_copy}
+use Rattle.law_steps.specs.DidOther.{DidOther, first_last, TrimStep, Is_trimmed, Drops_entry, Answers_page, Is_copied_to, Goes_on_trimming, Puts_entry, Has_entry, Has_no_slot}
+use Rattle.law_steps.proofs.Taking.{taking}
+use Rattle.law_copies.specs.Steps.{KeepsCell}
+use Rattle.law_copies.proofs.Frames.{copied_alike, copied_beside, copying_beside, dropped_beside, ended_beside, entry_beside, followed_beside, keeps_alike, keeps_itself, keeps_on, last_beside, marked_beside, pending_beside, unmarked_beside}
+
+-- the cell is another one
+abbrev pub Away : Cell → Option Cell → Type 0
+Away q None = Unit {0}
+Away q (Some cell) = q ≢ cell
+
+-- if there is one, it is so
+abbrev pub IsSo : (Cell → Type 0) → Option Cell → Type 0
+IsSo P None = Unit {0}
+IsSo P (Some cell) = P cell
+
+-- the cell of a page's block
+abbrev pub page_cell : LinkRow → Option ℕ → Option Cell
+page_cell row None = None
+page_cell row (Some block) = Some (cell_at row block)
+
+module _ (heard : Body → Type 0) (here : Here) (own : Own) where
+  -- ### Leads
+
+  abbrev pub lead_cell : (done : Done) → DidLead heard here own done → Option Cell
+  lead_cell _ (Asks_for posts h) = None
+  lead_cell _ (Repeats want last h lead is e) = None
+  lead_cell _ (Is_full want new no_room) = None
+  lead_cell _ (Gives_up op h is reserved put) = Some op.cell
+  lead_cell _ (Opens want new both) = Some want.cell
+  lead_cell _ (Marks op h is both stage) = Some op.cell
+  lead_cell _ (Puts op is both stage) = Some op.cell
+  lead_cell _ (Unmarks op h is both stage) = Some op.cell
+  lead_cell _ (Closes op is both stage) = Some op.cell
+  lead_cell _ (Opens_alone want new alone) = Some want.cell
+  lead_cell _ (Marks_alone now op taken alone fresh) = Some op.cell
+  lead_cell _ (Puts_alone now op taken alone stale put) = Some op.cell
+  lead_cell _ (Unmarks_alone now op taken alone stale put busy) = Some op.cell
+  lead_cell _ (Closes_alone now op taken alone stale put free) = Some op.cell
+
+  module _ (ready : IsReady here.state here.me (has_proposed here.state own) own.pairs.pending) where
+    taken_leads : (now : Own) (op : Pending) → Taken own now op → is_lead here.state here.me op.cell ≡ true
+    taken_leads now op taken = let k = taking own now op taken in (ready.staged op.cell k.old k.was).lead
+
+    -- the server leads it
+    pub lead_leads : (done : Done) (d : DidLead heard here own done)
+        → IsSo (λ cell. is_lead here.state here.me cell ≡ true) (lead_cell done d)
+    lead_leads _ (Asks_for posts h) = tt
+    lead_leads _ (Repeats want last h lead is e) = tt
+    lead_leads _ (Is_full want new no_room) = tt
+    lead_leads _ (Gives_up op h is reserved put) = (ready.staged op.cell op is).lead
+    lead_leads _ (Opens want new both) = new.lead
+    lead_leads _ (Marks op h is both stage) = (ready.staged op.cell op is).lead
+    lead_leads _ (Puts op is both stage) = (ready.staged op.cell op is).lead
+    lead_leads _ (Unmarks op h is both stage) = (ready.staged op.cell op is).lead
+    lead_leads _ (Closes op is both stage) = (ready.staged op.cell op is).lead
+    lead_leads _ (Opens_alone want new alone) = new.lead
+    lead_leads _ (Marks_alone now op taken alone fresh) = taken_leads now op taken
+    lead_leads _ (Puts_alone now op taken alone stale put) = taken_leads now op taken
+    lead_leads _ (Unmarks_alone now op taken alone stale put busy) = taken_leads now op taken
+    lead_leads _ (Closes_alone now op taken alone stale put free) = taken_leads now op taken
+
+    taken_beside : (now : Own) (op : Pending) (q : Cell) → q ≢ op.cell → Taken own now op → KeepsCell q own now
+    taken_beside now op q ne taken =
+        let k = taking own now op taken in
+        let same = keeps_alike q own
+        (record own { store = now.store; copies = now.copies; pairs = record own.pairs { last = now.pairs.last } })
+        (record {
+          pending = refl;
+          followed = k.last;
+          copying = λ i. (k.copies i).pending;
+          last = λ i. (k.copies i).last;
+          chains = λ i. (k.store i).chains;
+          marks = λ i. (k.store i).marks;
+        }) in
+        record {
+          rest = record {
+            chain = same.rest.chain;
+            pending = k.others q ne;
+            copying = same.rest.copying;
+            last = same.rest.last;
+            followed = same.rest.followed;
+          };
+          marks = same.marks;
+        }
+
+    -- a mark is set, and the operation's stage says so
+    marks_beside : (now : Own) (op : Pending) (q : Cell) → q ≢ op.cell → (kind : MarkKind) → KeepsCell q now (marks now op kind).own
+    marks_beside now op q ne kind =
+        keeps_on q now (record now { store = with_mark_on now.store kind op.cell }) _ (marked_beside now op.cell q ne kind)
+        (pending_beside (record now { store = with_mark_on now.store kind op.cell }) op.cell q ne (with_mark_at op kind true) refl)
+
+    unmarks_beside : (now : Own) (op : Pending) (q : Cell) → q ≢ op.cell → (kind : MarkKind) → KeepsCell q now (unmarks now op kind).own
+    unmarks_beside now op q ne kind =
+        keeps_on q now (record now { store = without_mark_on now.store kind op.cell }) _ (unmarked_beside now op.cell q ne kind)
+        (pending_beside (record now { store = without_mark_on now.store kind op.cell }) op.cell q ne (with_mark_at op kind false) refl)
+
+    puts_beside : (now : Own) (op : Pending) (q : Cell) → q ≢ op.cell → cell_of op.key ≡ op.cell → KeepsCell q now (puts now op).own
+    puts_beside now op q ne key =
+        let version = version_of (chain_in now.store.chains op.cell) + 1 in
+        let put_op : Pending = record op { version = version; stage = record op.stage { put = true } } in
+        let put : Own = record now { store = with_entry now.store op.key (record { version = version; bytes = op.bytes }) } in
+        keeps_on q now put _ (entry_beside now op.cell q ne op.key (record { version = version; bytes = op.bytes }) key)
+        (pending_beside put op.cell q ne put_op refl)
+
+    taken_key : (now : Own) (op : Pending) → Taken own now op → cell_of op.key ≡ op.cell
+    taken_key now op taken =
+        let k = taking own now op taken in
+        ap (λ (o : Pending). cell_of o.key) k.is ∙ (ready.staged op.cell k.old k.was).keyed
+
+    opened_beside : (want : Wanted) (q : Cell) → q ≢ want.cell → KeepsCell q own (opened here own want)
+    opened_beside want q ne =
+        let op = operation here own.pairs.next want in
+        keeps_on q own (with_pending own op) _ (pending_beside own want.cell q ne op refl)
+        (keeps_alike q (with_pending own op) _
+        (record { pending = refl; followed = refl; copying = refl; last = refl; chains = refl; marks = refl }))
+
+    -- an operation ends, and its request is finished
+    finished_beside : (now : Own) (op : Pending) (q : Cell) → q ≢ op.cell
+        → KeepsCell q now (finishes (without_pending now op.cell) op.client op.seq ending.Written).own
+    finished_beside now op q ne =
+        keeps_on q now (without_pending now op.cell) _ (ended_beside now op.cell q ne)
+        (keeps_alike q (without_pending now op.cell) _
+        (record { pending = refl; followed = refl; copying = refl; last = refl; chains = refl; marks = refl }))
+
+    -- and leaves each other one
+    pub lead_beside : (done : Done) (d : DidLead heard here own done) (q : Cell) → Away q (lead_cell done d) → KeepsCell q own done.own
+    lead_beside _ (Asks_for posts h) q ne = keeps_itself q own
+    lead_beside _ (Repeats want last h lead is e) q ne = keeps_itself q own
+    lead_beside _ (Is_full want new no_room) q ne =
+        keeps_alike q own _ (record { pending = refl; followed = refl; copying = refl; last = refl; chains = refl; marks = refl })
+    lead_beside _ (Gives_up op h is reserved put) q ne =
+        keeps_on q own (without_pending own op.cell) _ (ended_beside own op.cell q ne)
+        (keeps_alike q (without_pending own op.cell) _
+        (record { pending = refl; followed = refl; copying = refl; last = refl; chains = refl; marks = refl }))
+    lead_beside _ (Opens want new both) q ne = opened_beside want q ne
+    lead_beside _ (Marks op h is both stage) q ne =
+        keeps_on q own (with_pending own (with_reserved op)) _ (pending_beside own op.cell q ne (with_reserved op) refl)
+        (marks_beside (with_pending own (with_reserved op)) (with_reserved op) q ne Busy)
+    lead_beside _ (Puts op is both stage) q ne = puts_beside own op q ne (ready.staged op.cell op is).keyed
+    lead_beside _ (Unmarks op h is both stage) q ne =
+        keeps_on q own (with_pending own (with_paired op)) _ (pending_beside own op.cell q ne (with_paired op) refl)
+        (unmarks_beside (with_pending own (with_paired op)) (with_paired op) q ne Busy)
+    lead_beside _ (Closes op is both stage) q ne = finished_beside own op q ne
+    lead_beside _ (Opens_alone want new alone) q ne =
+        keeps_on q own (opened here own want) _ (opened_beside want q ne)
+        (marks_beside (opened here own want) (operation here own.pairs.next want) q ne Stale)
+    lead_beside _ (Marks_alone now op taken alone fresh) q ne = keeps_on q own now _ (taken_beside now op q ne taken)
+        (marks_beside now op q ne Stale)
+    lead_beside _ (Puts_alone now op taken alone stale put) q ne =
+        keeps_on q own now _ (taken_beside now op q ne taken) (puts_beside now op q ne (taken_key now op taken))
+    lead_beside _ (Unmarks_alone now op taken alone stale put busy) q ne =
+        keeps_on q own now _ (taken_beside now op q ne taken) (unmarks_beside now op q ne Busy)
+    lead_beside _ (Closes_alone now op taken alone stale put free) q ne = keeps_on q own now _ (taken_beside now op q ne taken)
+        (finished_beside now op q ne)
+
+  -- ### Second servers
+
+  abbrev pub second_cell : (done : Done) → DidSecond heard here own done → Cell
+  second_cell _ (Sets_apart number cell tickets h s le) = cell
+  second_cell _ (Promises number cell how s is) = cell
+  second_cell _ (Declines number cell h s no_room) = cell
+  second_cell _ (Follows number key version bytes h s is) = cell_of key
+
+  pub second_follows : (done : Done) (d : DidSecond heard here own done) → is_second here.state here.me (second_cell done d) ≡ true
+  second_follows _ (Sets_apart number cell tickets h s le) = s
+  second_follows _ (Promises number cell how s is) = s
+  second_follows _ (Declines number cell h s no_room) = s
+  second_follows _ (Follows number key version bytes h s is) = s
+
+  tells_beside : (new : Own) (q cell : Cell) (number : ℕ) (how : Far) → KeepsCell q new (tells here new cell number how).own
+  tells_beside new q cell number far.Reserved = keeps_itself q new
+  tells_beside new q cell number far.Replicated = keeps_itself q new
+
+  pub second_beside : (done : Done) (d : DidSecond heard here own done) (q : Cell) → q ≢ second_cell done d → KeepsCell q own done.own
+  second_beside _ (Sets_apart number cell tickets h s le) q ne =
+      let set : Own = with_tickets own tickets in
+      keeps_on q own set _ (keeps_alike q own set
+      (record { pending = refl; followed = refl; copying = refl; last = refl; chains = refl; marks = refl }))
+      (followed_beside set cell q ne number far.Reserved)
+  second_beside _ (Promises number cell how s is) q ne = tells_beside own q cell number how
+  second_beside _ (Declines number cell h s no_room) q ne = keeps_itself q own
+  second_beside _ (Follows number key version bytes h s is) q ne =
+      let stored : Stored = record { version = version_of (chain_in own.store.chains (cell_of key)) + 1; bytes = bytes } in
+      let put : Own = record own { store = with_entry own.store key stored } in
+      keeps_on q own put _ (entry_beside own (cell_of key) q ne key stored refl)
+      (followed_beside put (cell_of key) q ne number far.Replicated)
+
+  -- ### Holders
+
+  abbrev pub holder_cell : (done : Done) → DidHolder heard here own done → Option Cell
+  holder_cell _ (Asks_page id row other held fresh) = None
+  holder_cell _ (Turns_page id row other after block h held fresh at) = page_cell row block
+  holder_cell _ (Begins_copy id row other cell _ held next step) = Some cell
+  holder_cell _ (Goes_on_copying cell now copy _ taken step) = Some cell
+  holder_cell _ (Finds_it_full cell copy h is trimmed lt) = Some cell
+  holder_cell _ (Tidies id row block kind is both idle left) = Some (cell_at row block)
+
+  taken_copy_beside : (cell : Cell) (now : Own) (copy : Copying) (q : Cell) → q ≢ cell → TakenCopy heard own cell now copy
+      → KeepsCell q own now
+  taken_copy_beside cell _ _ q ne (Copy_as_is copy is) = keeps_itself q own
+  taken_copy_beside cell _ _ q ne (Copy_trimmed copy h is fresh) = copying_beside own cell q ne (record copy { trimmed = true })
+  taken_copy_beside cell _ _ q ne (Copy_synced copy h is trimmed lt) = copying_beside own cell q ne (record copy { index = copy.index + 1 })
+
+  copy_step_beside : (now : Own) (cell : Cell) (copy : Copying) (done : Done) (q : Cell) → q ≢ cell → CopyStep here now cell copy done
+      → KeepsCell q now done.own
+  copy_step_beside now cell copy _ q ne (Asks_to_trim fresh) = keeps_itself q now
+  copy_step_beside now cell copy _ q ne (Sends row trimmed is) = keeps_itself q now
+  copy_step_beside now cell copy _ q ne (Unmarks_copied kind synced left) = unmarked_beside now cell q ne kind
+  copy_step_beside now cell copy _ q ne (Closes_copy synced left) =
+      let gone = without_copying now cell in
+      let same = copied_alike (cell_link here.state cell) gone cell.block in
+      keeps_on q now gone _ (copied_beside now cell q ne)
+      (keeps_alike q gone _ (record {
+        pending = same.pending;
+        followed = same.followed;
+        copying = same.copying;
+        last = same.last;
+        chains = same.chains;
+        marks = same.marks;
+      }))
+
+  begins_beside : (cell q : Cell) → q ≢ cell → KeepsCell q own (begins_copy own cell)
+  begins_beside cell q ne =
+      let numbered : Own = record own { pairs = record own.pairs { next = own.pairs.next + 1 } } in
+      keeps_on q own numbered _ (keeps_alike q own numbered
+      (record { pending = refl; followed = refl; copying = refl; last = refl; chains = refl; marks = refl }))
+      (copying_beside numbered cell q ne (first_copy own.pairs.next))
+
+  page_beside : (row : LinkRow) (block : Option ℕ) (q : Cell) → Away q (page_cell row block)
+      → KeepsCell q own (with_page own row (progress_on own row) block)
+  page_beside row None q ne = keeps_alike q own _
+      (record { pending = refl; followed = refl; copying = refl; last = refl; chains = refl; marks = refl })
+  page_beside row (Some block) q ne =
+      let marked : Own = record own { store = with_mark_on own.store Stale (cell_at row block) } in
+      keeps_on q own marked _ (marked_beside own (cell_at row block) q ne Stale)
+      (keeps_alike q marked _ (record { pending = refl; followed = refl; copying = refl; last = refl; chains = refl; marks = refl }))
+
+  pub holder_beside : (done : Done) (d : DidHolder heard here own done) (q : Cell) → Away q (holder_cell done d) → KeepsCell q own done.own
+  holder_beside _ (Asks_page id row other held fresh) q ne = keeps_itself q own
+  holder_beside _ (Turns_page id row other after block h held fresh at) q ne = page_beside row block q ne
+  holder_beside done (Begins_copy id row other cell _ held next step) q ne =
+      keeps_on q own (begins_copy own cell) _ (begins_beside cell q ne)
+      (copy_step_beside (begins_copy own cell) cell (first_copy own.pairs.next) done q ne step)
+  holder_beside done (Goes_on_copying cell now copy _ taken step) q ne =
+      keeps_on q own now _ (taken_copy_beside cell now copy q ne taken) (copy_step_beside now cell copy done q ne step)
+  holder_beside _ (Finds_it_full cell copy h is trimmed lt) q ne =
+      keeps_on q own (without_copying own cell) _ (copied_beside own cell q ne)
+      (keeps_alike q (without_copying own cell) _
+      (record { pending = refl; followed = refl; copying = refl; last = refl; chains = refl; marks = refl }))
+  holder_beside _ (Tidies id row block kind is both idle left) q ne = unmarked_beside own (cell_at row block) q ne kind
+
+  -- ### Other servers
+
+  abbrev pub other_cell : (done : Done) → DidOther heard here own done → Option Cell
+  other_cell _ (Answers_page id row after h is) = None
+  other_cell _ (Is_copied_to number cell epochs holder _ h held newer step) = Some cell
+  other_cell _ (Goes_on_trimming cell holder last _ held is step) = Some cell
+  other_cell _ (Puts_entry entry holder last of_copy at room) = Some (cell_of entry.key)
+  other_cell _ (Has_entry entry holder last of_copy lt) = Some (cell_of entry.key)
+  other_cell _ (Has_no_slot entry holder last of_copy at full) = Some (cell_of entry.key)
+
+  -- another server holds its link
+  pub record IsHeldBy (cell : Cell) : Type 0 where
+    pub holder : ℕ
+    pub held : cell_holder here cell ≡ Some holder
+
+  pub other_held : (done : Done) (d : DidOther heard here own done) → IsSo IsHeldBy (other_cell done d)
+  other_held _ (Answers_page id row after h is) = tt
+  other_held _ (Is_copied_to number cell epochs holder _ h held newer step) = record { holder = holder; held = held }
+  other_held _ (Goes_on_trimming cell holder last _ held is step) = record { holder = holder; held = held }
+  other_held _ (Puts_entry entry holder last of_copy at room) = record { holder = holder; held = of_copy.held }
+  other_held _ (Has_entry entry holder last of_copy lt) = record { holder = holder; held = of_copy.held }
+  other_held _ (Has_no_slot entry holder last of_copy at full) = record { holder = holder; held = of_copy.held }
+
+  trim_beside : (now : Own) (cell : Cell) (last : LastCopy) (holder : ℕ) (done : Done) (q : Cell) → q ≢ cell
+      → TrimStep now cell last holder done
+      → KeepsCell q now done.own
+  trim_beside now cell last holder _ q ne (Is_trimmed none) = keeps_itself q now
+  trim_beside now cell last holder _ q ne (Drops_entry epoch epochs is) = dropped_beside now cell q ne (key_at cell epoch) refl
+
+  pub other_beside : (done : Done) (d : DidOther heard here own done) (q : Cell) → Away q (other_cell done d) → KeepsCell q own done.own
+  other_beside _ (Answers_page id row after h is) q ne = keeps_itself q own
+  other_beside done (Is_copied_to number cell epochs holder _ h held newer step) q ne =
+      let new : Own = with_last_copy own cell (first_last number epochs) in
+      keeps_on q own new _ (last_beside own cell q ne (first_last number epochs))
+      (trim_beside new cell (first_last number epochs) holder done q ne step)
+  other_beside done (Goes_on_trimming cell holder last _ held is step) q ne = trim_beside own cell last holder done q ne step
+  other_beside _ (Puts_entry entry holder last of_copy at room) q ne =
+      let apart : Own = record own { store = with_ticket own.store } in
+      let put : Own = record own { store = with_entry (with_ticket own.store) entry.key entry.stored } in
+      keeps_on q own apart _ (keeps_alike q own apart
+      (record { pending = refl; followed = refl; copying = refl; last = refl; chains = refl; marks = refl }))
+      (keeps_on q apart put _ (entry_beside apart (cell_of entry.key) q ne entry.key entry.stored refl)
+      (last_beside put (cell_of entry.key) q ne (record last { index = last.index + 1 })))
+  other_beside _ (Has_entry entry holder last of_copy lt) q ne = keeps_itself q own
+  other_beside _ (Has_no_slot entry holder last of_copy at full) q ne = keeps_itself q own

@@ -1,0 +1,130 @@
+-- What a job of a server leaves of a cell whose link one server holds alone: at the holder, at the other server of the link, and at a
+-- server that the link is not of.
+use Rattle.std.specs.Prelude.{◌≡◌, ◌⊎◌, ℕ, true, false, Option, Some, None, is_some}
+use Rattle.std.specs.Ordering.{nat_cmp}
+use Rattle.busy_marks.specs.declared.marks.MarkKind.{MarkKind}
+use Rattle.global_tables.specs.Link.{has_server}
+use Rattle.global_tables.specs.declared.link.LinkRow.{LinkRow}
+use Rattle.global_tables.specs.declared.link.LinkState.TheVariants.{Only}
+use Rattle.petal_base.specs.declared.cell.Cell.{Cell}
+use Rattle.petal_msg.specs.Kinds.{about}
+use Rattle.petal_msg.specs.declared.body.Body.{Body}
+use Rattle.petal_msg.specs.declared.body.Body.TheVariants as body
+use Rattle.petal_state.specs.CellState.{cell_link}
+use Rattle.petal_history.specs.Claims.{IsMarked}
+use Rattle.petal_rules.specs.Lists.{In}
+use Rattle.petal_rules.specs.Progress.{copying_on, has_proposed, last_copy}
+use Rattle.petal_rules.specs.Server.{Own, Here, Post, Done}
+use Rattle.petal_rules.specs.State.{holder_of, id_of}
+use Rattle.petal_rules.specs.Store.{Store, chain_in, is_marked}
+use Rattle.petal_rules.specs.Writes.{last_on, pending_on}
+use Rattle.law_state.specs.Started.{is_flagged}
+use Rattle.law_state.specs.Steady.{IsSteady}
+use Rattle.law_steps.specs.Ready.{IsReady, IsRising}
+use Rattle.law_steps.specs.Resting.{AreResting}
+use Rattle.law_copies.specs.Copied.{AreAlike, AreCopying, IsOfLink, IsPage, IsTold}
+use Rattle.law_copies.specs.Pair.{HaveMarks}
+
+-- what a server has before a job, by its own state
+pub record IsFit (heard : Body → Type 0) (here : Here) (own : Own) : Type 0 where
+  pub steady : IsSteady here.state
+  pub ready : IsReady here.state here.me (has_proposed here.state own) own.pairs.pending
+  pub resting : AreResting here.state here.me own
+  pub marks : HaveMarks own.pairs.pending own.store
+  pub rising : (q : Cell) → IsRising nat_cmp (chain_in own.store.chains q)
+  -- a page tells of a block of its own link
+  pub pages : (q : Cell) (link : ℕ) (after : Option ℕ) → heard (body.Hello q.map link after (Some q.block)) → IsOfLink here.state q link
+
+-- ### At the holder
+
+-- the server holds the cell's link alone, and what stands before the job, where the other server has been as this
+pub record IsHolding (heard : Body → Type 0) (here : Here) (row : LinkRow) (cell : Cell) (own : Own) (other : Option Own) : Type 0 where
+  pub fit : IsFit heard here own
+  pub is : cell_link here.state cell ≡ Some row
+  pub held : row.state ≡ Only here.me false
+  pub old : AreCopying row cell (Some own) other
+  pub told : (said : Body) → heard said → (about said).cell ≡ Some cell → IsTold (Some own) other said
+  pub met : (after block : Option ℕ) → heard (body.Hello row.map row.link after block) → is_some other ≡ true
+
+-- what was known of letters of the cell is known later
+abbrev pub StaysTold : (cell : Cell) → (holder other holder' other' : Option Own) → Type 0
+StaysTold cell holder other holder' other' = (said : Body) → (about said).cell ≡ Some cell → IsTold holder other said
+    → IsTold holder' other' said
+
+-- the other server's store, as it is now, has the chain that the server had when it last was at the place
+abbrev pub IsStill : Cell → Option Own → Store → Type 0
+IsStill cell visit now = (by : Own) → visit ≡ Some by → chain_in by.store.chains cell ≡ chain_in now.chains cell
+
+-- each page that was heard tells of the other server's store as it is now
+abbrev pub PagesOf : (heard : Body → Type 0) → LinkRow → Cell → Store → Option Own → Type 0
+PagesOf heard row cell now visit = (after block : Option ℕ) → heard (body.Hello row.map row.link after block)
+    → IsPage cell now visit after block
+
+-- what the job keeps, with what is known of what it sends; a mark goes only by a copy, whose other server was there; and nothing is
+-- changed of the cell once a ballot was started for the link's Caught
+pub record HolderKeeps (heard : Body → Type 0) (row : LinkRow) (cell : Cell) (own : Own) (other : Option Own) (done : Done) : Type 0 where
+  pub copying : AreCopying row cell (Some done.own) other
+  pub told : StaysTold cell (Some own) other (Some done.own) other
+  pub says : (post : Post) → In post done.posts → (about post.body).cell ≡ Some cell → IsTold (Some done.own) other post.body
+  pub marks : IsMarked own.store cell → IsMarked done.own.store cell ⊎ (is_some other ≡ true)
+  pub alike : (now : Store) → IsStill cell other now → PagesOf heard row cell now other → IsRising nat_cmp (chain_in now.chains cell)
+      → AreAlike row cell own.store now (Some own) → AreAlike row cell done.own.store now (Some done.own)
+  pub caught : is_flagged own (id_of row) ≡ true
+      → (chain_in done.own.store.chains cell ≡ chain_in own.store.chains cell) × (IsMarked done.own.store cell → ⊥) ×
+      (is_flagged done.own (id_of row) ≡ true)
+
+-- what a ballot that is started keeps: stores stay as they are
+pub record BallotKeeps (row : LinkRow) (cell : Cell) (own : Own) (other : Option Own) (to : Own) : Type 0 where
+  pub copying : AreCopying row cell (Some to) other
+  pub told : StaysTold cell (Some own) other (Some to) other
+  pub store : to.store ≡ own.store
+  pub alike : (now : Store) → AreAlike row cell own.store now (Some own) → AreAlike row cell to.store now (Some to)
+  pub flagged : is_flagged own (id_of row) ≡ true → is_flagged to (id_of row) ≡ true
+
+-- ### At the other server
+
+-- the server is the other one of the cell's link, and what stands before the job, where the holder has been as this
+pub record IsFollowing (heard : Body → Type 0) (here : Here) (row : LinkRow) (cell : Cell) (holder : Option Own) (own : Own) : Type 0 where
+  pub fit : IsFit heard here own
+  pub is : cell_link here.state cell ≡ Some row
+  pub by : ℕ
+  pub held : holder_of here.me row ≡ Some by
+  pub old : AreCopying row cell holder (Some own)
+  pub told : (said : Body) → heard said → (about said).cell ≡ Some cell → IsTold holder (Some own) said
+
+-- the holder has been at the place, and had the block marked
+pub record IsMarkedBy (holder : Option Own) (cell : Cell) : Type 0 where
+  pub by : Own
+  pub met : holder ≡ Some by
+  pub marked : IsMarked by.store cell
+
+-- what the job keeps, with what is known of what it sends; the cell's chain changes only where the holder has the block marked
+pub record OtherKeeps (row : LinkRow) (cell : Cell) (holder : Option Own) (own : Own) (done : Done) : Type 0 where
+  pub copying : AreCopying row cell holder (Some done.own)
+  pub told : StaysTold cell holder (Some own) holder (Some done.own)
+  pub says : (post : Post) → In post done.posts → (about post.body).cell ≡ Some cell → IsTold holder (Some done.own) post.body
+  pub marks : (kind : MarkKind) → is_marked done.own.store kind cell ≡ is_marked own.store kind cell
+  pub changes : (chain_in done.own.store.chains cell ≡ chain_in own.store.chains cell) ⊎ IsMarkedBy holder cell
+  pub pages : (post : Post) → In post done.posts → (after block : Option ℕ) → post.body ≡ body.Hello row.map row.link after block
+      → IsPage cell done.own.store (Some done.own) after block
+  pub rising : IsRising nat_cmp (chain_in done.own.store.chains cell)
+
+-- ### At a server that the link is not of
+
+-- the cell has no link, or one that the server is not of
+abbrev pub IsNotOf : Here → Cell → Type 0
+IsNotOf here cell = (cell_link here.state cell ≡ None) ⊎
+    ((row : LinkRow) × (cell_link here.state cell ≡ Some row) × (has_server here.me row ≡ false))
+
+-- all that concerns the cell is as before, but for its marks
+pub record KeepsRest (cell : Cell) (own to : Own) : Type 0 where
+  pub chain : chain_in to.store.chains cell ≡ chain_in own.store.chains cell
+  pub pending : pending_on to cell ≡ pending_on own cell
+  pub copying : copying_on to cell ≡ copying_on own cell
+  pub last : last_copy to cell ≡ last_copy own cell
+  pub followed : last_on to cell ≡ last_on own cell
+
+-- and its marks
+pub record KeepsCell (cell : Cell) (own to : Own) : Type 0 where
+  pub rest : KeepsRest cell own to
+  pub marks : (kind : MarkKind) → is_marked to.store kind cell ≡ is_marked own.store kind cell

@@ -1,0 +1,82 @@
+-- What servers were at the places of a link. What two servers of a link tell each other belongs to one place of it; so a server's
+-- own part is kept here as it last was at each place, and is there while the other server is still at that place.
+use Rattle.std.specs.Prelude.{◌≡◌, ◌≤◌, ◌⊎◌, ◌==◌, ◌&&◌, ℕ, Bool, true, false, List, if◌then◌else◌, nat_eq, Option, Some, None, option_map}
+use Rattle.std.specs.Option.{option_map_or}
+use Rattle.global_tables.specs.declared.link.LinkRow.{LinkRow}
+use Rattle.petal_base.specs.declared.cell.Cell.{Cell}
+use Rattle.petal_command.specs.declared.command.Command.{Command}
+use Rattle.petal_history.specs.Claims.{IsPrefix}
+use Rattle.petal_state.specs.CellState.{cell_link, serves}
+use Rattle.petal_state.specs.Command.{state_after}
+use Rattle.petal_state.specs.Place.{places_from}
+use Rattle.petal_state.specs.State.{start}
+use Rattle.petal_rules.specs.Log.{state_in}
+use Rattle.petal_rules.specs.Server.{Own, Server, no_copies, no_pairs}
+use Rattle.petal_rules.specs.State.{is_in}
+use Rattle.petal_rules.specs.Store.{Store}
+use Rattle.petal_rules.specs.World.{Setting, World}
+
+-- of each server and each place of a cell's link, the server's own part as it last was while the server was there and was In as
+-- itself
+abbrev pub Visits : Type 0
+Visits = (server place : ℕ) → Cell → Option Own
+
+-- the place of a link by these entries
+abbrev pub place_by : Setting → List Command → LinkRow → ℕ
+place_by setting front row = places_from (start setting.servers) front row
+
+-- the cell's link, by these entries
+abbrev pub IsLinked : Setting → List Command → Cell → LinkRow → Type 0
+IsLinked setting front cell row = cell_link (state_after setting.servers front) cell ≡ Some row
+
+-- what a server has in memory of a place: nothing, where it was not there; with this store
+abbrev pub half : Option Own → Store → Own
+half None store = record { pairs = no_pairs; copies = no_copies; store = store }
+half (Some own) store = record { pairs = own.pairs; copies = own.copies; store = store }
+
+-- the place of the cell's link by the server's own entries
+abbrev pub place_on : Setting → Server → Cell → Option ℕ
+place_on setting server cell = option_map (λ row. place_by setting server.log.applied row) (cell_link (state_in setting.servers server.log) cell)
+
+-- the server is at this place, and In as itself
+abbrev pub is_at : Setting → ℕ → Server → (place : ℕ) → Cell → Bool
+is_at setting n server place cell =
+    is_in (state_in setting.servers server.log) n server.life.inc && option_map_or (nat_eq place) (place_on setting server cell) false
+
+-- the visits once a server is so
+abbrev pub visited : Setting → Visits → (k : ℕ) → Server → Visits
+visited setting visits k server n place cell = if (n == k) && is_at setting k server place cell then Some server.own else visits n place cell
+
+-- the server was at the place that the link has by its own entries, and as it is now
+pub record IsHere (setting : Setting) (w : World) (visits : Visits) (n : ℕ) (cell : Cell) (row : LinkRow) : Type 0 where
+  pub own : Own
+  pub is : visits n (place_by setting (w.servers n).log.applied row) cell ≡ Some own
+  pub same : own ≡ (w.servers n).own
+
+-- a server has been at no place that is not in its own entries
+pub record HasBeen (setting : Setting) (w : World) (n place : ℕ) (cell : Cell) : Type 0 where
+  pub row : LinkRow
+  pub linked : IsLinked setting (w.servers n).log.applied cell row
+  pub past : place ≤ place_by setting (w.servers n).log.applied row
+
+-- no server of the cell's link has been at a later place than this one at which it served the link
+abbrev pub IsLast : (reached : Cell → ℕ) → Setting → List Command → Cell → LinkRow → Type 0
+IsLast reached setting front cell row = reached cell ≤ place_by setting front row
+
+-- the greatest place of a cell's link at which a server that serves the link has been: such a server was there
+pub record HasReached (setting : Setting) (top : List Command) (visits : Visits) (cell : Cell) (place : ℕ) : Type 0 where
+  pub front : List Command
+  pub prefix : IsPrefix front top
+  pub row : LinkRow
+  pub linked : IsLinked setting front cell row
+  pub at : place_by setting front row ≡ place
+  pub server : ℕ
+  pub serving : serves server row row.state ≡ true
+  pub own : Own
+  pub visited : visits server place cell ≡ Some own
+
+-- places of servers that serve the link, and of none other, are counted
+pub record AreReached (setting : Setting) (top : List Command) (visits : Visits) (reached : Cell → ℕ) : Type 0 where
+  pub below : (front : List Command) (cell : Cell) (row : LinkRow) (n : ℕ) (own : Own) → IsPrefix front top → IsLinked setting front cell row
+      → serves n row row.state ≡ true → visits n (place_by setting front row) cell ≡ Some own → place_by setting front row ≤ reached cell
+  pub by : (cell : Cell) → (reached cell ≡ 0) ⊎ HasReached setting top visits cell (reached cell)

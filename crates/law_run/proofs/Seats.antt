@@ -1,0 +1,246 @@
+-- What a server that runs relies on at its own place of a cell's link: that no server that serves the link has been further, and what the
+-- other server has in memory of the place.
+use Rattle.std.proofs.Common.{◌≡◌, ◌≤◌, ◌+◌, ℕ, List, true, false, Option, Some, None, refl, sym, ap, ◌∙◌, subst, ◌⊎◌, inl, inr, arith}
+use Rattle.global_tables.specs.Link.{has_server}
+use Rattle.global_tables.specs.declared.link.LinkRow.{LinkRow}
+use Rattle.global_tables.specs.declared.link.LinkState.TheVariants.{Both, Only}
+use Rattle.petal_base.specs.declared.cell.Cell.{Cell}
+use Rattle.petal_command.specs.declared.command.Command.{Command}
+use Rattle.petal_table.specs.Table.{at}
+use Rattle.petal_table.proofs.Rows.{at-empty}
+use Rattle.petal_msg.specs.Kinds.{about}
+use Rattle.petal_msg.specs.declared.body.Body.{Body}
+use Rattle.petal_msg.specs.declared.operation.Pending.{Pending}
+use Rattle.petal_state.specs.CellState.{cell_link, lead, serves}
+use Rattle.petal_state.specs.Command.{state_after}
+use Rattle.petal_history.specs.Claims.{IsPrefix}
+use Rattle.petal_rules.specs.Server.{Own}
+use Rattle.petal_rules.specs.State.{State, authority, id_of, in_both, is_alone_on, is_in, is_lead, is_second, second}
+use Rattle.petal_rules.specs.Progress.{has_proposed}
+use Rattle.petal_rules.specs.Store.{Store, cell_cmp, chain_in}
+use Rattle.petal_rules.specs.World.{Setting, World, chosen_log, chosen_state, server_state}
+use Rattle.petal_rules.proofs.Tests.{is_the_one, none_some, same_some, true_false}
+use Rattle.law_state.specs.Firm.{Firm}
+use Rattle.law_state.specs.Started.{is_flagged}
+use Rattle.law_state.specs.Steady.{IsSteady}
+use Rattle.law_state.proofs.Alone.{alone_not_both, alone_row, so_alone, so_both}
+use Rattle.law_state.proofs.Cells.{IsHeldBy, IsInBoth, alone_authority, led_by, second_by}
+use Rattle.law_state.proofs.Roles.{primary_is_one, secondary_is_one}
+use Rattle.law_steps.specs.Happens.{Handled}
+use Rattle.law_steps.specs.Operations.{IsStaged}
+use Rattle.law_steps.proofs.Fronts.{front_itself}
+use Rattle.law_steps.proofs.Histories.{chosen_steady, own_steady, ready_chosen}
+use Rattle.law_steps.proofs.Minds.{held_as_flag}
+use Rattle.law_copies.specs.Good.{AreTwins, pair_at, store_of}
+use Rattle.law_copies.specs.Pair.{AreCopies, Known, Pair, PairOk, far, owns_of, pair_of}
+use Rattle.law_copies.specs.Visits.{IsLast, IsLinked, half, place_by}
+use Rattle.law_copies.proofs.Later.{both_last, both_since, holds_since, reached_here}
+use Rattle.law_copies.proofs.Places.{linked_on, one_row, places_up}
+use Rattle.law_run.specs.Follow.{Ground}
+
+-- ### What is remembered of a place
+
+-- the store is the server's as it is now
+pub half_store : (visit : Option Own) (store : Store) → (half visit store).store ≡ store
+half_store None store = refl
+half_store (Some own) store = refl
+
+-- an operation is pending there only where the server was there
+pub op_there : (visit : Option Own) (store : Store) (cell : Cell) (op : Pending)
+    → at cell_cmp (half visit store).pairs.pending cell ≡ Some op
+    → (own : Own) × (visit ≡ Some own) × (at cell_cmp own.pairs.pending cell ≡ Some op)
+op_there None store cell op is = none_some (at-empty cell_cmp cell) is
+op_there (Some own) store cell op is = (own, refl, is)
+
+-- where none is, the copies are equal
+pub equal_pair : (one other : Option Own) (a b : Store) (cell : Cell) → PairOk (pair_of (half one a) (half other b) cell)
+    → ((own : Own) → one ≡ Some own → at cell_cmp own.pairs.pending cell ≡ None) → chain_in a.chains cell ≡ chain_in b.chains cell
+equal_pair one other a b cell ok none =
+    ap (λ (s : Store). chain_in s.chains cell) (sym (half_store one a))
+    ∙ by (pair_of (half one a) (half other b) cell) (at cell_cmp (half one a).pairs.pending cell) refl ok.copies
+    ∙ ap (λ (s : Store). chain_in s.chains cell) (half_store other b)
+  where
+    by : (pair : Pair) (o : Option Pending) → at cell_cmp (half one a).pairs.pending cell ≡ o
+        → AreCopies pair.first pair.second (far pair) o
+        → pair.first ≡ pair.second
+    by pair None is same = same
+    by pair (Some op) is copies = let t = op_there one a cell op is in none_some (none t.0 t.1) t.2
+
+module _ (setting : Setting) (state : State) (w : World) (firm : Firm setting w) (ground : Ground setting state w) where
+  abbrev chosen : List Command
+  chosen = chosen_log setting w
+
+  abbrev own_front : ℕ → List Command
+  own_front n = (w.servers n).log.applied
+
+  abbrev pub place_of : ℕ → LinkRow → ℕ
+  place_of n row = place_by setting (own_front n) row
+
+  -- what it was at its own place it is now
+  pub visit_here : (n : ℕ) (cell : Cell) (row : LinkRow) → is_in (server_state setting w n) n (w.servers n).life.inc ≡ true
+      → IsLinked setting (own_front n) cell row → ground.good.visits n (place_of n row) cell ≡ Some (owns_of w n)
+  visit_here n cell row seat is = let h = ground.good.here n cell row is seat in h.is ∙ ap Some h.same
+
+  -- ### By what is chosen
+
+  -- nobody who serves the link has been further
+  pub chosen_last : (cell : Cell) (row : LinkRow) → IsLinked setting chosen cell row → IsLast ground.good.reached setting chosen cell row
+  chosen_last cell row is = elim (ground.good.reaching.by cell) [
+    | inl none ↦ omega (arith, none)
+    | inr r ↦
+        let up = places_up setting chosen firm.plain r.front chosen cell r.row row r.prefix (front_itself chosen) r.linked is in
+        let spot = r.at in
+        omega arith
+  ]
+
+  pub chosen_twins : (cell : Cell) (row : LinkRow) → IsLinked setting chosen cell row → row.state ≡ Both
+      → AreTwins w ground.good.visits (place_by setting chosen row) cell row.primary row.secondary
+  chosen_twins cell row is both = (ground.good.both chosen cell row (front_itself chosen) is both).twins (chosen_last cell row is)
+
+  -- ### In Both by its own state
+
+  -- the server runs, and by its own state it is In and one of the two of a link in Both
+  pub record IsSharing (n : ℕ) (cell : Cell) (row : LinkRow) : Type 0 where
+    pub runs : (w.servers n).life.running ≡ true
+    pub seat : is_in (server_state setting w n) n (w.servers n).life.inc ≡ true
+    pub linked : IsLinked setting (own_front n) cell row
+    pub both : row.state ≡ Both
+    pub has : has_server n row ≡ true
+
+  pub sharing_last : (n : ℕ) (cell : Cell) (row : LinkRow) → IsSharing n cell row
+      → IsLast ground.good.reached setting (own_front n) cell row
+  sharing_last n cell row s = both_last setting ground.records w firm ground.good n s.runs s.seat cell row s.linked s.both s.has
+
+  -- two such servers of one cell are at one place
+  pub one_place_of : (n m : ℕ) (cell : Cell) (row other : LinkRow) → IsSharing n cell row → IsSharing m cell other
+      → (place_of n row ≡ place_of m other) × (other ≡ row)
+  one_place_of n m cell row other s t =
+      let one = sharing_last n cell row s in
+      let two = sharing_last m cell other t in
+      let up = reached_here setting ground.records w firm ground.good n cell row s.seat s.linked (ap (serves n row) s.both ∙ s.has) in
+      let also = reached_here setting ground.records w firm ground.good m cell other t.seat t.linked (ap (serves m other) t.both ∙ t.has) in
+      let same : place_of n row ≡ place_of m other = omega arith in (
+        same,
+        one_row setting chosen firm.plain (own_front n) (own_front m) cell row other (firm.servers n)
+            (firm.servers m) s.linked t.linked same,
+      )
+
+  pub shared_ok : (n : ℕ) (cell : Cell) (row : LinkRow) → IsSharing n cell row
+      → PairOk (pair_at w ground.good.visits (place_of n row) cell row.primary row.secondary)
+  shared_ok n cell row s =
+      ((ground.good.both (own_front n) cell row (firm.servers n) s.linked s.both).twins (sharing_last n cell row s)).pair
+
+  -- what the server's peer has in memory of the place
+  abbrev pub peer : (n m : ℕ) → Cell → LinkRow → Own
+  peer n m cell row = half (ground.good.visits m (place_of n row) cell) (store_of w m)
+
+  pub first_ok : (n : ℕ) (cell : Cell) (row : LinkRow) → IsSharing n cell row → row.primary ≡ n
+      → PairOk (pair_of (owns_of w n) (peer n row.secondary cell row) cell)
+  first_ok n cell row s first =
+      subst (λ o. PairOk (pair_of (half o (store_of w n)) (peer n row.secondary cell row) cell)) (visit_here n cell row s.seat s.linked)
+      (subst (λ k. PairOk (pair_of (half (ground.good.visits k (place_of n row) cell) (store_of w k))
+      (peer n row.secondary cell row) cell)) first
+      (shared_ok n cell row s))
+
+  -- what is known of a letter that it handles
+  pub heard_shared : (n : ℕ) (cell : Cell) (row : LinkRow) → IsSharing n cell row → (said : Body) → Handled w n said
+      → (about said).cell ≡ Some cell
+      → Known (pair_at w ground.good.visits (place_of n row) cell row.primary row.secondary) said
+  heard_shared n cell row s said h of =
+      subst (λ (b : Body). (about b).cell ≡ Some cell
+      → Known (pair_at w ground.good.visits (place_of n row) cell row.primary row.secondary) b) h.is
+      ((ground.good.letters h.letter h.sent (own_front n) cell row (firm.servers n) (sym h.at) s.linked).both s.both
+      (sharing_last n cell row s)) of
+
+  -- the second server
+  pub record IsSharedSecond (n : ℕ) (cell : Cell) : Type 0 where
+    pub row : LinkRow
+    pub shares : IsSharing n cell row
+    pub second : row.secondary ≡ n
+
+  pub second_shares : (n : ℕ) (cell : Cell) → (w.servers n).life.running ≡ true
+      → is_in (server_state setting w n) n (w.servers n).life.inc ≡ true
+      → is_second (server_state setting w n) n cell ≡ true → IsSharedSecond n cell
+  second_shares n cell runs seat e =
+      let b = second_by (server_state setting w n) (own_steady setting w firm n) cell n
+      (is_the_one (second (server_state setting w n) cell) n e) in
+      record {
+        row = b.0.row;
+        shares = record { runs = runs; seat = seat; linked = b.0.is; both = b.0.so; has = secondary_is_one b.0.row n b.1 };
+        second = b.1;
+      }
+
+  -- ### Operations
+
+  module _ (n : ℕ) (cell : Cell) (op : Pending) (runs : (w.servers n).life.running ≡ true)
+      (is : at cell_cmp (owns_of w n).pairs.pending cell ≡ Some op) where
+    staged : IsStaged (server_state setting w n) n (has_proposed (server_state setting w n) (owns_of w n)) cell op
+    staged = (ground.ready.rests.pending n).staged cell op is
+
+    pub op_seat : is_in (server_state setting w n) n (w.servers n).life.inc ≡ true
+    op_seat = ground.ready.rests.seated n cell op runs is
+
+    -- who leads the cell where an operation is pending: the first server in Both, or the holder
+    pub record IsSharedFirst : Type 0 where
+      pub row : LinkRow
+      pub shares : IsSharing n cell row
+      pub first : row.primary ≡ n
+
+    pub op_place : IsSharedFirst ⊎ IsHeldBy (server_state setting w n) cell n
+    op_place = elim (led_by (server_state setting w n) (own_steady setting w firm n) cell n
+        (is_the_one (lead (server_state setting w n) cell) n staged.lead)) [
+          | inl b ↦ inl (record {
+            row = b.0.row;
+            shares = record { runs = runs; seat = op_seat; linked = b.0.is; both = b.0.so; has = primary_is_one b.0.row n b.1 };
+            first = b.1;
+          })
+          | inr held ↦ inr held
+        ]
+
+    pub op_shared : in_both (server_state setting w n) cell ≡ true → IsSharedFirst
+    op_shared both = elim op_place [
+      | inl first ↦ first
+      | inr held ↦ true_false both
+          (alone_not_both (server_state setting w n) n cell (so_alone (server_state setting w n) n cell held.row false held.is held.so))
+    ]
+
+    -- the server leads the cell by what is chosen, too
+    pub op_leads : is_lead (chosen_state setting w) n cell ≡ true
+    op_leads = ((ready_chosen setting w firm ground.ready.rests n runs).staged cell op is).lead
+
+    -- and holds it alone by what is chosen, where it does so by its own state
+    pub op_alone : is_alone_on (server_state setting w n) n cell ≡ true → authority (chosen_state setting w) cell ≡ Some n
+    op_alone alone = elim op_place [
+      | inl first ↦ true_false (so_both (server_state setting w n) cell first.row first.shares.linked first.shares.both)
+          (alone_not_both (server_state setting w n) n cell alone)
+      | inr held ↦
+          let now = linked_on setting chosen firm.plain (own_front n) chosen cell held.row (firm.servers n) (front_itself chosen) held.is in
+          elim (holds_since setting ground.records w firm ground.good n runs op_seat cell held.row held.is held.so chosen now.0
+          (firm.servers n)
+          (front_itself chosen) now.1) [
+            | inl only ↦ alone_authority (chosen_state setting w) cell now.0 now.1
+                ((chosen_steady setting w firm).linked cell now.0 now.1) n false only
+            | inr flagged ↦ true_false (held_as_flag (server_state setting w n) (owns_of w n) cell held.row held.is ∙ flagged) staged.unheld
+          ]
+    ]
+
+    -- a front at which the link is in Both: so it is by the server's own state, at the same place
+    pub record IsSharedAt (front : List Command) (now : LinkRow) : Type 0 where
+      pub first : IsSharedFirst
+      pub at : place_by setting front now ≡ place_of n first.row
+
+    pub shared_before : (front : List Command) (now : LinkRow) → IsPrefix (own_front n) front
+        → IsPrefix front chosen → IsLinked setting front cell now → now.state ≡ Both → IsSharedAt front now
+    shared_before front now one two there both = elim op_place [
+      | inl first ↦ elim (both_since setting ground.records w firm ground.good n runs op_seat cell first.row first.shares.linked
+          first.shares.both
+          first.shares.has front now one two there) [
+            | inl same ↦ record { first = first; at = same }
+            | inr only ↦ (let f : Only n false ≡ Both = sym only ∙ both in absurd cc)
+          ]
+      | inr held ↦ elim (holds_since setting ground.records w firm ground.good n runs op_seat cell held.row held.is held.so front now
+          one two there) [
+            | inl only ↦ (let f : Only n false ≡ Both = sym only ∙ both in absurd cc)
+            | inr flagged ↦ true_false (held_as_flag (server_state setting w n) (owns_of w n) cell held.row held.is ∙ flagged) staged.unheld
+          ]
+    ]

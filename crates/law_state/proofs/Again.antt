@@ -1,0 +1,259 @@
+-- A link that is in Both again: the Caught that made it so stands in the log. And a link's place in Both is told by the incarnations
+-- of its two servers.
+use Rattle.std.proofs.Common.{◌≡◌, ◌+◌, ◌++◌, ◌&&◌, ℕ, List, [], ◌∷◌, true, false, if◌then◌else◌, Some, refl, sym, ap, ◌∙◌, subst, ◌⊎◌, inl, inr, append_assoc, arith}
+use Rattle.std.specs.Prelude.{fold, slice_get}
+use Rattle.std.proofs.lemmas.Grind.{fold-append}
+use Rattle.petal_base.specs.declared.cell.Cell.{Cell}
+use Rattle.global_tables.specs.declared.link.LinkRow.{LinkRow}
+use Rattle.global_tables.specs.declared.link.LinkState.{LinkState}
+use Rattle.global_tables.specs.declared.link.LinkState.TheVariants.{Both, Only, Lost}
+use Rattle.global_tables.specs.Link.{has_server, is_link, left_state, link_at, other_of, row_left}
+use Rattle.petal_command.specs.declared.command.Command.{Command}
+use Rattle.petal_command.specs.declared.command.Command.TheVariants.{Join, Leave, Caught}
+use Rattle.petal_history.specs.Claims.{IsPrefix}
+use Rattle.petal_state.specs.CellState.{cell_link}
+use Rattle.petal_state.specs.Command.{after, may_catch, may_join, state_after}
+use Rattle.petal_state.specs.Place.{places_from, touches}
+use Rattle.petal_state.specs.State.{is_up, is_up_as, start}
+use Rattle.petal_rules.specs.Lists.{In}
+use Rattle.petal_rules.specs.State.{State, is_in}
+use Rattle.petal_rules.proofs.ListLemmas.{in_later}
+use Rattle.petal_rules.proofs.Tests.{by_bool, same_some, true_false}
+use Rattle.law_state.specs.Places.{IsCaughtBy, IsCaughtIn, IsCaughtSince, By_caught, By_join, By_leave, StaysSo}
+use Rattle.law_state.specs.Plain.{IsPlain, IsPlainLog}
+use Rattle.law_state.specs.Rows.{IsLater}
+use Rattle.law_state.specs.Tables.{IsPlainState}
+use Rattle.law_state.proofs.Ages.{between, in_up, out_by}
+use Rattle.law_state.proofs.Entries.{entering, folding, log_plain}
+use Rattle.law_state.proofs.Grown.{alone_not_both, one_before}
+use Rattle.law_state.proofs.Leaves.{both_up}
+use Rattle.law_state.proofs.Steady.{front_plain, grown_below, plain_steady}
+use Rattle.law_state.proofs.Touching.{entry_stays, places_of_both, places_on, stays_on, touched, untouched}
+
+-- ### Places are of a link, whoever serves it
+
+touches_later : (row later : LinkRow) → IsLater row later → (s : State) (entry : Command) → touches s entry later ≡ touches s entry row
+touches_later row later so s (Join server inc blank) = ap (λ b. may_join (slice_get s.view.members server) inc && b) (one_before row later server so)
+touches_later row later so s (Leave server inc) = ap (λ b. is_up_as s server inc && b) (one_before row later server so)
+touches_later row later so s (Caught of link holder inc other other_inc) =
+    ap (λ b. b && may_catch holder other (link_at s.links of link) && is_up_as s holder inc && is_up_as s other other_inc)
+    (λ i. is_link of link (record row { map = so.map i; link = so.link i }))
+touches_later row later so s _ = refl
+
+pub places_later : (row later : LinkRow) → IsLater row later → (entries : List Command) (s : State) → places_from s entries later ≡ places_from s entries row
+places_later row later so [] s = refl
+places_later row later so (entry ∷ entries) s =
+    (λ i. if touches_later row later so s entry i then places_later row later so entries (after s entry) i + 1
+    else places_later row later so entries (after s entry) i)
+
+-- ### The entry that made it so
+
+-- of these entries one is a Caught that acts on the cell's link, and finds it as this row
+record IsCaughtAmong (s : State) (entries : List Command) (cell : Cell) (row : LinkRow) : Type 0 where
+  before : List Command
+  entry : Command
+  rest : List Command
+  lies : entries ≡ before ++ entry ∷ rest
+  was : cell_link (fold after s before) cell ≡ Some row
+  acts : IsCaughtBy (fold after s before) entry row
+  on : touches (fold after s before) entry row ≡ true
+
+-- behind one entry more
+abbrev later_caught : (s : State) (entry : Command) (entries : List Command) (cell : Cell) (row : LinkRow) → IsCaughtAmong (after s entry) entries cell row
+    → IsCaughtAmong s (entry ∷ entries) cell row
+later_caught s entry entries cell row c =
+    record { before = entry ∷ c.before; entry = c.entry; rest = c.rest; lies = ap (λ xs. entry ∷ xs) c.lies; was = c.was; acts = c.acts; on = c.on }
+
+-- such a Caught put the link in Both, as it is at the end
+record IsCaughtLast (s : State) (entries : List Command) (cell : Cell) (now : LinkRow) : Type 0 where
+  row : LinkRow
+  found : IsCaughtAmong s entries cell row
+  since : StaysSo cell now (fold after s found.before) (fold after s entries)
+  quiet : places_from (after (fold after s found.before) found.entry) found.rest row ≡ 0
+
+pub left_not_both : {B : Type 0} (other : ℕ) (state : LinkState) → left_state other state ≡ Both → B
+left_not_both other Both e = let f : Only other false ≡ Both = e in absurd cc
+left_not_both other (Only holder whole) e = let f : Only holder whole ≡ Both = e in absurd cc
+left_not_both other Lost e = let f : Lost ≡ Both = e in absurd cc
+
+pub left_row : (row : LinkRow) (server : ℕ) → has_server server row ≡ true → (row_left server row).state ≡ left_state (other_of server row) row.state
+left_row row server has = ap (λ b. (if b then record row { state = left_state (other_of server row) row.state } else row).state) has
+
+-- a Leave changes no link that one server holds alone
+pub stays_row : (row : LinkRow) (server holder : ℕ) → has_server server row ≡ true → row.state ≡ Only holder false → row_left server row ≡ row
+stays_row row server holder has alone =
+    let same : left_state (other_of server row) row.state ≡ row.state = ap (left_state (other_of server row)) alone ∙ sym alone in
+    ap (λ b. if b then record row { state = left_state (other_of server row) row.state } else row) has ∙ (λ i. record row { state = same i })
+
+module _ (servers : ℕ) where
+  -- where nothing touches the link behind the entry
+  made_both : (s : State) → IsPlainState servers s → (entry : Command) → IsPlain servers entry → (rest : List Command) (cell : Cell) (row next now : LinkRow)
+      → cell_link s cell ≡ Some row → touches s entry row ≡ true → cell_link (after s entry) cell ≡ Some next → IsLater row next
+      → StaysSo cell next (after s entry) (fold after (after s entry) rest) → places_from (after s entry) rest next ≡ 0
+      → next ≡ now → now.state ≡ Both → IsCaughtLast s (entry ∷ rest) cell now
+  made_both s p entry plain rest cell row next now is on there so stays quiet same both =
+      elim (touched servers s p cell row is ((plain_steady servers s p).linked cell row is).served entry plain on) [
+        | By_leave left at seats ↦ left_not_both (other_of left.server row) row.state
+            (sym (left_row row left.server left.one_of) ∙ ap (λ (r : LinkRow). r.state) (same_some (sym at ∙ there) ∙ same) ∙ both)
+        | By_join joined at apart seats ↦ absurd (apart (ap (λ (r : LinkRow). r.state) (same_some (sym at ∙ there) ∙ same) ∙ both))
+        | By_caught acts one ↦ (
+            let is_next : record row { state = Both } ≡ next = same_some (sym one.same ∙ there) in
+            let whole = stays_on cell next s (after s entry) _ (subst (λ r. StaysSo cell r s (after s entry)) is_next one) stays in
+            record {
+              row = row;
+              found = record { before = []; entry = entry; rest = rest; lies = refl; was = is; acts = acts; on = on };
+              since = subst (λ r. StaysSo cell r s (fold after (after s entry) rest)) same whole;
+              quiet = sym (places_later row next so rest (after s entry)) ∙ quiet;
+            })
+      ]
+
+  both_by : (entries : List Command) (s : State) → IsPlainState servers s → IsPlainLog servers entries → (cell : Cell) (row now : LinkRow)
+      → cell_link s cell ≡ Some row → cell_link (fold after s entries) cell ≡ Some now → now.state ≡ Both
+      → (places_from s entries row ≡ 0) ⊎ IsCaughtLast s entries cell now
+  unfolding In
+  both_by [] s p all cell row now is end both = inl refl
+  both_by (entry ∷ rest) s p all cell row now is end both =
+      let plain = all entry (inl refl) in
+      let more = λ (other : Command) (h : In other rest). all other (inr h) in
+      let t = after s entry in
+      let step = entering servers s entry p plain in
+      let h = (grown_below servers s t p step.plain step.grown).rows cell row is in
+      elim (both_by rest t step.plain more cell h.now now h.is end both) [
+        | inr c ↦ inr (record { row = c.row; found = later_caught s entry rest cell c.row c.found; since = c.since; quiet = c.quiet })
+        | inl quiet ↦ (
+            let stays = untouched servers rest t step.plain more cell h.now h.is quiet in
+            by_bool (touches s entry row)
+            (λ on. inr (made_both s p entry plain rest cell row h.now now is on h.is h.so stays quiet (same_some (sym stays.same ∙ end)) both))
+            (λ off. inl (ap (λ b. if b then places_from t rest row + 1 else places_from t rest row) off ∙ sym (places_later row h.now h.so rest t) ∙ quiet)))
+      ]
+
+  -- a link that a server holds alone leaves that state by a Caught first
+  alone_until : (entries : List Command) (s : State) → IsPlainState servers s → IsPlainLog servers entries → (cell : Cell) (row now : LinkRow) (holder : ℕ)
+      → cell_link s cell ≡ Some row → row.state ≡ Only holder false → cell_link (fold after s entries) cell ≡ Some now
+      → (now.state ≡ Only holder false) ⊎ IsCaughtAmong s entries cell row
+  unfolding In
+  alone_until [] s p all cell row now holder is alone end = inl (ap (λ (r : LinkRow). r.state) (same_some (sym end ∙ is)) ∙ alone)
+  alone_until (entry ∷ rest) s p all cell row now holder is alone end =
+      let plain = all entry (inl refl) in
+      let more = λ (other : Command) (h : In other rest). all other (inr h) in
+      let t = after s entry in
+      let step = entering servers s entry p plain in
+      let onward = λ (there : cell_link t cell ≡ Some row). goes_on s entry rest cell row now holder
+      (alone_until rest t step.plain more cell row now holder there alone end) in
+      by_bool (touches s entry row)
+      (λ on. elim (touched servers s p cell row is ((plain_steady servers s p).linked cell row is).served entry plain on) [
+        | By_leave left at seats ↦ onward (at ∙ ap Some (stays_row row left.server holder left.one_of alone))
+        | By_join joined at apart seats ↦ onward at
+        | By_caught acts one ↦ inr (record { before = []; entry = entry; rest = rest; lies = refl; was = is; acts = acts; on = on })
+      ])
+      (λ off. onward (entry_stays servers s p cell row is entry plain off).same)
+    where
+      goes_on : (s : State) (entry : Command) (rest : List Command) (cell : Cell) (row now : LinkRow) (holder : ℕ)
+          → (now.state ≡ Only holder false) ⊎ IsCaughtAmong (after s entry) rest cell row → (now.state ≡ Only holder false) ⊎ IsCaughtAmong s (entry ∷ rest) cell row
+      goes_on s entry rest cell row now holder (inl e) = inl e
+      goes_on s entry rest cell row now holder (inr c) = inr (later_caught s entry rest cell row c)
+
+  -- while a link is in Both, and both of its servers stay In, nothing touches it
+  both_quiet : (entries : List Command) (s : State) → IsPlainState servers s → IsPlainLog servers entries → (cell : Cell) (row : LinkRow) (one other : ℕ)
+      → cell_link s cell ≡ Some row → row.state ≡ Both → is_up_as s row.primary one ≡ true → is_up_as s row.secondary other ≡ true
+      → is_up_as (fold after s entries) row.primary one ≡ true → is_up_as (fold after s entries) row.secondary other ≡ true → places_from s entries row ≡ 0
+  unfolding In
+  both_quiet [] s p all cell row one other is both first second first_on second_on = refl
+  both_quiet (entry ∷ rest) s p all cell row one other is both first second first_on second_on =
+      let plain = all entry (inl refl) in
+      let more = λ (other : Command) (h : In other rest). all other (inr h) in
+      let t = after s entry in
+      let step = entering servers s entry p plain in
+      let later = folding servers rest t step.plain more in
+      let first_now = between s t (fold after t rest) row.primary one (step.grown.ages row.primary) (later.grown.ages row.primary) first first_on in
+      let second_now = between s t (fold after t rest) row.secondary other (step.grown.ages row.secondary) (later.grown.ages row.secondary) second second_on in
+      by_bool (touches s entry row)
+      (λ on. elim (touched servers s p cell row is ((plain_steady servers s p).linked cell row is).served entry plain on) [
+        | By_leave left at seats ↦ true_false
+            (both_up (is_up t) row left.server (in_up t row.primary one first_now) (in_up t row.secondary other second_now) left.one_of)
+            (out_by t left.server seats.here)
+        | By_join joined at apart seats ↦ absurd (apart both)
+        | By_caught acts stays ↦ alone_not_both row acts.holder acts.alone both
+      ])
+      (λ off. ap (λ b. if b then places_from t rest row + 1 else places_from t rest row) off
+      ∙ both_quiet rest t step.plain more cell row one other (entry_stays servers s p cell row is entry plain off).same both first_now second_now first_on second_on)
+
+-- ### Fronts of a log
+
+module _ (servers : ℕ) (front whole : List Command) (all : IsPlainLog servers whole) (prefix : IsPrefix front whole) where
+  abbrev s : State
+  s = state_after servers front
+
+  plain : IsPlainState servers s
+  plain = log_plain servers front (front_plain servers front whole all prefix)
+
+  more : IsPlainLog servers prefix.later
+  more command h = all command (subst (In command) (sym prefix.is) (in_later command front prefix.later h))
+
+  whole_is : state_after servers whole ≡ fold after s prefix.later
+  whole_is = ap (state_after servers) prefix.is ∙ fold-append after (start servers) front prefix.later
+
+  at_place : (before : List Command) → state_after servers (front ++ before) ≡ fold after s before
+  at_place before = fold-append after (start servers) front before
+
+  abbrev caught_in : (cell : Cell) (row : LinkRow) → IsCaughtAmong s prefix.later cell row → IsCaughtIn servers front whole cell row
+  caught_in cell row c = record {
+    until = front ++ c.before;
+    entry = c.entry;
+    behind = record { later = c.before; is = refl };
+    stands = record {
+      later = c.rest;
+      is = prefix.is ∙ ap (λ xs. front ++ xs) c.lies ∙ sym (append_assoc front c.before (c.entry ∷ c.rest))
+          ∙ sym (append_assoc (front ++ c.before) (c.entry ∷ []) c.rest);
+    };
+    was = ap (λ (t : State). cell_link t cell) (at_place c.before) ∙ c.was;
+    acts = subst (λ (t : State). IsCaughtBy t c.entry row) (sym (at_place c.before)) c.acts;
+  }
+
+  -- the Caught's place, and none behind it
+  place_on : (cell : Cell) (now : LinkRow) (c : IsCaughtLast s prefix.later cell now)
+      → places_from (start servers) whole c.row ≡ places_from (start servers) (front ++ c.found.before) c.row + 1
+  place_on cell now c =
+      let f = c.found in
+      let one : places_from (start servers) whole c.row
+      ≡ places_from (start servers) front c.row + (places_from s f.before c.row + places_from (fold after s f.before) (f.entry ∷ f.rest) c.row) =
+      places_of_both servers front whole c.row prefix
+      ∙ ap (λ k. places_from (start servers) front c.row + k) (ap (λ xs. places_from s xs c.row) f.lies ∙ places_on c.row s f.before (f.entry ∷ f.rest)) in
+      let two : places_from (fold after s f.before) (f.entry ∷ f.rest) c.row ≡ places_from (after (fold after s f.before) f.entry) f.rest c.row + 1 =
+      ap (λ b. if b then places_from (after (fold after s f.before) f.entry) f.rest c.row + 1 else places_from (after (fold after s f.before) f.entry) f.rest c.row) f.on in
+      let three : places_from (start servers) (front ++ f.before) c.row ≡ places_from (start servers) front c.row + places_from s f.before c.row =
+      places_on c.row (start servers) front f.before in
+      let quiet = c.quiet in
+      omega arith
+
+  pub log_both : (cell : Cell) (row now : LinkRow) → cell_link s cell ≡ Some row → cell_link (state_after servers whole) cell ≡ Some now → now.state ≡ Both
+      → (places_from (start servers) whole row ≡ places_from (start servers) front row) ⊎ IsCaughtSince servers front whole cell now
+  log_both cell row now is end both =
+      elim (both_by servers prefix.later s plain more cell row now is (sym (ap (λ (t : State). cell_link t cell) whole_is) ∙ end) both) [
+        | inl quiet ↦ inl (let e = places_of_both servers front whole row prefix in omega arith)
+        | inr c ↦ inr (record {
+          row = c.row;
+          found = caught_in cell c.row c.found;
+          since = subst (λ (t : State). StaysSo cell now t (state_after servers whole)) (sym (at_place c.found.before))
+              (subst (StaysSo cell now (fold after s c.found.before)) (sym whole_is) c.since);
+          place = place_on cell now c;
+        })
+      ]
+
+  pub log_alone : (cell : Cell) (row now : LinkRow) (holder : ℕ) → cell_link s cell ≡ Some row → row.state ≡ Only holder false
+      → cell_link (state_after servers whole) cell ≡ Some now → (now.state ≡ Only holder false) ⊎ IsCaughtIn servers front whole cell row
+  log_alone cell row now holder is alone end =
+      elim (alone_until servers prefix.later s plain more cell row now holder is alone (sym (ap (λ (t : State). cell_link t cell) whole_is) ∙ end)) [
+        | inl same ↦ inl same
+        | inr c ↦ inr (caught_in cell row c)
+      ]
+
+  pub log_both_place : (cell : Cell) (row : LinkRow) (one other : ℕ) → cell_link s cell ≡ Some row → row.state ≡ Both
+      → is_in s row.primary one ≡ true → is_in s row.secondary other ≡ true
+      → is_in (state_after servers whole) row.primary one ≡ true → is_in (state_after servers whole) row.secondary other ≡ true
+      → places_from (start servers) whole row ≡ places_from (start servers) front row
+  log_both_place cell row one other is both first second first_on second_on =
+      let quiet = both_quiet servers prefix.later s plain more cell row one other is both first second
+      (sym (ap (λ (t : State). is_up_as t row.primary one) whole_is) ∙ first_on) (sym (ap (λ (t : State). is_up_as t row.secondary other) whole_is) ∙ second_on) in
+      let e = places_of_both servers front whole row prefix in
+      omega arith

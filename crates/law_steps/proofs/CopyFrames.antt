@@ -1,0 +1,183 @@
+-- What a job of copies leaves as it is: what the server remembers of writes, but that its numbers go on; and it speaks of copies alone.
+use Rattle.std.proofs.Common.{◌≡◌, ◌≤◌, ℕ, [], ◌∷◌, Option, Some, None, true, refl, sym, ap, ◌∙◌, subst, inl, inr, arith}
+use Rattle.global_tables.specs.declared.link.LinkRow.{LinkRow}
+use Rattle.petal_base.specs.declared.cell.Cell.{Cell}
+use Rattle.petal_base.specs.Cells.{cell_of, key_at}
+use Rattle.busy_marks.specs.Marks.{above}
+use Rattle.petal_msg.specs.Kinds.{Copied, subject_of}
+use Rattle.petal_msg.specs.declared.body.Body.{Body}
+use Rattle.petal_msg.specs.declared.body.Body.TheVariants as body
+use Rattle.petal_msg.specs.declared.copying.Copying.{Copying}
+use Rattle.petal_msg.specs.declared.copying.LastCopy.{LastCopy}
+use Rattle.petal_msg.specs.declared.copying.LinkId.{LinkId}
+use Rattle.petal_msg.specs.declared.copying.Progress.{Progress}
+use Rattle.petal_msg.specs.declared.letter.Letter.{Letter}
+use Rattle.petal_state.specs.CellState.{cell_link}
+use Rattle.petal_rules.specs.Copies.{begins_copy, mend_after, page_wanted, with_copied, with_page}
+use Rattle.petal_rules.specs.Lists.{In}
+use Rattle.petal_rules.specs.Progress.{progress_on, with_last_copy, with_progress, without_copying}
+use Rattle.petal_rules.specs.Server.{Own, Pairs, Here, Post, Done}
+use Rattle.petal_rules.specs.Store.{cell_cmp, chain_in, epochs_of}
+use Rattle.petal_rules.specs.declared.job.Job.TheVariants as job
+use Rattle.petal_rules.proofs.CellTables.{cell_cmp_total}
+use Rattle.petal_rules.proofs.Tests.{by_test}
+use Rattle.law_log.proofs.Flags.{caught_put}
+use Rattle.law_steps.specs.Ready.{IsRising}
+use Rattle.law_steps.proofs.Tables.{put_rises, without_rises}
+use Rattle.law_steps.specs.DidHolder.{DidHolder, CopyStep, Asks_to_trim, Sends, Unmarks_copied, Closes_copy, TakenCopy, Copy_as_is, Copy_trimmed, Copy_synced, Asks_page, Turns_page, Begins_copy, Goes_on_copying, Finds_it_full, Tidies}
+use Rattle.law_steps.specs.DidOther.{DidOther, first_last, TrimStep, Is_trimmed, Drops_entry, Answers_page, Is_copied_to, Goes_on_trimming, Puts_entry, Has_entry, Has_no_slot}
+use Rattle.law_steps.proofs.Letters.{posted}
+
+pub record CopyFrame (own : Own) (done : Done) : Type 0 where
+  pub pending : done.own.pairs.pending ≡ own.pairs.pending
+  pub finished : done.own.pairs.finished ≡ own.pairs.finished
+  pub last : done.own.pairs.last ≡ own.pairs.last
+  pub next : own.pairs.next ≤ done.own.pairs.next
+  pub rises : IsRising cell_cmp own.copies.pending → IsRising cell_cmp done.own.copies.pending
+  pub caught : (row : LinkRow) → (progress_on done.own row).caught ≡ (progress_on own row).caught
+  pub says : (post : Post) → In post done.posts → subject_of post.body ≡ Copied
+  pub no_letters : (letter : Letter) → In (job.Letter letter) done.jobs → ⊥
+
+no_jobs : (letter : Letter) → In (job.Letter letter) [] → ⊥
+unfolding In
+no_jobs letter h = h
+
+no_posts : {A : Type 0} (post : Post) → In post [] → A
+unfolding In
+no_posts post h = absurd h
+
+one_stage : (cell : Cell) (letter : Letter) → In (job.Letter letter) (job.Stage cell ∷ []) → ⊥
+unfolding In
+one_stage cell letter (inl e) = let f : job.Letter letter ≡ job.Stage cell = e in absurd cc
+one_stage cell letter (inr h) = h
+
+one_mend : (id : LinkId) (letter : Letter) → In (job.Letter letter) (job.Mend id ∷ []) → ⊥
+unfolding In
+one_mend id letter (inl e) = let f : job.Letter letter ≡ job.Mend id = e in absurd cc
+one_mend id letter (inr h) = h
+
+after_mend : (row : Option LinkRow) (letter : Letter) → In (job.Letter letter) (mend_after row) → ⊥
+after_mend None letter h = no_jobs letter h
+after_mend (Some row) letter h = one_mend _ letter h
+
+-- the pairs stay
+abbrev same : (own : Own) (done : Done) → done.own.pairs ≡ own.pairs
+    → ((row : LinkRow) → (progress_on done.own row).caught ≡ (progress_on own row).caught) → (IsRising cell_cmp own.copies.pending → IsRising cell_cmp done.own.copies.pending)
+    → ((post : Post) → In post done.posts → subject_of post.body ≡ Copied)
+    → ((letter : Letter) → In (job.Letter letter) done.jobs → ⊥) → CopyFrame own done
+same own done e caught rises says none = record {
+  pending = ap (λ (p : Pairs). p.pending) e;
+  finished = ap (λ (p : Pairs). p.finished) e;
+  last = ap (λ (p : Pairs). p.last) e;
+  next = (let f = ap (λ (p : Pairs). p.next) e in omega arith);
+  rises = rises;
+  caught = caught;
+  says = says;
+  no_letters = none;
+}
+
+copied_pairs : (row : Option LinkRow) (own : Own) (block : ℕ) → (with_copied row own block).pairs ≡ own.pairs
+copied_pairs None own block = refl
+copied_pairs (Some row) own block =
+    by_test (λ (left : Own). left.pairs ≡ own.pairs) (above (progress_on own row).copied block)
+    (with_progress own row (record (progress_on own row) { copied = Some block })) own (λ t. refl) (λ t. refl)
+
+page_pairs : (own : Own) (row : LinkRow) (before : Progress) (block : Option ℕ) → (with_page own row before block).pairs ≡ own.pairs
+page_pairs own row before None = refl
+page_pairs own row before (Some block) = refl
+
+copied_pending : (row : Option LinkRow) (own : Own) (block : ℕ) → (with_copied row own block).copies.pending ≡ own.copies.pending
+copied_pending None own block = refl
+copied_pending (Some row) own block =
+    by_test (λ (left : Own). left.copies.pending ≡ own.copies.pending) (above (progress_on own row).copied block)
+    (with_progress own row (record (progress_on own row) { copied = Some block })) own (λ t. refl) (λ t. refl)
+
+page_pending : (own : Own) (row : LinkRow) (before : Progress) (block : Option ℕ) → (with_page own row before block).copies.pending ≡ own.copies.pending
+page_pending own row before None = refl
+page_pending own row before (Some block) = refl
+
+copied_caught : (row : Option LinkRow) (own : Own) (block : ℕ) (other : LinkRow) → (progress_on (with_copied row own block) other).caught ≡ (progress_on own other).caught
+copied_caught None own block other = refl
+copied_caught (Some row) own block other =
+    by_test (λ (left : Own). (progress_on left other).caught ≡ (progress_on own other).caught) (above (progress_on own row).copied block)
+    (with_progress own row (record (progress_on own row) { copied = Some block })) own
+    (λ t. caught_put own row (record (progress_on own row) { copied = Some block }) other refl) (λ t. refl)
+
+page_caught : (own : Own) (row : LinkRow) (block : Option ℕ) (other : LinkRow)
+    → (progress_on (with_page own row (progress_on own row) block) other).caught ≡ (progress_on own other).caught
+page_caught own row None other = caught_put own row (record (progress_on own row) { paged = true }) other refl
+page_caught own row (Some block) other = caught_put own row (record (progress_on own row) { after = Some block }) other refl
+
+-- where the copy was changed first
+frame_from : (own now : Own) (done : Done) → now.pairs.pending ≡ own.pairs.pending → now.pairs.finished ≡ own.pairs.finished → now.pairs.last ≡ own.pairs.last
+    → own.pairs.next ≤ now.pairs.next → (IsRising cell_cmp own.copies.pending → IsRising cell_cmp now.copies.pending)
+    → ((row : LinkRow) → (progress_on now row).caught ≡ (progress_on own row).caught) → CopyFrame now done → CopyFrame own done
+frame_from own now done pending finished last le rises caught f = record {
+  pending = f.pending ∙ pending;
+  finished = f.finished ∙ finished;
+  last = f.last ∙ last;
+  next = (let more = f.next in omega arith);
+  rises = λ h. f.rises (rises h);
+  caught = λ row. f.caught row ∙ caught row;
+  says = f.says;
+  no_letters = f.no_letters;
+}
+
+step_frame : (here : Here) (own : Own) (cell : Cell) (copy : Copying) (done : Done) → CopyStep here own cell copy done → CopyFrame own done
+step_frame here own cell copy _ (Asks_to_trim fresh) = same own _ refl (λ r. refl) (λ h. h)
+    (λ post i. ap subject_of (posted _ (body.Trim copy.op cell (epochs_of (chain_in own.store.chains cell))) post i)) no_jobs
+step_frame here own cell copy _ (Sends row trimmed is) = same own _ refl (λ r. refl) (λ h. h)
+    (λ post i. ap subject_of (posted _ (body.Sync copy.op (key_at cell row.0) row.1.version copy.index row.1.bytes) post i)) no_jobs
+step_frame here own cell copy _ (Unmarks_copied kind synced left) = same own _ refl (λ r. refl) (λ h. h)
+    (λ post i. no_posts post i) (one_stage cell)
+step_frame here own cell copy _ (Closes_copy synced left) =
+    same own _ (copied_pairs (cell_link here.state cell) (without_copying own cell) cell.block)
+    (copied_caught (cell_link here.state cell) (without_copying own cell) cell.block)
+    (λ h. subst (IsRising cell_cmp) (sym (copied_pending (cell_link here.state cell) (without_copying own cell) cell.block)) (without_rises cell_cmp own.copies.pending cell h))
+    (λ post i. no_posts post i) (after_mend (cell_link here.state cell))
+
+taken_frame : (heard : Body → Type 0) (own : Own) (cell : Cell) (now : Own) (copy : Copying) (done : Done) → TakenCopy heard own cell now copy → CopyFrame now done
+    → CopyFrame own done
+taken_frame heard own cell now copy done (Copy_as_is _ is) f = f
+taken_frame heard own cell now copy done (Copy_trimmed old h is fresh) f =
+    frame_from own now done refl refl refl (omega arith) (λ r. put_rises cell_cmp_total own.copies.pending cell _ r) (λ row. refl) f
+taken_frame heard own cell now copy done (Copy_synced old h is trimmed lt) f =
+    frame_from own now done refl refl refl (omega arith) (λ r. put_rises cell_cmp_total own.copies.pending cell _ r) (λ row. refl) f
+
+pub of_holder : (heard : Body → Type 0) (here : Here) (own : Own) (done : Done) → DidHolder heard here own done → CopyFrame own done
+of_holder heard here own _ (Asks_page id row other held fresh) = same own _ refl (λ r. refl) (λ h. h)
+    (λ post i. ap subject_of (posted (Some other) (page_wanted own row) post i)) no_jobs
+of_holder heard here own _ (Turns_page id row other after block h held fresh at) =
+    same own _ (page_pairs own row (progress_on own row) block) (page_caught own row block) (λ h. subst (IsRising cell_cmp) (sym (page_pending own row (progress_on own row) block)) h)
+    (λ post i. no_posts post i) (one_mend _)
+of_holder heard here own done (Begins_copy id row other cell _ held next step) =
+    frame_from own (begins_copy own cell) done refl refl refl (omega arith) (λ r. put_rises cell_cmp_total own.copies.pending cell _ r) (λ row. refl) (step_frame here (begins_copy own cell) cell _ done step)
+of_holder heard here own done (Goes_on_copying cell now copy _ taken step) =
+    taken_frame heard own cell now copy done taken (step_frame here now cell copy done step)
+of_holder heard here own _ (Finds_it_full cell copy h is trimmed lt) = same own _ refl (λ r. refl) (λ h. without_rises cell_cmp own.copies.pending cell h)
+    (λ post i. no_posts post i) no_jobs
+of_holder heard here own _ (Tidies id row block kind is both idle left) = same own _ refl (λ r. refl) (λ h. h)
+    (λ post i. no_posts post i) (one_mend _)
+
+trim_frame : (own : Own) (cell : Cell) (last : LastCopy) (holder : ℕ) (done : Done) → TrimStep own cell last holder done → CopyFrame own done
+trim_frame own cell last holder _ (Is_trimmed none) = same own _ refl (λ r. refl) (λ h. h)
+    (λ post i. ap subject_of (posted (Some holder) (body.Trimmed last.op cell) post i)) no_jobs
+trim_frame own cell last holder _ (Drops_entry epoch epochs is) = same own _ refl (λ r. refl) (λ h. h)
+    (λ post i. no_posts post i) (one_stage cell)
+
+pub of_other : (heard : Body → Type 0) (here : Here) (own : Own) (done : Done) → DidOther heard here own done → CopyFrame own done
+of_other heard here own _ (Answers_page id row after h is) = same own _ refl (λ r. refl) (λ h. h)
+    (λ post i. ap subject_of (posted _ (body.Hello row.map row.link after _) post i)) no_jobs
+of_other heard here own done (Is_copied_to number cell epochs holder _ h held newer step) =
+    frame_from own (with_last_copy own cell (first_last number epochs)) done refl refl refl (omega arith) (λ r. r) (λ row. refl)
+    (trim_frame (with_last_copy own cell (first_last number epochs)) cell (first_last number epochs) holder done step)
+of_other heard here own done (Goes_on_trimming cell holder last _ held is step) = trim_frame own cell last holder done step
+of_other heard here own _ (Puts_entry entry holder last of_copy at room) =
+    same own _ refl (λ r. refl) (λ h. h)
+    (λ post i. ap subject_of (posted (Some holder) (body.Synced entry.op (cell_of entry.key) entry.index) post i)) no_jobs
+of_other heard here own _ (Has_entry entry holder last of_copy lt) =
+    same own _ refl (λ r. refl) (λ h. h)
+    (λ post i. ap subject_of (posted (Some holder) (body.Synced entry.op (cell_of entry.key) entry.index) post i)) no_jobs
+of_other heard here own _ (Has_no_slot entry holder last of_copy at full) =
+    same own _ refl (λ r. refl) (λ h. h)
+    (λ post i. ap subject_of (posted (Some holder) (body.SyncFull entry.op (cell_of entry.key)) post i)) no_jobs

@@ -1,0 +1,127 @@
+-- What ties a server that runs to what is chosen: a Caught of its own stands at most behind its last entry.
+use Rattle.std.proofs.Common.{◌≡◌, ◌++◌, ℕ, List, [], ◌∷◌, true, false, Some, length, sym, ap, ◌∙◌, subst, inl, inr, arith}
+use Rattle.global_tables.specs.Link.{has_server, other_of}
+use Rattle.global_tables.specs.declared.link.LinkRow.{LinkRow}
+use Rattle.global_tables.specs.declared.link.LinkState.TheVariants.{Both, Only}
+use Rattle.petal_base.specs.declared.cell.Cell.{Cell}
+use Rattle.petal_command.specs.declared.command.Command.{Command}
+use Rattle.petal_history.specs.Claims.{IsPrefix}
+use Rattle.petal_state.specs.CellState.{cell_link, serves}
+use Rattle.petal_state.specs.Command.{state_after}
+use Rattle.petal_rules.specs.Progress.{has_proposed}
+use Rattle.petal_rules.specs.State.{State, id_of, is_in, is_alone_on}
+use Rattle.petal_rules.specs.World.{Setting, World, chosen_log, server_state}
+use Rattle.petal_rules.proofs.Tests.{same_numbers, same_some}
+use Rattle.law_state.specs.Firm.{Firm}
+use Rattle.law_state.specs.Places.{IsCaughtIn, StaysSo}
+use Rattle.law_state.specs.Rows.{ByBoth, ByOne}
+use Rattle.law_state.specs.Started.{HasStarted}
+use Rattle.law_state.proofs.Again.{log_both}
+use Rattle.law_state.proofs.Ages.{in_once}
+use Rattle.law_state.proofs.Alone.{so_alone}
+use Rattle.law_state.proofs.Grown.{alone_not_both}
+use Rattle.law_state.proofs.Steady.{front_plain, log_below, log_steady}
+use Rattle.law_state.proofs.Touching.{same_place}
+use Rattle.law_steps.specs.Ties.{StaysAloneOrCaught, StaysInBoth}
+use Rattle.law_steps.proofs.Fronts.{front_long, front_more, front_on, one_front}
+use Rattle.law_steps.proofs.Histories.{runs_at}
+use Rattle.law_steps.proofs.Minds.{held_as_flag}
+
+module _ (setting : Setting) (w : World) (firm : Firm setting w) (n : ℕ) (runs : (w.servers n).life.running ≡ true) (front more : List Command)
+    (own : IsPrefix (w.servers n).log.applied front) (prefix : IsPrefix front more) (chosen : IsPrefix more (chosen_log setting w))
+    (seat : is_in (state_after setting.servers front) n (w.servers n).life.inc ≡ true)
+    (cell : Cell) (row : LinkRow) (is : cell_link (state_after setting.servers front) cell ≡ Some row) (has : has_server n row ≡ true)
+    (serving : serves n row row.state ≡ true) where
+  abbrev earlier : State
+  earlier = state_after setting.servers front
+
+  abbrev later : State
+  later = state_after setting.servers more
+
+  -- a Caught behind these entries, of a link that the server serves, is its own, and stands behind its last entry
+  record IsOwn (found : LinkRow) (c : IsCaughtIn setting.servers front more cell found) : Type 0 where
+    mine : found.state ≡ Only n false
+    at : c.until ≡ front
+    own_at : front ≡ (w.servers n).log.applied
+    started : has_proposed (server_state setting w n) (w.servers n).own cell ≡ true
+
+  same_only : {h k : ℕ} → Only h false ≡ Only k false → h ≡ k
+  same_only e = cc
+
+  own_caught : (found : LinkRow) (c : IsCaughtIn setting.servers front more cell found) → IsOwn found c
+  own_caught found c =
+      let acts = c.acts in
+      let stands = front_on (c.until ++ c.entry ∷ []) more (chosen_log setting w) c.stands chosen in
+      let until_chosen = front_on c.until _ _ (front_more c.until c.entry) stands in
+      let front_chosen = front_on front more _ prefix chosen in
+      let seated_then = runs_at setting w firm front c.until c.behind until_chosen n runs seat in
+      let h = (log_below setting.servers front c.until (front_plain setting.servers c.until _ firm.plain until_chosen) c.behind).rows cell row is in
+      let same_row : h.now ≡ found = same_some (sym h.is ∙ c.was) in
+      let holds = h.on n (w.servers n).life.inc has serving seat seated_then in
+      let holder : acts.holder ≡ n =
+      same_numbers acts.holder n (sym (ap (serves n found) acts.alone) ∙ sym (ap (λ (r : LinkRow). serves n r r.state) same_row) ∙ holds) in
+      let inc_is : acts.inc ≡ (w.servers n).life.inc =
+      in_once (state_after setting.servers c.until) n acts.inc (w.servers n).life.inc
+      (subst (λ k. is_in (state_after setting.servers c.until) k acts.inc ≡ true) holder acts.holds) seated_then in
+      let told = firm.started c.until found.map found.link acts.holder acts.inc (other_of acts.holder found) acts.other_inc
+      (subst (λ (x : Command). IsPrefix (c.until ++ x ∷ []) (chosen_log setting w)) acts.is stands) in
+      elim (subst (λ k. HasStarted w.servers k acts.inc (length c.until) (id_of found)) holder told) [
+        | inl past ↦ absurd (omega (arith, inc_is))
+        | inr flag ↦ (
+            let reached = flag.1.reached in
+            let one = front_long (w.servers n).log.applied front own in
+            let two = front_long front c.until c.behind in
+            let at : c.until ≡ front = one_front c.until front (chosen_log setting w) until_chosen front_chosen (omega arith) in
+            let own_at : front ≡ (w.servers n).log.applied = one_front front (w.servers n).log.applied (chosen_log setting w) front_chosen (firm.servers n) (omega arith) in
+            let there : cell_link (server_state setting w n) cell ≡ Some found =
+            ap (λ log. cell_link (state_after setting.servers log) cell) (sym own_at) ∙ ap (λ log. cell_link (state_after setting.servers log) cell) (sym at) ∙ c.was in
+            record {
+              mine = acts.alone ∙ ap (λ k. Only k false) holder;
+              at = at;
+              own_at = own_at;
+              started = held_as_flag (server_state setting w n) (w.servers n).own cell found there ∙ flag.1.flagged (omega arith);
+            })
+      ]
+
+  -- the later row: in Both, or the server holds it alone
+  by_later : {B : Type 0} → ((now : LinkRow) → cell_link later cell ≡ Some now → now.state ≡ Both → B) → (is_alone_on later n cell ≡ true → B) → B
+  by_later both alone =
+      let plain = front_plain setting.servers more _ firm.plain chosen in
+      let h = (log_below setting.servers front more plain prefix).rows cell row is in
+      let on = h.on n (w.servers n).life.inc has serving seat (runs_at setting w firm front more prefix chosen n runs seat) in
+      elim ((log_steady setting.servers more plain).linked cell h.now h.is).served [
+        | ByBoth so one other ↦ both h.now h.is so
+        | ByOne holder other so pair out ↦
+            alone (so_alone later n cell h.now false h.is (so ∙ ap (λ k. Only k false) (same_numbers holder n (sym (ap (serves n h.now) so) ∙ on))))
+      ]
+
+  pub stays_both : row.state ≡ Both → StaysInBoth setting n front more cell row
+  stays_both both = by_later
+      (λ now there so.
+      elim (log_both setting.servers front more (front_plain setting.servers more _ firm.plain chosen) prefix cell row now is there so) [
+        | inl same ↦ inl (same_place setting.servers front more cell row (front_plain setting.servers more _ firm.plain chosen) prefix is same)
+        | inr c ↦ (
+            let own_one = own_caught c.row c.found in
+            let again : row ≡ c.row = same_some (sym is ∙ ap (λ log. cell_link (state_after setting.servers log) cell) (sym own_one.at) ∙ c.found.was) in
+            alone_not_both c.row n own_one.mine (ap (λ (r : LinkRow). r.state) (sym again) ∙ both))
+      ])
+      (λ alone. inr alone)
+
+  pub stays_alone : row.state ≡ Only n false → StaysAloneOrCaught setting w n front more cell
+  stays_alone only = by_later
+      (λ now there so.
+      elim (log_both setting.servers front more (front_plain setting.servers more _ firm.plain chosen) prefix cell row now is there so) [
+        | inl same ↦ (
+            let stays = same_place setting.servers front more cell row (front_plain setting.servers more _ firm.plain chosen) prefix is same in
+            alone_not_both row n only (ap (λ (r : LinkRow). r.state) (same_some (sym stays.same ∙ there)) ∙ so))
+        | inr c ↦ (
+            let own_one = own_caught c.row c.found in
+            inr (record {
+              at = own_one.own_at;
+              proposed = own_one.started;
+              now = now;
+              both = so;
+              since = subst (λ log. StaysSo cell now (state_after setting.servers log) later) own_one.at c.since;
+            }))
+      ])
+      (λ alone. inl alone)

@@ -1,0 +1,9 @@
+use Rattle.memory_server.proofs.Ticking.{tick_site}
+use Rattle.memory_server.proofs.server.MemServer.tick_once.Goals as goal
+
+pub returns-clause-site : goal.returns-clause-site
+returns-clause-site c =
+    let it = c.self.inside in
+    let ticked = c.in_ok-letters.ensures in
+    rw (← c.self.view_is)
+    (tick_site it.core c.tick.new.self it.store c.tick.new.store it.state c.in_ok-letters.letters (ticked.ok tt it.state.records) ticked.life.1)
