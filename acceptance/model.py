@@ -1,9 +1,10 @@
 """A plain model of the script language as far as it is built: what `petal run` may print for a script.
 
 It knows nothing of servers' letters and of agreement: a disk is a map of blocks, and each block takes a slot on two
-neighbouring servers of the disk's tuple, its pair. Where one of a pair stops, the other one holds the pair's blocks alone from
-then on, and serves them while it runs. The model doesn't know when the others are told that a server has stopped, and when a
-server that was started is taken in again: it goes by what was answered. Within a phase the clients and the operator run at once, so the model goes through a
+neighbouring servers of the disk's tuple, its pair. Where one of a pair stops, the other one holds the pair's blocks alone, and
+serves them while it runs; once both run it copies to the other what that one has missed, and then both hold them again. The model
+doesn't know when the others are told that a server has stopped, when a server that was started is taken in again and when it is
+up to date, but where a settle was answered: it goes by what was answered. Within a phase the clients and the operator run at once, so the model goes through a
 phase as a whole and tells for each line which answers are right in some order of them; it allows a little more than that where
 several clients write one block, or where slots run out while servers stop, and never less. `answers_of` tells the answers of
 scripts in which each line has one right answer, and `complaint` says what is wrong with a run's answers to any script.
@@ -65,10 +66,11 @@ class Making:
         self.tuple = [int(word) for word in words[4:]]
 
 class Order:
-    """A line that stops or starts a server."""
+    """A line that stops or starts a server, or waits until all is settled."""
 
     def __init__(self, number, words):
-        self.number, self.kind, self.server = number, words[1], int(words[2])
+        self.number, self.kind = number, words[1]
+        self.server = int(words[2]) if words[2:] else None
 
 class Pair:
     """Two servers, the primary and the secondary: whether both may hold their blocks, who may hold them alone, and who of the two
@@ -85,6 +87,14 @@ class Pair:
     def leave(self, server):
         self.may_leave(server)
         self.gone |= {server} & set(self.servers)
+
+    def may_join(self):
+        """Both run perhaps: then both may hold the blocks again."""
+        self.both = True
+
+    def join(self):
+        """Both hold the blocks."""
+        self.both, self.alone, self.gone = True, set(), set()
 
     def narrow(self, alone, why):
         """One of these holds the blocks alone."""
@@ -121,6 +131,13 @@ class World:
     def most_free(self, server):
         return self.slots - sum(self.taken[server].values())
 
+    def copy_slots(self, pair, is_sure):
+        """Each block of the pair that has a slot on one of the two has one on both, or may have one."""
+        for spot in [spot for server in pair.servers for spot in self.taken[server] if spot[0] in self.disks and self.pair_of(spot) is pair]:
+            known = is_sure and any(self.taken[server].get(spot, False) for server in pair.servers)
+            for server in pair.servers:
+                self.take_slot(server, spot, known)
+
     def held(self, spot):
         """What a block may hold."""
         return self.contents.get(spot, {ZEROS})
@@ -153,7 +170,31 @@ class Phase:
             self.learn(use)
         self.world.returning = (self.world.returning - self.back | self.starting) - self.resting
         self.world.stopped = self.resting
+        self.settle()
         return self.allowed
+
+    def settle(self):
+        """Where the last line of the operator waited until all was settled, each server that runs is taken in again, and of a pair
+        of which both run both hold the blocks."""
+        orders = [line for line in self.lines if isinstance(line, Order)]
+        if not orders or orders[-1].kind != "settle" or self.answer_to(orders[-1]) != "ok":
+            return
+        self.world.returning = set()
+        for pair in self.pairs():
+            if not self.resting & set(pair.servers):
+                pair.join()
+                self.world.copy_slots(pair, True)
+
+    def pairs(self):
+        return [pair for pairs in self.world.disks.values() for pair in pairs]
+
+    def may_be_both(self, pair):
+        return all(self.may_run(server) for server in pair.servers)
+
+    def settled(self):
+        """What a settle may be answered: a copy finds no slot only where slots may run out."""
+        copied = {server for pair in self.pairs() if self.may_be_both(pair) for server in pair.servers}
+        return {"ok"} | ({"nospace"} if any(self.world.least_free(server) <= len(CLIENTS) for server in copied) else set())
 
     def obey(self):
         """The operator is always told that the server has stopped, or runs."""
@@ -166,10 +207,15 @@ class Phase:
                 elif line.kind == "start" and line.server in self.resting:
                     self.starting.add(line.server)
                     self.resting.remove(line.server)
-        for pairs in self.world.disks.values():
-            for pair in pairs:
-                for server in self.stopping:
-                    pair.leave(server)
+        for pair in self.pairs():
+            if pair.gone and self.may_be_both(pair):
+                pair.may_join()
+                self.world.copy_slots(pair, False)
+            for server in self.stopping:
+                pair.leave(server)
+        for line in self.lines:
+            if isinstance(line, Order) and line.kind == "settle":
+                self.allowed[line.number] = self.settled()
 
     def may_run(self, server):
         """Whether it runs at some time of the phase."""
@@ -275,7 +321,7 @@ class Phase:
         why = f"line {use.number} is answered {answer!r}"
         if answer == "unavailable":
             pair.narrow({server for server in pair.alone if not self.is_firm(server)}, why)
-        elif use.writes is not None and answer == "ok" and pair in self.left:
+        elif use.writes is not None and answer == "ok" and pair in self.left and not self.may_be_both(pair):
             pair.narrow({server for server in pair.alone if self.may_run(server)}, why)
         if answer != "unavailable" and not pair.both and len(pair.alone) == 1:
             self.back |= pair.alone - self.stopping
@@ -365,7 +411,7 @@ def phases_of(text):
         elif words[0] in CLIENTS:
             kind = Making if words[1] == "disk" else Use
             phases[-1].append(kind(number, words[0], words))
-        elif words[:2] in (["op", "stop"], ["op", "start"]):
+        elif words[:2] in (["op", "stop"], ["op", "start"], ["op", "settle"]):
             phases[-1].append(Order(number, words))
     return world, phases
 

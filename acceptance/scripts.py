@@ -192,7 +192,11 @@ def stops(seed, *nets):
 
     return joined(mixed_phases(draw, servers, 4, nets, stops_of))
 
-def starts(seed, *nets):
+def settles(seed, *nets):
+    """The same, where the operator often waits until all is settled."""
+    return starts(seed, *nets, settles=True)
+
+def starts(seed, *nets, settles=False):
     """A mixed script of few disks in which servers stop and start again, so that a majority runs: mostly in phases of their own, and
     beside writes and reads. Some are stopped that have stopped, and started that run."""
     draw = random.Random(int(seed))
@@ -200,6 +204,8 @@ def starts(seed, *nets):
     stopped, left = [], [64]
 
     def order():
+        if settles and draw.randrange(3) == 0:
+            return "op settle"
         if left[0] and (stopped and draw.randrange(2) or not draw.randrange(8)):
             left[0] -= 1
             server = draw.choice(stopped) if stopped and draw.randrange(8) else draw.randrange(servers)
@@ -219,14 +225,19 @@ def starts(seed, *nets):
 
     return joined(mixed_phases(draw, servers, 4, nets, orders_of))
 
-def rolling(servers, turns, *nets):
+def upgrade(servers, turns, *nets):
+    """One server after the other stops, blocks of its are written, and it starts again and is brought up to date, before the next one
+    stops: all is served at any time."""
+    return rolling(servers, turns, *nets, settles=True)
+
+def rolling(servers, turns, *nets, settles=False):
     """One server after the other stops, a block of its is written and read, and it starts again; at the end each block is read."""
     servers, turns = int(servers), int(turns)
     lines = head(servers, 2 * turns, *(net.replace("_", " ") for net in nets))
     for turn in range(turns):
         server = turn % servers
         lines += [f"op stop {server}", "wait", f"a write vol {turn} fill {turn}", f"b write vol {turn + servers - 1} fill {turn + 100}"]
-        lines += [f"c read vol {turn}", "wait", f"op start {server}", "wait"]
+        lines += [f"c read vol {turn}", "wait", f"op start {server}", *(["op settle"] if settles else []), "wait"]
     return joined(lines + [f"a read vol {block}" for block in range(turns)])
 
 def neighbours(*nets):
@@ -253,7 +264,7 @@ def amid(slots, stopped, delay, *nets):
     lines += [f"b write vol {block} fill {block}" for block in range(2, 22, 5)] + ["wait"]
     return joined(lines + [f"c read vol {block}" for block in range(2, 22, 5)])
 
-MAKERS = {"many_disks": many_disks, "mixed": mixed, "stops": stops, "starts": starts, "rolling": rolling, "neighbours": neighbours, "amid": amid, "text": text, "bytes": bytes_of, "nothing": nothing, "work": work, "busy": busy,
+MAKERS = {"many_disks": many_disks, "mixed": mixed, "stops": stops, "starts": starts, "settles": settles, "rolling": rolling, "upgrade": upgrade, "neighbours": neighbours, "amid": amid, "text": text, "bytes": bytes_of, "nothing": nothing, "work": work, "busy": busy,
           "all_servers": all_servers, "patterns": patterns, "sized": sized, "requests": requests, "phases": phases, "large": large}
 
 def made(words):
