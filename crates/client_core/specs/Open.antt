@@ -56,6 +56,15 @@ abbrev pub start_of : ℕ → Option Asked → Option ℕ
 start_of server None = None
 start_of server (Some asked) = start_in server asked asked.request
 
+-- the request's line, where it blanks this server
+abbrev pub blank_in : ℕ → Asked → Request → Option ℕ
+blank_in server asked (request.Blank other) = if other == server then Some asked.line else None
+blank_in server asked _ = None
+
+abbrev pub blank_of : ℕ → Option Asked → Option ℕ
+blank_of server None = None
+blank_of server (Some asked) = blank_in server asked asked.request
+
 -- the request's line and its round, where it is a settle
 abbrev pub settle_in : Asked → Request → Option (ℕ × ℕ)
 settle_in asked request.Settle = Some (asked.line, asked.round)

@@ -8,7 +8,7 @@ ghost use Rattle.petal_rules.specs.Clients.{Client, first_client, called, first_
 ghost use Rattle.petal_rules.specs.Clients.{then_goes_out, ticked, asking, goes_out_where};
 ghost use Rattle.petal_rules.specs.World.{round_of, turn_of};
 ghost use Rattle.client_core.specs.Core.{at_core, is_spent, state_of};
-ghost use Rattle.client_core.specs.Open.{answers_where, in_round, outcome, settle_of, start_of, stop_of, with_send, with_witnesses};
+ghost use Rattle.client_core.specs.Open.{answers_where, blank_of, in_round, outcome, settle_of, start_of, stop_of, with_send, with_witnesses};
 ghost use Rattle.client_core.specs.Learning.{learnt};
 
 use crate::hearing::Heard;
@@ -187,6 +187,16 @@ impl ClientCore {
         match &self.asked {
             None => None,
             Some(open) => open.starts(server),
+        }
+    }
+
+    /// The line of the open request, where it blanks this server.
+    pub fn blanks(&self, server: ServerId) -> Option<u32>
+        ensures { result ≡ blank_of server self.now.client.asked }
+    {
+        match &self.asked {
+            None => None,
+            Some(open) => open.blanks(server),
         }
     }
 

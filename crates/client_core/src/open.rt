@@ -2,7 +2,7 @@
 
 ghost use Rattle.std.specs.Prelude.{◌≡◌, IfOk, []};
 ghost use Rattle.petal_rules.specs.Clients.{counts, first_round};
-ghost use Rattle.client_core.specs.Open.{bytes_sent, settle_in, start_in, stop_in, with_send, with_witnesses};
+ghost use Rattle.client_core.specs.Open.{blank_in, bytes_sent, settle_in, start_in, stop_in, with_send, with_witnesses};
 
 use crate::round::{Round, Shown};
 use petal_base::{NoMemory, Rev, Seq, ServerId, SharedBlock};
@@ -136,6 +136,22 @@ impl Open {
     {
         match &self.request {
             Request::Start { server: other } => {
+                if *other == server {
+                    Some(self.line)
+                } else {
+                    None
+                }
+            }
+            _ => None,
+        }
+    }
+
+    /// The request's line, where it blanks this server.
+    pub fn blanks(&self, server: ServerId) -> Option<u32>
+        ensures { result ≡ blank_in server self.now self.now.request }
+    {
+        match &self.request {
+            Request::Blank { server: other } => {
                 if *other == server {
                     Some(self.line)
                 } else {

@@ -108,8 +108,8 @@ pub struct Round {
 }
 
 impl Open {
-    /// What a glance means for this request, in a state: a stop is done; a start has failed where the server does not run; a
-    /// settle goes on with its rounds.
+    /// What a glance means for this request, in a state: a stop is done; a start, or a blank, has failed where the server does not
+    /// run; a settle goes on with its rounds.
     pub fn see(
         &self,
         alloc: Global,
@@ -126,11 +126,13 @@ impl Open {
         }
         match &self.request {
             Request::Stop { server: _ } => Ok(Heard::Answered(Answer::Ok)),
-            Request::Start { server: _ } => Ok(Heard::Answered(if sight.running {
-                Answer::Ok
-            } else {
-                Answer::Failed
-            })),
+            Request::Start { server: _ } | Request::Blank { server: _ } => {
+                Ok(Heard::Answered(if sight.running {
+                    Answer::Ok
+                } else {
+                    Answer::Failed
+                }))
+            }
             Request::Settle => self.settle(alloc, servers, state, sight),
             _ => Ok(Heard::Nothing),
         }

@@ -12,9 +12,12 @@ use Rattle.petal_rules.proofs.Tests.{number_itself, same_some, true_false}
 abbrev pub asks_for : Request → (line seq : ℕ) → Asked
 asks_for what line seq = record { line = line; seq = seq; request = what; turn = 1; rev = 1; witnesses = 0; round = 0; seen = [] }
 
--- it stops server 1, or starts it
+-- it stops server 1, blanks it, or starts it
 abbrev pub asked_for : (line seq : ℕ) → Asked
 asked_for line seq = asks_for (request.Stop 1) line seq
+
+abbrev pub blank_of : (line seq : ℕ) → Asked
+blank_of line seq = asks_for (request.Blank 1) line seq
 
 abbrev pub start_of : (line seq : ℕ) → Asked
 start_of line seq = asks_for (request.Start 1) line seq

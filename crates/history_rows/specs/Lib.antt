@@ -1,4 +1,5 @@
 pub mod Acts
+pub mod Blanks
 pub mod Boots
 pub mod Copies
 pub mod Returned

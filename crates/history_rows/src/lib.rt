@@ -1,6 +1,7 @@
 //! Histories that are worked by hand: what the rules say of runs in which servers stop and return. The crate has no code of its own.
 #![tactic(auto)]
 
+mod blanks;
 mod boots;
 mod copies;
 mod faults;
@@ -9,6 +10,10 @@ mod settles;
 mod stops;
 mod takeover;
 
+pub use blanks::{
+    a_blank_server_is_filled, a_blank_server_joins, a_line_blanks_a_server,
+    a_lost_link_is_unavailable,
+};
 pub use boots::{
     a_boot_fails, a_line_starts_a_server, a_server_joins_again,
     a_start_of_a_running_server_does_nothing,

@@ -9,7 +9,7 @@ use Rattle.petal_base.specs.declared.cell.Key.{Key}
 use Rattle.petal_disk.specs.Disk.{LeavesOnly}
 use Rattle.petal_disk.specs.declared.disk.Disk.{Ghosts}
 use Rattle.petal_disk.proofs.Moments.{started, weaker}
-use Rattle.petal_rules.specs.Store.{Store, mark_on, with_entry, with_mark_on, without_entry, without_mark_on}
+use Rattle.petal_rules.specs.Store.{Store, mark_on, settled, with_entry, with_mark_on, without_entry, without_mark_on}
 use Rattle.physical_map.specs.Keys.{IsInOrder}
 use Rattle.server_store.specs.Holdings.{Holdings, key_held}
 use Rattle.server_store.specs.Shown.{BeforeOrAfter, Holds, Shows, picture_of}
@@ -82,6 +82,29 @@ module _ {D : Type 0} (file : List ℕ) (before : Holdings D) where
         more,
         refl,
       )
+
+  -- a store that waited does so no more
+  settled_after : before.fresh ≡ true → BeforeOrAfter file before kind.Settled []
+      → StandsAsEither (store_of before) (settled (store_of before)) file
+  settled_after waits (inl shows) = inl (stands_before file before shows)
+  settled_after waits (inr shows) =
+      let more : Store = record (store_of before) { fresh = false; records = length before.log.records + 1 } in
+      let is : settled (store_of before) ≡ more = ap (λ (b : Bool). if b then more else store_of before) waits in
+      subst (λ (after : Store). StandsAsEither (store_of before) after file) (sym is)
+      (inr (
+        record {
+          fresh = before.log.fresh;
+          records = before.log.records ++ kind.Settled ∷ [];
+          picture = _;
+          shows = shows;
+          chains_are = refl;
+          marks_are = refl;
+          fresh_is = refl;
+          count_is = count_more before.log.records kind.Settled;
+        },
+        refl,
+        refl,
+      ))
 
   -- an entry is put
   put_after : (key : Key) (version slot : ℕ) (bytes : List ℕ) → BeforeOrAfter file before (kind.Put key version slot) bytes
@@ -173,4 +196,13 @@ module _ {D : Type 0} (device : Ghosts D) where
     unmark_moments before after k cell idle holds run = elim (cases_Bool (has_mark (mark_on k cell) before.marks)) [
       | inl has ↦ weaker device.moment device.left_since before.disk after.disk _ _ run (λ c. unmark_after c before k cell has)
       | inr has ↦ idle_moments before after (without_mark_on (store_of before) k cell) (idle has) holds
+    ]
+
+    -- so within one by which the store waits no more
+    pub settle_moments : (before after : Holdings D) → (before.fresh ≡ false → after ≡ before)
+        → HoldsAt before → Leaves before after (λ c. BeforeOrAfter c before kind.Settled [])
+        → Leaves before after (StandsAsEither (store_of before) (settled (store_of before)))
+    settle_moments before after idle holds run = elim (cases_Bool before.fresh) [
+      | inl waits ↦ weaker device.moment device.left_since before.disk after.disk _ _ run (λ c. settled_after c before waits)
+      | inr not ↦ idle_moments before after (settled (store_of before)) (idle not) holds
     ]

@@ -1,8 +1,7 @@
 -- Chains after an entry was dropped.
-use Rattle.std.proofs.Common.{◌≡◌, ◌≢◌, inl, inr, ℕ, ◌+◌, ◌<◌, Bool, true, false, not, cond, T, List, [], ◌∷◌, length, Option, Some, None, refl, sym, subst, ap, ◌∙◌, arith}
+use Rattle.std.proofs.Common.{◌≡◌, ◌≢◌, inl, inr, ℕ, ◌+◌, Bool, true, false, not, cond, List, [], ◌∷◌, length, Option, Some, None, refl, sym, ap, ◌∙◌, arith}
 use Rattle.std.proofs.lemmas.Bool.{cases_Bool}
 use Rattle.std.proofs.lemmas.Bool.Decides.{nat_tests}
-use Rattle.std.specs.Prelude.{filter, unwrap_or}
 use Rattle.std.specs.Ordering.{nat_cmp, is_eq}
 use Rattle.std.specs.BTreeMap.{is_at}
 use Rattle.std.specs.Map.{lookup}
@@ -17,7 +16,7 @@ use Rattle.petal_rules.proofs.CellTables.{cell_cmp_total, cell_cmp_same, cell_sa
 use Rattle.physical_map.specs.Entries.{in_cell}
 use Rattle.physical_map.specs.Keys.{key_below, same_key, IsAbove, IsInOrder}
 use Rattle.server_store.specs.Holdings.{Held, Holdings, key_held, without_held}
-use Rattle.kept_chains.specs.Chains.{chain_by, chains_by}
+use Rattle.kept_chains.specs.Chains.{chain_by}
 use Rattle.kept_chains.specs.Kept.{stored_of, chains_of, store_of}
 use Rattle.kept_chains.proofs.Puts.{IsSorted, at_is_find, sorted_put, without_none}
 use Rattle.kept_chains.proofs.Chains.{cell_cases, well_by}

@@ -1,21 +1,20 @@
 -- What a walk over the entries or the marks finds.
-use Rattle.std.proofs.Common.{◌≡◌, inl, inr, ℕ, zero, suc, ◌<◌, ◌==◌, ◌&&◌, ◌||◌, Bool, true, false, cond, T, nat_lt, nat_le, List, [], ◌∷◌, map, length, Option, Some, None, is_some, option_map, refl, sym, subst, ap, ◌∙◌, arith}
+use Rattle.std.proofs.Common.{◌≡◌, inl, inr, ℕ, zero, suc, ◌<◌, ◌==◌, ◌&&◌, Bool, true, false, cond, T, nat_le, List, [], ◌∷◌, map, Option, Some, None, is_some, option_map, refl, sym, subst, ap, ◌∙◌, arith}
 use Rattle.std.proofs.lemmas.Bool.{cases_Bool}
 use Rattle.std.proofs.lemmas.Bool.Decides.{nat_tests}
 use Rattle.std.proofs.lemmas.Option.{slice_get-map}
-use Rattle.std.specs.Prelude.{filter, slice_get, nat_eq, if◌then◌else◌}
+use Rattle.std.specs.Prelude.{filter, slice_get, nat_eq}
 use Rattle.std.specs.List.{list_any}
 use Rattle.std.specs.declared.cmp.Ordering.TheVariants.{Less, Equal, Greater}
 use Rattle.std.specs.Ordering.{nat_cmp, is_lt, match_ordering}
 use Rattle.std.specs.BTreeMap.{insert_entry}
 use Rattle.std.specs.FinMap.Entries as rows
 use Rattle.busy_marks.specs.declared.marks.Mark.{Mark}
-use Rattle.busy_marks.specs.Marks as marks
 use Rattle.busy_marks.specs.Marks.{above, lesser, next_marked}
 use Rattle.petal_base.specs.declared.cell.Cell.{Cell}
 use Rattle.petal_base.specs.declared.cell.Key.{Key}
 use Rattle.petal_base.specs.Cells.{cell_of}
-use Rattle.petal_table.specs.Table.{Table, at, put}
+use Rattle.petal_table.specs.Table.{Table, put}
 use Rattle.petal_rules.specs.Copies.{least}
 use Rattle.petal_rules.specs.Store.{Chain, Stored, bytes_of, cell_cmp, chain_in, entry_at, epochs_of, or_else}
 use Rattle.petal_rules.proofs.CellTables.{cell_cmp_same}
@@ -29,7 +28,7 @@ use Rattle.kept_chains.specs.Walking.{marked_in, place_of, stored_in}
 use Rattle.kept_chains.proofs.Puts.{IsSorted}
 use Rattle.kept_chains.proofs.Chains.{well_by}
 use Rattle.kept_chains.proofs.Drops.{chain_held}
-use Rattle.kept_chains.proofs.InOrder.{chain_is, new_first}
+use Rattle.kept_chains.proofs.InOrder.{chain_is}
 
 -- the least marked block above a number
 pub marked_is : (of : ℕ) (after : Option ℕ) (ms : List Mark) → next_marked of after ms ≡ least (filter (above after) (marked_in of ms))

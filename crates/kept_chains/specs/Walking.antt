@@ -1,5 +1,5 @@
 -- The blocks of a map, as they are walked.
-use Rattle.std.specs.Prelude.{ℕ, ◌==◌, List, map, filter, Option, None, Some, option_map}
+use Rattle.std.specs.Prelude.{ℕ, ◌==◌, List, map, filter}
 use Rattle.busy_marks.specs.declared.marks.Mark.{Mark}
 use Rattle.petal_base.specs.declared.cell.Cell.{Cell}
 use Rattle.petal_table.specs.Table.{Table}

@@ -11,5 +11,5 @@ mod walk;
 
 pub use error::ReadError;
 pub use laws::{a_put_is_an_entry_more, a_read_finds_the_chains_entry, versions_and_counts_agree};
-pub use store::{drop_entry, mark, next_version, read_at, set_apart, unmark};
+pub use store::{drop_entry, mark, next_version, read_at, set_apart, settle, unmark};
 pub use walk::{Found, epochs, mark_left, next_marked, next_stored, nth, read_nth};

@@ -1,11 +1,11 @@
 //! Calls of a store, said as the rules say them.
 
-ghost use Rattle.std.specs.Prelude.{◌≡◌, ◌+◌, ◌-◌, ◌^◌, ◌<◌, ◌++◌, ◌∷◌, [], length, nat_lt, Contains, IfOk, IfErr, IfSome, IfNone, OnOk, OnErr, is_some, nat_eq, true};
+ghost use Rattle.std.specs.Prelude.{◌≡◌, ◌+◌, ◌-◌, ◌^◌, ◌<◌, ◌++◌, ◌∷◌, [], length, nat_lt, Contains, IfOk, IfErr, IfSome, IfNone, OnOk, OnErr, IsErrOf, is_some, nat_eq, true};
 ghost use Rattle.std.specs.List.{list_any};
 ghost use Rattle.petal_base.specs.Cells.{cell_of};
 ghost use Rattle.petal_disk.specs.Faults.{HasCause};
 ghost use Rattle.petal_disk.specs.Keeping.{KeepsDevice};
-ghost use Rattle.petal_rules.specs.Store.{bytes_of, chain_in, entry_at, epochs_of, free_of, version_of, top_of, with_mark_on, without_entry, without_mark_on};
+ghost use Rattle.petal_rules.specs.Store.{bytes_of, chain_in, entry_at, epochs_of, free_of, settled, version_of, top_of, with_mark_on, without_entry, without_mark_on};
 ghost use Rattle.physical_map.specs.Entries as map;
 ghost use Rattle.server_store.specs.Errors.{IsCommitError};
 ghost use Rattle.server_store.specs.Holdings.{listed};
@@ -115,4 +115,16 @@ pub fn drop_entry<D: Disk>(store: &mut Store<D>, key: Key) -> Result<(), StoreEr
     // What `free` promises tells the proof that the entries are in order.
     let _ = store.free();
     store.drop_key(key)
+}
+
+/// The store waits for nobody any more. Where it waited for nobody nothing changes. It takes no memory.
+///
+/// # Errors
+/// `JournalFull` only where the journal has all its records; `Failed`, where the device failed. It waits as before.
+pub fn settle<D: Disk>(store: &mut Store<D>) -> Result<(), StoreError>
+    ensures commit { IsCommit D.Disk store.old store.new result (settled (store_of store.old)) }
+    ensures errors { IfErr result IsCommitError }
+    ensures full { IsErrOf result StoreError.JournalFull → (store.old.log.region.count ≡ 65536) × (store.old.fresh ≡ true) }
+{
+    store.settle_fresh()
 }

@@ -33,8 +33,8 @@ use Rattle.law_state.proofs.Ages.{between}
 use Rattle.law_state.proofs.Disks.{first_at_start}
 use Rattle.law_state.proofs.Entries.{log_plain}
 use Rattle.law_state.proofs.Steady.{front_plain, log_below, log_steady}
-use Rattle.law_steps.specs.Turned.{Turned, IsSame, StaysOpen, IsReason, By_verdict, By_witness, IsJudged, Goes_on, Begins, Reads, Ends, Shown, IsSeenAs, Stops_it, Starts_it, Has_no_space, Is_settled, Judges, answer_of}
-use Rattle.law_steps.specs.Happens.{Happens, Serves, Turns}
+use Rattle.law_steps.specs.Turned.{Turned, IsSame, StaysOpen, IsReason, By_verdict, By_witness, IsJudged, Goes_on, Begins, Reads, Ends, Shown, IsSeenAs, Stops_it, Starts_it, Blanks_it, Has_no_space, Is_settled, Judges, answer_of}
+use Rattle.law_steps.specs.Happens.{Happens, Blanks, Serves, Turns}
 use Rattle.petal_rules.proofs.ListLemmas.{put_same}
 use Rattle.law_steps.specs.Ready.{AreFirm, Rests}
 use Rattle.law_steps.proofs.Fronts.{front_itself, front_on, below_itself}
@@ -294,12 +294,14 @@ module _ (setting : Setting) (last : World) (plain : IsPlainLog setting.servers 
       asks : IsSeenAs state asked sight given → (r : Request) × (asked.request ≡ r)
       asks (Stops_it server is e) = (request.Stop server, is)
       asks (Starts_it server is e) = (request.Start server, is)
+      asks (Blanks_it server is e) = (request.Blank server, is)
       asks (Has_no_space is full e) = (request.Settle, is)
       asks (Is_settled is round seen all e) = (request.Settle, is)
 
       told : IsSeenAs state asked sight given → (a : Answer) × (given ≡ a)
       told (Stops_it server is e) = (answer.Ok, e)
       told (Starts_it server is e) = ((if sight.running then answer.Ok else answer.Failed), e)
+      told (Blanks_it server is e) = ((if sight.running then answer.Ok else answer.Failed), e)
       told (Has_no_space is full e) = (answer.NoSpace, e)
       told (Is_settled is round seen all e) = (answer.Ok, e)
 
@@ -307,6 +309,8 @@ module _ (setting : Setting) (last : World) (plain : IsPlainLog setting.servers 
       none (Stops_it server is e) = tt
       none (Starts_it server is e) =
           by_test (CauseOf setting last c asked.seq (request.Start server) None) sight.running answer.Ok answer.Failed (λ t. tt) (λ t. tt)
+      none (Blanks_it server is e) =
+          by_test (CauseOf setting last c asked.seq (request.Blank server) None) sight.running answer.Ok answer.Failed (λ t. tt) (λ t. tt)
       none (Has_no_space is full e) = tt
       none (Is_settled is round seen all e) = tt
 
@@ -363,7 +367,8 @@ module _ (setting : Setting) (last : World) (plain : IsPlainLog setting.servers 
 
   pub step_keeps : (state : State) (w v : World) → Kept w → ((c : ℕ) → IsPrefix (v.clients c).applied (chosen_log setting last)) → Happens setting state w v
       → Kept v
-  step_keeps state w _ kept parts (Serves n stamp what acted lt within serving) = record { answers = kept.answers; open_for = kept.open_for }
+  step_keeps state w _ kept parts (Serves n stamp what acted lt within unblanked serving) = record { answers = kept.answers; open_for = kept.open_for }
+  step_keeps state w _ kept parts (Blanks n stamp lt within rests) = record { answers = kept.answers; open_for = kept.open_for }
   step_keeps state w _ kept parts (Turns c stamp in_call reacted lt small turned onward) =
       let part : IsPrefix reacted.client.applied (chosen_log setting last) =
       subst (λ (client : Client). IsPrefix client.applied (chosen_log setting last)) (put_same w.clients c reacted.client) (parts c) in

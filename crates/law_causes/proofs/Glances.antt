@@ -1,5 +1,5 @@
--- What the lines that name a server are answered by: each by its own glance, which tells what it saw. And why a start fails: its
--- glance comes right after the boot that its line gave, and finds the server stopped.
+-- What the lines that name a server are answered by: each by its own glance, which tells what it saw. And why a start or a blank
+-- fails: its glance comes right after the boot that its line gave, and finds the server stopped.
 use Rattle.std.proofs.Common.{◌≡◌, ◌≢◌, ◌⊎◌, inl, inr, ◌<◌, ◌+◌, ◌++◌, ◌==◌, ℕ, Bool, true, false, List, [], ◌∷◌, Option, Some, None, is_some, refl, sym, ap, ◌∙◌, subst, arith, append_assoc}
 use Rattle.std.specs.Prelude.{if◌then◌else◌, length, slice_get}
 use Rattle.std.proofs.lemmas.List.{append-nil}
@@ -30,9 +30,9 @@ use Rattle.petal_rules.specs.Jobs.{Acted, here_of, is_overfull, operator, shown}
 use Rattle.petal_rules.specs.Lists.{In}
 use Rattle.petal_rules.specs.Server.{Here, Server}
 use Rattle.petal_rules.specs.State.{State, find, lead}
-use Rattle.petal_rules.specs.World.{Booted, Control, Deed, IsDone, IsDue, IsFree, MayActor, MayGlance, MayServer, Setting, Stopped, World, acts, client_state, client_step, controls, lines_of, next_line, reacts, server_state, server_step, setting_of, start, step, with_answer}
+use Rattle.petal_rules.specs.World.{Blanked, Booted, Control, Deed, IsDone, IsDue, IsFree, MayActor, MayGlance, MayServer, Setting, Stopped, World, acts, client_state, client_step, controls, lines_of, next_line, reacts, server_state, server_step, setting_of, start, step, with_answer}
 use Rattle.petal_rules.specs.declared.step.Step.{Step}
-use Rattle.petal_rules.specs.declared.step.Step.TheVariants.{Call, Deliver, Tick, Work, Stop, Boot, Glance}
+use Rattle.petal_rules.specs.declared.step.Step.TheVariants.{Call, Deliver, Tick, Work, Stop, Blank, Boot, Glance}
 use Rattle.petal_rules.specs.declared.step.WorkEnd.{WorkEnd}
 use Rattle.petal_rules.specs.declared.step.WorkEnd.TheVariants as work_end
 use Rattle.petal_rules.proofs.ListLemmas.{in-append, put_apart, put_same}
@@ -43,28 +43,34 @@ use Rattle.petal_history.specs.Sound.{IsSound}
 use Rattle.petal_history.specs.declared.record.Record.{Record}
 use Rattle.law_answers.proofs.Places.{line_at, one_place}
 use Rattle.law_steps.specs.Happens.{Heard}
-use Rattle.law_steps.specs.Turned.{Turned, IsReason, By_verdict, By_witness, IsSame, StaysOpen, Goes_on, Begins, Reads, Ends, Shown, IsSeenAs, Stops_it, Starts_it, Has_no_space, Is_settled, Judges, answer_of}
+use Rattle.law_steps.specs.Turned.{Turned, IsReason, By_verdict, By_witness, IsSame, StaysOpen, Goes_on, Begins, Reads, Ends, Shown, IsSeenAs, Stops_it, Starts_it, Blanks_it, Has_no_space, Is_settled, Judges, answer_of}
 use Rattle.law_steps.proofs.Histories.{front_legal, world_more}
 use Rattle.law_steps.proofs.Turning.{client_turns}
 use Rattle.law_causes.specs.Fails.{IsReasonToFail, Device_failed, Journal_full, HasReasonToFail}
 use Rattle.law_causes.specs.Glances.{IsGlance, Tells}
+use Rattle.law_causes.specs.Lines.{AsksToBoot}
 use Rattle.law_causes.proofs.Answered.{IsOpenFor}
-use Rattle.law_causes.proofs.Lines.{boots_is, line_of, open_for}
+use Rattle.law_causes.proofs.Lines.{asks_to_boot, line_of, open_for}
 use Rattle.law_causes.proofs.Saying.{IsMute, is_mute, Mute, Rev, Sight, server_says, client_says}
 
 -- ### Which answers are `failed`
 
--- a glance alone says so, of a start whose server does not run
+-- a glance alone says so, of a start or a blank whose server does not run
 record IsFailed (asked : Request) (running : Bool) : Type 0 where
   server : ℕ
-  starts : asked ≡ request.Start server
+  boots : AsksToBoot asked server
   rests : running ≡ false
+
+where_it_runs : (asked : Request) (running : Bool) (server : ℕ) → AsksToBoot asked server → answer.Failed ≡ (if running then answer.Ok else answer.Failed)
+    → IsFailed asked running
+where_it_runs asked running server boots =
+    by_test (λ a. answer.Failed ≡ a → IsFailed asked running) running answer.Ok answer.Failed
+    (λ on f. let g : answer.Failed ≡ answer.Ok = f in absurd (cc)) (λ off f. record { server = server; boots = boots; rests = off })
 
 seen_failed : (state : State) (asked : Asked) (sight : Shown_by) → IsSeenAs state asked sight answer.Failed → IsFailed asked.request sight.running
 seen_failed state asked sight (Stops_it server is e) = let f : answer.Failed ≡ answer.Ok = e in absurd (cc)
-seen_failed state asked sight (Starts_it server is e) =
-    by_test (λ a. answer.Failed ≡ a → IsFailed asked.request sight.running) sight.running answer.Ok answer.Failed
-    (λ on f. let g : answer.Failed ≡ answer.Ok = f in absurd (cc)) (λ off f. record { server = server; starts = is; rests = off }) e
+seen_failed state asked sight (Starts_it server is e) = where_it_runs asked.request sight.running server (inl is) e
+seen_failed state asked sight (Blanks_it server is e) = where_it_runs asked.request sight.running server (inr is) e
 seen_failed state asked sight (Has_no_space is full e) = let f : answer.Failed ≡ answer.NoSpace = e in absurd (cc)
 seen_failed state asked sight (Is_settled is round seen all e) = let f : answer.Failed ≡ answer.Ok = e in absurd (cc)
 
@@ -139,6 +145,7 @@ glanced_at : (asked : Request) (n m : ℕ) (running : Bool) (before : Option (�
     → (names asked).server ≡ Some m → n ≡ m
 glanced_at (request.Stop server) n m running before done named = sym done.0 ∙ same_some named
 glanced_at (request.Start server) n m running before done named = sym done.0 ∙ same_some named
+glanced_at (request.Blank server) n m running before done named = sym done.0 ∙ same_some named
 glanced_at _ n m running before never named = absurd never
 
 -- it stands behind the steps that its line gives, and is the line's first
@@ -151,12 +158,14 @@ due_once w asked n round _ m named due = due
 abbrev AnsweredAs : Request → (running : Bool) → Answer → Type 0
 AnsweredAs (request.Stop server) running given = given ≡ answer.Ok
 AnsweredAs (request.Start server) running given = given ≡ (if running then answer.Ok else answer.Failed)
+AnsweredAs (request.Blank server) running given = given ≡ (if running then answer.Ok else answer.Failed)
 AnsweredAs _ running given = ⊥
 
 seen_as : (state : State) (asked : Asked) (sight : Shown_by) (given : Answer) (n : ℕ) → (names asked.request).server ≡ Some n
     → IsSeenAs state asked sight given → AnsweredAs asked.request sight.running given
 seen_as state asked sight given n named (Stops_it server is e) = subst (λ r. AnsweredAs r sight.running given) (sym is) e
 seen_as state asked sight given n named (Starts_it server is e) = subst (λ r. AnsweredAs r sight.running given) (sym is) e
+seen_as state asked sight given n named (Blanks_it server is e) = subst (λ r. AnsweredAs r sight.running given) (sym is) e
 seen_as state asked sight given n named (Has_no_space is full e) = none_some (ap (λ r. (names r).server) is) named
 seen_as state asked sight given n named (Is_settled is round seen all e) = none_some (ap (λ r. (names r).server) is) named
 
@@ -165,9 +174,20 @@ told_by : (asked : Request) (n : ℕ) (running : Bool) (before : Option (ℕ × 
     → AnsweredAs asked running given → Tells asked running given
 told_by (request.Stop server) n running before given done seen = (done.1, seen)
 told_by (request.Start server) n running before given done seen = seen
+told_by (request.Blank server) n running before given done seen = seen
 told_by _ n running before given never seen = absurd never
 
 -- ### Boots
+
+-- a line that boots a server names it, and is done with it where the server runs or was booted
+boots_named : (asked : Request) (n : ℕ) → AsksToBoot asked n → (names asked).server ≡ Some n
+boots_named asked n (inl is) = ap (λ r. (names r).server) is
+boots_named asked n (inr is) = ap (λ r. (names r).server) is
+
+done_booted : (asked : Request) (m n : ℕ) (running : Bool) (before : Option (ℕ × Deed)) → AsksToBoot asked m → IsDone asked n running before
+    → (running ≡ true) ⊎ (before ≡ Some (n, Booted))
+done_booted asked m n running before (inl is) done = (subst (λ r. IsDone r n running before) is done).1
+done_booted asked m n running before (inr is) done = inr (subst (λ r. IsDone r n running before) is done).1
 
 -- a boot leaves its server stopped for a reason
 boot_why : (w : World) (n : ℕ) (here : Here) (end : WorkEnd) → (boots here (w.servers n) end).server.life.running ≡ false
@@ -209,14 +229,14 @@ module _ (script : Script) (records : List Record) (sound : IsSound script) (ris
     number_is : line.number ≡ number
     called : place < (w.clients operator).seq
     last : place + 1 ≡ (w.clients operator).seq → w.control.glanced ≡ Some number
-    fails : (n : ℕ) → line.request ≡ request.Start n → running ≡ false → Fails number
+    fails : (n : ℕ) → AsksToBoot line.request n → running ≡ false → Fails number
     glance : (n : ℕ) (given : Answer) → (names line.request).server ≡ Some n → AnsweredAs line.request running given → Glanced line n given
 
   -- the operator's open line has booted the server, and was not glanced at
   record IsBooted (w : World) (n : ℕ) : Type 0 where
     asked : Asked
     is : (w.clients operator).asked ≡ Some asked
-    starts : asked.request ≡ request.Start n
+    boots : AsksToBoot asked.request n
     fresh : w.control.glanced ≢ Some asked.line
     fails : (w.servers n).life.running ≡ false → Fails asked.line
 
@@ -265,7 +285,7 @@ module _ (script : Script) (records : List Record) (sound : IsSound script) (ris
 
     -- the world after a server's step
     abbrev served : ℕ → Step → World
-    served n what = (acts w n what own.stamp (server_step what (server_state setting w n) n (w.servers n))).world
+    served n what = (acts setting w n what own.stamp (server_step what (server_state setting w n) n (w.servers n))).world
 
     old_shown : (n : ℕ) (what : Step) → MayServer what w n → (letter : Letter) (number : ℕ) (running : Bool)
         → IsShown w letter number running → IsShown (served n what) letter number running
@@ -286,7 +306,7 @@ module _ (script : Script) (records : List Record) (sound : IsSound script) (ris
         server.life.running _ _
         (λ on e. let same : true ≡ running = cc in (cc, on ∙ same)) (λ off e. let same : false ≡ running = cc in (cc, off ∙ same))
 
-    -- what a glance shows: where it finds a start's server stopped, that line has booted it
+    -- what a glance shows: where it finds the server of a start or a blank stopped, that line has booted it
     new_shown : (n l r : ℕ) → own.actor ≡ actor.Server n → own.step ≡ Glance l r → (may : MayGlance w n l r) (letter : Letter) (line : ℕ)
         (running : Bool) → letter.to ≡ actor.Client operator → l ≡ line → (w.servers n).life.running ≡ running
         → IsShown (served n (Glance l r)) letter line running
@@ -302,10 +322,9 @@ module _ (script : Script) (records : List Record) (sound : IsSound script) (ris
           number_is = sym o.line_is ∙ may.line_is ∙ same;
           called = omega arith;
           last = λ e. ap Some same;
-          fails = λ m starts off.
-              let done : IsDone (request.Start m) n (w.servers n).life.running w.control.hand =
-              (subst (λ what. IsDue w may.asked n r what) (o.request_is ∙ starts) may.due).2 in
-              elim done.1 [
+          fails = λ m asks off.
+              let due = due_once w may.asked n r o.line.request m (boots_named o.line.request m asks) (subst (IsDue w may.asked n r) o.request_is may.due) in
+              elim (done_booted o.line.request m n _ _ asks due.2) [
                 | inl on ↦ true_false on (runs ∙ off)
                 | inr there ↦
                     let b = kept.hand n there in
@@ -360,7 +379,7 @@ module _ (script : Script) (records : List Record) (sound : IsSound script) (ris
         record {
           asked = b.asked;
           is = b.is;
-          starts = b.starts;
+          boots = b.boots;
           fresh = λ g. b.fresh (sym (ap (λ (control : Control). control.glanced) same) ∙ g);
           fails = λ rests. b.fails (sym (ap (λ (x : Server). x.life.running) (put_apart w.servers n _ m apart)) ∙ rests);
         }
@@ -370,11 +389,11 @@ module _ (script : Script) (records : List Record) (sound : IsSound script) (ris
         → IsBooted (served n (Boot end)) n
     booted n end who does may =
         let o = opened operator may.asked may.opened.is in
-        let starts = (boots_is may.asked.request n w.control.hand may.boots).0 in
+        let asks = asks_to_boot may.asked.request n w.control.hand may.boots in
         record {
           asked = may.asked;
           is = may.opened.is;
-          starts = starts;
+          boots = asks;
           fresh = may.opened.first;
           fails = λ rests. record {
             front = front;
@@ -385,7 +404,7 @@ module _ (script : Script) (records : List Record) (sound : IsSound script) (ris
             asked = may.asked;
             line = o.line;
             number_is = sym o.line_is;
-            starts = sym o.request_is ∙ starts;
+            boots = subst (λ r. AsksToBoot r n) o.request_is asks;
             given = line_of lines w may.asked o may.opened;
             who = who;
             why = subst (IsReasonToFail w n) (sym does)
@@ -402,6 +421,8 @@ module _ (script : Script) (records : List Record) (sound : IsSound script) (ris
     server_hand n (Work end) who does may m e = hand_on n (Work end) refl may.acts.free m e
     server_hand n Stop who does may m e =
         let f : Stopped ≡ Booted = ap (λ (x : ℕ × Deed). x.1) (same_some e) in absurd (cc)
+    server_hand n Blank who does may m e =
+        let f : Blanked ≡ Booted = ap (λ (x : ℕ × Deed). x.1) (same_some e) in absurd (cc)
     server_hand n (Boot end) who does may m e =
         subst (IsBooted (served n (Boot end))) (ap (λ (x : ℕ × Deed). x.0) (same_some e)) (booted n end who does may)
     server_hand n (Glance line round) who does may m e = none_some refl e
@@ -440,24 +461,24 @@ module _ (script : Script) (records : List Record) (sound : IsSound script) (ris
         by None is none = absurd none
         by (Some now) is same = record { now = now; is = is; line = same.line; request = same.request }
 
-    -- a client goes on, and a start stays open whose server was not glanced at
+    -- a client goes on, and a line that names a server stays open as long as that was not glanced at
     record Goes (old new : Client) : Type 0 where
       seq : (new.seq ≡ old.seq) ⊎ (new.seq ≡ old.seq + 1)
       newest : (asked : Asked) → new.asked ≡ Some asked → asked.seq ≡ new.seq
-      stays : (asked : Asked) (n : ℕ) → old.asked ≡ Some asked → asked.request ≡ request.Start n → w.control.glanced ≢ Some asked.line
+      stays : (asked : Asked) (n : ℕ) → old.asked ≡ Some asked → (names asked.request).server ≡ Some n → w.control.glanced ≢ Some asked.line
           → StillOpen asked new
 
     goes_itself : (c : ℕ) → Goes (w.clients c) (w.clients c)
     goes_itself c = record {
       seq = inl refl;
       newest = kept.newest c;
-      stays = λ asked n is starts fresh. record { now = asked; is = is; line = refl; request = refl };
+      stays = λ asked n is named fresh. record { now = asked; is = is; line = refl; request = refl };
     }
 
     -- a client hears of its open line only once that was glanced at: so it is the operator, and the line the last that it called
     record IsOwn (letter : Letter) (c : ℕ) (asked : Asked) (running : Bool) : Type 0 where
       glanced : w.control.glanced ≡ Some asked.line
-      fails : (n : ℕ) → asked.request ≡ request.Start n → running ≡ false → Fails asked.line
+      fails : (n : ℕ) → AsksToBoot asked.request n → running ≡ false → Fails asked.line
       glance : (line : Line) (n : ℕ) (given : Answer) → In line lines → line.number ≡ asked.line → (names line.request).server ≡ Some n
           → AnsweredAs asked.request running given → Glanced line n given
 
@@ -478,7 +499,7 @@ module _ (script : Script) (records : List Record) (sound : IsSound script) (ris
         let asks : s.line.request ≡ asked.request = ap (λ (x : Line). x.request) line ∙ sym o.request_is in
         record {
           glanced = s.last (omega arith);
-          fails = λ n starts off. s.fails n (asks ∙ starts) off;
+          fails = λ n boots off. s.fails n (subst (λ r. AsksToBoot r n) (sym asks) boots) off;
           glance = λ one n given there at named seen.
               let itself : s.line ≡ one =
               sound.numbered s.line one (line_at lines operator s.place s.line s.is).0 there (s.number_is ∙ sym at) in
@@ -511,44 +532,43 @@ module _ (script : Script) (records : List Record) (sound : IsSound script) (ris
       abbrev client : Client
       client = w.clients c
 
-      same_request : (asked other : Asked) (n : ℕ) → client.asked ≡ Some asked → client.asked ≡ Some other → other.request ≡ request.Start n
-          → asked.request ≡ request.Start n
-      same_request asked other n is there starts = ap (λ (x : Asked). x.request) (same_some (sym is ∙ there)) ∙ starts
+      same_named : (asked other : Asked) (n : ℕ) → client.asked ≡ Some asked → client.asked ≡ Some other → (names other.request).server ≡ Some n
+          → (names asked.request).server ≡ Some n
+      same_named asked other n is there named = ap (λ (x : Asked). (names x.request).server) (same_some (sym is ∙ there)) ∙ named
 
       turned_goes : (in_call : Bool) (reacted : Reaction) → Turned (Heard w (actor.Client c)) setting.servers lines c client in_call reacted
           → Goes client reacted.client
       turned_goes _ _ (Goes_on reacted seq stays says) = record {
         seq = inl seq;
         newest = λ now e. let o = kept_open _ client.asked reacted.client.asked stays now e in o.2.seq ∙ kept.newest c o.0 o.1 ∙ sym seq;
-        stays = λ asked n is starts fresh. still_open _ client.asked reacted.client stays asked is;
+        stays = λ asked n is named fresh. still_open _ client.asked reacted.client stays asked is;
       }
       turned_goes _ _ (Begins reacted line asked next free seq now called says) = record {
         seq = inr seq;
         newest = λ new e. sym (ap (λ (x : Asked). x.seq) (same_some (sym now ∙ e))) ∙ called.seq_is ∙ sym seq;
-        stays = λ asked n is starts fresh. none_some free is;
+        stays = λ asked n is named fresh. none_some free is;
       }
       turned_goes _ _ (Reads asked bytes told is read) = record {
         seq = inl refl;
         newest = λ now e. none_some refl e;
-        stays = λ other n there starts fresh. true_false read (ap (λ r. is_read r) (same_request asked other n is there starts));
+        stays = λ other n there named fresh. absurd (not_read asked.request n (same_named asked other n is there named) read);
       }
       turned_goes _ _ (Ends asked how told is write) = record {
         seq = inl refl;
         newest = λ now e. none_some refl e;
-        stays = λ other n there starts fresh. true_false write (ap (λ r. is_write r) (same_request asked other n is there starts));
+        stays = λ other n there named fresh. absurd (not_written asked.request n (same_named asked other n is there named) write);
       }
       turned_goes _ _ (Shown asked rev sight given told is seen) = record {
         seq = inl refl;
         newest = λ now e. none_some refl e;
-        stays = λ other n there starts fresh.
+        stays = λ other n there named fresh.
             let h = heard_own c asked rev sight.round sight.running sight.inc sight.full told is in
             absurd (fresh (h.glanced ∙ ap (λ (x : Asked). Some x.line) (same_some (sym is ∙ there))));
       }
       turned_goes _ _ (Judges after asked given is gone seq judged) = record {
         seq = inl seq;
         newest = λ now e. none_some gone e;
-        stays = λ other n there starts fresh.
-            absurd (not_judged c asked n given _ _ (ap (λ r. (names r).server) (same_request asked other n is there starts)) judged.reason);
+        stays = λ other n there named fresh. absurd (not_judged c asked n given _ _ (same_named asked other n is there named) judged.reason);
       }
 
       pair_is : {line number : ℕ} {given told : Answer} → (let o : Option (ℕ × Answer) = Some (line, given) in o) ≡ Some (number, told)
@@ -588,7 +608,7 @@ module _ (script : Script) (records : List Record) (sound : IsSound script) (ris
           record {
             fails = λ failed.
                 let off = seen_failed _ asked sight (subst (IsSeenAs _ asked sight) (f.1 ∙ failed) seen) in
-                subst Fails f.0 (h.fails off.server off.starts off.rests);
+                subst Fails f.0 (h.fails off.server off.boots off.rests);
             glance = λ line n there same named.
                 h.glance line n told there (same ∙ sym f.0) named
                 (seen_as _ asked sight told n (asks_of asked is line n there (same ∙ sym f.0) named)
@@ -623,11 +643,11 @@ module _ (script : Script) (records : List Record) (sound : IsSound script) (ris
           ];
           hand = λ n e.
               let b = kept.hand n e in
-              let s = g.stays b.asked n b.is b.starts b.fresh in
+              let s = g.stays b.asked n b.is (boots_named b.asked.request n b.boots) b.fresh in
               record {
                 asked = s.now;
                 is = s.is;
-                starts = s.request ∙ b.starts;
+                boots = subst (λ r. AsksToBoot r n) (sym s.request) b.boots;
                 fresh = λ h. b.fresh (h ∙ ap Some s.line);
                 fails = λ rests. subst Fails (sym s.line) (b.fails rests);
               };

@@ -1,5 +1,5 @@
 -- The operator's open request is that of one of its lines, and what such a line asks of a server.
-use Rattle.std.proofs.Common.{◌≡◌, ℕ, List, Option, None, Some, ap}
+use Rattle.std.proofs.Common.{◌≡◌, ℕ, List, Option, Some, ap, inl, inr}
 use Rattle.script_lines.specs.declared.request.Line.{Line}
 use Rattle.script_lines.specs.declared.request.Request.{Request}
 use Rattle.script_lines.specs.declared.request.Request.TheVariants as request
@@ -12,7 +12,7 @@ use Rattle.petal_history.specs.Sound.{IsSound}
 use Rattle.petal_history.specs.declared.record.Record.{Record}
 use Rattle.law_answers.proofs.Places.{line_at}
 use Rattle.law_steps.proofs.Firms.{always_firm}
-use Rattle.law_causes.specs.Lines.{IsLineOf}
+use Rattle.law_causes.specs.Lines.{AsksToBoot, AsksToStop, IsLineOf}
 use Rattle.law_causes.proofs.Answered.{IsOpenFor, open_after}
 use Rattle.law_causes.proofs.Asked.{disks_are_asked}
 
@@ -29,10 +29,12 @@ line_of lines w asked o opened =
     let l = line_at lines operator o.before o.line o.is in
     record { opened = opened; there = l.0; own = l.1; line_is = o.line_is; request_is = o.request_is }
 
-pub stops_is : (asked : Request) (n : ℕ) → Stops asked n → asked ≡ request.Stop n
-stops_is (request.Stop server) n is = ap request.Stop is
-stops_is _ n never = absurd never
+pub asks_to_stop : (asked : Request) (n : ℕ) (hand : Option (ℕ × Deed)) → Stops asked n hand → AsksToStop asked n
+asks_to_stop (request.Stop server) n hand is = inl (ap request.Stop is.0)
+asks_to_stop (request.Blank server) n hand is = inr (ap request.Blank is.0)
+asks_to_stop _ n hand never = absurd never
 
-pub boots_is : (asked : Request) (n : ℕ) (hand : Option (ℕ × Deed)) → Boots asked n hand → (asked ≡ request.Start n) × (hand ≡ None)
-boots_is (request.Start server) n hand is = (ap request.Start is.0, is.1)
-boots_is _ n hand never = absurd never
+pub asks_to_boot : (asked : Request) (n : ℕ) (hand : Option (ℕ × Deed)) → Boots asked n hand → AsksToBoot asked n
+asks_to_boot (request.Start server) n hand is = inl (ap request.Start is.0)
+asks_to_boot (request.Blank server) n hand is = inr (ap request.Blank is.0)
+asks_to_boot _ n hand never = absurd never

@@ -54,7 +54,7 @@ use Rattle.petal_rules.specs.declared.job.Job.{Job}
 use Rattle.petal_rules.specs.declared.job.Job.TheVariants as job
 use Rattle.petal_rules.specs.declared.step.CommitEnd.TheVariants.{Before, After}
 use Rattle.petal_rules.specs.declared.step.Step.{Step}
-use Rattle.petal_rules.specs.declared.step.Step.TheVariants.{Call, Deliver, Tick, Work, Stop, Boot, Glance}
+use Rattle.petal_rules.specs.declared.step.Step.TheVariants.{Call, Deliver, Tick, Work, Stop, Blank, Boot, Glance}
 use Rattle.petal_rules.specs.declared.step.WorkEnd.{WorkEnd}
 use Rattle.petal_rules.specs.declared.step.WorkEnd.TheVariants as work_end
 use Rattle.petal_rules.proofs.ListLemmas.{in-append}
@@ -601,6 +601,7 @@ server_says setting w n (Work (work_end.Fault After)) stamp may letter h =
     Mute (stops_mute here (works here (w.servers n) (w.servers n).queue).server stamp letter h)
 server_says setting w n Stop stamp may letter h =
     Mute (stops_mute (here_of (server_state setting w n) n (w.servers n)) (w.servers n) stamp letter h)
+server_says setting w n Blank stamp may letter h = no_letter stamp letter h
 server_says setting w n (Boot end) stamp may letter h =
     Mute (boots_mute (here_of (server_state setting w n) n (w.servers n)) (w.servers n) end stamp letter h)
 server_says setting w n (Glance line round) stamp may letter h =

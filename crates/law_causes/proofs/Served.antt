@@ -16,7 +16,7 @@ use Rattle.script_lines.specs.declared.request.Request.TheVariants as request
 use Rattle.petal_rules.specs.Clients.{refusal, write_refusal, read_refusal, read_refusal_at, readers, cell_on, epoch_for}
 use Rattle.petal_rules.specs.State.{State, servers_of, find, lead, readable}
 use Rattle.petal_rules.proofs.Tests.{none_some, same_numbers, true_false}
-use Rattle.law_state.specs.Rows.{ByBoth, ByOne}
+use Rattle.law_state.specs.Rows.{IsBetween, ByBoth, ByNone, ByOne}
 use Rattle.law_state.specs.Steady.{IsLinked, IsSteady}
 use Rattle.law_state.proofs.Ages.{in_up}
 use Rattle.law_state.proofs.Cells.{both_lead, both_reader}
@@ -43,14 +43,17 @@ not_empty n more = by (n == 0) refl
     by false e is = absurd (cc)
 
 module _ (s : State) (steady : IsSteady s) (ins : (n : ℕ) → n < servers_of s → is_up_as s n 1 ≡ true) where
+  -- each server of a link is In as its first incarnation
+  first_out : {B : Type 0} (row : LinkRow) (cell : Cell) → IsLinked s cell row → (one other : ℕ) → IsBetween row one other → is_up_as s other 1 ≡ false → B
+  first_out row cell linked one other (inl pair) out = true_false (ins row.secondary linked.secondary) (ap (λ k. is_up_as s k 1) pair.1 ∙ out)
+  first_out row cell linked one other (inr pair) out = true_false (ins row.primary linked.primary) (ap (λ k. is_up_as s k 1) pair.0 ∙ out)
+
   -- both servers of each link serve it
   in_both : (row : LinkRow) (cell : Cell) → IsLinked s cell row → row.state ≡ Both
   in_both row cell linked = elim linked.served [
     | ByBoth so one other ↦ so
-    | ByOne holder other so between out ↦ elim between [
-      | inl pair ↦ true_false (ins row.secondary linked.secondary) (ap (λ k. is_up_as s k 1) pair.1 ∙ out)
-      | inr pair ↦ true_false (ins row.primary linked.primary) (ap (λ k. is_up_as s k 1) pair.0 ∙ out)
-    ]
+    | ByOne holder other whole so between out ↦ first_out row cell linked holder other between out
+    | ByNone one other so between out ↦ first_out row cell linked one other between out
   ]
 
   write_served : (name : List ℕ) (block : ℕ) (o : Option DiskView) → find s name ≡ o → write_refusal s o block ≢ Some answer.Unavailable

@@ -277,7 +277,7 @@ module _ (script : Script) (sound : IsSound script) where
     -- ### A server's step
 
     abbrev served : ℕ → Step → World
-    served n what = (acts w n what own.stamp (server_step what (server_state setting w n) n (w.servers n))).world
+    served n what = (acts setting w n what own.stamp (server_step what (server_state setting w n) n (w.servers n))).world
 
     server_shows : (n : ℕ) (what : Step) → own.actor ≡ actor.Server n → own.step ≡ what → n < setting.servers → MayServer what w n
         → (letter : Letter)

@@ -6,10 +6,8 @@ use Rattle.std.specs.Prelude.{nat_lt}
 use Rattle.petal_msg.specs.declared.letter.Actor.{Actor}
 use Rattle.petal_msg.specs.declared.letter.Actor.TheVariants as actor
 use Rattle.script_lines.specs.declared.request.Request.{Request}
-use Rattle.script_lines.specs.declared.request.Request.TheVariants as request
 use Rattle.script_lines.specs.declared.script.Script.{Script}
 use Rattle.petal_state.specs.State.{start as first_state}
-use Rattle.petal_rules.specs.Clients.{is_stop}
 use Rattle.petal_rules.specs.Jobs.{Acted, job_done, works, is_log_job, is_overfull, operator}
 use Rattle.petal_rules.specs.Lists.{In, put_at}
 use Rattle.petal_rules.specs.Server.{Here, Server}
@@ -18,7 +16,7 @@ use Rattle.petal_rules.specs.World.{Setting, World, MayStop, MayServer, MayActor
 use Rattle.petal_rules.specs.declared.job.Job.{Job}
 use Rattle.petal_rules.specs.declared.job.Job.TheVariants as job
 use Rattle.petal_rules.specs.declared.step.Step.{Step}
-use Rattle.petal_rules.specs.declared.step.Step.TheVariants.{Call, Deliver, Tick, Work, Stop, Boot, Glance}
+use Rattle.petal_rules.specs.declared.step.Step.TheVariants.{Call, Deliver, Tick, Work, Stop, Blank, Boot, Glance}
 use Rattle.petal_rules.specs.declared.step.WorkEnd.{WorkEnd}
 use Rattle.petal_rules.specs.declared.step.WorkEnd.TheVariants as work_end
 use Rattle.petal_rules.proofs.ListLemmas.{put_same, put_apart}
@@ -32,8 +30,9 @@ use Rattle.law_log.proofs.Histories.{who_runs_is_in}
 use Rattle.law_log.proofs.Unbooted.{unbooted}
 use Rattle.law_steps.specs.Happens.{own_place}
 use Rattle.law_steps.proofs.Histories.{front_legal}
-use Rattle.law_causes.specs.Stops.{IsReasonToStop, Was_told, Device_failed, Journal_full, HasReasonToStop, NoneIsStopped, NoneStopsByItself, StaysDown}
-use Rattle.law_causes.proofs.Lines.{line_of, open_for, stops_is}
+use Rattle.law_causes.specs.Lines.{AsksToStop}
+use Rattle.law_causes.specs.Stops.{IsReasonToStop, Was_told, Device_failed, Journal_full, HasReasonToStop, NoneIsStopped, NoneStopsByItself, StaysDown, stops_a_server}
+use Rattle.law_causes.proofs.Lines.{asks_to_stop, line_of, open_for}
 
 -- ### One step
 
@@ -72,6 +71,7 @@ module _ (setting : Setting) (w : World) (n : ℕ) (told : MayStop w n → IsRea
   server_why (Work work_end.Done) may = works_why server.queue refl
   server_why (Work (work_end.Fault end)) may = λ rests. Device_failed end refl
   server_why Stop may = λ rests. told may
+  server_why Blank may = true_false ran may.rests
   server_why (Boot end) may = true_false ran may.rests
   server_why (Glance line round) may = true_false ran
 
@@ -86,12 +86,13 @@ module _ (setting : Setting) (w : World) (n : ℕ) (told : MayStop w n → IsRea
   ]
     where
       by : m ≡ n → MayServer what w m
-          → ((acts w m what stamp (server_step what (server_state setting w m) m (w.servers m))).world.servers n).life.running ≡ false
+          → ((acts setting w m what stamp (server_step what (server_state setting w m) m (w.servers m))).world.servers n).life.running ≡ false
           → IsReasonToStop setting w n what
       by same may rests =
           let after = (server_step what (server_state setting w n) n server).server in
-          let own : (put_at w.servers n after n).life.running ≡ false = subst
-          (λ k. ((acts w k what stamp (server_step what (server_state setting w k) k (w.servers k))).world.servers n).life.running ≡ false) same rests in
+          let own : (put_at w.servers n after n).life.running ≡ false =
+          subst (λ k. ((acts setting w k what stamp (server_step what (server_state setting w k) k (w.servers k))).world.servers n).life.running ≡ false)
+          same rests in
           server_why what (subst (MayServer what w) same may) (ap (λ (x : Server). x.life.running) (sym (put_same w.servers n after)) ∙ own)
 
 -- ### A history
@@ -136,7 +137,7 @@ told_by_line : (script : Script) (records : List Record) → IsSound script → 
 told_by_line script records sound legal n may =
     let w = world_after (setting_of script) (start (setting_of script)) records in
     let o = open_for script records sound legal operator may.asked may.opened.is in
-    Was_told may.asked o.line refl (sym o.request_is ∙ stops_is may.asked.request n may.stops)
+    Was_told may.asked o.line refl (subst (λ r. AsksToStop r n) o.request_is (asks_to_stop may.asked.request n w.control.hand may.stops))
     (line_of script.lines w may.asked o may.opened)
 
 pub stops_for_a_reason : (script : Script) (records : List Record) → IsSound script → IsLegal script records → (n : ℕ) → n < script.servers
@@ -166,8 +167,9 @@ stops_for_a_reason script records sound legal n low rests =
 
 -- ### Where no server stops
 
-no_line_stops : (asked : Request) (n : ℕ) → asked ≡ request.Stop n → is_stop asked ≡ false → ⊥
-no_line_stops asked n is none = true_false (ap is_stop is) none
+no_line_stops : (asked : Request) (n : ℕ) → AsksToStop asked n → stops_a_server asked ≡ false → ⊥
+no_line_stops asked n (inl is) none = true_false (ap stops_a_server is) none
+no_line_stops asked n (inr is) none = true_false (ap stops_a_server is) none
 
 -- where no line stops a server and none stops by itself, all of them run
 all_run : (script : Script) (records : List Record) → IsSound script → IsLegal script records → NoneIsStopped script.lines

@@ -1,6 +1,8 @@
--- The operator's open line.
-use Rattle.std.specs.Prelude.{◌≡◌, List}
+-- The operator's open line, and what it asks of a server.
+use Rattle.std.specs.Prelude.{◌≡◌, ◌⊎◌, ℕ, List}
 use Rattle.script_lines.specs.declared.request.Line.{Line}
+use Rattle.script_lines.specs.declared.request.Request.{Request}
+use Rattle.script_lines.specs.declared.request.Request.TheVariants as request
 use Rattle.petal_rules.specs.Clients.{Asked}
 use Rattle.petal_rules.specs.Jobs.{operator}
 use Rattle.petal_rules.specs.Lists.{In}
@@ -13,3 +15,11 @@ pub record IsLineOf (lines : List Line) (w : World) (asked : Asked) (line : Line
   pub own : line.client ≡ operator
   pub line_is : asked.line ≡ line.number
   pub request_is : asked.request ≡ line.request
+
+-- the request stops this server, where it runs: a stop, or a blank
+abbrev pub AsksToStop : Request → ℕ → Type 0
+AsksToStop asked n = (asked ≡ request.Stop n) ⊎ (asked ≡ request.Blank n)
+
+-- the request boots it: a start, or a blank
+abbrev pub AsksToBoot : Request → ℕ → Type 0
+AsksToBoot asked n = (asked ≡ request.Start n) ⊎ (asked ≡ request.Blank n)

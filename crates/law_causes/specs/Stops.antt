@@ -1,9 +1,10 @@
 -- Why a server stops.
-use Rattle.std.specs.Prelude.{◌≡◌, ◌++◌, ℕ, List, [], ◌∷◌, true, false}
+use Rattle.std.specs.Prelude.{◌≡◌, ◌++◌, ℕ, Bool, List, [], ◌∷◌, true, false}
 use Rattle.petal_msg.specs.declared.letter.Actor.TheVariants as actor
 use Rattle.script_lines.specs.declared.request.Line.{Line}
+use Rattle.script_lines.specs.declared.request.Request.{Request}
 use Rattle.script_lines.specs.declared.request.Request.TheVariants as request
-use Rattle.petal_rules.specs.Clients.{Asked, is_stop}
+use Rattle.petal_rules.specs.Clients.{Asked}
 use Rattle.petal_rules.specs.Jobs.{job_done, is_overfull}
 use Rattle.petal_rules.specs.Lists.{In}
 use Rattle.petal_rules.specs.World.{Setting, World}
@@ -16,7 +17,7 @@ use Rattle.petal_rules.specs.declared.step.WorkEnd.TheVariants as work_end
 use Rattle.petal_history.specs.Legal.{stepped, world_after}
 use Rattle.petal_history.specs.declared.record.Record.{Record}
 use Rattle.law_steps.specs.Happens.{own_place}
-use Rattle.law_causes.specs.Lines.{IsLineOf}
+use Rattle.law_causes.specs.Lines.{AsksToStop, IsLineOf}
 
 -- the server ran, and does not run after this step of its own
 pub record Stops (setting : Setting) (w : World) (own : Record) (n : ℕ) : Type 0 where
@@ -27,7 +28,7 @@ pub record Stops (setting : Setting) (w : World) (own : Record) (n : ℕ) : Type
 -- why it stops in such a step: a line of the script that the operator has open tells it to; a device failed; or what the first
 -- job of its queue leaves has a journal with more records than there is room for
 pub data IsReasonToStop (setting : Setting) (w : World) (n : ℕ) (what : Step) : Type 0 where
-  Was_told : (asked : Asked) (line : Line) → what ≡ Stop → line.request ≡ request.Stop n → IsLineOf setting.lines w asked line
+  Was_told : (asked : Asked) (line : Line) → what ≡ Stop → AsksToStop line.request n → IsLineOf setting.lines w asked line
       → IsReasonToStop setting w n what
   Device_failed : (end : CommitEnd) → what ≡ Work (work_end.Fault end) → IsReasonToStop setting w n what
   Journal_full : (first : Job) (rest : List Job) → what ≡ Work work_end.Done → (w.servers n).queue ≡ first ∷ rest
@@ -50,9 +51,15 @@ pub record HasReasonToStop (setting : Setting) (w : World) (records : List Recor
 
 -- ### Where no server stops
 
+-- the request stops a server: a stop, or a blank, which stops one that runs
+abbrev pub stops_a_server : Request → Bool
+stops_a_server (request.Stop server) = true
+stops_a_server (request.Blank server) = true
+stops_a_server _ = false
+
 -- no line stops a server
 abbrev pub NoneIsStopped : List Line → Type 0
-NoneIsStopped lines = (line : Line) → In line lines → is_stop line.request ≡ false
+NoneIsStopped lines = (line : Line) → In line lines → stops_a_server line.request ≡ false
 
 -- the server stops in a job: nobody told it to
 pub record StopsByItself (setting : Setting) (w : World) (own : Record) (n : ℕ) : Type 0 where

@@ -1,7 +1,7 @@
 //! Why each request is answered so: over every legal history of a sound script, each answer that says what is not there, and
 //! each answer of a `disk` line, comes by its own entry of the chosen log, with a state at its place that says so; and each
 //! answer of a line that names a server comes by that line's one glance, and that of a settle by its glances, round by round. And
-//! why a server does not run, or a start of it fails.
+//! why a server does not run, or a boot of it fails.
 //!
 //! To the layers above it promises this of answers, of what clients are told of revisions, and of servers that stop or fail to boot. It speaks
 //! of definitions alone, and knows nothing of code.
@@ -40,14 +40,14 @@ pub fn a_server_stops_for_a_reason()
     ensures { (script : Script) (records : List Record) → IsSound script → IsLegal script records → (n : ℕ) → n < script.servers → ((world_after (setting_of script) (start (setting_of script)) records).servers n).life.running ≡ false → HasReasonToStop (setting_of script) (start (setting_of script)) records n }
 {}
 
-/// A start that is answered `failed` was given to its server, while its line was open, by a boot that left the server stopped: a
+/// A start or a blank that is answered `failed` gave its server, while its line was open, a boot that left the server stopped: a
 /// device failed, or the journal had no room for the next incarnation.
-pub fn a_start_fails_for_a_reason()
+pub fn a_boot_fails_for_a_reason()
     ensures { (script : Script) (records : List Record) → IsSound script → AreRising script.lines → IsLegal script records → (number : ℕ) → In (number, Failed) (world_after (setting_of script) (start (setting_of script)) records).answers → HasReasonToFail (setting_of script) (start (setting_of script)) records number }
 {}
 
 /// Each answer of a line that names a server comes by the line's one glance at that server, while the operator had the line open: a
-/// stop is answered `ok`, and the server did not run there; a start `ok` where it ran and `failed` where it did not.
+/// stop is answered `ok`, and the server did not run there; a start or a blank `ok` where it ran and `failed` where it did not.
 pub fn a_line_at_a_server_is_answered_by_its_glance()
     ensures { (script : Script) (records : List Record) → IsSound script → AreRising script.lines → IsLegal script records → (line : Line) (server : ℕ) (given : Answer) → In line script.lines → (names line.request).server ≡ Some server → In (line.number, given) (world_after (setting_of script) (start (setting_of script)) records).answers → HasGlance (setting_of script) (start (setting_of script)) records line server given }
 {}
@@ -58,7 +58,7 @@ pub fn a_settle_is_answered_by_its_glances()
     ensures { (script : Script) (records : List Record) → IsSound script → IsLegal script records → (line : Line) (given : Answer) → In line script.lines → line.request ≡ Settle → In (line.number, given) (world_after (setting_of script) (start (setting_of script)) records).answers → HasSettled (setting_of script) (start (setting_of script)) records line.number given }
 {}
 
-/// Where no line of the script stops a server, and in no step a server stops by itself, each block of a known disk has its
+/// Where no line of the script stops or blanks a server, and in no step a server stops by itself, each block of a known disk has its
 /// servers: no answer is that they are unavailable.
 pub fn no_answer_is_unavailable()
     ensures { (script : Script) (records : List Record) → IsSound script → IsLegal script records → NoneIsStopped script.lines → NoneStopsByItself (setting_of script) (start (setting_of script)) records → (number : ℕ) → In (number, Unavailable) (world_after (setting_of script) (start (setting_of script)) records).answers → ⊥ }

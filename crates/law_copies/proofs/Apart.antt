@@ -1,8 +1,9 @@
 -- A job leaves a cell whose link the server is not of, or that has no link.
 use Rattle.std.proofs.Common.{◌≡◌, ◌⊎◌, ℕ, true, false, Option, Some, None, refl, sym, ap, ◌∙◌, subst, inl, inr}
 use Rattle.std.specs.Prelude.{option_and_then}
-use Rattle.global_tables.specs.Link.{has_server}
+use Rattle.global_tables.specs.Link.{has_server, other_of}
 use Rattle.global_tables.specs.declared.link.LinkRow.{LinkRow}
+use Rattle.global_tables.specs.declared.link.LinkState.TheVariants.{Both, Lost}
 use Rattle.petal_base.specs.declared.cell.Cell.{Cell}
 use Rattle.petal_msg.specs.declared.body.Body.{Body}
 use Rattle.petal_state.specs.CellState.{cell_link}
@@ -11,7 +12,7 @@ use Rattle.petal_rules.specs.Copies.{cell_holder}
 use Rattle.petal_rules.specs.Server.{Own, Here, Done}
 use Rattle.petal_rules.specs.State.{holder_of, is_lead, is_second, lead as led, second}
 use Rattle.petal_rules.proofs.Tests.{is_the_one, none_some, same_some, true_false}
-use Rattle.law_state.specs.Rows.{ByBoth, ByOne}
+use Rattle.law_state.specs.Rows.{ByBoth, ByNone, ByOne}
 use Rattle.law_state.specs.Steady.{IsLinked, IsSteady}
 use Rattle.law_state.proofs.Alone.{IsBothRow}
 use Rattle.law_state.proofs.Cells.{led_by, second_by}
@@ -117,12 +118,39 @@ module _ (here : Here) (steady : IsSteady here.state) (cell : Cell) where
     no_other = λ holder held. none_some (ap (option_and_then (holder_of here.me)) none) held;
   }
 
+  -- a link that is Lost has nobody who works on it
+  module _ (row : LinkRow) (is : cell_link here.state cell ≡ Some row) (lost : row.state ≡ Lost) where
+    lost_state : (other : LinkRow) → cell_link here.state cell ≡ Some other → other.state ≡ Lost
+    lost_state other so = ap (λ (r : LinkRow). r.state) (same_some (sym so ∙ is)) ∙ lost
+
+    lost_alone : {B : Type 0} (n : ℕ) (other : LinkRow) → cell_link here.state cell ≡ Some other → is_alone n other.state ≡ true → B
+    lost_alone n other so alone = true_false alone (ap (is_alone n) (lost_state other so))
+
+    pub lost_not_row : IsBothRow here.state cell → ⊥
+    lost_not_row b = let f : Lost ≡ Both = sym (lost_state b.row b.is) ∙ b.both in absurd cc
+
+    pub lost_idle : IsIdleAt here cell
+    lost_idle = record {
+      no_lead = λ e. elim (led_by here.state steady cell here.me (is_the_one (led here.state cell) here.me e)) [
+        | inl b ↦ (let f : Lost ≡ Both = sym (lost_state b.0.row b.0.is) ∙ b.0.so in absurd cc)
+        | inr held ↦ lost_alone here.me held.row held.is (only_alone here.me held.row held.whole held.so)
+      ];
+      no_second = λ e.
+          let b = second_by here.state steady cell here.me (is_the_one (second here.state cell) here.me e) in
+          let f : Lost ≡ Both = sym (lost_state b.0.row b.0.is) ∙ b.0.so in
+          absurd cc;
+      no_holder = λ held. lost_alone here.me held.row held.is (other_alone here.state here.me held.other held.row held.other_is);
+      no_other = λ holder held.
+          lost_alone (other_of here.me row) row is (other_row here.me row holder (sym (ap (option_and_then (holder_of here.me)) is) ∙ held)).alone;
+    }
+
   -- who serves a link alone is one of its servers
   alone_server : (n : ℕ) (row : LinkRow) → IsLinked here.state cell row → is_alone n row.state ≡ true → has_server n row ≡ true
   alone_server n row linked alone = elim linked.served [
     | ByBoth so one other ↦ not_both n row alone so
-    | ByOne holder other so pair out ↦
-        let same : holder ≡ n = alone_both holder n row.state (only_alone holder row false so) alone in
+    | ByNone one other so pair out ↦ true_false alone (ap (is_alone n) so)
+    | ByOne holder other whole so pair out ↦
+        let same : holder ≡ n = alone_both holder n row.state (only_alone holder row whole so) alone in
         elim pair [
           | inl is ↦ primary_is_one row n (is.0 ∙ same)
           | inr is ↦ secondary_is_one row n (is.1 ∙ same)
@@ -137,7 +165,7 @@ module _ (here : Here) (steady : IsSteady here.state) (cell : Cell) where
     stranger_idle = record {
       no_lead = λ e. elim (led_by here.state steady cell here.me (is_the_one (led here.state cell) here.me e)) [
         | inl b ↦ not_a_server b.0.row b.0.is (primary_is_one b.0.row here.me b.1)
-        | inr held ↦ not_a_server held.row held.is (alone_server here.me held.row held.linked (only_alone here.me held.row false held.so))
+        | inr held ↦ not_a_server held.row held.is (alone_server here.me held.row held.linked (only_alone here.me held.row held.whole held.so))
       ];
       no_second = λ e.
           let b = second_by here.state steady cell here.me (is_the_one (second here.state cell) here.me e) in
@@ -159,3 +187,7 @@ module _ (heard : Body → Type 0) (here : Here) (own : Own) (fit : IsFit heard 
 
   pub unlinked_keeps : cell_link here.state cell ≡ None → (done : Done) → Did heard here own done → KeepsCell cell own done.own
   unlinked_keeps none = did_keeps heard here own fit cell (unlinked_idle here fit.steady cell none) (λ both. none_some none both.is)
+
+  pub lost_keeps : (row : LinkRow) → cell_link here.state cell ≡ Some row → row.state ≡ Lost → (done : Done) → Did heard here own done
+      → KeepsCell cell own done.own
+  lost_keeps row is lost = did_keeps heard here own fit cell (lost_idle here fit.steady cell row is lost) (lost_not_row here fit.steady cell row is lost)

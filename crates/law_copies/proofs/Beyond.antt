@@ -1,72 +1,61 @@
 -- What a job of a server that is In as itself keeps at each front, and of what it sends.
-use Rattle.std.proofs.Common.{◌≡◌, ◌≢◌, ◌≤◌, ◌<◌, ◌++◌, ◌==◌, ℕ, List, [], ◌∷◌, length, Bool, true, false, Option, Some, None, is_some, refl, sym, ap, ◌∙◌, subst, ◌⊎◌, inl, inr, arith}
+use Rattle.std.proofs.Common.{◌≡◌, ◌≢◌, ◌≤◌, ◌<◌, ◌++◌, ℕ, List, [], ◌∷◌, length, Bool, true, false, Option, Some, None, is_some, refl, sym, ap, ◌∙◌, subst, ◌⊎◌, inl, inr, arith}
 use Rattle.std.specs.Ordering.{nat_cmp}
-use Rattle.busy_marks.specs.declared.marks.MarkKind.{MarkKind}
-use Rattle.busy_marks.specs.declared.marks.MarkKind.TheVariants.{Busy, Stale}
 use Rattle.global_tables.specs.Link.{has_server, other_of}
 use Rattle.global_tables.specs.declared.link.LinkRow.{LinkRow}
-use Rattle.global_tables.specs.declared.link.LinkState.TheVariants.{Both, Only}
+use Rattle.global_tables.specs.declared.link.LinkState.TheVariants.{Both, Lost, Only}
 use Rattle.petal_base.specs.declared.cell.Cell.{Cell}
 use Rattle.petal_command.specs.declared.command.Command.{Command}
 use Rattle.petal_msg.specs.Kinds.{about}
 use Rattle.petal_msg.specs.declared.body.Body.{Body}
 use Rattle.petal_msg.specs.declared.body.Body.TheVariants as body
 use Rattle.petal_msg.specs.declared.letter.Letter.{Letter}
-use Rattle.petal_history.specs.Claims.{IsMarked, IsPrefix}
-use Rattle.petal_history.specs.Legal.{world_after}
+use Rattle.petal_history.specs.Claims.{IsMarked, IsPrefix, IsToBeCopied}
 use Rattle.petal_history.specs.declared.record.Record.{Record}
-use Rattle.petal_state.specs.CellState.{cell_link, serves}
+use Rattle.petal_state.specs.CellState.{cell_link}
 use Rattle.petal_state.specs.Command.{state_after}
 use Rattle.petal_rules.specs.Lists.{In}
 use Rattle.petal_rules.specs.Server.{Own, Post, Server, Done, letters_of, sender}
-use Rattle.petal_rules.specs.State.{id_of}
-use Rattle.petal_rules.specs.Store.{Store, chain_in, is_marked}
-use Rattle.petal_rules.specs.World.{Setting, World, chosen_log, server_state, stamped, start}
+use Rattle.petal_rules.specs.State.{id_of, is_whole}
+use Rattle.petal_rules.specs.Store.{Store, chain_in}
+use Rattle.petal_rules.specs.World.{Setting, World, blank_joins_in, chosen_log, server_state, stamped}
 use Rattle.petal_rules.proofs.Applied.{rev_after}
-use Rattle.petal_rules.proofs.Tests.{by_bool, none_some, number_itself, same_or_apart, same_some, some_or_none, true_false}
-use Rattle.law_state.specs.Rows.{IsLater, ByBoth, ByOne}
+use Rattle.petal_rules.proofs.Tests.{by_bool, none_some, same_or_apart, same_some, some_or_none, true_false}
+use Rattle.law_state.specs.Rows.{IsLater, ByBoth, ByNone, ByOne}
 use Rattle.law_state.specs.Started.{is_flagged}
 use Rattle.law_state.specs.Steady.{IsSteady}
-use Rattle.law_state.proofs.Grown.{alone_not_both, one_before}
-use Rattle.law_state.proofs.Steady.{front_plain, log_steady}
+use Rattle.law_state.proofs.Grown.{alone_not_both, lost_not_both, one_before}
+use Rattle.law_state.proofs.BlankJoins.{joins_grow}
+use Rattle.law_state.proofs.Roles.{primary_is_one, secondary_is_one}
 use Rattle.law_steps.specs.Happens.{own_place}
 use Rattle.law_steps.specs.Ready.{IsRising}
-use Rattle.law_steps.proofs.Fronts.{front_itself, front_long, one_front}
+use Rattle.law_steps.proofs.Fronts.{front_itself, front_long, front_on, one_front}
 use Rattle.law_steps.proofs.Letters.{said}
-use Rattle.law_copies.specs.Copied.{AreCopying, IsCovered, IsOfLink, IsPage, IsTold, Is_marked_here}
-use Rattle.law_copies.specs.Good.{AloneOk, AreBeside, AreTwins, BothOk, Good, IsUnheard, SaidOk, pair_at, store_of}
-use Rattle.law_copies.specs.Pair.{HaveMarks, Known}
-use Rattle.law_copies.specs.Steps.{IsMarkedBy, OtherKeeps}
-use Rattle.law_copies.specs.Visits.{IsLinked, place_by}
-use Rattle.law_copies.proofs.Framed.{LeavesAt, LeavesBoth, LeavesStore, alone_framed, both_framed, marks_back, said_framed, store_same}
-use Rattle.law_copies.proofs.Growing.{both_cover, cover_anew, other_later}
-use Rattle.law_copies.proofs.Later.{AllStarted, alone_last, alone_or_flagged, both_since, holder_is_one, holds_since, not_reached, not_serving, same_only, unseen_beyond}
+use Rattle.law_copies.specs.Copied.{AreCopying, IsCovered, IsOfLink, IsPage, IsTold, Is_marked_here, Is_to_be_copied, NotCopied, links_of}
+use Rattle.law_copies.specs.Good.{AloneOk, AreBeside, AreTwins, BothOk, Good, IsUnheard, SaidOk, StaysLeft, pair_at}
+use Rattle.law_copies.specs.Pair.{HaveMarks, Known, pair_of}
+use Rattle.law_copies.specs.Steps.{AreFilled}
+use Rattle.law_copies.specs.Visits.{HasBeen, HasFilled, IsLinked, half, place_by, store_by, with_stores}
+use Rattle.law_copies.proofs.Counts.{joins_at}
+use Rattle.law_copies.proofs.Framed.{LeavesAt, LeavesBoth, LeavesStore, alone_framed, both_framed, filled_framed, filled_on, marked_on, marks_back, other_is_one, said_framed, store_same, to_copy_on}
+use Rattle.law_copies.proofs.Growing.{beside_same, twins_same}
+use Rattle.law_copies.proofs.Later.{AllStarted, IsCaughtUp, alone_not_lost, alone_or_flagged, alone_since, both_since, holder_is_one, holds_since, same_only}
 use Rattle.law_copies.proofs.Mute.{known_mute, told_mute}
 use Rattle.law_copies.proofs.Others.{other_apart}
-use Rattle.law_copies.proofs.Places.{at_most_or_above, fronts_meet, linked_on, one_row, places_up, rows_later}
+use Rattle.law_copies.proofs.Places.{fronts_meet, linked_on, links_same, one_row, other_later, places_up, rows_later}
 use Rattle.law_copies.proofs.Seated as seated
 use Rattle.law_copies.proofs.Seated.{other_back}
 use Rattle.law_copies.proofs.Standing.{other_row}
 use Rattle.law_copies.proofs.Stepping.{GoesOn, IsSoundOwn, IsTrue, good_after}
-use Rattle.law_copies.proofs.Visited.{IsAt, KeepsFlags, visited_beside}
+use Rattle.law_copies.proofs.Visited.{IsAt, IsThen, KeepsFlags, stored, stored_frozen, visited_beside}
 use Rattle.law_copies.proofs.Worked as worked
 use Rattle.law_copies.proofs.Worked.{IsJob}
+use Rattle.law_copies.proofs.Leaving as leaving
+use Rattle.law_copies.proofs.Leaving.{below, Same_store, Covers, Gone, Left_by}
 
-both_off : (a b : Bool) → (a ≡ true → ⊥) → (b ≡ true → ⊥) → a ≡ b
-both_off true b f g = absurd (f refl)
-both_off false true f g = absurd (g refl)
-both_off false false f g = refl
-
-below : {a b : ℕ} → a ≤ b → a ≢ b → a < b
-below {a} {b} le ne = elim (at_most_or_above b a) [ inl more ↦ absurd (ne (omega arith)) | inr lt ↦ lt ]
-
--- a cell that is marked neither before nor after has the same marks
-marks_none : (old new : Store) (cell : Cell) → (IsMarked old cell → ⊥) → (IsMarked new cell → ⊥) → (kind : MarkKind) → is_marked new kind cell ≡ is_marked old kind cell
-marks_none old new cell before after Busy = both_off (is_marked new Busy cell) (is_marked old Busy cell) (λ e. after (inl e)) (λ e. before (inl e))
-marks_none old new cell before after Stale = both_off (is_marked new Stale cell) (is_marked old Stale cell) (λ e. after (inr e)) (λ e. before (inr e))
-
-module _ (setting : Setting) (records : List Record) (w v : World) (k : ℕ) (server : Server) (good : Good setting records (chosen_log setting w) w)
-    (done : Done) (job : IsJob setting w v k server done) (started : AllStarted setting records w) where
+module _ (setting : Setting) (records : List Record) (w : World) (stores : ℕ → Store) (v : World) (k : ℕ) (server : Server)
+    (good : Good setting records (chosen_log setting w) (with_stores w stores)) (done : Done) (job : IsJob setting w stores v k server done)
+    (started : AllStarted setting records w) where
   abbrev top : List Command
   top = chosen_log setting w
 
@@ -74,41 +63,58 @@ module _ (setting : Setting) (records : List Record) (w v : World) (k : ℕ) (se
   front = (w.servers k).log.applied
 
   abbrev visits : (n place : ℕ) → Cell → Option Own
-  visits = worked.visits setting records w v k server good done job
+  visits = worked.visits setting records w stores v k server good done job
 
   abbrev reached : Cell → ℕ
-  reached = worked.reached setting records w v k server good done job
+  reached = worked.reached setting records w stores v k server good done job
 
   up : (cell : Cell) → good.reached cell ≤ reached cell
-  up = worked.up setting records w v k server good done job
+  up = worked.up setting records w stores v k server good done job
 
   nones : (n place : ℕ) (cell : Cell) → visits n place cell ≡ None → good.visits n place cell ≡ None
-  nones = worked.nones setting records w v k server good done job
+  nones = worked.nones setting records w stores v k server good done job
 
-  store_now : store_of v k ≡ done.own.store
-  store_now = worked.store_now setting records w v k server good done job
+  abbrev next : ℕ → ℕ → Store
+  next = stored setting records top (with_stores w stores) v k server good job.step
 
-  store_apart : (n : ℕ) → n ≢ k → store_of v n ≡ store_of w n
-  store_apart = worked.store_apart setting records w v k server good done job
+  -- the stores by a front, before and then
+  abbrev olds : List Command → ℕ → Store
+  olds = store_by setting good.stores
+
+  abbrev news : List Command → ℕ → Store
+  news = store_by setting next
+
+  -- the server has joined with an empty store no more often than by this front
+  abbrev IsNow : List Command → Type 0
+  IsNow f = blank_joins_in setting f k ≡ blank_joins_in setting top k
+
+  store_was : (f : List Command) → IsNow f → olds f k ≡ (w.servers k).own.store
+  store_was = leaving.store_was setting records w stores v k server good done job started
+
+  store_now : (f : List Command) → IsNow f → news f k ≡ done.own.store
+  store_now = leaving.store_now setting records w stores v k server good done job started
+
+  store_apart : (f : List Command) (n : ℕ) → n ≢ k → news f n ≡ olds f n
+  store_apart = leaving.store_apart setting records w stores v k server good done job started
 
   visit_apart : (n place : ℕ) (cell : Cell) → n ≢ k → visits n place cell ≡ good.visits n place cell
-  visit_apart = worked.visit_apart setting records w v k server good done job
+  visit_apart = worked.visit_apart setting records w stores v k server good done job
 
-  leaves_apart : (n place : ℕ) (cell : Cell) → n ≢ k → LeavesAt setting top w v good.visits visits good.reached reached n place cell
-  leaves_apart n place cell ne = record {
+  leaves_apart : (f : List Command) (n place : ℕ) (cell : Cell) → n ≢ k → LeavesAt setting top good.stores next good.visits visits good.reached reached f n place cell
+  leaves_apart f n place cell ne = record {
     visit = visit_apart n place cell ne;
-    store = store_same (store_of w n) (store_of v n) cell (store_apart n ne);
+    store = store_same (olds f n) (news f n) cell (store_apart f n ne);
   }
 
-  abbrev Leaves : ℕ → Cell → LinkRow → Type 0
-  Leaves place cell row = LeavesBoth setting top w v good.visits visits good.reached reached place cell row
+  abbrev Leaves : List Command → ℕ → Cell → LinkRow → Type 0
+  Leaves f place cell row = LeavesBoth setting top good.stores next good.visits visits good.reached reached f place cell row
 
   steady_at : (f : List Command) → IsPrefix f top → IsSteady (state_after setting.servers f)
-  steady_at f prefix = log_steady setting.servers f (front_plain setting.servers f top job.firm.plain prefix)
+  steady_at = leaving.steady_at setting records w stores v k server good done job started
 
   -- of a link that the server is not of nothing is to show
-  stranger_leaves : (place : ℕ) (cell : Cell) (row : LinkRow) → has_server k row ≡ false → Leaves place cell row
-  stranger_leaves place cell row off n has = leaves_apart n place cell (λ e. true_false (subst (λ m. has_server m row ≡ true) e has) off)
+  stranger_leaves : (f : List Command) (place : ℕ) (cell : Cell) (row : LinkRow) → has_server k row ≡ false → Leaves f place cell row
+  stranger_leaves f place cell row off n has = leaves_apart f n place cell (λ e. true_false (subst (λ m. has_server m row ≡ true) e has) off)
 
   -- ### Another place than the server's own
 
@@ -117,7 +123,7 @@ module _ (setting : Setting) (records : List Record) (w v : World) (k : ℕ) (se
 
   visit_else : (place : ℕ) (cell : Cell) → IsElsewhere place cell → visits k place cell ≡ good.visits k place cell
   visit_else place cell away =
-      visited_beside setting records top w v k server good job.step k place cell
+      visited_beside setting records top (with_stores w stores) v k server good job.step k place cell
       (λ (a : IsAt setting k server place cell). away a.row (subst (λ f. IsLinked setting f cell a.row) job.applied a.linked) (a.at ∙ ap (λ f. place_by setting f a.row) job.applied))
 
   visits_else : (n place : ℕ) (cell : Cell) → IsElsewhere place cell → visits n place cell ≡ good.visits n place cell
@@ -126,132 +132,25 @@ module _ (setting : Setting) (records : List Record) (w v : World) (k : ℕ) (se
     | inr ne ↦ visit_apart n place cell ne
   ]
 
-  -- the step leaves the server's store as it was of the cell; or the server holds the link alone there, where it has not been yet, and
-  -- the copies are covered; or the block is marked at the holder
-  data IsLeft (place : ℕ) (cell : Cell) (row : LinkRow) : Type 0 where
-    Same_store : LeavesStore (store_of w k) (store_of v k) cell → IsLeft place cell row
-    Covers : row.state ≡ Only k false → good.visits k place cell ≡ None → IsCovered row cell (store_of v k) (store_of v (other_of k row)) None
-        → IsLeft place cell row
-    Marked_by : (h : ℕ) → row.state ≡ Only h false → h ≢ k → good.visits k place cell ≡ None → IsMarked (store_of w h) cell
-        → ((kind : MarkKind) → is_marked (store_of v k) kind cell ≡ is_marked (store_of w k) kind cell) → IsLeft place cell row
+  abbrev IsLeftAt : List Command → (place : ℕ) → Cell → LinkRow → Type 0
+  IsLeftAt = leaving.IsLeftAt setting records w stores v k server good done job started
 
-  -- of a store that the job leaves so
-  left_so : (cell : Cell) → LeavesStore (w.servers k).own.store done.own.store cell → LeavesStore (store_of w k) (store_of v k) cell
-  left_so cell same = subst (λ s. LeavesStore (store_of w k) s cell) (sym store_now) same
+  abbrev IsStillLeft : List Command → (place : ℕ) → Cell → LinkRow → (h : ℕ) → Type 0
+  IsStillLeft = leaving.IsStillLeft setting records w stores v k server good done job started
 
-  module _ (cell : Cell) (mine : LinkRow) (is : IsLinked setting front cell mine) (has : has_server k mine ≡ true) where
-    abbrev place : ℕ
-    place = place_by setting front mine
+  left_so : (f : List Command) (cell : Cell) → IsNow f → LeavesStore (w.servers k).own.store done.own.store cell → LeavesStore (olds f k) (news f k) cell
+  left_so = leaving.left_so setting records w stores v k server good done job started
 
-    apart : mine.primary ≢ mine.secondary
-    apart = ((steady_at front (job.firm.servers k)).linked cell mine is).apart
-
-    -- as the holder that has started its ballot
-    flagged_leaves : mine.state ≡ Only k false → is_flagged (w.servers k).own (id_of mine) ≡ true → LeavesStore (store_of w k) (store_of v k) cell
-    flagged_leaves alone flagged =
-        let keeps = worked.keeps_holder setting records w v k server good done job cell mine is alone in
-        let kept = keeps.caught flagged in
-        let caught = (seated.copying_here setting records w k good job.firm job.rests job.runs job.seat cell mine is alone).caught (w.servers k).own refl flagged in
-        left_so cell (record { chain = kept.0; marks = marks_none (w.servers k).own.store done.own.store cell caught.unmarked kept.1 })
-
-    module _ (h : ℕ) (alone : mine.state ≡ Only h false) (ne : h ≢ k) where
-      other : other_of h mine ≡ k
-      other = other_back mine h k (holder_is_one (server_state setting w k) (steady_at front (job.firm.servers k)) h cell mine is alone) has ne
-
-      keeps_other : OtherKeeps mine cell (good.visits h place cell) (w.servers k).own done
-      keeps_other = worked.keeps_other setting records w v k server good done job cell mine is h alone other has
-
-      -- as the other server, where the holder had not marked the block
-      other_leaves : (IsMarkedBy (good.visits h place cell) cell → ⊥) → LeavesStore (store_of w k) (store_of v k) cell
-      other_leaves never = elim keeps_other.changes [
-        | inl chain ↦ left_so cell (record { chain = chain; marks = keeps_other.marks })
-        | inr m ↦ absurd (never m)
-      ]
-
-    module _ (f : List Command) (row : LinkRow) (prefix : IsPrefix f top) (end : IsLinked setting f cell row) (ne_place : place_by setting f row ≢ place)
-        (last : good.reached cell ≤ place_by setting f row) where
-      -- at a front before the server's own place
-      before_leaves : place_by setting f row < place → IsLeft (place_by setting f row) cell row
-      before_leaves lt =
-          let idle = not_serving setting records w job.firm good k cell mine job.seat is (omega arith) in
-          elim ((steady_at front (job.firm.servers k)).linked cell mine is).served [
-            | ByBoth so one two ↦ true_false (ap (serves k mine) so ∙ has) idle
-            | ByOne h o so pair out ↦ (
-                let ne : h ≢ k = λ e. true_false (ap (serves k mine) so ∙ (λ i. h == sym e i) ∙ number_itself h) idle in
-                Same_store (other_leaves h so ne (λ m.
-                none_some (not_reached setting records w job.firm good front cell mine h (job.firm.servers k) is (ap (serves h mine) so ∙ number_itself h) (omega arith)) m.met)))
-          ]
-
-      module _ (on : IsPrefix front f) (past : place < place_by setting f row) where
-        unseen : good.visits k (place_by setting f row) cell ≡ None
-        unseen = unseen_beyond setting records w job.firm good k cell mine is (place_by setting f row) past
-
-        later_row : IsLater mine row
-        later_row = rows_later setting top job.firm.plain front f cell mine row on prefix is end
-
-        -- it shares the link at its own place
-        both_leaves : mine.state ≡ Both → IsLeft (place_by setting f row) cell row
-        both_leaves both = elim (both_since setting records w job.firm good k job.runs job.seat cell mine is both has f row on prefix end) [
-          | inl same ↦ absurd (ne_place same)
-          | inr alone ↦
-              let twins = (worked.both_now setting records w v k server good done job cell mine is both has).twins in
-              Covers alone unseen
-              (subst (λ n. IsCovered row cell (store_of v k) (store_of v n) None) (sym (other_later mine row k later_row))
-              (both_cover v visits place mine row cell twins k has))
-        ]
-
-        -- it holds it alone
-        holder_leaves : mine.state ≡ Only k false → IsLeft (place_by setting f row) cell row
-        holder_leaves alone = elim (holds_since setting records w job.firm good k job.runs job.seat cell mine is alone f row on prefix end) [
-          | inl so ↦ elim (alone_last setting records w job.firm good k job.runs job.seat cell mine is alone) [
-            | inl last_here ↦ (
-                let beside = (worked.alone_now setting records w v k server good done job cell mine is k alone has).beside last_here in
-                Covers so unseen
-                (subst (λ n. IsCovered row cell (store_of v k) (store_of v n) None) (sym (other_later mine row k later_row))
-                (cover_anew mine row cell (store_of v k) (store_of v (other_of k mine)) (visits k place cell) beside.alike.covered)))
-            | inr flagged ↦ Same_store (flagged_leaves alone flagged)
-          ]
-          | inr flagged ↦ Same_store (flagged_leaves alone flagged)
-        ]
-
-        -- the other server holds it
-        other_left : (h : ℕ) → mine.state ≡ Only h false → h ≢ k → IsLeft (place_by setting f row) cell row
-        other_left h alone ne = elim (keeps_other h alone ne).changes [
-          | inl chain ↦ Same_store (left_so cell (record { chain = chain; marks = (keeps_other h alone ne).marks }))
-          | inr m ↦ elim (alone_or_flagged setting records w job.firm good started front f cell mine row h on prefix is alone end
-              (λ p lt. ap (λ n. good.visits n p cell) (other h alone ne) ∙ unseen_beyond setting records w job.firm good k cell mine is p lt)) [
-                | inl so ↦ Marked_by h so ne unseen
-                    (worked.marked_still setting records w v k server good done job cell mine is h alone
-                    (other h alone ne) has m)
-                    (λ kind. ap (λ s. is_marked s kind cell) store_now ∙ (keeps_other h alone ne).marks kind)
-                | inr c ↦ worked.not_caught setting records w v k server good done job cell mine is h alone
-                    (other h alone ne) has m c.0 c.1 c.2
-              ]
-        ]
-
-      linked_left : IsLeft (place_by setting f row) cell row
-      linked_left = elim (fronts_meet f front top prefix (job.firm.servers k)) [
-        | inl p ↦ (
-            let le = places_up setting top job.firm.plain f front cell row mine p (job.firm.servers k) end is in
-            before_leaves (below le (λ e. ne_place e)))
-        | inr p ↦ (
-            let le = places_up setting top job.firm.plain front f cell mine row p prefix is end in
-            let past = below le (λ e. ne_place (sym e)) in
-            elim ((steady_at front (job.firm.servers k)).linked cell mine is).served [
-              | ByBoth so one two ↦ both_leaves p past so
-              | ByOne h o so pair out ↦ elim (same_or_apart h k) [
-                | inl e ↦ holder_leaves p past (so ∙ ap (λ n. Only n false) e)
-                | inr ne ↦ other_left p past h so ne
-              ]
-            ])
-      ]
-
-  -- of a cell that has no link by its own entries the step leaves all
+  -- of a cell that has no link by its own entries the step leaves all, and by entries that tell of fewer Joins of the server, too
   left_else : (f : List Command) (cell : Cell) (row : LinkRow) → IsPrefix f top → IsLinked setting f cell row → has_server k row ≡ true
-      → IsElsewhere (place_by setting f row) cell → good.reached cell ≤ place_by setting f row → IsLeft (place_by setting f row) cell row
-  left_else f cell row prefix end has away last = elim (some_or_none (cell_link (server_state setting w k) cell)) [
-    | inl h ↦ linked_left cell h.0 h.1 (has_mine h.0 h.1) f row prefix end (away h.0 h.1) last
-    | inr none ↦ (let keeps = job.keeping.unlinked cell none in Same_store (left_so cell (record { chain = keeps.rest.chain; marks = keeps.marks })))
+      → IsElsewhere (place_by setting f row) cell → good.reached cell ≤ place_by setting f row → IsLeftAt f (place_by setting f row) cell row
+  left_else f cell row prefix end has away last = elim (same_or_apart (blank_joins_in setting f k) (blank_joins_in setting top k)) [
+    | inl now ↦ elim (some_or_none (cell_link (server_state setting w k) cell)) [
+      | inl h ↦ leaving.linked_left setting records w stores v k server good done job started cell h.0 h.1 (has_mine h.0 h.1) f row prefix end (away h.0 h.1) last now
+      | inr none ↦ (let keeps = job.keeping.unlinked cell none in Same_store (left_so f cell now (record { chain = keeps.rest.chain; marks = keeps.marks })))
+    ]
+    | inr ne ↦ Same_store (store_same (olds f k) (news f k) cell
+        (stored_frozen setting records top (with_stores w stores) v k server good job.step k (blank_joins_in setting f k) ne))
   ]
     where
       has_mine : (mine : LinkRow) → IsLinked setting front cell mine → has_server k mine ≡ true
@@ -276,89 +175,118 @@ module _ (setting : Setting) (records : List Record) (w v : World) (k : ℕ) (se
   ]
 
   -- where the store is left so
-  else_leaves : (place : ℕ) (cell : Cell) (row : LinkRow) → IsElsewhere place cell → LeavesStore (store_of w k) (store_of v k) cell → Leaves place cell row
-  else_leaves place cell row away same n has = elim (same_or_apart n k) [
-    | inl e ↦ subst (λ m. LeavesAt setting top w v good.visits visits good.reached reached m place cell) (sym e)
+  else_leaves : (f : List Command) (place : ℕ) (cell : Cell) (row : LinkRow) → IsElsewhere place cell → LeavesStore (olds f k) (news f k) cell → Leaves f place cell row
+  else_leaves f place cell row away same n has = elim (same_or_apart n k) [
+    | inl e ↦ subst (λ m. LeavesAt setting top good.stores next good.visits visits good.reached reached f m place cell) (sym e)
         (record { visit = visit_else place cell away; store = same })
-    | inr ne ↦ leaves_apart n place cell ne
+    | inr ne ↦ leaves_apart f n place cell ne
   ]
+
+  -- two fronts at one place of the link are behind as many Joins of each of its servers
+  joins_here : (f : List Command) (cell : Cell) (row : LinkRow) (n : ℕ) → IsPrefix f top → IsLinked setting f cell row → IsLinked setting front cell row
+      → place_by setting front row ≡ place_by setting f row → has_server n row ≡ true → blank_joins_in setting front n ≡ blank_joins_in setting f n
+  joins_here f cell row n prefix is mine e has = joins_at setting top job.firm.plain front f cell row row n (job.firm.servers k) prefix mine is has has e
 
   last_old : (cell : Cell) (place : ℕ) → reached cell ≤ place → good.reached cell ≤ place
   last_old cell place le = let more = up cell in omega arith
 
-  holds : (f : List Command) (cell : Cell) (row : LinkRow) (holder : ℕ) → IsPrefix f top → IsLinked setting f cell row → row.state ≡ Only holder false
-      → has_server holder row ≡ true
-  holds f cell row holder prefix is alone = holder_is_one (state_after setting.servers f) (steady_at f prefix) holder cell row is alone
+  holds : (f : List Command) (cell : Cell) (row : LinkRow) (holder : ℕ) (whole : Bool) → IsPrefix f top → IsLinked setting f cell row
+      → row.state ≡ Only holder whole → has_server holder row ≡ true
+  holds f cell row holder whole prefix is alone = holder_is_one (state_after setting.servers f) (steady_at f prefix) holder cell row is alone
 
   -- ### In Both
 
-  twins_else : (f : List Command) (cell : Cell) (row : LinkRow) → row.state ≡ Both → BothOk setting top w good.visits good.reached f cell row
-      → IsElsewhere (place_by setting f row) cell → IsLeft (place_by setting f row) cell row → reached cell ≤ place_by setting f row
-      → AreTwins v visits (place_by setting f row) cell row.primary row.secondary
+  twins_else : (f : List Command) (cell : Cell) (row : LinkRow) → row.state ≡ Both → BothOk setting top good.stores good.visits good.reached f cell row
+      → IsElsewhere (place_by setting f row) cell → IsLeftAt f (place_by setting f row) cell row → reached cell ≤ place_by setting f row
+      → AreTwins (news f) visits (place_by setting f row) cell row.primary row.secondary
   twins_else f cell row both ok away (Same_store same) last =
-      (both_framed setting top w v good.visits visits good.reached reached up nones f cell row (else_leaves (place_by setting f row) cell row away same) ok).twins last
-  twins_else f cell row both ok away (Covers alone none covered) last = alone_not_both row k alone both
-  twins_else f cell row both ok away (Marked_by h alone ne none marked marks) last = alone_not_both row h alone both
+      (both_framed setting top good.stores next good.visits visits good.reached reached up nones f cell row (else_leaves f (place_by setting f row) cell row away same) ok).twins last
+  twins_else f cell row both ok away (Covers whole alone none covered) last = alone_not_both row k alone both
+  twins_else f cell row both ok away (Gone lost) last = lost_not_both row lost both
+  twins_else f cell row both ok away (Left_by h whole alone ne none left marks) last = alone_not_both row h alone both
+
+  -- at another front of the server's own place
+  news_here : (f : List Command) (cell : Cell) (row : LinkRow) (n : ℕ) → IsPrefix f top → IsLinked setting f cell row → IsLinked setting front cell row
+      → place_by setting front row ≡ place_by setting f row → has_server n row ≡ true → news front n ≡ news f n
+  news_here f cell row n prefix is mine e has = ap (next n) (joins_here f cell row n prefix is mine e has)
+
+  olds_here : (f : List Command) (cell : Cell) (row : LinkRow) (n : ℕ) → IsPrefix f top → IsLinked setting f cell row → IsLinked setting front cell row
+      → place_by setting front row ≡ place_by setting f row → has_server n row ≡ true → olds front n ≡ olds f n
+  olds_here f cell row n prefix is mine e has = ap (good.stores n) (joins_here f cell row n prefix is mine e has)
+
+  twins_moved : (f : List Command) (cell : Cell) (row : LinkRow) → IsPrefix f top → IsLinked setting f cell row → IsLinked setting front cell row
+      → place_by setting front row ≡ place_by setting f row → AreTwins (news front) visits (place_by setting front row) cell row.primary row.secondary
+      → AreTwins (news f) visits (place_by setting f row) cell row.primary row.secondary
+  twins_moved f cell row prefix is mine e twins = subst (λ place. AreTwins (news f) visits place cell row.primary row.secondary) e
+      (twins_same (news front) (news f) visits (place_by setting front row) cell row.primary row.secondary
+      (sym (news_here f cell row row.primary prefix is mine e (primary_is_one row row.primary refl)))
+      (sym (news_here f cell row row.secondary prefix is mine e (secondary_is_one row row.secondary refl))) twins)
 
   both_kept : (f : List Command) (cell : Cell) (row : LinkRow) → IsPrefix f top → IsLinked setting f cell row → row.state ≡ Both
-      → BothOk setting top v visits reached f cell row
+      → BothOk setting top next visits reached f cell row
   both_kept f cell row prefix is both =
       let ok = good.both f cell row prefix is both in
       by_bool (has_server k row)
       (λ has. at_or_else f cell row prefix is
       (λ mine e. record {
-        twins = λ last. subst (λ place. AreTwins v visits place cell row.primary row.secondary) e
-            (worked.both_now setting records w v k server good done job cell row mine both has).twins;
+        twins = λ last. twins_moved f cell row prefix is mine e
+            (worked.both_now setting records w stores v k server good done job cell row mine both has).twins;
       })
       (λ away. record {
         twins = λ last. twins_else f cell row both ok away (left_else f cell row prefix is has away (last_old cell (place_by setting f row) last)) last;
       }))
-      (λ off. both_framed setting top w v good.visits visits good.reached reached up nones f cell row (stranger_leaves (place_by setting f row) cell row off) ok)
+      (λ off. both_framed setting top good.stores next good.visits visits good.reached reached up nones f cell row (stranger_leaves f (place_by setting f row) cell row off) ok)
 
   -- ### Alone
 
-  abbrev Alone : List Command → Cell → LinkRow → ℕ → Type 0
-  Alone f cell row holder = AloneOk setting top w good.visits good.reached f cell row holder
-
-  module _ (f : List Command) (cell : Cell) (row : LinkRow) (holder : ℕ) (prefix : IsPrefix f top) (is : IsLinked setting f cell row) (alone : row.state ≡ Only holder false) where
+  module _ (f : List Command) (cell : Cell) (row : LinkRow) (holder : ℕ) (whole : Bool) (prefix : IsPrefix f top) (is : IsLinked setting f cell row)
+      (alone : row.state ≡ Only holder whole) where
     abbrev there : ℕ
     there = place_by setting f row
 
     abbrev other_one : ℕ
     other_one = other_of holder row
 
-    ok : AloneOk setting top w good.visits good.reached f cell row holder
-    ok = good.alone f cell row holder prefix is alone
+    abbrev links : ℕ
+    links = links_of (state_after setting.servers f) cell.map
+
+    ok : AloneOk setting top good.stores good.visits good.reached f cell row holder
+    ok = good.alone f cell row holder whole prefix is alone
 
     two : other_one ≢ holder
     two = other_apart row holder ((steady_at f prefix).linked cell row is).apart
 
+    has_holder : has_server holder row ≡ true
+    has_holder = holds f cell row holder whole prefix is alone
+
     -- elsewhere the copies are covered, and the other server is as it was
-    beside_else : has_server k row ≡ true → IsElsewhere there cell → IsLeft there cell row → reached cell ≤ there → AreBeside v visits there row cell holder other_one
+    beside_else : has_server k row ≡ true → IsElsewhere there cell → IsLeftAt f there cell row → reached cell ≤ there
+        → AreBeside (news f) visits there row cell holder other_one
     beside_else has away (Same_store same) last =
-        (alone_framed setting top w v good.visits visits good.reached reached up nones f cell row holder (holds f cell row holder prefix is alone)
-        (else_leaves there cell row away same) ok).beside last
-    beside_else has away (Covers mine none covered) last =
+        (alone_framed setting top good.stores next good.visits visits good.reached reached up nones f cell row holder has_holder
+        (else_leaves f there cell row away same) ok).beside last
+    beside_else has away (Gone lost) last = alone_not_lost row holder alone lost
+    beside_else has away (Covers kept mine none covered) last =
         let e : holder ≡ k = same_only (sym alone ∙ mine) in
         let ne : other_one ≢ k = λ x. two (x ∙ sym e) in
         let unseen : visits holder there cell ≡ None = ap (λ n. visits n there cell) e ∙ visit_else there cell away ∙ none in
         record {
           alike = record {
-            covered = subst (IsCovered row cell (store_of v holder) (store_of v other_one)) (sym unseen)
-                (subst (λ n. IsCovered row cell (store_of v n) (store_of v (other_of n row)) None) (sym e) covered);
+            covered = subst (IsCovered row cell (news f holder) (news f other_one)) (sym unseen)
+                (subst (λ n. IsCovered row cell (news f n) (news f (other_of n row)) None) (sym e) covered);
             caught = λ by x flagged. none_some unseen x;
           };
           still = λ by x. (ok.beside (last_old cell there last)).still by (sym (visit_apart other_one there cell ne) ∙ x)
-              ∙ ap (λ (s : Store). chain_in s.chains cell) (sym (store_apart other_one ne));
+              ∙ ap (λ (s : Store). chain_in s.chains cell) (sym (store_apart f other_one ne));
         }
-    beside_else has away (Marked_by h by_h ne none marked marks) last =
+    beside_else has away (Left_by h kept by_h ne none left marks) last =
         let e : h ≡ holder = same_only (sym by_h ∙ alone) in
         let ne' : holder ≢ k = λ x. ne (e ∙ x) in
-        let other_k : other_one ≡ k = other_back row holder k (holds f cell row holder prefix is alone) has ne' in
+        let other_k : other_one ≡ k = other_back row holder k has_holder has ne' in
         let unseen : visits other_one there cell ≡ None = ap (λ n. visits n there cell) other_k ∙ visit_else there cell away ∙ none in
         record {
           alike = record {
-            covered = Is_marked_here (subst (λ s. IsMarked s cell) (sym (store_apart holder ne')) (subst (λ n. IsMarked (store_of w n) cell) e marked));
+            covered = left_cover ne' (subst (IsStillLeft f there cell row) e left);
             caught = λ by x flagged.
                 let was = sym (visit_apart holder there cell ne') ∙ x in
                 let caught = ok.copying.caught by was flagged in
@@ -366,190 +294,358 @@ module _ (setting : Setting) (records : List Record) (w v : World) (k : ℕ) (se
           };
           still = λ by x. none_some unseen x;
         }
+      where
+        left_cover : holder ≢ k → IsStillLeft f there cell row holder → IsCovered row cell (news f holder) (news f other_one) (visits holder there cell)
+        left_cover apart (inl marked) = Is_marked_here (subst (λ s. IsMarked s cell) (sym (store_apart f holder apart)) marked)
+        left_cover apart (inr all) = Is_to_be_copied (subst (λ s. IsToBeCopied row s cell) (sym (store_apart f holder apart)) all.0)
+            (subst (λ x. NotCopied x row cell.block) (sym (visit_apart holder there cell apart)) all.1)
 
-    copying_else : IsElsewhere there cell → AreCopying row cell (visits holder there cell) (visits other_one there cell)
+    copying_else : IsElsewhere there cell → AreCopying links row cell (visits holder there cell) (visits other_one there cell)
     copying_else away =
-        subst (λ o. AreCopying row cell o (visits other_one there cell)) (sym (visits_else holder there cell away))
-        (subst (AreCopying row cell (good.visits holder there cell)) (sym (visits_else other_one there cell away)) ok.copying)
+        subst (λ o. AreCopying links row cell o (visits other_one there cell)) (sym (visits_else holder there cell away))
+        (subst (AreCopying links row cell (good.visits holder there cell)) (sym (visits_else other_one there cell away)) ok.copying)
 
-    -- what was marked at the holder is marked there still
+    -- what was left to copy at the holder is so still
+    abbrev KeepsLeft : Own → Store → Store → Type 0
+    KeepsLeft o before now = (IsMarked o.store cell → IsMarked before cell → IsMarked now cell)
+        × (IsToBeCopied row o.store cell → NotCopied (Some o) row cell.block → IsToBeCopied row before cell → IsToBeCopied row now cell)
+
     stays_mine : holder ≡ k → IsElsewhere there cell → (o : Own) → good.visits k there cell ≡ Some o
-        → ((p : ℕ) → there < p → good.visits other_one p cell ≡ None) → IsMarked o.store cell → IsMarked (store_of w k) cell → IsMarked (store_of v k) cell
-    stays_mine e away o visit beyond marked now =
-        let b = good.been k there cell o visit in
-        let past = below b.past (away b.row b.linked) in
-        elim (fronts_meet f front top prefix (job.firm.servers k)) [
-          | inr p ↦ (let le = places_up setting top job.firm.plain front f cell b.row row p prefix b.linked is in absurd (omega arith))
-          | inl p ↦ elim (alone_or_flagged setting records w job.firm good started f front cell row b.row k p (job.firm.servers k) is (alone ∙ ap (λ n. Only n false) e) b.linked
+        → ((p : ℕ) → there < p → good.visits other_one p cell ≡ None) → KeepsLeft o (olds f k) (news f k)
+    stays_mine e away o visit beyond = elim (same_or_apart (blank_joins_in setting f k) (blank_joins_in setting top k)) [
+      | inr ne ↦ (
+          let same = stored_frozen setting records top (with_stores w stores) v k server good job.step k (blank_joins_in setting f k) ne in
+          (λ was marked. subst (λ s. IsMarked s cell) (sym same) marked, λ was copied all. subst (λ s. IsToBeCopied row s cell) (sym same) all))
+      | inl now ↦ by now
+    ]
+      where
+        b : HasBeen setting w k there cell
+        b = let h = good.been k there cell o visit in record { row = h.row; linked = h.linked; past = h.past }
+
+        past : there < place_by setting front b.row
+        past = below b.past (away b.row b.linked)
+
+        by : IsNow f → KeepsLeft o (olds f k) (news f k)
+        by now = elim (fronts_meet f front top prefix (job.firm.servers k)) [
+          | inr p ↦ (let le = places_up setting top job.firm.plain front f cell b.row row p prefix b.linked is in absurd (omega (arith, past)))
+          | inl p ↦ elim (alone_or_flagged setting records w stores job.firm good started f front cell row b.row k whole p (job.firm.servers k) is (alone ∙ ap (λ n. Only n whole) e) b.linked
               (λ q lt. ap (λ n. good.visits (other_of n row) q cell) (sym e) ∙ beyond q lt)) [
-                | inl so ↦ (
-                    let later = rows_later setting top job.firm.plain f front cell row b.row p (job.firm.servers k) is b.linked in
-                    let keeps = worked.keeps_holder setting records w v k server good done job cell b.row b.linked so in
-                    elim (keeps.marks now) [
-                      | inl still ↦ subst (λ s. IsMarked s cell) (sym store_now) still
-                      | inr met ↦ true_false met
-                          (ap is_some (ap (λ n. good.visits n (place_by setting front b.row) cell)
-                          (other_later row b.row k later ∙ ap (λ n. other_of n row) (sym e)) ∙ beyond (place_by setting front b.row) past))
-                    ])
-                | inr c ↦ (
+                | inl so ↦ held now p so.0 so.1
+                | inr (inl lost) ↦ (
+                    let keeps = job.keeping.lost cell b.row b.linked lost in
+                    let same = left_so f cell now (record { chain = keeps.rest.chain; marks = keeps.marks }) in
+                    (λ was marked. marked_on (olds f k) (news f k) cell same marked, λ was copied all. to_copy_on row (olds f k) (news f k) cell same.chain all))
+                | inr (inr c) ↦ (
                     let visit_h : good.visits holder there cell ≡ Some c.0 = ap (λ n. good.visits n there cell) e ∙ c.1 in
                     let caught = ok.copying.caught c.0 visit_h c.2 in
-                    absurd (caught.unmarked (subst (λ (x : Own). IsMarked x.store cell) (same_some (sym visit ∙ c.1)) marked)))
+                    let same : o ≡ c.0 = same_some (sym visit ∙ c.1) in (
+                      λ was marked. absurd (caught.unmarked (subst (λ (x : Own). IsMarked x.store cell) same was)),
+                      λ was copied. absurd (caught.copied (subst (λ (x : Own). IsToBeCopied row x.store cell) same was)
+                          (subst (λ (x : Own). NotCopied (Some x) row cell.block) same copied)),
+                    ))
               ]
         ]
+          where
+            held : IsNow f → IsPrefix f front → (kept : Bool) → b.row.state ≡ Only k kept → KeepsLeft o (olds f k) (news f k)
+            held now p kept so =
+                let later = rows_later setting top job.firm.plain f front cell row b.row p (job.firm.servers k) is b.linked in
+                let keeps = worked.keeps_holder setting records w stores v k server good done job cell b.row b.linked kept so in (
+                  λ was marked. elim (keeps.marks (subst (λ s. IsMarked s cell) (store_was f now) marked)) [
+                    | inl still ↦ subst (λ s. IsMarked s cell) (sym (store_now f now)) still
+                    | inr met ↦ true_false met
+                        (ap is_some (ap (λ n. good.visits n (place_by setting front b.row) cell)
+                        (other_later row b.row k later ∙ ap (λ n. other_of n row) (sym e)) ∙ beyond (place_by setting front b.row) past))
+                  ],
+                  λ was copied all. record {
+                    whole = all.whole;
+                    stored = λ none. keeps.stored (λ empty. all.stored (ap (λ (s : Store). chain_in s.chains cell) (store_was f now) ∙ empty))
+                        (ap (λ (s : Store). chain_in s.chains cell) (sym (store_now f now)) ∙ none);
+                  },
+                )
 
     stays_else : IsElsewhere there cell → (o : Own) → visits holder there cell ≡ Some o → ((p : ℕ) → there < p → visits other_one p cell ≡ None)
-        → IsMarked o.store cell → IsMarked (store_of v holder) cell
-    stays_else away o visit beyond marked =
+        → StaysLeft row cell o (news f holder)
+    stays_else away o visit beyond =
         let was = sym (visits_else holder there cell away) ∙ visit in
         let unseen : (p : ℕ) → there < p → good.visits other_one p cell ≡ None = λ p lt. nones other_one p cell (beyond p lt) in
-        let now = ok.stays o was unseen marked in
+        let now = ok.stays o was unseen in
         elim (same_or_apart holder k) [
-          | inl e ↦ subst (λ n. IsMarked (store_of v n) cell) (sym e)
-              (stays_mine e away o (ap (λ n. good.visits n there cell) (sym e) ∙ was) unseen marked (subst (λ n. IsMarked (store_of w n) cell) e now))
-          | inr ne ↦ subst (λ s. IsMarked s cell) (sym (store_apart holder ne)) now
+          | inl e ↦ (
+              let mine = stays_mine e away o (ap (λ n. good.visits n there cell) (sym e) ∙ was) unseen in (
+                λ marked. subst (λ n. IsMarked (news f n) cell) (sym e) (mine.0 marked (subst (λ n. IsMarked (olds f n) cell) e (now.0 marked))),
+                λ all copied. subst (λ n. IsToBeCopied row (news f n) cell) (sym e) (mine.1 all copied (subst (λ n. IsToBeCopied row (olds f n) cell) e (now.1 all copied))),
+              ))
+          | inr ne ↦ (
+            λ marked. subst (λ s. IsMarked s cell) (sym (store_apart f holder ne)) (now.0 marked),
+            λ all copied. subst (λ s. IsToBeCopied row s cell) (sym (store_apart f holder ne)) (now.1 all copied),
+          )
         ]
 
     -- marks of the other server are those that it had
-    marks_else : other_one ≡ k → IsLeft there cell row → IsMarked (store_of v k) cell → IsMarked (store_of w k) cell
-    marks_else e (Same_store same) = marks_back (store_of w k) (store_of v k) cell same.marks
-    marks_else e (Covers mine none covered) = absurd (two (e ∙ sym (same_only (sym alone ∙ mine))))
-    marks_else e (Marked_by h by_h ne none marked marks) = marks_back (store_of w k) (store_of v k) cell marks
+    marks_else : other_one ≡ k → IsLeftAt f there cell row → IsMarked (news f k) cell → IsMarked (olds f k) cell
+    marks_else e (Same_store same) = marks_back (olds f k) (news f k) cell same.marks
+    marks_else e (Gone lost) = alone_not_lost row holder alone lost
+    marks_else e (Covers kept mine none covered) = absurd (two (e ∙ sym (same_only (sym alone ∙ mine))))
+    marks_else e (Left_by h kept by_h ne none left marks) = marks_back (olds f k) (news f k) cell marks
 
-    page_else : IsElsewhere there cell → (other_one ≡ k → IsLeft there cell row) → (after block : Option ℕ)
-        → IsPage cell (store_of w other_one) (good.visits other_one there cell) after block
-        → IsPage cell (store_of v other_one) (visits other_one there cell) after block
+    page_else : IsElsewhere there cell → (other_one ≡ k → IsLeftAt f there cell row) → (after block : Option ℕ)
+        → IsPage cell (olds f other_one) (good.visits other_one there cell) after block → IsPage cell (news f other_one) (visits other_one there cell) after block
     page_else away left after block page = record {
       met = ap is_some (visits_else other_one there cell away) ∙ page.met;
       least = λ ahead upto marked. page.least ahead upto (elim (same_or_apart other_one k) [
-        | inl e ↦ subst (λ n. IsMarked (store_of w n) cell) (sym e) (marks_else e (left e) (subst (λ n. IsMarked (store_of v n) cell) e marked))
-        | inr ne ↦ subst (λ s. IsMarked s cell) (store_apart other_one ne) marked
+        | inl e ↦ subst (λ n. IsMarked (olds f n) cell) (sym e) (marks_else e (left e) (subst (λ n. IsMarked (news f n) cell) e marked))
+        | inr ne ↦ subst (λ s. IsMarked s cell) (store_apart f other_one ne) marked
       ]);
     }
 
     -- ### The server is of the link
 
     module _ (has : has_server k row ≡ true) where
-      left_here : IsElsewhere there cell → good.reached cell ≤ there → IsLeft there cell row
+      left_here : IsElsewhere there cell → good.reached cell ≤ there → IsLeftAt f there cell row
       left_here away last = left_else f cell row prefix is has away last
 
-      alone_else : IsElsewhere there cell → AloneOk setting top v visits reached f cell row holder
+      -- a server of the link other than the holder
+      is_holder : (h : ℕ) (kept : Bool) (other : LinkRow) → other_of holder row ≡ k → other_of h other ≡ k → IsLater row other ⊎ IsLater other row
+          → has_server h other ≡ true → h ≢ k → h ≡ holder
+      is_holder h kept other mine its so has_h ne = elim so [
+        | inl up ↦ sym (other_back other k h (one_before row other k up ∙ has) has_h (λ e. ne (sym e)))
+            ∙ other_later row other k up ∙ other_back row k holder has has_holder (λ e. two (mine ∙ e))
+        | inr up ↦ sym (other_later other row k up ∙ other_back other k h (sym (one_before other row k up) ∙ has) has_h (λ e. ne (sym e)))
+            ∙ other_back row k holder has has_holder (λ e. two (mine ∙ e))
+      ]
+
+      filled_at : (more : List Command) (other : LinkRow) (own : Own) → IsPrefix more top → IsLinked setting more cell other
+          → blank_joins_in setting more other_one ≡ blank_joins_in setting f other_one → good.visits holder (place_by setting more other) cell ≡ Some own
+          → HasFilled setting top visits f cell holder other_one
+      filled_at more other own within linked joins visit = filled_on setting top good.stores next good.visits visits good.reached reached up nones f cell holder other_one
+          (record { more = more; within = within; row = other; linked = linked; joins = joins; own = own; visited = visit })
+
+      -- where the job changes the other server's copy, the holder has been at a place
+      changed : other_one ≡ k → IsNow f → (chain_in done.own.store.chains cell ≡ chain_in (w.servers k).own.store.chains cell)
+          ⊎ HasFilled setting top visits f cell holder other_one
+      changed e now = elim (some_or_none (cell_link (server_state setting w k) cell)) [
+        | inr none ↦ inl (job.keeping.unlinked cell none).rest.chain
+        | inl h ↦ by_mine h.0 h.1
+      ]
+        where
+          now_at : (more : List Command) → blank_joins_in setting more k ≡ blank_joins_in setting top k
+              → blank_joins_in setting more other_one ≡ blank_joins_in setting f other_one
+          now_at more same = ap (blank_joins_in setting more) e ∙ same ∙ sym now ∙ ap (blank_joins_in setting f) (sym e)
+
+          -- behind the front the holder started a ballot
+          by_caught : (more : List Command) (kept : Bool) → IsPrefix f front → (u : IsCaughtUp setting records w stores job.firm good f front cell holder kept)
+              → HasFilled setting top visits f cell holder other_one
+          by_caught more kept p u =
+              let u_top = front_on u.until front top u.before (job.firm.servers k) in
+              let low = joins_grow setting.servers f u.until k u.behind in
+              let high = joins_grow setting.servers u.until top k u_top in
+              filled_at u.until u.row u.own u_top u.linked (now_at u.until (omega (arith, now))) u.visited
+
+          by_since : (mine : LinkRow) → IsLinked setting front cell mine → IsPrefix f front → ((kept : Bool) → mine.state ≡ Only holder kept → ⊥) → (mine.state ≡ Lost → ⊥)
+              → HasFilled setting top visits f cell holder other_one
+          by_since mine linked p not_held not_lost =
+              elim (alone_since setting records w stores job.firm good started f front cell row mine holder whole p (job.firm.servers k) is alone linked) [
+                | inl held ↦ absurd (not_held held.0 held.1)
+                | inr (inl lost) ↦ absurd (not_lost lost)
+                | inr (inr u) ↦ by_caught f whole p u
+              ]
+
+          by_mine : (mine : LinkRow) → IsLinked setting front cell mine → (chain_in done.own.store.chains cell ≡ chain_in (w.servers k).own.store.chains cell)
+              ⊎ HasFilled setting top visits f cell holder other_one
+          by_mine mine linked = elim ((steady_at front (job.firm.servers k)).linked cell mine linked).served [
+            | ByNone one o so pair out ↦ inl (job.keeping.lost cell mine linked so).rest.chain
+            | ByBoth so one o ↦ elim (fronts_meet f front top prefix (job.firm.servers k)) [
+              | inl p ↦ inr (by_since mine linked p (λ kept g. alone_not_both mine holder g so) (λ g. lost_not_both mine g so))
+              | inr p ↦ elim (both_since setting records w stores job.firm good k job.works.runs job.works.seat cell mine linked so (has_mine mine linked) f row p prefix is) [
+                | inl same ↦ (
+                    let one_is = one_row setting top job.firm.plain front f cell mine row (job.firm.servers k) prefix linked is (sym same) in
+                    alone_not_both row holder alone (ap (λ (x : LinkRow). x.state) one_is ∙ so))
+                | inr held ↦ absurd (two (e ∙ sym (same_only (sym alone ∙ held.1))))
+              ]
+            ]
+            | ByOne h o kept so pair out ↦ elim (same_or_apart h k) [
+              | inl mine_h ↦ (
+                  let its : mine.state ≡ Only k kept = so ∙ ap (λ n. Only n kept) mine_h in
+                  elim (fronts_meet f front top prefix (job.firm.servers k)) [
+                    | inl p ↦ inr (by_since mine linked p (λ b g. two (e ∙ sym (same_only (sym g ∙ its)))) (λ g. alone_not_lost mine k its g))
+                    | inr p ↦ elim (holds_since setting records w stores job.firm good k job.works.runs job.works.seat cell mine linked started kept its f row p prefix is) [
+                      | inl held ↦ absurd (two (e ∙ sym (same_only (sym alone ∙ held.1))))
+                      | inr flagged ↦ inl (leaving.flagged_leaves setting records w stores v k server good done job started cell mine linked (has_mine mine linked) kept its flagged).chain
+                    ]
+                  ])
+              | inr ne ↦ elim (leaving.keeps_other setting records w stores v k server good done job started cell mine linked (has_mine mine linked) h kept so ne).changes [
+                | inl chain ↦ inl chain
+                | inr m ↦ (
+                    let has_h = holder_is_one (server_state setting w k) (steady_at front (job.firm.servers k)) h cell mine linked so in
+                    let its = is_holder h kept mine e (leaving.other setting records w stores v k server good done job started cell mine linked (has_mine mine linked) h kept so ne) (later_or mine linked) has_h ne in
+                    inr (filled_at front mine m.by (job.firm.servers k) linked (now_at front job.works.counts)
+                    (ap (λ n. good.visits n (place_by setting front mine) cell) (sym its) ∙ m.met)))
+              ]
+            ]
+          ]
+            where
+              later_or : (mine : LinkRow) → IsLinked setting front cell mine → IsLater row mine ⊎ IsLater mine row
+              later_or mine linked = elim (fronts_meet f front top prefix (job.firm.servers k)) [
+                | inl p ↦ inl (rows_later setting top job.firm.plain f front cell row mine p (job.firm.servers k) is linked)
+                | inr p ↦ inr (rows_later setting top job.firm.plain front f cell mine row p prefix linked is)
+              ]
+
+              has_mine : (mine : LinkRow) → IsLinked setting front cell mine → has_server k mine ≡ true
+              has_mine mine linked = elim (later_or mine linked) [
+                | inl so ↦ one_before row mine k so ∙ has
+                | inr so ↦ sym (one_before mine row k so) ∙ has
+              ]
+
+      unfilled_kept : is_whole row.state ≡ true → (chain_in (news f other_one).chains cell ≡ []) ⊎ HasFilled setting top visits f cell holder other_one
+      unfilled_kept all = elim (same_or_apart other_one k) [
+        | inr ne ↦ filled_framed setting top good.stores next good.visits visits good.reached reached up nones f cell holder other_one
+            (ap (λ (s : Store). chain_in s.chains cell) (store_apart f other_one ne)) (ok.unfilled all)
+        | inl e ↦ elim (same_or_apart (blank_joins_in setting f k) (blank_joins_in setting top k)) [
+          | inr ne ↦ filled_framed setting top good.stores next good.visits visits good.reached reached up nones f cell holder other_one
+              (ap (λ (s : Store). chain_in s.chains cell) (ap (news f) e
+              ∙ stored_frozen setting records top (with_stores w stores) v k server good job.step k (blank_joins_in setting f k) ne ∙ ap (olds f) (sym e))) (ok.unfilled all)
+          | inl now ↦ elim (changed e now) [
+            | inl chain ↦ filled_framed setting top good.stores next good.visits visits good.reached reached up nones f cell holder other_one
+                (ap (λ n. chain_in (news f n).chains cell) e ∙ ap (λ (s : Store). chain_in s.chains cell) (store_now f now) ∙ chain
+                ∙ ap (λ (s : Store). chain_in s.chains cell) (sym (store_was f now)) ∙ ap (λ n. chain_in (olds f n).chains cell) (sym e)) (ok.unfilled all)
+            | inr fill ↦ inr fill
+          ]
+        ]
+      ]
+
+      alone_else : IsElsewhere there cell → AloneOk setting top next visits reached f cell row holder
       alone_else away = record {
         copying = copying_else away;
         beside = λ last. beside_else has away (left_here away (last_old cell there last)) last;
         stays = stays_else away;
+        unfilled = unfilled_kept;
       }
 
-      alone_at : IsLinked setting front cell row → place_by setting front row ≡ there → AloneOk setting top v visits reached f cell row holder
+      alone_at : IsLinked setting front cell row → place_by setting front row ≡ there → AloneOk setting top next visits reached f cell row holder
       alone_at mine e =
-          let now = worked.alone_now setting records w v k server good done job cell row mine holder alone has in
+          let now = worked.alone_now setting records w stores v k server good done job cell row mine holder whole alone has in
+          let one = news_here f cell row holder prefix is mine e has_holder in
+          let two_is = news_here f cell row other_one prefix is mine e (other_is_one row holder) in
           record {
-            copying = subst (λ place. AreCopying row cell (visits holder place cell) (visits other_one place cell)) e now.copying;
-            beside = λ last. subst (λ place. AreBeside v visits place row cell holder other_one) e
-                (now.beside (subst (λ place. good.reached cell ≤ place) (sym e) (last_old cell there last)));
-            stays = subst (λ place. (o : Own) → visits holder place cell ≡ Some o → ((p : ℕ) → place < p → visits other_one p cell ≡ None)
-                → IsMarked o.store cell → IsMarked (store_of v holder) cell) e now.stays;
+            copying = subst (λ many. AreCopying many row cell (visits holder there cell) (visits other_one there cell))
+                (links_same setting top job.firm.plain front f cell row row (job.firm.servers k) prefix mine is)
+                (subst (λ place. AreCopying (links_of (server_state setting w k) cell.map) row cell (visits holder place cell) (visits other_one place cell)) e now.copying);
+            beside = λ last. subst (λ place. AreBeside (news f) visits place row cell holder other_one) e
+                (beside_same (news front) (news f) visits (place_by setting front row) cell row holder other_one (sym one) (sym two_is)
+                (now.beside (subst (λ place. good.reached cell ≤ place) (sym e) (last_old cell there last))));
+            stays = λ o visit beyond. subst (StaysLeft row cell o) one
+                (now.stays o (ap (λ p. visits holder p cell) e ∙ visit) (λ p lt. beyond p (let same = e in omega arith)));
+            unfilled = unfilled_kept;
           }
 
       said_alone_at : IsLinked setting front cell row → place_by setting front row ≡ there → (said : Body) → (about said).cell ≡ Some cell
-          → IsTold (good.visits holder there cell) (good.visits other_one there cell) said → IsTold (visits holder there cell) (visits other_one there cell) said
+          → IsTold row (good.visits holder there cell) (good.visits other_one there cell) said → IsTold row (visits holder there cell) (visits other_one there cell) said
       said_alone_at mine e said of told =
-          let now = worked.alone_now setting records w v k server good done job cell row mine holder alone has in
-          subst (λ place. IsTold (visits holder place cell) (visits other_one place cell) said) e
-          (now.told said of (subst (λ place. IsTold (good.visits holder place cell) (good.visits other_one place cell) said) (sym e) told))
+          let now = worked.alone_now setting records w stores v k server good done job cell row mine holder whole alone has in
+          subst (λ place. IsTold row (visits holder place cell) (visits other_one place cell) said) e
+          (now.told said of (subst (λ place. IsTold row (good.visits holder place cell) (good.visits other_one place cell) said) (sym e) told))
 
       page_at : IsLinked setting front cell row → place_by setting front row ≡ there → (after block : Option ℕ)
-          → IsPage cell (store_of w other_one) (good.visits other_one there cell) after block
-          → IsPage cell (store_of v other_one) (visits other_one there cell) after block
+          → IsPage cell (olds f other_one) (good.visits other_one there cell) after block → IsPage cell (news f other_one) (visits other_one there cell) after block
       page_at mine e after block page =
-          let now = worked.alone_now setting records w v k server good done job cell row mine holder alone has in
-          subst (λ place. IsPage cell (store_of v other_one) (visits other_one place cell) after block) e
-          (now.page after block (subst (λ place. IsPage cell (store_of w other_one) (good.visits other_one place cell) after block) (sym e) page))
+          let now = worked.alone_now setting records w stores v k server good done job cell row mine holder whole alone has in
+          let its = other_is_one row holder in
+          subst (λ b. IsPage cell b (visits other_one there cell) after block) (news_here f cell row other_one prefix is mine e its)
+          (subst (λ place. IsPage cell (news front other_one) (visits other_one place cell) after block) e
+          (now.page after block (subst (λ place. IsPage cell (olds front other_one) (good.visits other_one place cell) after block) (sym e)
+          (subst (λ b. IsPage cell b (good.visits other_one there cell) after block) (sym (olds_here f cell row other_one prefix is mine e its)) page))))
 
-    alone_kept : AloneOk setting top v visits reached f cell row holder
+    alone_kept : AloneOk setting top next visits reached f cell row holder
     alone_kept = by_bool (has_server k row)
         (λ has. at_or_else f cell row prefix is (alone_at has) (alone_else has))
-        (λ off. alone_framed setting top w v good.visits visits good.reached reached up nones f cell row holder (holds f cell row holder prefix is alone)
-        (stranger_leaves there cell row off) ok)
+        (λ off. alone_framed setting top good.stores next good.visits visits good.reached reached up nones f cell row holder has_holder
+        (stranger_leaves f there cell row off) ok)
 
   -- ### Letters that were sent before
 
   said_else : (letter_said : Body) (f : List Command) (cell : Cell) (row : LinkRow) → IsPrefix f top → IsLinked setting f cell row → has_server k row ≡ true
-      → IsElsewhere (place_by setting f row) cell → SaidOk setting top w good.visits good.reached f letter_said cell row
-      → SaidOk setting top v visits reached f letter_said cell row
+      → IsElsewhere (place_by setting f row) cell → SaidOk setting top good.stores good.visits good.reached f letter_said cell row
+      → SaidOk setting top next visits reached f letter_said cell row
   said_else letter_said f cell row prefix is has away ok =
       let place = place_by setting f row in
       record {
         both = λ both last of. by both last of (left_else f cell row prefix is has away (last_old cell place last));
-        alone = λ holder alone of.
-            subst (λ o. IsTold o (visits (other_of holder row) place cell) letter_said) (sym (visits_else holder place cell away))
-            (subst (λ o. IsTold (good.visits holder place cell) o letter_said) (sym (visits_else (other_of holder row) place cell away)) (ok.alone holder alone of));
-        page = λ holder after block alone said last.
-            page_else f cell row holder prefix is alone away (λ e. left_else f cell row prefix is has away (last_old cell place last)) after block
-            (ok.page holder after block alone said (last_old cell place last));
-        met = λ holder after block alone said. ap is_some (visits_else (other_of holder row) place cell away) ∙ ok.met holder after block alone said;
+        alone = λ holder whole alone of.
+            subst (λ o. IsTold row o (visits (other_of holder row) place cell) letter_said) (sym (visits_else holder place cell away))
+            (subst (λ o. IsTold row (good.visits holder place cell) o letter_said) (sym (visits_else (other_of holder row) place cell away)) (ok.alone holder whole alone of));
+        page = λ holder whole after block alone said last.
+            page_else f cell row holder whole prefix is alone away (λ e. left_else f cell row prefix is has away (last_old cell place last)) after block
+            (ok.page holder whole after block alone said (last_old cell place last));
+        met = λ holder whole after block alone said. ap is_some (visits_else (other_of holder row) place cell away) ∙ ok.met holder whole after block alone said;
       }
     where
-      by : row.state ≡ Both → reached cell ≤ place_by setting f row → (about letter_said).cell ≡ Some cell → IsLeft (place_by setting f row) cell row
-          → Known (pair_at v visits (place_by setting f row) cell row.primary row.secondary) letter_said
+      by : row.state ≡ Both → reached cell ≤ place_by setting f row → (about letter_said).cell ≡ Some cell → IsLeftAt f (place_by setting f row) cell row
+          → Known (pair_at (news f) visits (place_by setting f row) cell row.primary row.secondary) letter_said
       by both last of (Same_store same) =
-          (said_framed setting top w v good.visits visits good.reached reached up nones f letter_said cell row (λ holder alone. holds f cell row holder prefix is alone)
-          (else_leaves (place_by setting f row) cell row away same) ok).both both last of
-      by both last of (Covers alone none covered) = alone_not_both row k alone both
-      by both last of (Marked_by h alone ne none marked marks) = alone_not_both row h alone both
+          (said_framed setting top good.stores next good.visits visits good.reached reached up nones f letter_said cell row (λ holder whole alone. holds f cell row holder whole prefix is alone)
+          (else_leaves f (place_by setting f row) cell row away same) ok).both both last of
+      by both last of (Gone lost) = lost_not_both row lost both
+      by both last of (Covers whole alone none covered) = alone_not_both row k alone both
+      by both last of (Left_by h whole alone ne none left marks) = alone_not_both row h alone both
 
   said_at : (letter_said : Body) (f : List Command) (cell : Cell) (row : LinkRow) → IsPrefix f top → IsLinked setting f cell row → has_server k row ≡ true
-      → IsLinked setting front cell row → place_by setting front row ≡ place_by setting f row → SaidOk setting top w good.visits good.reached f letter_said cell row
-      → SaidOk setting top v visits reached f letter_said cell row
+      → IsLinked setting front cell row → place_by setting front row ≡ place_by setting f row → SaidOk setting top good.stores good.visits good.reached f letter_said cell row
+      → SaidOk setting top next visits reached f letter_said cell row
   said_at letter_said f cell row prefix is has mine e ok =
       let place = place_by setting f row in
       record {
         both = λ both last of.
-            let now = worked.both_now setting records w v k server good done job cell row mine both has in
-            subst (λ p. Known (pair_at v visits p cell row.primary row.secondary) letter_said) e
-            (now.known letter_said (subst (λ p. Known (pair_at w good.visits p cell row.primary row.secondary) letter_said) (sym e)
+            let now = worked.both_now setting records w stores v k server good done job cell row mine both has in
+            let one = primary_is_one row row.primary refl in
+            let other = secondary_is_one row row.secondary refl in
+            subst (λ p. Known p letter_said)
+            (λ i. pair_of (half (visits row.primary (e i) cell) (news_here f cell row row.primary prefix is mine e one i))
+            (half (visits row.secondary (e i) cell) (news_here f cell row row.secondary prefix is mine e other i)) cell)
+            (now.known letter_said (subst (λ p. Known p letter_said)
+            (λ i. pair_of (half (good.visits row.primary (sym e i) cell) (sym (olds_here f cell row row.primary prefix is mine e one) i))
+            (half (good.visits row.secondary (sym e i) cell) (sym (olds_here f cell row row.secondary prefix is mine e other) i)) cell)
             (ok.both both (last_old cell place last) of)));
-        alone = λ holder alone of. said_alone_at f cell row holder prefix is alone has mine e letter_said of (ok.alone holder alone of);
-        page = λ holder after block alone said last.
-            page_at f cell row holder prefix is alone has mine e after block (ok.page holder after block alone said (last_old cell place last));
-        met = λ holder after block alone said.
-            let now = worked.alone_now setting records w v k server good done job cell row mine holder alone has in
+        alone = λ holder whole alone of. said_alone_at f cell row holder whole prefix is alone has mine e letter_said of (ok.alone holder whole alone of);
+        page = λ holder whole after block alone said last.
+            page_at f cell row holder whole prefix is alone has mine e after block (ok.page holder whole after block alone said (last_old cell place last));
+        met = λ holder whole after block alone said.
+            let now = worked.alone_now setting records w stores v k server good done job cell row mine holder whole alone has in
             subst (λ p. is_some (visits (other_of holder row) p cell) ≡ true) e
-            (now.some (subst (λ p. is_some (good.visits (other_of holder row) p cell) ≡ true) (sym e) (ok.met holder after block alone said)));
+            (now.some (subst (λ p. is_some (good.visits (other_of holder row) p cell) ≡ true) (sym e) (ok.met holder whole after block alone said)));
       }
 
   said_kept : (letter : Letter) → In letter w.sent → (f : List Command) (cell : Cell) (row : LinkRow) → IsPrefix f top → length f ≡ letter.rev
-      → IsLinked setting f cell row → SaidOk setting top v visits reached f letter.body cell row
+      → IsLinked setting f cell row → SaidOk setting top next visits reached f letter.body cell row
   said_kept letter sent f cell row prefix long is =
       let ok = good.letters letter sent f cell row prefix long is in
       by_bool (has_server k row)
       (λ has. at_or_else f cell row prefix is
       (λ mine e. said_at letter.body f cell row prefix is has mine e ok)
       (λ away. said_else letter.body f cell row prefix is has away ok))
-      (λ off. said_framed setting top w v good.visits visits good.reached reached up nones f letter.body cell row (λ holder alone. holds f cell row holder prefix is alone)
-      (stranger_leaves (place_by setting f row) cell row off) ok)
+      (λ off. said_framed setting top good.stores next good.visits visits good.reached reached up nones f letter.body cell row (λ holder whole alone. holds f cell row holder whole prefix is alone)
+      (stranger_leaves f (place_by setting f row) cell row off) ok)
 
   -- ### What it sends
 
   post_said : (post : Post) → In post done.posts → (cell : Cell) (row : LinkRow) → IsLinked setting front cell row
-      → SaidOk setting top v visits reached front post.body cell row
+      → SaidOk setting top next visits reached front post.body cell row
   post_said post i cell row is = by_bool (has_server k row)
       (λ has. record {
-        both = λ both last of. (worked.both_now setting records w v k server good done job cell row is both has).says post i of;
-        alone = λ holder alone of.
-            (worked.alone_now setting records w v k server good done job cell row is holder alone has).says post i of;
-        page = λ holder after block alone said last.
-            (worked.alone_now setting records w v k server good done job cell row is holder alone has).pages post i after block said;
-        met = λ holder after block alone said.
-            ((worked.alone_now setting records w v k server good done job cell row is holder alone has).pages post i after block said).met;
+        both = λ both last of. (worked.both_now setting records w stores v k server good done job cell row is both has).says post i of;
+        alone = λ holder whole alone of.
+            (worked.alone_now setting records w stores v k server good done job cell row is holder whole alone has).says post i of;
+        page = λ holder whole after block alone said last.
+            (worked.alone_now setting records w stores v k server good done job cell row is holder whole alone has).pages post i after block said;
+        met = λ holder whole after block alone said.
+            ((worked.alone_now setting records w stores v k server good done job cell row is holder whole alone has).pages post i after block said).met;
       })
       (λ off. record {
-        both = λ both last of. known_mute (pair_at v visits (place_by setting front row) cell row.primary row.secondary) post.body
+        both = λ both last of. known_mute (pair_at (news front) visits (place_by setting front row) cell row.primary row.secondary) post.body
             (job.keeping.silent cell (inr (row, is, off)) post i of);
-        alone = λ holder alone of. told_mute (visits holder (place_by setting front row) cell) (visits (other_of holder row) (place_by setting front row) cell) post.body
+        alone = λ holder whole alone of. told_mute row (visits holder (place_by setting front row) cell) (visits (other_of holder row) (place_by setting front row) cell) post.body
             (job.keeping.silent cell (inr (row, is, off)) post i of);
-        page = λ holder after block alone said last. stranger_page cell row is post i after block said off;
-        met = λ holder after block alone said. stranger_page cell row is post i after block said off;
+        page = λ holder whole after block alone said last. stranger_page cell row is post i after block said off;
+        met = λ holder whole after block alone said. stranger_page cell row is post i after block said off;
       })
     where
       stranger_page : {B : Type 0} (cell : Cell) (row : LinkRow) → IsLinked setting front cell row → (post : Post) → In post done.posts → (after block : Option ℕ)
@@ -559,7 +655,7 @@ module _ (setting : Setting) (records : List Record) (w v : World) (k : ℕ) (se
           true_false (other_row k row held.0 held.1).one_of off
 
   pub sends : (stamp : ℕ) (letter : Letter) → In letter (stamped stamp (letters_of (sender (own_place setting w k)) 0 done.posts))
-      → IsTrue setting top v visits reached letter
+      → IsTrue setting top next visits reached letter
   sends stamp letter there =
       let s = said (sender (own_place setting w k)) stamp 0 done.posts letter there in
       let rev : letter.rev ≡ length front = s.rev ∙ rev_after setting.servers front in
@@ -567,8 +663,8 @@ module _ (setting : Setting) (records : List Record) (w v : World) (k : ℕ) (se
         rev = λ between. let le = front_long front top (job.firm.servers k) in omega (arith, rev);
         said = λ f cell row prefix long is.
             let same : f ≡ front = one_front f front top prefix (job.firm.servers k) (long ∙ rev) in
-            subst (λ b. SaidOk setting top v visits reached f b cell row) (sym s.body)
-            (subst (λ g. SaidOk setting top v visits reached g s.post.body cell row) (sym same)
+            subst (λ b. SaidOk setting top next visits reached f b cell row) (sym s.body)
+            (subst (λ g. SaidOk setting top next visits reached g s.post.body cell row) (sym same)
             (post_said s.post s.there cell row (subst (λ g. IsLinked setting g cell row) same is)));
         page = λ f prefix long map link block after is.
             let same : f ≡ front = one_front f front top prefix (job.firm.servers k) (long ∙ rev) in
@@ -578,12 +674,12 @@ module _ (setting : Setting) (records : List Record) (w v : World) (k : ℕ) (se
 
   -- ### All of it
 
-  job_flags : KeepsFlags setting records top w v k server good job.step
-  job_flags cell row own is alone seat_then visit flagged =
+  job_flags : KeepsFlags setting records top (with_stores w stores) v k server good job.step
+  job_flags cell row own whole is alone seat_then visit flagged =
       let mine : IsLinked setting front cell row = subst (λ f. IsLinked setting f cell row) job.applied is in
-      let here = seated.here_visit setting records w k good job.firm job.rests job.runs job.seat cell row mine in
+      let here = seated.here_visit setting records w stores k good job.firm job.rests job.works cell row mine in
       let same : own ≡ (w.servers k).own = same_some (sym visit ∙ ap (λ f. good.visits k (place_by setting f row) cell) job.applied ∙ here) in
-      let keeps = worked.keeps_holder setting records w v k server good done job cell row mine alone in
+      let keeps = worked.keeps_holder setting records w stores v k server good done job cell row mine whole alone in
       ap (λ (o : Own). is_flagged o (id_of row)) job.own_is ∙ (keeps.caught (ap (λ (o : Own). is_flagged o (id_of row)) (sym same) ∙ flagged)).2
 
   unlinked_before : (cell : Cell) → cell_link (state_after setting.servers top) cell ≡ None → cell_link (server_state setting w k) cell ≡ None
@@ -592,21 +688,23 @@ module _ (setting : Setting) (records : List Record) (w v : World) (k : ℕ) (se
     | inr gone ↦ gone
   ]
 
-  job_sound : IsSoundOwn setting top server
+  job_sound : IsSoundOwn setting top v k server
   job_sound = record {
     born = λ cell none.
-        ap (λ (o : Own). chain_in o.store.chains cell) job.own_is ∙ (job.keeping.unlinked cell (unlinked_before cell none)).rest.chain ∙ good.born cell none k;
+        ap (λ (o : Own). chain_in o.store.chains cell) job.own_is ∙ (job.keeping.unlinked cell (unlinked_before cell none)).rest.chain
+        ∙ ap (λ (s : Store). chain_in s.chains cell) (sym job.works.real) ∙ good.born cell none k;
     unheard = λ cell none.
         let mine = ap (λ f. cell_link (state_after setting.servers f) cell) (sym job.applied) ∙ none in
-        subst (λ (o : Own). IsUnheard o cell) (sym job.own_is) (job.keeping.unheard cell mine (good.unheard k cell mine));
+        subst (λ (o : Own). IsUnheard o cell) (sym job.own_is) (job.keeping.unheard cell mine (let h = good.unheard k cell mine in record { last = h.last; pages = h.pages }));
     rising = λ cell. subst (λ (o : Own). IsRising nat_cmp (chain_in o.store.chains cell)) (sym job.own_is) (job.keeping.rising cell);
     counts = subst (λ (o : Own). 1 ≤ o.pairs.next) (sym job.own_is) (let one = good.counts k in let more = job.keeping.counts in omega arith);
-    marks = subst (λ (o : Own). HaveMarks o.pairs.pending o.store) (sym job.own_is) job.keeping.marks;
+    filled = subst (λ (o : Own). AreFilled o.store.chains) (sym job.own_is) job.keeping.filled;
+    marks = λ when. subst (λ (o : Own). HaveMarks o.pairs.pending o.store) (sym job.own_is) job.keeping.marks;
   }
 
-  pub job_good : (own : Record) → world_after setting (start setting) (records ++ own ∷ []) ≡ v
-      → ((letter : Letter) → In letter v.sent → In letter w.sent ⊎ IsTrue setting top v visits reached letter)
-      → GoesOn setting records top top w v good own
+  pub job_good : (own : Record) → IsThen setting (records ++ own ∷ []) v
+      → ((letter : Letter) → In letter v.sent → In letter w.sent ⊎ IsTrue setting top next visits reached letter)
+      → GoesOn setting records top top (with_stores w stores) v good own
   job_good own then_is sent =
-      good_after setting records top w v k server good job.step own then_is job_flags job_sound
+      good_after setting records top (with_stores w stores) v k server good job.step own then_is job_flags job_sound
       (record { both = both_kept; alone = alone_kept; said = said_kept }) sent

@@ -1,8 +1,9 @@
 -- The changes of a copy at its holder: it begins, the other server has trimmed, has put an entry; the block is unmarked; the copy ends.
-use Rattle.std.proofs.Common.{◌≡◌, ◌≤◌, ◌<◌, ◌+◌, ℕ, true, false, [], length, Option, Some, None, refl, sym, ap, ◌∙◌, subst, inl, inr, arith}
+use Rattle.std.proofs.Common.{◌≡◌, ◌≢◌, ◌≤◌, ◌<◌, ◌+◌, ◌⊎◌, ℕ, true, false, [], length, Option, Some, None, refl, sym, ap, ◌∙◌, subst, inl, inr, arith}
 use Rattle.std.specs.Prelude.{is_some, slice_get}
 use Rattle.std.specs.Ordering.{nat_cmp}
 use Rattle.std.proofs.lemmas.Option.{slice_get_within}
+use Rattle.busy_marks.specs.Marks.{above}
 use Rattle.busy_marks.specs.declared.marks.MarkKind.{MarkKind}
 use Rattle.global_tables.specs.declared.link.LinkRow.{LinkRow}
 use Rattle.petal_base.specs.declared.cell.Cell.{Cell}
@@ -10,25 +11,28 @@ use Rattle.petal_msg.specs.declared.body.Body.{Body}
 use Rattle.petal_msg.specs.declared.body.Body.TheVariants as body
 use Rattle.petal_msg.specs.declared.copying.Copying.{Copying}
 use Rattle.petal_msg.specs.declared.copying.LastCopy.{LastCopy}
-use Rattle.petal_history.specs.Claims.{IsMarked}
-use Rattle.petal_rules.specs.Copies.{begins_copy, epochs_beyond}
+use Rattle.petal_history.specs.Claims.{IsMarked, IsToBeCopied}
+use Rattle.petal_rules.specs.Copies.{begins_copy, cell_at, epochs_beyond}
 use Rattle.petal_rules.specs.Progress.{copying_on, last_copy, progress_on, with_copying}
 use Rattle.petal_rules.specs.Server.{Own, Pairs}
 use Rattle.petal_rules.specs.State.{id_of}
 use Rattle.petal_rules.specs.Store.{Chain, Store, Stored, chain_in, epochs_of, without_mark_on}
 use Rattle.petal_rules.specs.Writes.{pending_on}
-use Rattle.petal_rules.proofs.CellTables.{cell_same}
+use Rattle.petal_rules.proofs.CellTables.{cell_apart, cell_same}
 use Rattle.petal_rules.proofs.Tests.{none_some, same_some, some_or_none, true_false}
 use Rattle.law_state.specs.Started.{is_flagged}
 use Rattle.law_steps.specs.DidHolder.{first_copy}
 use Rattle.law_steps.specs.Ready.{IsRising}
-use Rattle.law_copies.specs.Copied.{AreCopying, HasPut, HasSent, HasTrimmed, IsCopying, Is_equal, IsFollowed, IsLastCopy, IsPast, IsSent, IsTold, IsTrimming, number_above}
-use Rattle.law_copies.proofs.Epochs.{epoch_at, epoch_place, same_chains, within}
-use Rattle.law_copies.proofs.Holding.{HolderStep, alike_by, alike_still, below, holder_copying, holder_told, trimmed_or}
+use Rattle.law_copies.specs.Copied.{AreCopying, AreInOrder, HasPut, HasSent, HasTrimmed, IsCopied, IsCopying, Is_equal, IsFollowed, IsLastCopy, IsLeft, IsPast, IsSent, IsTold, IsTrimming, number_above}
+use Rattle.law_copies.specs.Steps.{StaysTold}
+use Rattle.law_copies.proofs.AllPut.{all_put, copied_now, none_left_to_put}
+use Rattle.law_copies.proofs.Epochs.{epoch_at}
+use Rattle.law_copies.proofs.Holding.{HolderStep, alike_by, alike_still, below, holder_copying, holder_told, to_be_copied, trimmed_or}
 
-module _ (heard : Body → Type 0) (row : LinkRow) (cell : Cell) (vo : Option Own) (own : Own) (old : AreCopying row cell (Some own) vo) where
+module _ (heard : Body → Type 0) (links : ℕ) (row : LinkRow) (cell : Cell) (vo : Option Own) (own : Own)
+    (old : AreCopying links row cell (Some own) vo) where
   abbrev Step : Own → Type 0
-  Step to = HolderStep heard row cell vo own to
+  Step to = HolderStep heard links row cell vo own to
 
   abbrev chain : Chain
   chain = chain_in own.store.chains cell
@@ -37,10 +41,23 @@ module _ (heard : Body → Type 0) (row : LinkRow) (cell : Cell) (vo : Option Ow
   not_flagged : {A : Type 0} (copy : Copying) → copying_on own cell ≡ Some copy → is_flagged own (id_of row) ≡ true → A
   not_flagged copy is flag = none_some (old.caught own refl flag).idle is
 
+  -- where the store and how far the link is stay, and only the cell's own copy changes
+  still_ordered : (to : Own) → to.store ≡ own.store → (progress_on to row).paged ≡ (progress_on own row).paged
+      → (progress_on to row).copied ≡ (progress_on own row).copied
+      → ((q : Cell) → q ≢ cell → copying_on to q ≡ copying_on own q)
+      → (IsCopied own cell → IsMarked to.store cell ⊎ IsCopied to cell) → AreInOrder links row cell to
+  still_ordered to store paged copied others put is_paged later copy lt on is all ahead =
+      let apart : cell_at row later ≢ cell = λ e. let same : later ≡ cell.block = ap (λ (q : Cell). q.block) e in absurd (omega arith) in
+      elim (old.ordered own refl (sym paged ∙ is_paged) later copy lt on (sym (others (cell_at row later) apart) ∙ is)
+      (subst (λ (s : Store). IsToBeCopied row s cell) store all) (ap (λ o. above o cell.block) (sym copied) ∙ ahead)) [
+        | inl marked ↦ inl (subst (λ (s : Store). IsMarked s cell) (sym store) marked)
+        | inr all_put ↦ put all_put
+      ]
+
   -- ### A copy begins
 
   module _ (paged : (progress_on own row).paged ≡ true) (free : pending_on own cell ≡ None) (idle : copying_on own cell ≡ None)
-      (marked : IsMarked own.store cell) where
+      (left : IsLeft own row cell) where
     abbrev begun : Own
     begun = begins_copy own cell
 
@@ -49,17 +66,17 @@ module _ (heard : Body → Type 0) (row : LinkRow) (cell : Cell) (vo : Option Ow
 
     -- each last copy is an older one
     older : (o : Own) (last : LastCopy) → vo ≡ Some o → last_copy o cell ≡ Some last → last.op < own.pairs.next
-    older o last met is = subst (λ c. last.op < number_above c own.pairs.next) idle (below heard row cell vo own old o last met is)
+    older o last met is = subst (λ c. last.op < number_above c own.pairs.next) idle (below heard links row cell vo own old o last met is)
 
     met_other : (o : Own) × (vo ≡ Some o)
     met_other = elim (some_or_none vo) [ inl there ↦ there | inr none ↦ true_false (old.met own refl (inl paged)) (ap is_some none) ]
 
-    begun_copying_is : (copy : Copying) → copying_on begun cell ≡ Some copy → IsCopying begun vo cell copy
-    begun_copying_is copy is = subst (IsCopying begun vo cell) (same_some (sym begun_is ∙ is)) (record {
+    begun_copying_is : (copy : Copying) → copying_on begun cell ≡ Some copy → IsCopying row begun vo cell copy
+    begun_copying_is copy is = subst (IsCopying row begun vo cell) (same_some (sym begun_is ∙ is)) (record {
       below = omega arith;
       free = free;
       begun = λ fresh. refl;
-      marked = λ w. marked;
+      left = λ w. left;
       beside = met_other.0;
       met = met_other.1;
       followed = λ t. true_false t refl;
@@ -71,17 +88,24 @@ module _ (heard : Body → Type 0) (row : LinkRow) (cell : Cell) (vo : Option Ow
       by = begun;
       met = refl;
       below = subst (λ c. last.op < number_above c begun.pairs.next) (sym begun_is) (let lt = older o last met is in omega arith);
-      trimmed = elim (trimmed_or heard row cell vo own old o last met is) [ inl none ↦ inl none | inr t ↦ none_some idle t.is ];
+      trimmed = elim (trimmed_or heard links row cell vo own old o last met is) [ inl none ↦ inl none | inr t ↦ none_some idle t.is ];
     }
 
     unflagged : {A : Type 0} → is_flagged own (id_of row) ≡ true → A
-    unflagged flag = absurd ((old.caught own refl flag).unmarked marked)
+    unflagged flag = elim left [
+      | inl marked ↦ absurd ((old.caught own refl flag).unmarked marked)
+      | inr all ↦ absurd ((old.caught own refl flag).copied all.0 all.1)
+    ]
+
+    begun_apart : (q : Cell) → q ≢ cell → copying_on begun q ≡ copying_on own q
+    begun_apart q ne = cell_apart own.copies.pending cell (first_copy own.pairs.next) q ne
 
     pub begun_step : Step begun
     begun_step = record {
-      copying = holder_copying row cell vo begun (old.risen own refl) begun_copying_is begun_lasts (λ flag. unflagged flag)
-          (λ page. old.met own refl page);
-      told = holder_told row cell vo begun own (λ number t. none_some idle t.is) (λ o last index epoch met is there e m. m)
+      copying = holder_copying links row cell vo begun (old.risen own refl) begun_copying_is begun_lasts (λ flag. unflagged flag)
+          (λ page. old.met own refl page)
+          (still_ordered begun refl refl refl begun_apart (λ all. none_some idle all.is));
+      told = holder_told links row cell vo begun own (λ number t. none_some idle t.is) (λ o last index epoch met is there e l. l)
           (λ number index r h copy is op.
           let p = h.trimmed.past in
           let lt = older p.own p.last p.met p.is in
@@ -89,20 +113,21 @@ module _ (heard : Body → Type 0) (row : LinkRow) (cell : Cell) (vo : Option Ow
           let first : own.pairs.next ≡ copy.op = ap (λ (c : Copying). c.op) (same_some (sym begun_is ∙ is)) in
           absurd (omega arith));
       marks = λ m. inl m;
-      alike = λ now still pages rises a. alike_still row cell own begun refl refl refl refl now a;
+      stored = λ some. some;
+      alike = λ now still pages rises a. alike_still row cell own begun refl refl refl refl refl now a;
       caught = λ flag. unflagged flag;
     }
 
   -- ### A copy that is under way
 
   module _ (copy : Copying) (is : copying_on own cell ≡ Some copy) where
-    abbrev c : IsCopying own vo cell copy
+    abbrev c : IsCopying row own vo cell copy
     c = old.copying own copy refl is
 
     -- the last copy at the other server has no greater number
     up_to : (o : Own) (last : LastCopy) → vo ≡ Some o → last_copy o cell ≡ Some last → last.op ≤ copy.op
     up_to o last met there =
-        let lt = subst (λ x. last.op < number_above x own.pairs.next) is (below heard row cell vo own old o last met there) in
+        let lt = subst (λ x. last.op < number_above x own.pairs.next) is (below heard links row cell vo own old o last met there) in
         omega arith
 
     -- what the other server has beside is one thing
@@ -113,10 +138,17 @@ module _ (heard : Body → Type 0) (row : LinkRow) (cell : Cell) (vo : Option Ow
     waits_not : {A : Type 0} (number : ℕ) → copy.trimmed ≡ true → IsTrimming own cell number → A
     waits_not number trimmed t = true_false trimmed (ap (λ (x : Copying). x.trimmed) (same_some (sym is ∙ t.is)) ∙ t.waits)
 
-    changed : (to : Own) (new : Copying) → copying_on to cell ≡ Some new → IsCopying to vo cell new → (x : Copying)
+    changed : (to : Own) (new : Copying) → copying_on to cell ≡ Some new → IsCopying row to vo cell new → (x : Copying)
         → copying_on to cell ≡ Some x
-        → IsCopying to vo cell x
-    changed to new there so x at_cell = subst (IsCopying to vo cell) (same_some (sym there ∙ at_cell)) so
+        → IsCopying row to vo cell x
+    changed to new there so x at_cell = subst (IsCopying row to vo cell) (same_some (sym there ∙ at_cell)) so
+
+    put_apart : (new : Copying) (q : Cell) → q ≢ cell → copying_on (with_copying own cell new) q ≡ copying_on own q
+    put_apart new q ne = cell_apart own.copies.pending cell new q ne
+
+    -- the copy is not one that is all put
+    not_put : {A : Type 0} → (copy.trimmed ≡ false) ⊎ (copy.index < length chain) → IsCopied own cell → A
+    not_put waits all = all_put links row cell vo own old all copy is waits
 
     -- #### The other server has trimmed
 
@@ -160,12 +192,12 @@ module _ (heard : Body → Type 0) (row : LinkRow) (cell : Cell) (vo : Option Ow
             put = λ i r lt there. absurd (omega arith);
           }
 
-      trimmed_copying : (x : Copying) → copying_on to_trimmed cell ≡ Some x → IsCopying to_trimmed vo cell x
+      trimmed_copying : (x : Copying) → copying_on to_trimmed cell ≡ Some x → IsCopying row to_trimmed vo cell x
       trimmed_copying = changed to_trimmed trimmed trimmed_is (record {
         below = c.below;
         free = c.free;
         begun = λ f. true_false refl f;
-        marked = λ w. c.marked (inl fresh);
+        left = λ w. c.left (inl fresh);
         beside = c.beside;
         met = c.met;
         followed = λ t. trimmed_followed;
@@ -188,17 +220,19 @@ module _ (heard : Body → Type 0) (row : LinkRow) (cell : Cell) (vo : Option Ow
 
       pub trimmed_step : Step to_trimmed
       trimmed_step = record {
-        copying = holder_copying row cell vo to_trimmed (old.risen own refl) trimmed_copying trimmed_lasts
+        copying = holder_copying links row cell vo to_trimmed (old.risen own refl) trimmed_copying trimmed_lasts
             (λ flag. not_flagged copy is flag)
-            (λ page. old.met own refl page);
-        told = holder_told row cell vo to_trimmed own
+            (λ page. old.met own refl page)
+            (still_ordered to_trimmed refl refl refl (put_apart trimmed) (not_put (inl fresh)));
+        told = holder_told links row cell vo to_trimmed own
             (λ number t. inl (subst (IsPast vo cell) (ap (λ (x : Copying). x.op) (same_some (sym is ∙ t.is)) ∙ t.op_is) said.past))
-            (λ o last index epoch met there at_index e m. m)
+            (λ o last index epoch met there at_index e l. l)
             (λ number index r h x there op.
             let same : trimmed ≡ x = same_some (sym trimmed_is ∙ there) in
             true_false (h.sent own copy refl is (ap (λ (y : Copying). y.op) same ∙ op)).0 fresh);
         marks = λ m. inl m;
-        alike = λ now still pages rises a. alike_still row cell own to_trimmed refl refl refl refl now a;
+        stored = λ some. some;
+        alike = λ now still pages rises a. alike_still row cell own to_trimmed refl refl refl refl refl now a;
         caught = λ flag. not_flagged copy is flag;
       }
 
@@ -212,7 +246,7 @@ module _ (heard : Body → Type 0) (row : LinkRow) (cell : Cell) (vo : Option Ow
 
       -- nothing waits for it to be trimmed
       trimmed_last : (o : Own) (last : LastCopy) → vo ≡ Some o → last_copy o cell ≡ Some last → epochs_beyond o cell last.epochs ≡ []
-      trimmed_last o last met there = elim (trimmed_or heard row cell vo own old o last met there) [
+      trimmed_last o last met there = elim (trimmed_or heard links row cell vo own old o last met there) [
         | inl none ↦ none
         | inr t ↦ waits_not last.op done t
       ]
@@ -235,12 +269,12 @@ module _ (heard : Body → Type 0) (row : LinkRow) (cell : Cell) (vo : Option Ow
             let put : copy.index < said.past.last.index = said.put (sym g.op_is ∙ ap (λ (l : LastCopy). l.op) (sym same)) in
             subst (λ (l : LastCopy). copy.index < l.index → copy.index + 1 ≤ g.last.index) (sym same) (λ less. omega arith) put
 
-        synced_copying : (x : Copying) → copying_on to_synced cell ≡ Some x → IsCopying to_synced vo cell x
+        synced_copying : (x : Copying) → copying_on to_synced cell ≡ Some x → IsCopying row to_synced vo cell x
         synced_copying = changed to_synced synced synced_is (record {
           below = c.below;
           free = c.free;
           begun = λ f. true_false done f;
-          marked = λ w. c.marked (inr lt);
+          left = λ w. c.left (inr lt);
           beside = c.beside;
           met = c.met;
           followed = λ t. record {
@@ -257,7 +291,7 @@ module _ (heard : Body → Type 0) (row : LinkRow) (cell : Cell) (vo : Option Ow
 
         pub synced_step : Step to_synced
         synced_step = record {
-          copying = holder_copying row cell vo to_synced (old.risen own refl) synced_copying
+          copying = holder_copying links row cell vo to_synced (old.risen own refl) synced_copying
               (λ o last met there. record {
                 by = to_synced;
                 met = refl;
@@ -265,37 +299,31 @@ module _ (heard : Body → Type 0) (row : LinkRow) (cell : Cell) (vo : Option Ow
                     (let le = up_to o last met there in omega arith);
                 trimmed = inl (trimmed_last o last met there);
               })
-              (λ flag. not_flagged copy is flag) (λ page. old.met own refl page);
-          told = holder_told row cell vo to_synced own (λ number t. waits_not number done t)
-              (λ o last index epoch met there at_index e m. m)
+              (λ flag. not_flagged copy is flag) (λ page. old.met own refl page)
+              (still_ordered to_synced refl refl refl (put_apart synced) (not_put (inr lt)));
+          told = holder_told links row cell vo to_synced own (λ number t. waits_not number done t)
+              (λ o last index epoch met there at_index e l. l)
               (λ number index r h x there op.
               let same : synced ≡ x = same_some (sym synced_is ∙ there) in
               let s = h.sent own copy refl is (ap (λ (y : Copying). y.op) same ∙ op) in
               subst (λ (y : Copying). IsSent to_synced cell y index r) same (s.0, (let le = s.1 in omega arith), s.2));
           marks = λ m. inl m;
-          alike = λ now still pages rises a. alike_still row cell own to_synced refl refl refl refl now a;
+          stored = λ some. some;
+          alike = λ now still pages rises a. alike_still row cell own to_synced refl refl refl refl refl now a;
           caught = λ flag. not_flagged copy is flag;
         }
 
       -- #### All entries are put
 
       module _ (past : length chain ≤ copy.index) where
-        -- the other server has the holder's chain
-        pub copied_chain : IsRising nat_cmp (chain_in c.beside.store.chains cell) → chain ≡ chain_in c.beside.store.chains cell
-        copied_chain rises = same_chains chain (chain_in c.beside.store.chains cell) (old.risen own refl) rises
-            (within c.beside cell (epochs_of chain) (ap (λ epochs. epochs_beyond c.beside cell epochs) (sym g.epochs_are) ∙ g.trimmed))
-            (λ i r there. g.put i r (let lt = slice_get_within chain i r there in let le = g.past in omega arith) there)
+        abbrev put : IsCopied own cell
+        put = record { copy = copy; is = is; trimmed = done; past = past }
 
         -- no entry is left to be put
-        none_left_to_put : {A : Type 0} (o : Own) (last : LastCopy) (index epoch : ℕ) → vo ≡ Some o → last_copy o cell ≡ Some last
+        none_left : {A : Type 0} (o : Own) (last : LastCopy) (index epoch : ℕ) → vo ≡ Some o → last_copy o cell ≡ Some last
             → slice_get last.epochs index ≡ Some epoch → index ≡ last.index → A
-        none_left_to_put o last index epoch met there at_index e =
-            let same = the_last o last met there in
-            let lt = epoch_place chain index epoch
-            (ap (λ epochs. slice_get epochs index) (sym g.epochs_are ∙ ap (λ (l : LastCopy). l.epochs) (sym same)) ∙ at_index) in
-            let le = g.past in
-            let last_is : last.index ≡ g.last.index = ap (λ (l : LastCopy). l.index) same in
-            absurd (omega arith)
+        none_left o last index epoch met there at_index e =
+            none_left_to_put links row cell vo own old put o last index epoch met there at_index e
 
         -- #### A mark of the block is taken away
 
@@ -303,12 +331,12 @@ module _ (heard : Body → Type 0) (row : LinkRow) (cell : Cell) (vo : Option Ow
           abbrev unmarked : Own
           unmarked = record own { store = without_mark_on own.store kind cell }
 
-          unmarked_copying : (x : Copying) → copying_on unmarked cell ≡ Some x → IsCopying unmarked vo cell x
+          unmarked_copying : (x : Copying) → copying_on unmarked cell ≡ Some x → IsCopying row unmarked vo cell x
           unmarked_copying = changed unmarked copy is (record {
             below = c.below;
             free = c.free;
             begun = c.begun;
-            marked = λ w. elim w [ inl f ↦ true_false done f | inr lt ↦ absurd (omega arith) ];
+            left = λ w. elim w [ inl f ↦ true_false done f | inr lt ↦ absurd (omega arith) ];
             beside = c.beside;
             met = c.met;
             followed = λ t. record {
@@ -325,55 +353,89 @@ module _ (heard : Body → Type 0) (row : LinkRow) (cell : Cell) (vo : Option Ow
 
           pub unmarked_step : Step unmarked
           unmarked_step = record {
-            copying = holder_copying row cell vo unmarked (old.risen own refl) unmarked_copying
+            copying = holder_copying links row cell vo unmarked (old.risen own refl) unmarked_copying
                 (λ o last met there. record {
                   by = unmarked;
                   met = refl;
-                  below = below heard row cell vo own old o last met there;
+                  below = below heard links row cell vo own old o last met there;
                   trimmed = inl (trimmed_last o last met there);
                 })
-                (λ flag. not_flagged copy is flag) (λ page. old.met own refl page);
-            told = holder_told row cell vo unmarked own (λ number t. waits_not number done t)
-                (λ o last index epoch met there at_index e m. none_left_to_put o last index epoch met there at_index e)
+                (λ flag. not_flagged copy is flag) (λ page. old.met own refl page)
+                (λ paged later other lt on at_later all ahead. inr (record { copy = copy; is = is; trimmed = done; past = past }));
+            told = holder_told links row cell vo unmarked own (λ number t. waits_not number done t)
+                (λ o last index epoch met there at_index e l. none_left o last index epoch met there at_index e)
                 (λ number index r h x there op. h.sent own x refl there op);
             marks = λ m. inr (ap is_some c.met);
+            stored = λ some. some;
             alike = λ now still pages rises a. alike_by row cell own unmarked now
-                (let same = still c.beside c.met in Is_equal (copied_chain (subst (IsRising nat_cmp) (sym same) rises) ∙ same))
+                (Is_equal (copied_now links row cell vo own old put now still rises))
                 (λ flag. not_flagged copy is flag);
             caught = λ flag. not_flagged copy is flag;
           }
 
       -- #### The copy ends
 
-      module _ (to : Own) (gone : copying_on to cell ≡ None) (store : to.store ≡ own.store) (pairs : to.pairs ≡ own.pairs)
+      module _ (to : Own) (gone : copying_on to cell ≡ None) (others : (q : Cell) → q ≢ cell → copying_on to q ≡ copying_on own q)
+          (store : to.store ≡ own.store) (pairs : to.pairs ≡ own.pairs)
           (paged : (progress_on to row).paged ≡ (progress_on own row).paged)
           (after : (progress_on to row).after ≡ (progress_on own row).after)
           (flag_is : is_flagged to (id_of row) ≡ is_flagged own (id_of row)) where
-        pub ended_step : Step to
-        ended_step = record {
-          copying = holder_copying row cell vo to
-              (subst (λ (s : Store). IsRising nat_cmp (chain_in s.chains cell)) (sym store) (old.risen own refl))
-              (λ x there. none_some gone there)
-              (λ o last met there. record {
-                by = to;
-                met = refl;
-                below = subst (λ x. last.op < number_above x to.pairs.next) (sym gone) (subst (λ (p : Pairs). last.op < p.next) (sym pairs)
-                    (let le = up_to o last met there in let lt = c.below in omega arith));
-                trimmed = inl (trimmed_last o last met there);
-              })
-              (λ flag. not_flagged copy is (sym flag_is ∙ flag))
-              (λ page. old.met own refl (elim page [ inl p ↦ inl (sym paged ∙ p) | inr a ↦ inr (ap is_some (sym after) ∙ a) ]));
-          told = holder_told row cell vo to own (λ number t. waits_not number done t)
-              (λ o last index epoch met there at_index e m. subst (λ (s : Store). IsMarked s cell) (sym store) m)
-              (λ number index r h x there op. none_some gone there);
-          marks = λ m. inl (subst (λ (s : Store). IsMarked s cell) (sym store) m);
-          alike = λ now still pages rises a. alike_still row cell own to store paged after flag_is now a;
-          caught = λ flag. not_flagged copy is flag;
-        }
+        chain_is : chain_in to.store.chains cell ≡ chain
+        chain_is = ap (λ (s : Store). chain_in s.chains cell) store
+
+        ended_copying : AreInOrder links row cell to → AreCopying links row cell (Some to) vo
+        ended_copying ordered = holder_copying links row cell vo to
+            (subst (λ (s : Store). IsRising nat_cmp (chain_in s.chains cell)) (sym store) (old.risen own refl))
+            (λ x there. none_some gone there)
+            (λ o last met there. record {
+              by = to;
+              met = refl;
+              below = subst (λ x. last.op < number_above x to.pairs.next) (sym gone) (subst (λ (p : Pairs). last.op < p.next) (sym pairs)
+                  (let le = up_to o last met there in let lt = c.below in omega arith));
+              trimmed = inl (trimmed_last o last met there);
+            })
+            (λ flag. not_flagged copy is (sym flag_is ∙ flag))
+            (λ page. ap is_some c.met) ordered
+
+        ended_told : ((o : Own) (last : LastCopy) (index epoch : ℕ) → vo ≡ Some o → last_copy o cell ≡ Some last
+            → slice_get last.epochs index ≡ Some epoch → index ≡ last.index → IsLeft own row cell → IsLeft to row cell)
+            → StaysTold row cell (Some own) vo (Some to) vo
+        ended_told left = holder_told links row cell vo to own (λ number t. waits_not number done t) left
+            (λ number index r h x there op. none_some gone there)
+
+        -- the other server had no room
+        module _ (copied : (progress_on to row).copied ≡ (progress_on own row).copied) (lt : copy.index < length chain) where
+          ended_left : IsLeft own row cell → IsLeft to row cell
+          ended_left (inl marked) = inl (subst (λ (s : Store). IsMarked s cell) (sym store) marked)
+          ended_left (inr all) = inr (to_be_copied row cell own to chain_is all.0, ap (λ o. above o cell.block) copied ∙ all.1)
+
+          pub full_step : Step to
+          full_step = record {
+            copying = ended_copying (still_ordered to store paged copied others (not_put (inr lt)));
+            told = ended_told (λ o last index epoch met there at_index e l. ended_left l);
+            marks = λ m. inl (subst (λ (s : Store). IsMarked s cell) (sym store) m);
+            stored = λ some none. some (sym chain_is ∙ none);
+            alike = λ now still pages rises a. alike_still row cell own to store paged after copied flag_is now a;
+            caught = λ flag. not_flagged copy is flag;
+          }
+
+        -- all is put
+        module _ (copied : above (progress_on to row).copied cell.block ≡ false) (past : length chain ≤ copy.index) where
+          pub closed_step : Step to
+          closed_step = record {
+            copying = ended_copying (λ paged later other lt on at_later all ahead. true_false ahead copied);
+            told = ended_told (λ o last index epoch met there at_index e l. none_left past o last index epoch met there at_index e);
+            marks = λ m. inl (subst (λ (s : Store). IsMarked s cell) (sym store) m);
+            stored = λ some none. some (sym chain_is ∙ none);
+            alike = λ now still pages rises a. alike_by row cell own to now
+                (Is_equal (chain_is ∙ copied_now links row cell vo own old (put past) now still rises))
+                (λ flag. not_flagged copy is (sym flag_is ∙ flag));
+            caught = λ flag. not_flagged copy is flag;
+          }
 
     -- ### What is sent of it
 
-    pub trim_told : copy.trimmed ≡ false → IsTold (Some own) vo (body.Trim copy.op cell (epochs_of chain))
+    pub trim_told : copy.trimmed ≡ false → IsTold row (Some own) vo (body.Trim copy.op cell (epochs_of chain))
     trim_told fresh = inr (record {
       own = own;
       met = refl;
@@ -382,7 +444,7 @@ module _ (heard : Body → Type 0) (row : LinkRow) (cell : Cell) (vo : Option Ow
     })
 
     pub entry_told : (r : ℕ × Stored) → copy.trimmed ≡ true → slice_get chain copy.index ≡ Some r
-        → HasSent (Some own) vo cell copy.op copy.index r
+        → HasSent row (Some own) vo cell copy.op copy.index r
     entry_told r done at_index =
         let f = c.followed done in
         let op = f.op_is in
@@ -396,7 +458,7 @@ module _ (heard : Body → Type 0) (row : LinkRow) (cell : Cell) (vo : Option Ow
             near = f.past;
             own = own;
             met = refl;
-            marked = λ at_last. c.marked (inr (slice_get_within chain copy.index r at_index));
+            left = λ at_last. c.left (inr (slice_get_within chain copy.index r at_index));
           };
           sent = λ x other own_is there same.
               let one : copy ≡ other = same_some (sym is ∙ ap (λ y. copying_on y cell) (same_some own_is) ∙ there) in

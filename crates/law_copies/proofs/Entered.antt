@@ -1,9 +1,9 @@
 -- What is kept after an entry that a server applies.
-use Rattle.std.proofs.Common.{◌≡◌, ◌≢◌, ◌≤◌, ◌++◌, ◌==◌, ℕ, List, [], ◌∷◌, length, true, false, Option, Some, None, is_some, refl, sym, ap, ◌∙◌, subst, ◌⊎◌, inl, inr, arith}
+use Rattle.std.proofs.Common.{◌≡◌, ◌≢◌, ◌≤◌, ◌<◌, ◌++◌, ◌==◌, ℕ, Bool, List, [], ◌∷◌, length, true, false, Option, Some, None, is_some, refl, sym, ap, ◌∙◌, subst, ◌⊎◌, inl, inr, arith}
 use Rattle.std.specs.Prelude.{unwrap_or}
 use Rattle.std.specs.Option.{option_map_or}
 use Rattle.std.specs.Ordering.{nat_cmp}
-use Rattle.busy_marks.specs.Marks.{above}
+use Rattle.busy_marks.specs.Marks.{above, has_mark}
 use Rattle.global_tables.specs.Link.{has_server, other_of}
 use Rattle.global_tables.specs.declared.link.LinkRow.{LinkRow}
 use Rattle.global_tables.specs.declared.link.LinkState.TheVariants.{Both, Only}
@@ -15,19 +15,17 @@ use Rattle.petal_msg.specs.declared.body.Body.{Body}
 use Rattle.petal_msg.specs.declared.copying.Progress.{Progress}
 use Rattle.petal_msg.specs.declared.letter.Letter.{Letter}
 use Rattle.petal_msg.specs.declared.operation.Pending.{Pending}
-use Rattle.petal_history.specs.Claims.{IsMarked, IsPrefix}
-use Rattle.petal_history.specs.Legal.{world_after}
+use Rattle.petal_history.specs.Claims.{IsMarked, IsPrefix, IsToBeCopied}
 use Rattle.petal_history.specs.declared.record.Record.{Record}
 use Rattle.petal_state.specs.Command.{state_after}
 use Rattle.petal_state.specs.State.{inc_of}
-use Rattle.petal_rules.specs.Crossing.{crossed}
 use Rattle.petal_rules.specs.Lists.{In}
 use Rattle.petal_rules.specs.Log.{state_in}
 use Rattle.petal_rules.specs.Progress.{no_progress, progress_on}
-use Rattle.petal_rules.specs.Server.{Own, Server}
+use Rattle.petal_rules.specs.Server.{Own, Pairs, Server}
 use Rattle.petal_rules.specs.State.{id_of, is_in, link_cmp}
-use Rattle.petal_rules.specs.Store.{Store, cell_cmp, chain_in}
-use Rattle.petal_rules.specs.World.{Setting, World, chosen_log, server_state, start}
+use Rattle.petal_rules.specs.Store.{Store, cell_cmp, chain_in, mark_on}
+use Rattle.petal_rules.specs.World.{Setting, World, blank_joins_in, chosen_log, server_state}
 use Rattle.petal_rules.specs.Writes.{pending_on}
 use Rattle.petal_rules.proofs.Tests.{none_some, same_or_apart, same_some}
 use Rattle.law_state.specs.Firm.{Firm}
@@ -37,45 +35,46 @@ use Rattle.law_state.proofs.Leaves.{other_between}
 use Rattle.law_state.proofs.Roles.{primary_is_one, secondary_is_one}
 use Rattle.law_state.proofs.Steady.{front_plain, log_steady}
 use Rattle.law_steps.specs.Ready.{IsRising, Rests}
-use Rattle.law_copies.specs.Copied.{AreAlike, AreCopying, IsCovered, IsPage, IsTold, Is_equal, Is_marked_here, Is_marked_there}
-use Rattle.law_copies.specs.Good.{AloneOk, AreTwins, BothOk, Good, IsUnheard, SaidOk, pair_at, store_of}
+use Rattle.law_copies.specs.Copied.{AreAlike, AreCopying, IsCovered, IsPage, IsTold, Is_equal, Is_marked_here, Is_marked_there, Is_to_be_copied, links_of}
+use Rattle.law_copies.specs.Good.{AloneOk, AreTwins, BothOk, Good, SaidOk, StaysLeft, pair_at}
 use Rattle.law_copies.specs.Pair.{HaveMarks, IsRecalled, Known, Pair, PairOk, pair_of}
-use Rattle.law_copies.specs.Steps.{StaysTold}
-use Rattle.law_copies.specs.Visits.{IsLinked, Visits, half, place_by}
+use Rattle.law_copies.specs.Steps.{AreFilled, StaysTold}
+use Rattle.law_copies.specs.Visits.{IsLinked, Visits, half, place_by, store_by, with_stores}
+use Rattle.law_copies.proofs.Counts.{joins_at}
 use Rattle.law_copies.proofs.Entering as entering
-use Rattle.law_copies.proofs.Entering.{KeepsAll}
+use Rattle.law_copies.proofs.Entering.{IsCrossed, KeepsAll, keeps_onward}
 use Rattle.law_copies.proofs.Following.{kept_copying, kept_told}
 use Rattle.law_copies.proofs.HolderSteps as steps
-use Rattle.law_copies.proofs.Framed.{LeavesAt, LeavesStore, alike_same, marked_back, marked_on, other_is_one, pair_same, recalled_on, store_same}
+use Rattle.law_copies.proofs.Framed.{LeavesStore, alike_same, filled_framed, marked_back, marked_on, other_is_one, pair_same, recalled_on, to_copy_on}
 use Rattle.law_copies.proofs.Fresh.{IsFresh, fresh_alike, fresh_first, fresh_first_known, fresh_holder, fresh_holder_told, fresh_other, fresh_other_told, fresh_second}
 use Rattle.law_copies.proofs.Later.{holder_is_one}
 use Rattle.law_copies.proofs.Marking.{same_have}
 use Rattle.law_copies.proofs.Others.{other_apart}
 use Rattle.law_copies.proofs.Places.{one_row}
+use Rattle.law_copies.proofs.Quiet.{stores_leave}
 use Rattle.law_copies.proofs.Stepping.{GoesOn, IsSoundOwn, IsTrue, KeepsFronts, good_after}
-use Rattle.law_copies.proofs.Visited.{IsStep, KeepsFlags, counted, counted_up, later, none_before, some_after, visited_apart, visited_by}
+use Rattle.law_copies.proofs.Visited.{IsAt, IsStep, IsThen, KeepsFlags, counted, counted_up, later, none_before, some_after, stored, stored_by, visited_apart, visited_by}
 
 -- ### Where all of the cell is as before
 
 -- what is so of a holder's part is so of one that is alike for the cell
-holder_stays : (own to : Own) (row : LinkRow) (cell : Cell) (other : Option Own) → KeepsAll own to row cell → AreCopying row cell (Some own) other
-    → AreCopying row cell (Some to) other × StaysTold cell (Some own) other (Some to) other
-holder_stays own to row cell other all old =
-    let kept = steps.kept_step (λ b. Unit {0}) row cell other own old to all.keeps (let e = all.next in omega arith)
-    (record {
-      paged = ap (λ p. (unwrap_or p no_progress).paged) all.pages;
-      after = ap (λ p. (unwrap_or p no_progress).after) all.pages;
-      flag = ap (λ p. option_map_or (λ (x : Progress). x.caught) p false) all.pages;
-    }) in
+holder_stays : (links : ℕ) (own to : Own) (row : LinkRow) (cell : Cell) (other : Option Own) → KeepsAll own to row cell
+    → AreCopying links row cell (Some own) other
+    → AreCopying links row cell (Some to) other × StaysTold row cell (Some own) other (Some to) other
+holder_stays links own to row cell other all old =
+    let on = keeps_onward links own to row cell all in
+    let kept = steps.kept_step (λ b. Unit {0}) links row cell other own old to all.keeps (let e = all.next in omega arith) on.0 on.1 in
     (kept.copying, kept.told)
 
 -- and of the other server's
-other_stays : (own to : Own) (row : LinkRow) (cell : Cell) (holder : Option Own) → KeepsAll own to row cell → AreCopying row cell holder (Some own)
-    → AreCopying row cell holder (Some to) × StaysTold cell holder (Some own) holder (Some to)
-other_stays own to row cell holder all old =
-    (kept_copying row cell holder own old to all.keeps.rest, kept_told row cell holder own old to all.keeps.rest)
+other_stays : (links : ℕ) (own to : Own) (row : LinkRow) (cell : Cell) (holder : Option Own) → KeepsAll own to row cell
+    → AreCopying links row cell holder (Some own)
+    → AreCopying links row cell holder (Some to) × StaysTold row cell holder (Some own) holder (Some to)
+other_stays links own to row cell holder all old =
+    (kept_copying links row cell holder own old to all.keeps.rest, kept_told links row cell holder own old to all.keeps.rest)
 
-stays_alike : (own to : Own) (row : LinkRow) (cell : Cell) (a b : Store) → at link_cmp to.copies.progress (id_of row) ≡ at link_cmp own.copies.progress (id_of row)
+stays_alike : (own to : Own) (row : LinkRow) (cell : Cell) (a b : Store)
+    → at link_cmp to.copies.progress (id_of row) ≡ at link_cmp own.copies.progress (id_of row)
     → AreAlike row cell a b (Some own) → AreAlike row cell a b (Some to)
 stays_alike own to row cell a b pages alike = record {
   covered = by alike.covered;
@@ -91,6 +90,7 @@ stays_alike own to row cell a b pages alike = record {
     by (Is_marked_here marked) = Is_marked_here marked
     by (Is_marked_there marked ahead) = Is_marked_there marked
         (ap (λ (p : Progress). p.paged) progress ∙ ahead.0, ap (λ (p : Progress). above p.after cell.block) progress ∙ ahead.1)
+    by (Is_to_be_copied all ahead) = Is_to_be_copied all (ap (λ (p : Progress). above p.copied cell.block) progress ∙ ahead)
 
 -- ### Pairs that move on
 
@@ -102,50 +102,69 @@ pub record PairGoes (old new : Pair) : Type 0 where
 pub goes_same : (old new : Pair) → old ≡ new → PairGoes old new
 goes_same old new same = record { ok = subst PairOk same; known = λ said. subst (λ p. Known p said) same }
 
-module _ (setting : Setting) (records : List Record) (w v : World) (k : ℕ) (server : Server) (good : Good setting records (chosen_log setting w) w)
-    (step : IsStep setting (chosen_log setting w) w v k server) (firm : Firm setting w) (rests : Rests setting w) (runs : (w.servers k).life.running ≡ true)
-    (entry : Command) (more : server.log.applied ≡ (w.servers k).log.applied ++ entry ∷ [])
-    (own_is : server.own ≡ crossed (server_state setting w k) entry (w.servers k).own) (inc : server.life.inc ≡ (w.servers k).life.inc) where
+module _ (setting : Setting) (records : List Record) (w : World) (stores : ℕ → Store) (v : World) (k : ℕ) (server : Server)
+    (good : Good setting records (chosen_log setting w) (with_stores w stores))
+    (step : IsStep setting (chosen_log setting w) (with_stores w stores) v k server) (firm : Firm setting w) (rests : Rests setting w)
+    (runs : (w.servers k).life.running ≡ true) (entry : Command) (more : server.log.applied ≡ (w.servers k).log.applied ++ entry ∷ [])
+    (left : IsCrossed (server_state setting w k) entry ((with_stores w stores).servers k).own server.own) (inc : server.life.inc ≡ (w.servers k).life.inc)
+    (counts : is_in (state_in setting.servers server.log) k server.life.inc ≡ true
+    → blank_joins_in setting server.log.applied k ≡ blank_joins_in setting (chosen_log setting w) k) where
   abbrev top : List Command
   top = chosen_log setting w
 
+  -- the world before, by the stores that count
+  abbrev u : World
+  u = with_stores w stores
+
   abbrev old : Own
-  old = (w.servers k).own
+  old = (u.servers k).own
 
   abbrev new : Own
-  new = crossed (server_state setting w k) entry old
+  new = server.own
 
   abbrev visits : Visits
-  visits = later setting records top w v k server good step
+  visits = later setting records top u v k server good step
+
+  abbrev next_stores : ℕ → ℕ → Store
+  next_stores = stored setting records top u v k server good step
 
   abbrev reached : Cell → ℕ
-  reached = counted setting records top w v k server good step
+  reached = counted setting records top u v k server good step
+
+  -- the stores that count by a front, before and then
+  abbrev olds : List Command → ℕ → Store
+  olds = store_by setting good.stores
+
+  abbrev news : List Command → ℕ → Store
+  news = store_by setting next_stores
 
   up : (cell : Cell) → good.reached cell ≤ reached cell
-  up = counted_up setting records top w v k server good step
+  up = counted_up setting records top u v k server good step
 
   nones : (n place : ℕ) (cell : Cell) → visits n place cell ≡ None → good.visits n place cell ≡ None
-  nones = none_before setting records top w v k server good step
+  nones = none_before setting records top u v k server good step
 
-  -- stores stay, but for free slots
-  own_now : (v.servers k).own ≡ new
-  own_now = ap (λ (s : Server). s.own) step.here ∙ own_is
+  counts_on : 1 ≤ new.pairs.next
+  counts_on = subst (λ (p : Pairs). 1 ≤ p.next) (sym left.pairs) (good.counts k)
 
-  stores : (n : ℕ) (cell : Cell) → LeavesStore (store_of w n) (store_of v n) cell
-  stores n cell = elim (same_or_apart n k) [
-    | inl e ↦ subst (λ m. LeavesStore (store_of w m) (store_of v m) cell) (sym e)
-        (subst (λ (o : Own). LeavesStore old.store o.store cell) (sym own_now) (record { chain = refl; marks = λ kind. refl }))
-    | inr ne ↦ store_same (store_of w n) (store_of v n) cell (ap (λ (s : Server). s.own.store) (step.others n ne))
-  ]
+  rising_on : (cell : Cell) → IsRising nat_cmp (chain_in new.store.chains cell)
+  rising_on cell = subst (λ t. IsRising nat_cmp (chain_in t cell)) (sym left.chains) (good.rising k cell)
+
+  -- chains and marks stay
+  leaves_own : (cell : Cell) → LeavesStore old.store new.store cell
+  leaves_own cell = record { chain = ap (λ t. chain_in t cell) left.chains; marks = λ kind. ap (has_mark (mark_on kind cell)) left.marks }
+
+  leaves : (front : List Command) (n : ℕ) (cell : Cell) → LeavesStore (olds front n) (news front n) cell
+  leaves front n cell = stores_leave setting records top u v k server good step cell (leaves_own cell) front n
 
   apart_visit : (n place : ℕ) (cell : Cell) → n ≢ k → visits n place cell ≡ good.visits n place cell
-  apart_visit = visited_apart setting records top w v k server good step
+  apart_visit = visited_apart setting records top u v k server good step
 
   -- ### The server's visit of a place
 
   data Arriving (place : ℕ) (cell : Cell) (row : LinkRow) : Type 0 where
     Is_as_it_was : visits k place cell ≡ good.visits k place cell → Arriving place cell row
-    Has_come : good.visits k place cell ≡ None → visits k place cell ≡ Some new → IsFresh new row cell → (row.state ≡ Both → pending_on old cell ≡ None)
+    Has_come : good.visits k place cell ≡ None → visits k place cell ≡ Some new → IsFresh new row cell → (row.state ≡ Both → pending_on new cell ≡ None)
         → Arriving place cell row
     Has_stayed : good.visits k place cell ≡ Some old → visits k place cell ≡ Some new → KeepsAll old new row cell → Arriving place cell row
 
@@ -162,120 +181,135 @@ module _ (setting : Setting) (records : List Record) (w v : World) (k : ℕ) (se
         | inr two ↦ subst (λ n. inc_of (state_in setting.servers server.log) n ≡ inc_of (server_state setting w k) n) two.0 so.primary
       ]
 
+  same_row : (front : List Command) (cell : Cell) (row : LinkRow) → IsPrefix front top → IsLinked setting front cell row
+      → (there : IsAt setting k server (place_by setting front row) cell) → there.row ≡ row
+  same_row front cell row prefix is there = one_row setting top step.plain front server.log.applied cell row there.row prefix step.within is there.linked there.at
+
+  -- where it is there, its store is the one that counts by the front
+  store_there : (front : List Command) (cell : Cell) (row : LinkRow) → IsPrefix front top → IsLinked setting front cell row → has_server k row ≡ true
+      → IsAt setting k server (place_by setting front row) cell → news front k ≡ new.store
+  store_there front cell row prefix is has there =
+      let has_there : has_server k there.row ≡ true = ap (has_server k) (same_row front cell row prefix is there) ∙ has in
+      stored_by setting records top u v k server good step front
+      (joins_at setting top step.plain front server.log.applied cell row there.row k prefix step.within is there.linked has has_there there.at
+      ∙ counts there.seat)
+
   arriving : (front : List Command) (cell : Cell) (row : LinkRow) → IsPrefix front top → IsLinked setting front cell row → has_server k row ≡ true
       → Arriving (place_by setting front row) cell row
-  arriving front cell row prefix is has = elim (visited_by setting records top w v k server good step k (place_by setting front row) cell) [
+  arriving front cell row prefix is has = elim (visited_by setting records top u v k server good step k (place_by setting front row) cell) [
     | inl same ↦ Is_as_it_was same
     | inr now ↦ (
         let there = now.there in
-        let one : there.row ≡ row = one_row setting top step.plain front server.log.applied cell row there.row prefix step.within is there.linked there.at in
+        let one = same_row front cell row prefix is there in
         let end = subst (IsLinked setting server.log.applied cell) one there.linked in
         let place : place_by setting front row ≡ place_by setting server.log.applied row = there.at ∙ ap (place_by setting server.log.applied) one in
-        let visit : visits k (place_by setting front row) cell ≡ Some new = now.is ∙ ap Some own_is in
-        elim (entering.comes_or_stays setting records w k server good firm rests runs entry more step.within cell row end) [
-          | inl c ↦ Has_come (ap (λ p. good.visits k p cell) place ∙ c.unseen) visit c.fresh c.free
+        let visit : visits k (place_by setting front row) cell ≡ Some new = now.is in
+        elim (entering.comes_or_stays setting records w stores k server good firm rests runs entry more step.within left cell row end) [
+          | inl c ↦ Has_come (ap (λ p. good.visits k p cell) place ∙ c.unseen) visit c.fresh
+              (λ both. ap (λ (p : Pairs). at cell_cmp p.pending cell) left.pairs ∙ c.free both)
           | inr s ↦ (
               let h = good.here k cell row s.linked (seat_before row cell has s.so there.seat) in
               Has_stayed (ap (λ p. good.visits k p cell) (place ∙ s.place) ∙ h.is ∙ ap Some h.same) visit s.keeps)
         ])
   ]
 
-  leaves_apart : (n place : ℕ) (cell : Cell) → n ≢ k → LeavesAt setting top w v good.visits visits good.reached reached n place cell
-  leaves_apart n place cell ne = record { visit = apart_visit n place cell ne; store = stores n cell }
-
   -- ### In Both
 
-  pair_then : (place : ℕ) (cell : Cell) (n m : ℕ) (one other : Option Own) → visits n place cell ≡ one → visits m place cell ≡ other
-      → pair_of (half one (store_of w n)) (half other (store_of w m)) cell ≡ pair_at v visits place cell n m
-  pair_then place cell n m one other e f =
-      pair_same one other (store_of w n) (store_of w m) (store_of v n) (store_of v m) cell (stores n cell).chain (stores m cell).chain
-      ∙ (λ i. pair_of (half (sym e i) (store_of v n)) (half (sym f i) (store_of v m)) cell)
+  pair_then : (front : List Command) (place : ℕ) (cell : Cell) (n m : ℕ) (one other : Option Own) → visits n place cell ≡ one → visits m place cell ≡ other
+      → pair_of (half one (olds front n)) (half other (olds front m)) cell ≡ pair_at (news front) visits place cell n m
+  pair_then front place cell n m one other e f =
+      pair_same one other (olds front n) (olds front m) (news front n) (news front m) cell (leaves front n cell).chain (leaves front m cell).chain
+      ∙ (λ i. pair_of (half (sym e i) (news front n)) (half (sym f i) (news front m)) cell)
 
-  pair_before : (place : ℕ) (cell : Cell) (n m : ℕ) (one other : Option Own) → good.visits n place cell ≡ one → good.visits m place cell ≡ other
-      → pair_at w good.visits place cell n m ≡ pair_of (half one (store_of w n)) (half other (store_of w m)) cell
-  pair_before place cell n m one other e f = λ i. pair_of (half (e i) (store_of w n)) (half (f i) (store_of w m)) cell
+  pair_before : (front : List Command) (place : ℕ) (cell : Cell) (n m : ℕ) (one other : Option Own) → good.visits n place cell ≡ one
+      → good.visits m place cell ≡ other
+      → pair_at (olds front) good.visits place cell n m ≡ pair_of (half one (olds front n)) (half other (olds front m)) cell
+  pair_before front place cell n m one other e f = λ i. pair_of (half (e i) (olds front n)) (half (f i) (olds front m)) cell
 
   -- the server is the first one
-  first_goes : (place : ℕ) (cell : Cell) (row : LinkRow) (m : ℕ) → row.state ≡ Both → m ≢ k → Arriving place cell row
-      → PairGoes (pair_at w good.visits place cell k m) (pair_at v visits place cell k m)
-  first_goes place cell row m both ne (Is_as_it_was same) =
-      goes_same _ _ (pair_before place cell k m (good.visits k place cell) (good.visits m place cell) refl refl
-      ∙ pair_then place cell k m (good.visits k place cell) (good.visits m place cell) same (apart_visit m place cell ne))
-  first_goes place cell row m both ne (Has_come none is fresh free) =
+  first_goes : (front : List Command) (place : ℕ) (cell : Cell) (row : LinkRow) (m : ℕ) → row.state ≡ Both → m ≢ k → Arriving place cell row
+      → PairGoes (pair_at (olds front) good.visits place cell k m) (pair_at (news front) visits place cell k m)
+  first_goes front place cell row m both ne (Is_as_it_was same) =
+      goes_same _ _ (pair_before front place cell k m (good.visits k place cell) (good.visits m place cell) refl refl
+      ∙ pair_then front place cell k m (good.visits k place cell) (good.visits m place cell) same (apart_visit m place cell ne))
+  first_goes front place cell row m both ne (Has_come none is fresh free) =
       let other = good.visits m place cell in
-      let second = half other (store_of w m) in
-      let before = pair_before place cell k m None other none refl in
-      let after = pair_then place cell k m (Some new) other is (apart_visit m place cell ne) in
+      let second = half other (olds front m) in
+      let before = pair_before front place cell k m None other none refl in
+      let after = pair_then front place cell k m (Some new) other is (apart_visit m place cell ne) in
       record {
-        ok = λ h. subst PairOk after (fresh_first new row cell fresh (store_of w k) second (good.counts k) (free both) (subst PairOk before h));
+        ok = λ h. subst PairOk after (fresh_first new row cell fresh (olds front k) second counts_on (free both) (subst PairOk before h));
         known = λ said h. subst (λ p. Known p said) after
-            (fresh_first_known new row cell fresh (store_of w k) second said (good.counts k) (free both) (subst (λ p. Known p said) before h));
+            (fresh_first_known new row cell fresh (olds front k) second said counts_on (free both) (subst (λ p. Known p said) before h));
       }
-  first_goes place cell row m both ne (Has_stayed was is keeps) =
+  first_goes front place cell row m both ne (Has_stayed was is keeps) =
       let other = good.visits m place cell in
-      let second = half other (store_of w m) in
-      goes_same _ _ (pair_before place cell k m (Some old) other was refl
+      let second = half other (olds front m) in
+      goes_same _ _ (pair_before front place cell k m (Some old) other was refl
       ∙ (λ i. record {
-        first = chain_in (store_of w k).chains cell;
+        first = chain_in (olds front k).chains cell;
         second = chain_in second.store.chains cell;
         pending = sym keeps.keeps.rest.pending i;
         next = sym keeps.next i;
         last = at cell_cmp second.pairs.last cell;
       })
-      ∙ pair_then place cell k m (Some new) other is (apart_visit m place cell ne))
+      ∙ pair_then front place cell k m (Some new) other is (apart_visit m place cell ne))
 
   -- the second one
-  second_goes : (place : ℕ) (cell : Cell) (row : LinkRow) (n : ℕ) → n ≢ k → Arriving place cell row
-      → PairGoes (pair_at w good.visits place cell n k) (pair_at v visits place cell n k)
-  second_goes place cell row n ne (Is_as_it_was same) =
-      goes_same _ _ (pair_before place cell n k (good.visits n place cell) (good.visits k place cell) refl refl
-      ∙ pair_then place cell n k (good.visits n place cell) (good.visits k place cell) (apart_visit n place cell ne) same)
-  second_goes place cell row n ne (Has_come none is fresh free) =
+  second_goes : (front : List Command) (place : ℕ) (cell : Cell) (row : LinkRow) (n : ℕ) → n ≢ k → Arriving place cell row
+      → PairGoes (pair_at (olds front) good.visits place cell n k) (pair_at (news front) visits place cell n k)
+  second_goes front place cell row n ne (Is_as_it_was same) =
+      goes_same _ _ (pair_before front place cell n k (good.visits n place cell) (good.visits k place cell) refl refl
+      ∙ pair_then front place cell n k (good.visits n place cell) (good.visits k place cell) (apart_visit n place cell ne) same)
+  second_goes front place cell row n ne (Has_come none is fresh free) =
       let other = good.visits n place cell in
-      goes_same _ _ (pair_before place cell n k other None refl none
-      ∙ fresh_second new row cell fresh (store_of w k) (half other (store_of w n))
-      ∙ pair_then place cell n k other (Some new) (apart_visit n place cell ne) is)
-  second_goes place cell row n ne (Has_stayed was is keeps) =
+      goes_same _ _ (pair_before front place cell n k other None refl none
+      ∙ fresh_second new row cell fresh (olds front k) (half other (olds front n))
+      ∙ pair_then front place cell n k other (Some new) (apart_visit n place cell ne) is)
+  second_goes front place cell row n ne (Has_stayed was is keeps) =
       let other = good.visits n place cell in
-      let first = half other (store_of w n) in
-      goes_same _ _ (pair_before place cell n k other (Some old) refl was
+      let first = half other (olds front n) in
+      goes_same _ _ (pair_before front place cell n k other (Some old) refl was
       ∙ (λ i. record {
         first = chain_in first.store.chains cell;
-        second = chain_in (store_of w k).chains cell;
+        second = chain_in (olds front k).chains cell;
         pending = at cell_cmp first.pairs.pending cell;
         next = first.pairs.next;
         last = sym keeps.keeps.rest.followed i;
       })
-      ∙ pair_then place cell n k other (Some new) (apart_visit n place cell ne) is)
+      ∙ pair_then front place cell n k other (Some new) (apart_visit n place cell ne) is)
 
-  apart_goes : (place : ℕ) (cell : Cell) (n m : ℕ) → n ≢ k → m ≢ k → PairGoes (pair_at w good.visits place cell n m) (pair_at v visits place cell n m)
-  apart_goes place cell n m ne ne' =
-      goes_same _ _ (pair_before place cell n m (good.visits n place cell) (good.visits m place cell) refl refl
-      ∙ pair_then place cell n m (good.visits n place cell) (good.visits m place cell) (apart_visit n place cell ne) (apart_visit m place cell ne'))
+  apart_goes : (front : List Command) (place : ℕ) (cell : Cell) (n m : ℕ) → n ≢ k → m ≢ k
+      → PairGoes (pair_at (olds front) good.visits place cell n m) (pair_at (news front) visits place cell n m)
+  apart_goes front place cell n m ne ne' =
+      goes_same _ _ (pair_before front place cell n m (good.visits n place cell) (good.visits m place cell) refl refl
+      ∙ pair_then front place cell n m (good.visits n place cell) (good.visits m place cell) (apart_visit n place cell ne) (apart_visit m place cell ne'))
 
   pair_goes : (front : List Command) (cell : Cell) (row : LinkRow) → IsPrefix front top → IsLinked setting front cell row → row.state ≡ Both
-      → PairGoes (pair_at w good.visits (place_by setting front row) cell row.primary row.secondary)
-      (pair_at v visits (place_by setting front row) cell row.primary row.secondary)
+      → PairGoes (pair_at (olds front) good.visits (place_by setting front row) cell row.primary row.secondary)
+      (pair_at (news front) visits (place_by setting front row) cell row.primary row.secondary)
   pair_goes front cell row prefix is both =
       let place = place_by setting front row in
       let two = (log_steady setting.servers front (front_plain setting.servers front top step.plain prefix)).linked cell row is in
       elim (same_or_apart row.primary k) [
-        | inl e ↦ subst (λ n. PairGoes (pair_at w good.visits place cell n row.secondary) (pair_at v visits place cell n row.secondary)) (sym e)
-            (first_goes place cell row row.secondary both (λ f. two.apart (e ∙ sym f)) (arriving front cell row prefix is (primary_is_one row k e)))
+        | inl e ↦ subst (λ n. PairGoes (pair_at (olds front) good.visits place cell n row.secondary)
+            (pair_at (news front) visits place cell n row.secondary)) (sym e)
+            (first_goes front place cell row row.secondary both (λ f. two.apart (e ∙ sym f)) (arriving front cell row prefix is (primary_is_one row k e)))
         | inr ne ↦ elim (same_or_apart row.secondary k) [
-          | inl e ↦ subst (λ m. PairGoes (pair_at w good.visits place cell row.primary m) (pair_at v visits place cell row.primary m)) (sym e)
-              (second_goes place cell row row.primary ne (arriving front cell row prefix is (secondary_is_one row k e)))
-          | inr ne' ↦ apart_goes place cell row.primary row.secondary ne ne'
+          | inl e ↦ subst (λ m. PairGoes (pair_at (olds front) good.visits place cell row.primary m) (pair_at (news front) visits place cell row.primary m))
+              (sym e)
+              (second_goes front place cell row row.primary ne (arriving front cell row prefix is (secondary_is_one row k e)))
+          | inr ne' ↦ apart_goes front place cell row.primary row.secondary ne ne'
         ]
       ]
 
   recalled_then : (front : List Command) (cell : Cell) (row : LinkRow) → IsPrefix front top → IsLinked setting front cell row
-      → AreTwins w good.visits (place_by setting front row) cell row.primary row.secondary → (own : Own) (op : Pending)
+      → AreTwins (olds front) good.visits (place_by setting front row) cell row.primary row.secondary → (own : Own) (op : Pending)
       → visits row.primary (place_by setting front row) cell ≡ Some own → at cell_cmp own.pairs.pending cell ≡ Some op → row.state ≡ Both
-      → IsRecalled op (store_of v row.primary) cell
+      → IsRecalled op (news front row.primary) cell
   recalled_then front cell row prefix is twins own op visit there both =
       let place = place_by setting front row in
-      recalled_on (store_of w row.primary) (store_of v row.primary) cell op (stores row.primary cell)
+      recalled_on (olds front row.primary) (news front row.primary) cell op (leaves front row.primary cell)
       (elim (same_or_apart row.primary k) [
         | inl e ↦ (
             let mine : visits k place cell ≡ Some own = ap (λ n. visits n place cell) (sym e) ∙ visit in
@@ -286,16 +320,18 @@ module _ (setting : Setting) (records : List Record) (w v : World) (k : ℕ) (se
       ])
     where
       by : Arriving (place_by setting front row) cell row → visits k (place_by setting front row) cell ≡ Some own
-          → ((before : Own) → good.visits k (place_by setting front row) cell ≡ Some before → good.visits row.primary (place_by setting front row) cell ≡ Some before)
-          → IsRecalled op (store_of w row.primary) cell
+          → ((before : Own) → good.visits k (place_by setting front row) cell ≡ Some before
+          → good.visits row.primary (place_by setting front row) cell ≡ Some before)
+          → IsRecalled op (olds front row.primary) cell
       by (Is_as_it_was same) mine was = twins.recalled own op (was own (sym same ∙ mine)) there
       by (Has_come none now fresh free) mine was =
           none_some (free both) (ap (λ (o : Own). at cell_cmp o.pairs.pending cell) (same_some (sym now ∙ mine)) ∙ there)
       by (Has_stayed before now keeps) mine was =
-          twins.recalled old op (was old before) (ap (λ (o : Own). at cell_cmp o.pairs.pending cell) (same_some (sym now ∙ mine)) ∙ there)
+          twins.recalled old op (was old before) (sym keeps.keeps.rest.pending
+          ∙ ap (λ (o : Own). at cell_cmp o.pairs.pending cell) (same_some (sym now ∙ mine)) ∙ there)
 
   pub both_entered : (front : List Command) (cell : Cell) (row : LinkRow) → IsPrefix front top → IsLinked setting front cell row → row.state ≡ Both
-      → BothOk setting top v visits reached front cell row
+      → BothOk setting top next_stores visits reached front cell row
   both_entered front cell row prefix is both = record {
     twins = λ last.
         let place = place_by setting front row in
@@ -308,28 +344,35 @@ module _ (setting : Setting) (records : List Record) (w v : World) (k : ℕ) (se
 
   -- ### Alone
 
+  abbrev links_at : List Command → Cell → ℕ
+  links_at front cell = links_of (state_after setting.servers front) cell.map
+
   -- what is so of the two servers' parts and stores, and of letters, is so then
-  record AloneGoes (place : ℕ) (cell : Cell) (row : LinkRow) (holder other : ℕ) : Type 0 where
-    copying : AreCopying row cell (good.visits holder place cell) (good.visits other place cell) → AreCopying row cell (visits holder place cell) (visits other place cell)
-    told : AreCopying row cell (good.visits holder place cell) (good.visits other place cell) → (said : Body) → (about said).cell ≡ Some cell
-        → IsTold (good.visits holder place cell) (good.visits other place cell) said → IsTold (visits holder place cell) (visits other place cell) said
-    alike : AreAlike row cell (store_of w holder) (store_of w other) (good.visits holder place cell)
-        → AreAlike row cell (store_of v holder) (store_of v other) (visits holder place cell)
+  record AloneGoes (front : List Command) (place : ℕ) (cell : Cell) (row : LinkRow) (holder other : ℕ) : Type 0 where
+    copying : AreCopying (links_at front cell) row cell (good.visits holder place cell) (good.visits other place cell)
+        → AreCopying (links_at front cell) row cell (visits holder place cell) (visits other place cell)
+    told : AreCopying (links_at front cell) row cell (good.visits holder place cell) (good.visits other place cell) → (said : Body)
+        → (about said).cell ≡ Some cell
+        → IsTold row (good.visits holder place cell) (good.visits other place cell) said → IsTold row (visits holder place cell) (visits other place cell) said
+    alike : AreAlike row cell (olds front holder) (olds front other) (good.visits holder place cell)
+        → AreAlike row cell (news front holder) (news front other) (visits holder place cell)
 
   -- by other names
-  alone_by : (place : ℕ) (cell : Cell) (row : LinkRow) (holder other : ℕ) (one two one' two' : Option Own)
+  alone_by : (front : List Command) (place : ℕ) (cell : Cell) (row : LinkRow) (holder other : ℕ) (one two one' two' : Option Own)
       → good.visits holder place cell ≡ one → good.visits other place cell ≡ two → visits holder place cell ≡ one' → visits other place cell ≡ two'
-      → (AreCopying row cell one two → AreCopying row cell one' two')
-      → (AreCopying row cell one two → (said : Body) → (about said).cell ≡ Some cell → IsTold one two said → IsTold one' two' said)
-      → (AreAlike row cell (store_of w holder) (store_of w other) one → AreAlike row cell (store_of w holder) (store_of w other) one')
-      → AloneGoes place cell row holder other
-  alone_by place cell row holder other one two one' two' e f e' f' copying told alike = record {
-    copying = λ h. to_new (λ x y. AreCopying row cell x y) (copying (to_old (λ x y. AreCopying row cell x y) h));
-    told = λ h said of t. to_new (λ x y. IsTold x y said) (told (to_old (λ x y. AreCopying row cell x y) h) said of (to_old (λ x y. IsTold x y said) t));
-    alike = λ h. alike_same row cell (store_of w holder) (store_of w other) (store_of v holder) (store_of v other) (visits holder place cell)
-        (stores holder cell) (stores other cell)
-        (subst (AreAlike row cell (store_of w holder) (store_of w other)) (sym e')
-        (alike (subst (AreAlike row cell (store_of w holder) (store_of w other)) e h)));
+      → (AreCopying (links_at front cell) row cell one two → AreCopying (links_at front cell) row cell one' two')
+      → (AreCopying (links_at front cell) row cell one two → (said : Body) → (about said).cell ≡ Some cell → IsTold row one two said
+      → IsTold row one' two' said)
+      → (AreAlike row cell (olds front holder) (olds front other) one → AreAlike row cell (olds front holder) (olds front other) one')
+      → AloneGoes front place cell row holder other
+  alone_by front place cell row holder other one two one' two' e f e' f' copying told alike = record {
+    copying = λ h. to_new (λ x y. AreCopying (links_at front cell) row cell x y) (copying (to_old (λ x y. AreCopying (links_at front cell) row cell x y) h));
+    told = λ h said of t. to_new (λ x y. IsTold row x y said)
+        (told (to_old (λ x y. AreCopying (links_at front cell) row cell x y) h) said of (to_old (λ x y. IsTold row x y said) t));
+    alike = λ h. alike_same row cell (olds front holder) (olds front other) (news front holder) (news front other) (visits holder place cell)
+        (leaves front holder cell) (leaves front other cell)
+        (subst (AreAlike row cell (olds front holder) (olds front other)) (sym e')
+        (alike (subst (AreAlike row cell (olds front holder) (olds front other)) e h)));
   }
     where
       to_old : (P : Option Own → Option Own → Type 0) → P (good.visits holder place cell) (good.visits other place cell) → P one two
@@ -338,38 +381,43 @@ module _ (setting : Setting) (records : List Record) (w v : World) (k : ℕ) (se
       to_new : (P : Option Own → Option Own → Type 0) → P one' two' → P (visits holder place cell) (visits other place cell)
       to_new P h = subst (λ x. P x (visits other place cell)) (sym e') (subst (P one') (sym f') h)
 
-  apart_alone : (place : ℕ) (cell : Cell) (row : LinkRow) (holder other : ℕ) → visits holder place cell ≡ good.visits holder place cell
-      → visits other place cell ≡ good.visits other place cell → AloneGoes place cell row holder other
-  apart_alone place cell row holder other e f =
-      alone_by place cell row holder other (good.visits holder place cell) (good.visits other place cell) (good.visits holder place cell) (good.visits other place cell)
+  apart_alone : (front : List Command) (place : ℕ) (cell : Cell) (row : LinkRow) (holder other : ℕ) → visits holder place cell ≡ good.visits holder place cell
+      → visits other place cell ≡ good.visits other place cell → AloneGoes front place cell row holder other
+  apart_alone front place cell row holder other e f =
+      alone_by front place cell row holder other (good.visits holder place cell) (good.visits other place cell) (good.visits holder place cell)
+      (good.visits other place cell)
       refl refl e f (λ h. h) (λ h said of t. t) (λ h. h)
 
-  holder_alone : (place : ℕ) (cell : Cell) (row : LinkRow) (other : ℕ) → other ≢ k → Arriving place cell row → AloneGoes place cell row k other
-  holder_alone place cell row other ne (Is_as_it_was same) = apart_alone place cell row k other same (apart_visit other place cell ne)
-  holder_alone place cell row other ne (Has_come none is fresh free) =
+  holder_alone : (front : List Command) (place : ℕ) (cell : Cell) (row : LinkRow) (other : ℕ) → other ≢ k → Arriving place cell row
+      → AloneGoes front place cell row k other
+  holder_alone front place cell row other ne (Is_as_it_was same) = apart_alone front place cell row k other same (apart_visit other place cell ne)
+  holder_alone front place cell row other ne (Has_come none is fresh free) =
       let beside = good.visits other place cell in
-      alone_by place cell row k other None beside (Some new) beside none refl is (apart_visit other place cell ne)
-      (fresh_holder new row cell fresh beside (good.rising k cell)) (λ h said of. fresh_holder_told new row cell fresh beside said of)
-      (fresh_alike new row cell fresh (store_of w k) (store_of w other))
-  holder_alone place cell row other ne (Has_stayed was is keeps) =
+      alone_by front place cell row k other None beside (Some new) beside none refl is (apart_visit other place cell ne)
+      (fresh_holder new row cell fresh (links_at front cell) beside (rising_on cell)) (λ h said of. fresh_holder_told new row cell fresh beside said of)
+      (fresh_alike new row cell fresh (olds front k) (olds front other))
+  holder_alone front place cell row other ne (Has_stayed was is keeps) =
       let beside = good.visits other place cell in
-      alone_by place cell row k other (Some old) beside (Some new) beside was refl is (apart_visit other place cell ne)
-      (λ h. (holder_stays old new row cell beside keeps h).0) (λ h said of. (holder_stays old new row cell beside keeps h).1 said of)
-      (stays_alike old new row cell (store_of w k) (store_of w other) keeps.pages)
+      alone_by front place cell row k other (Some old) beside (Some new) beside was refl is (apart_visit other place cell ne)
+      (λ h. (holder_stays (links_at front cell) old new row cell beside keeps h).0)
+      (λ h said of. (holder_stays (links_at front cell) old new row cell beside keeps h).1 said of)
+      (stays_alike old new row cell (olds front k) (olds front other) keeps.pages)
 
-  other_alone : (place : ℕ) (cell : Cell) (row : LinkRow) (holder : ℕ) → holder ≢ k → Arriving place cell row → AloneGoes place cell row holder k
-  other_alone place cell row holder ne (Is_as_it_was same) = apart_alone place cell row holder k (apart_visit holder place cell ne) same
-  other_alone place cell row holder ne (Has_come none is fresh free) =
+  other_alone : (front : List Command) (place : ℕ) (cell : Cell) (row : LinkRow) (holder : ℕ) → holder ≢ k → Arriving place cell row
+      → AloneGoes front place cell row holder k
+  other_alone front place cell row holder ne (Is_as_it_was same) = apart_alone front place cell row holder k (apart_visit holder place cell ne) same
+  other_alone front place cell row holder ne (Has_come none is fresh free) =
       let by = good.visits holder place cell in
-      alone_by place cell row holder k by None by (Some new) refl none (apart_visit holder place cell ne) is
-      (fresh_other new row cell fresh by) (λ h said of. fresh_other_told new row cell fresh by said) (λ h. h)
-  other_alone place cell row holder ne (Has_stayed was is keeps) =
+      alone_by front place cell row holder k by None by (Some new) refl none (apart_visit holder place cell ne) is
+      (fresh_other new row cell fresh (links_at front cell) by) (λ h said of. fresh_other_told new row cell fresh by said) (λ h. h)
+  other_alone front place cell row holder ne (Has_stayed was is keeps) =
       let by = good.visits holder place cell in
-      alone_by place cell row holder k by (Some old) by (Some new) refl was (apart_visit holder place cell ne) is
-      (λ h. (other_stays old new row cell by keeps h).0) (λ h said of. (other_stays old new row cell by keeps h).1 said of) (λ h. h)
+      alone_by front place cell row holder k by (Some old) by (Some new) refl was (apart_visit holder place cell ne) is
+      (λ h. (other_stays (links_at front cell) old new row cell by keeps h).0)
+      (λ h said of. (other_stays (links_at front cell) old new row cell by keeps h).1 said of) (λ h. h)
 
-  module _ (front : List Command) (cell : Cell) (row : LinkRow) (holder : ℕ) (prefix : IsPrefix front top) (is : IsLinked setting front cell row)
-      (alone : row.state ≡ Only holder false) where
+  module _ (front : List Command) (cell : Cell) (row : LinkRow) (holder : ℕ) (whole : Bool) (prefix : IsPrefix front top)
+      (is : IsLinked setting front cell row) (alone : row.state ≡ Only holder whole) where
     abbrev place : ℕ
     place = place_by setting front row
 
@@ -387,98 +435,110 @@ module _ (setting : Setting) (records : List Record) (w v : World) (k : ℕ) (se
     arrives : {n : ℕ} → n ≡ k → has_server n row ≡ true → Arriving place cell row
     arrives e has = arriving front cell row prefix is (subst (λ n. has_server n row ≡ true) e has)
 
-    alone_goes : AloneGoes place cell row holder other
+    alone_goes : AloneGoes front place cell row holder other
     alone_goes = elim (same_or_apart holder k) [
-      | inl e ↦ subst (λ n. AloneGoes place cell row n other) (sym e) (holder_alone place cell row other (λ f. two (f ∙ sym e)) (arrives e holds))
+      | inl e ↦ subst (λ n. AloneGoes front place cell row n other) (sym e) (holder_alone front place cell row other (λ f. two (f ∙ sym e)) (arrives e holds))
       | inr ne ↦ elim (same_or_apart other k) [
-        | inl e ↦ subst (AloneGoes place cell row holder) (sym e) (other_alone place cell row holder ne (arrives e (other_is_one row holder)))
-        | inr ne' ↦ apart_alone place cell row holder other (apart_visit holder place cell ne) (apart_visit other place cell ne')
+        | inl e ↦ subst (AloneGoes front place cell row holder) (sym e) (other_alone front place cell row holder ne (arrives e (other_is_one row holder)))
+        | inr ne' ↦ apart_alone front place cell row holder other (apart_visit holder place cell ne) (apart_visit other place cell ne')
       ]
     ]
 
-    -- a visit is as it was, or it is the server's own part as it is then
-    visit_so : (n : ℕ) (own : Own) → visits n place cell ≡ Some own → (good.visits n place cell ≡ Some own) ⊎ (own ≡ (v.servers n).own)
-    visit_so n own e = elim (visited_by setting records top w v k server good step n place cell) [
+    -- a visit is as it was, or it is the server's own part as it is then, with the store that counts by the front
+    visit_so : (n : ℕ) (own : Own) → has_server n row ≡ true → visits n place cell ≡ Some own
+        → (good.visits n place cell ≡ Some own) ⊎ (own.store ≡ news front n)
+    visit_so n own has e = elim (visited_by setting records top u v k server good step n place cell) [
       | inl same ↦ inl (sym same ∙ e)
-      | inr now ↦ inr (same_some (sym e ∙ now.is) ∙ sym (ap (λ (s : Server). s.own) step.here) ∙ ap (λ m. (v.servers m).own) (sym now.who))
+      | inr now ↦ inr (ap (λ (o : Own). o.store) (same_some (sym e ∙ now.is))
+          ∙ sym (store_there front cell row prefix is (subst (λ m. has_server m row ≡ true) now.who has) now.there) ∙ ap (news front) (sym now.who))
     ]
 
-    pub alone_entered : AloneOk setting top v visits reached front cell row holder
+    keeps_left : (own : Own) → visits holder place cell ≡ Some own → ((p : ℕ) → place < p → visits other p cell ≡ None)
+        → StaysLeft row cell own (news front holder)
+    keeps_left own e beyond = elim (visit_so holder own holds e) [
+      | inl was ↦ (
+          let still = (good.alone front cell row holder whole prefix is alone).stays own was (λ p lt. nones other p cell (beyond p lt)) in (
+            λ marked. marked_on (olds front holder) (news front holder) cell (leaves front holder cell) (still.0 marked),
+            λ all copied. to_copy_on row (olds front holder) (news front holder) cell (leaves front holder cell).chain (still.1 all copied),
+          ))
+      | inr now ↦ (λ marked. subst (λ a. IsMarked a cell) now marked, λ all copied. subst (λ a. IsToBeCopied row a cell) now all)
+    ]
+
+    pub alone_entered : AloneOk setting top next_stores visits reached front cell row holder
     alone_entered =
-        let ok = good.alone front cell row holder prefix is alone in
+        let ok = good.alone front cell row holder whole prefix is alone in
         record {
           copying = alone_goes.copying ok.copying;
           beside = λ last.
               let beside = ok.beside (let more = up cell in omega arith) in
               record {
                 alike = alone_goes.alike beside.alike;
-                still = λ own e. elim (visit_so other own e) [
-                  | inl was ↦ beside.still own was ∙ sym (stores other cell).chain
-                  | inr now ↦ ap (λ (o : Own). chain_in o.store.chains cell) now
+                still = λ own e. elim (visit_so other own (other_is_one row holder) e) [
+                  | inl was ↦ beside.still own was ∙ sym (leaves front other cell).chain
+                  | inr now ↦ ap (λ (s : Store). chain_in s.chains cell) now
                 ];
               };
-          stays = λ own e beyond marked. elim (visit_so holder own e) [
-            | inl was ↦ marked_on (store_of w holder) (store_of v holder) cell (stores holder cell)
-                (ok.stays own was (λ p lt. nones other p cell (beyond p lt)) marked)
-            | inr now ↦ subst (λ (o : Own). IsMarked o.store cell) now marked
-          ];
+          stays = keeps_left;
+          unfilled = λ all_of. filled_framed setting top good.stores next_stores good.visits visits good.reached reached up nones front cell holder other
+              (leaves front other cell).chain (ok.unfilled all_of);
         }
 
     some_goes : is_some (good.visits other place cell) ≡ true → is_some (visits other place cell) ≡ true
-    some_goes = some_after setting records top w v k server good step other place cell
+    some_goes = some_after setting records top u v k server good step other place cell
 
-    page_goes : (after block : Option ℕ) → IsPage cell (store_of w other) (good.visits other place cell) after block
-        → IsPage cell (store_of v other) (visits other place cell) after block
+    page_goes : (after block : Option ℕ) → IsPage cell (olds front other) (good.visits other place cell) after block
+        → IsPage cell (news front other) (visits other place cell) after block
     page_goes after block page = record {
       met = some_goes page.met;
-      least = λ ahead upto marked. page.least ahead upto (marked_back (store_of w other) (store_of v other) cell (stores other cell) marked);
+      least = λ ahead upto marked. page.least ahead upto (marked_back (olds front other) (news front other) cell (leaves front other cell) marked);
     }
 
   pub said_entered : (letter : Letter) → In letter w.sent → (front : List Command) (cell : Cell) (row : LinkRow) → IsPrefix front top
-      → length front ≡ letter.rev → IsLinked setting front cell row → SaidOk setting top v visits reached front letter.body cell row
+      → length front ≡ letter.rev → IsLinked setting front cell row → SaidOk setting top next_stores visits reached front letter.body cell row
   said_entered letter there front cell row prefix long is =
       let old_said = good.letters letter there front cell row prefix long is in
       record {
         both = λ both last of. (pair_goes front cell row prefix is both).known letter.body (old_said.both both (let more = up cell in omega arith) of);
-        alone = λ holder alone of.
-            (alone_goes front cell row holder prefix is alone).told (good.alone front cell row holder prefix is alone).copying letter.body of
-            (old_said.alone holder alone of);
-        page = λ holder after block alone said last.
-            page_goes front cell row holder prefix is alone after block (old_said.page holder after block alone said (let more = up cell in omega arith));
-        met = λ holder after block alone said. some_goes front cell row holder prefix is alone (old_said.met holder after block alone said);
+        alone = λ holder whole alone of.
+            (alone_goes front cell row holder whole prefix is alone).told (good.alone front cell row holder whole prefix is alone).copying letter.body of
+            (old_said.alone holder whole alone of);
+        page = λ holder whole after block alone said last.
+            page_goes front cell row holder whole prefix is alone after block
+            (old_said.page holder whole after block alone said (let more = up cell in omega arith));
+        met = λ holder whole after block alone said. some_goes front cell row holder whole prefix is alone (old_said.met holder whole after block alone said);
       }
 
-  entered_fronts : KeepsFronts setting records top w v k server good step
+  entered_fronts : KeepsFronts setting records top u v k server good step
   entered_fronts = record { both = both_entered; alone = alone_entered; said = said_entered }
 
   -- a server that stays at the place of a link forgets nothing of it
-  entered_flags : KeepsFlags setting records top w v k server good step
-  entered_flags cell row own is alone seat visit flagged =
-      elim (entering.comes_or_stays setting records w k server good firm rests runs entry more step.within cell row is) [
+  entered_flags : KeepsFlags setting records top u v k server good step
+  entered_flags cell row own whole is alone seat visit flagged =
+      elim (entering.comes_or_stays setting records w stores k server good firm rests runs entry more step.within left cell row is) [
         | inl c ↦ none_some c.unseen visit
         | inr s ↦ (
             let has = holder_is_one (state_in setting.servers server.log)
             (log_steady setting.servers server.log.applied (front_plain setting.servers server.log.applied top step.plain step.within)) k cell row is alone in
             let h = good.here k cell row s.linked (seat_before row cell has s.so seat) in
             let was : own ≡ old = same_some (sym visit ∙ ap (λ p. good.visits k p cell) s.place ∙ h.is ∙ ap Some h.same) in
-            ap (λ (o : Own). is_flagged o (id_of row)) own_is
-            ∙ ap (λ p. option_map_or (λ (x : Progress). x.caught) p false) s.keeps.pages
+            ap (λ p. option_map_or (λ (x : Progress). x.caught) p false) s.keeps.pages
             ∙ ap (λ (o : Own). is_flagged o (id_of row)) (sym was) ∙ flagged)
       ]
 
   -- ### All of it
 
-  own_sound : IsSoundOwn setting top server
+  own_sound : IsSoundOwn setting top v k server
   own_sound = record {
-    born = λ cell none. ap (λ (o : Own). chain_in o.store.chains cell) own_is ∙ good.born cell none k;
-    unheard = λ cell none. subst (λ (o : Own). IsUnheard o cell) (sym own_is)
-        (entering.still_unheard setting records w k server good firm rests runs entry more step.within cell none);
-    rising = λ cell. subst (λ (o : Own). IsRising nat_cmp (chain_in o.store.chains cell)) (sym own_is) (good.rising k cell);
-    counts = subst (λ (o : Own). 1 ≤ o.pairs.next) (sym own_is) (good.counts k);
-    marks = subst (λ (o : Own). HaveMarks o.pairs.pending o.store) (sym own_is) (same_have old.pairs.pending old.store new.store refl (good.marks k));
+    born = λ cell none. ap (λ t. chain_in t cell) left.chains ∙ good.born cell none k;
+    unheard = λ cell none. entering.still_unheard setting records w stores k server good firm rests runs entry more step.within left cell none;
+    rising = rising_on;
+    counts = counts_on;
+    filled = subst AreFilled (sym left.chains) (good.filled k);
+    marks = λ when. subst (λ (p : Pairs). HaveMarks p.pending new.store) (sym left.pairs)
+        (same_have old.pairs.pending old.store new.store left.marks (good.marks k (inl runs)));
   }
 
-  pub entered_good : (own : Record) → world_after setting (start setting) (records ++ own ∷ []) ≡ v
-      → ((letter : Letter) → In letter v.sent → In letter w.sent ⊎ IsTrue setting top v visits reached letter)
-      → GoesOn setting records top top w v good own
-  entered_good own then_is sent = good_after setting records top w v k server good step own then_is entered_flags own_sound entered_fronts sent
+  pub entered_good : (own : Record) → IsThen setting (records ++ own ∷ []) v
+      → ((letter : Letter) → In letter v.sent → In letter w.sent ⊎ IsTrue setting top next_stores visits reached letter)
+      → GoesOn setting records top top u v good own
+  entered_good own then_is sent = good_after setting records top u v k server good step own then_is entered_flags own_sound entered_fronts sent

@@ -3,6 +3,7 @@ use Rattle.std.proofs.Common.{◌≡◌, ◌+◌, ◌≤◌, ◌++◌, not, cond
 use Rattle.std.specs.Prelude.{filter, unwrap_or}
 use Rattle.std.specs.Option.{option_map_or}
 use Rattle.std.specs.Ordering.{is_eq}
+use Rattle.busy_marks.specs.Marks.{has_mark}
 use Rattle.global_tables.specs.Link.{other_of}
 use Rattle.global_tables.specs.declared.link.LinkRow.{LinkRow}
 use Rattle.global_tables.specs.declared.link.LinkState.TheVariants.{Both}
@@ -11,19 +12,22 @@ use Rattle.petal_command.specs.declared.command.Command.{Command}
 use Rattle.petal_command.specs.declared.command.Command.TheVariants.{Caught}
 use Rattle.petal_table.specs.Table.{Table, at}
 use Rattle.petal_table.proofs.Rows.{at-where}
+use Rattle.petal_msg.specs.declared.copying.Copying.{Copying}
 use Rattle.petal_msg.specs.declared.copying.LinkId.{LinkId}
+use Rattle.petal_msg.specs.declared.copying.Progress.{Progress}
 use Rattle.petal_msg.specs.declared.operation.Pending.{Pending}
 use Rattle.petal_history.specs.Claims.{IsPrefix}
 use Rattle.petal_history.specs.declared.record.Record.{Record}
 use Rattle.petal_state.specs.CellState.{cell_link}
 use Rattle.petal_state.specs.Command.{after, state_after}
 use Rattle.petal_state.specs.Place.{touches, touches_cell}
+use Rattle.petal_rules.specs.Copies.{cell_at}
 use Rattle.petal_rules.specs.Crossing.{crossed, touches_link}
 use Rattle.petal_rules.specs.Lists.{In}
 use Rattle.petal_rules.specs.Progress.{copying_on, last_copy, no_progress, progress_on}
-use Rattle.petal_rules.specs.Server.{Own, Server}
+use Rattle.petal_rules.specs.Server.{Copies, Own, Pairs, Server}
 use Rattle.petal_rules.specs.State.{State, id_of, is_in, lead, link_cmp}
-use Rattle.petal_rules.specs.Store.{cell_cmp}
+use Rattle.petal_rules.specs.Store.{Store, cell_cmp, chain_in, mark_on}
 use Rattle.petal_rules.specs.World.{Setting, World, chosen_log, server_state}
 use Rattle.petal_rules.specs.Writes.{pending_on}
 use Rattle.petal_rules.proofs.CellTables.{cell_cmp_same}
@@ -40,6 +44,7 @@ use Rattle.law_state.proofs.Ages.{in_once}
 use Rattle.law_state.proofs.Alone.{led_row}
 use Rattle.law_state.proofs.Cells.{led_by}
 use Rattle.law_state.proofs.Grown.{alone_not_both}
+use Rattle.law_state.proofs.Joins.{both_before}
 use Rattle.law_state.proofs.Steady.{front_plain, log_steady}
 use Rattle.law_state.proofs.Touching.{log_entry_stays, log_touched}
 use Rattle.law_steps.specs.Ready.{Rests}
@@ -48,9 +53,11 @@ use Rattle.law_steps.proofs.Minds.{held_as_flag}
 use Rattle.law_steps.proofs.Resting.{row_named}
 use Rattle.law_copies.specs.Good.{Good, IsUnheard}
 use Rattle.law_copies.specs.Steps.{KeepsCell}
-use Rattle.law_copies.specs.Visits.{IsLinked, place_by}
+use Rattle.law_copies.specs.Visits.{IsLinked, place_by, with_stores}
 use Rattle.law_copies.proofs.Fresh.{IsFresh}
 use Rattle.law_copies.proofs.Later.{same_only}
+use Rattle.law_copies.proofs.Onward.{IsOnward, onward_by}
+use Rattle.law_copies.proofs.Pacing.{IsPaced}
 use Rattle.law_copies.proofs.Places.{linked_on, place_of_later, place_touched, place_untouched, rows_later, state_next}
 use Rattle.law_copies.proofs.Standing.{cell_map}
 
@@ -61,6 +68,29 @@ pub record KeepsAll (own to : Own) (row : LinkRow) (cell : Cell) : Type 0 where
   pub keeps : KeepsCell cell own to
   pub next : to.pairs.next ≡ own.pairs.next
   pub pages : at link_cmp to.copies.progress (id_of row) ≡ at link_cmp own.copies.progress (id_of row)
+  -- and no copy is new
+  pub copies : (q : Cell) (copy : Copying) → copying_on to q ≡ Some copy → copying_on own q ≡ Some copy
+
+-- the copies of the link go on by that
+pub keeps_onward : (links : ℕ) (own to : Own) (row : LinkRow) (cell : Cell) → KeepsAll own to row cell
+    → IsPaced row own to × IsOnward links row cell own to
+keeps_onward links own to row cell all =
+    let paced : IsPaced row own to = record {
+      paged = ap (λ p. (unwrap_or p no_progress).paged) all.pages;
+      after = ap (λ p. (unwrap_or p no_progress).after) all.pages;
+      flag = ap (λ p. option_map_or (λ (x : Progress). x.caught) p false) all.pages;
+    } in (
+      paced,
+      onward_by links row cell own to paced (ap (λ p. (unwrap_or p no_progress).copied) all.pages)
+          (λ later copy lt on is. inl (copy, all.copies (cell_at row later) copy is)),
+    )
+
+-- an entry leaves this of a server's part, whose chains and marks stay as they are
+pub record IsCrossed (state : State) (entry : Command) (old new : Own) : Type 0 where
+  pub pairs : new.pairs ≡ (crossed state entry old).pairs
+  pub copies : new.copies ≡ (crossed state entry old).copies
+  pub chains : new.store.chains ≡ old.store.chains
+  pub marks : new.store.marks ≡ old.store.marks
 
 cond_none : {X : Type 0} (b : Bool) (o : Option X) → o ≡ None → cond b o None ≡ None
 cond_none true o none = none
@@ -95,6 +125,12 @@ module _ (state : State) (entry : Command) (own : Own) where
       either true = none
       either false = refl
 
+  -- a copy that is left was there
+  copy_left : (q : Cell) (copy : Copying) → copying_on (crossed state entry own) q ≡ Some copy → copying_on own q ≡ Some copy
+  copy_left q copy is = by_bool (touches_cell state entry q)
+      (λ on. none_some (cell_gone own.copies.pending q on) is)
+      (λ off. sym (cell_stays own.copies.pending q off) ∙ is)
+
   -- a cell that the entry touches is new to it
   pub touched_fresh : (cell : Cell) (row : LinkRow) → cell_link state cell ≡ Some row → touches state entry row ≡ true → IsFresh (crossed state entry own) row cell
   touched_fresh cell row is on =
@@ -125,13 +161,49 @@ module _ (state : State) (entry : Command) (own : Own) where
         };
         next = refl;
         pages = links_left (id_of row) ∙ ap (λ b. cond (not b) (at link_cmp own.copies.progress (id_of row)) None) link;
+        copies = copy_left;
       }
+
+  -- what is so of that is so of what the entry leaves
+  module _ (new : Own) (left : IsCrossed state entry own new) where
+    pub left_fresh : (row : LinkRow) (cell : Cell) → IsFresh (crossed state entry own) row cell → IsFresh new row cell
+    left_fresh row cell fresh = record {
+      last = ap (λ (p : Pairs). at cell_cmp p.last cell) left.pairs ∙ fresh.last;
+      copying = ap (λ (c : Copies). at cell_cmp c.pending cell) left.copies ∙ fresh.copying;
+      last_copy = ap (λ (c : Copies). at cell_cmp c.last cell) left.copies ∙ fresh.last_copy;
+      pages = ap (λ (c : Copies). unwrap_or (at link_cmp c.progress (id_of row)) no_progress) left.copies ∙ fresh.pages;
+    }
+
+    pub left_keeps : (row : LinkRow) (cell : Cell) → KeepsAll own (crossed state entry own) row cell → KeepsAll own new row cell
+    left_keeps row cell all = record {
+      keeps = record {
+        rest = record {
+          chain = ap (λ t. chain_in t cell) left.chains;
+          pending = ap (λ (p : Pairs). at cell_cmp p.pending cell) left.pairs ∙ all.keeps.rest.pending;
+          copying = ap (λ (c : Copies). at cell_cmp c.pending cell) left.copies ∙ all.keeps.rest.copying;
+          last = ap (λ (c : Copies). at cell_cmp c.last cell) left.copies ∙ all.keeps.rest.last;
+          followed = ap (λ (p : Pairs). at cell_cmp p.last cell) left.pairs ∙ all.keeps.rest.followed;
+        };
+        marks = λ kind. ap (has_mark (mark_on kind cell)) left.marks;
+      };
+      next = ap (λ (p : Pairs). p.next) left.pairs ∙ all.next;
+      pages = ap (λ (c : Copies). at link_cmp c.progress (id_of row)) left.copies ∙ all.pages;
+      copies = λ q copy is. all.copies q copy (ap (λ (c : Copies). at cell_cmp c.pending q) (sym left.copies) ∙ is);
+    }
+
+    pub left_unheard : (cell : Cell) → IsUnheard (crossed state entry own) cell → IsUnheard new cell
+    left_unheard cell unheard = record {
+      last = ap (λ (p : Pairs). at cell_cmp p.last cell) left.pairs ∙ unheard.last;
+      pages = λ row same. ap (λ (c : Copies). unwrap_or (at link_cmp c.progress (id_of row)) no_progress) left.copies ∙ unheard.pages row same;
+    }
 
 -- ### At the server's own places
 
-module _ (setting : Setting) (records : List Record) (w : World) (k : ℕ) (server : Server) (good : Good setting records (chosen_log setting w) w)
+module _ (setting : Setting) (records : List Record) (w : World) (stores : ℕ → Store) (k : ℕ) (server : Server)
+    (good : Good setting records (chosen_log setting w) (with_stores w stores))
     (firm : Firm setting w) (rests : Rests setting w) (runs : (w.servers k).life.running ≡ true) (entry : Command)
-    (more : server.log.applied ≡ (w.servers k).log.applied ++ entry ∷ []) (within : IsPrefix server.log.applied (chosen_log setting w)) where
+    (more : server.log.applied ≡ (w.servers k).log.applied ++ entry ∷ []) (within : IsPrefix server.log.applied (chosen_log setting w))
+    (left : IsCrossed (server_state setting w k) entry ((with_stores w stores).servers k).own server.own) where
   abbrev front : List Command
   front = (w.servers k).log.applied
 
@@ -141,11 +213,12 @@ module _ (setting : Setting) (records : List Record) (w : World) (k : ℕ) (serv
   abbrev earlier : State
   earlier = server_state setting w k
 
+  -- with the store that counts
   abbrev old : Own
-  old = (w.servers k).own
+  old = ((with_stores w stores).servers k).own
 
   abbrev new : Own
-  new = crossed earlier entry old
+  new = server.own
 
   step_on : IsPrefix front next
   step_on = subst (IsPrefix front) (sym more) (front_more front entry)
@@ -218,7 +291,7 @@ module _ (setting : Setting) (records : List Record) (w : World) (k : ℕ) (serv
       let map_is : now.map ≡ cell.map = sym (cell_map (state_after setting.servers next) cell now end) in
       record {
         unseen = unvisited (place_by setting next now) cell (λ own e. none_some none (good.been k (place_by setting next now) cell own e).linked);
-        fresh = record {
+        fresh = left_fresh earlier entry old new left now cell (record {
           last = cell_never earlier entry old old.pairs.last cell unheard.last;
           copying = cell_never earlier entry old old.copies.pending cell (elim (some_or_none (copying_on old cell)) [
             | inl h ↦ none_some none ((rests.resting k).copying cell h.0 h.1).is
@@ -229,7 +302,7 @@ module _ (setting : Setting) (records : List Record) (w : World) (k : ℕ) (serv
             | inr gone ↦ gone
           ]);
           pages = link_never earlier entry old now (unheard.pages now map_is);
-        };
+        });
         free = λ both. no_pending cell (λ op there.
             let staged = (rests.pending k).staged cell op there in
             none_some none (led_row earlier steady_front k cell staged.lead).1);
@@ -249,16 +322,17 @@ module _ (setting : Setting) (records : List Record) (w : World) (k : ℕ) (serv
             let later_place = place_of_later setting next plain_next front next next cell row now step_on (front_itself next) is end in
             let one : place_by setting next row ≡ place_by setting front row + 1 = ap (λ f. place_by setting f row) more ∙ place_touched setting front entry row on in
             absurd (omega arith));
-        fresh = record {
+        fresh = left_fresh earlier entry old new left now cell (record {
           last = fresh.last;
           copying = fresh.copying;
           last_copy = fresh.last_copy;
-          pages = ap (λ id. unwrap_or (at link_cmp new.copies.progress id) no_progress) id_same ∙ fresh.pages;
-        };
+          pages = ap (λ id. unwrap_or (at link_cmp (crossed earlier entry old).copies.progress id) no_progress) id_same ∙ fresh.pages;
+        });
         free = λ both. no_pending cell (λ op there. elim (log_touched setting.servers front entry cell row plain_front plain_entry is on) [
           | By_leave left at seats ↦ left_not_both (other_of left.server row) row.state
               (sym (left_row row left.server left.one_of) ∙ ap (λ (r : LinkRow). r.state) (same_some (sym at ∙ row_then cell now end)) ∙ both)
-          | By_join joined at apart seats ↦ absurd (apart (ap (λ (r : LinkRow). r.state) (same_some (sym at ∙ row_then cell now end)) ∙ both))
+          | By_join joined at apart seats ↦ absurd (apart (both_before joined.server joined.blank row
+              (ap (λ (r : LinkRow). r.state) (same_some (sym at ∙ row_then cell now end)) ∙ both)))
           | By_caught acts stays ↦ caught_free cell row is acts op there
         ]);
       }
@@ -271,7 +345,7 @@ module _ (setting : Setting) (records : List Record) (w : World) (k : ℕ) (serv
         linked = is;
         place = ap (λ f. place_by setting f row) more ∙ place_untouched setting front entry row off;
         so = subst (StaysSo cell row earlier) (sym next_is) so;
-        keeps = untouched_keeps earlier entry old cell row is off;
+        keeps = left_keeps earlier entry old new left row cell (untouched_keeps earlier entry old cell row is off);
       })
 
   pub comes_or_stays : (cell : Cell) (now : LinkRow) → IsLinked setting next cell now → ComesTo cell now ⊎ StaysAt cell now
@@ -290,7 +364,7 @@ module _ (setting : Setting) (records : List Record) (w : World) (k : ℕ) (serv
         | inr gone ↦ gone
       ] in
       let unheard = good.unheard k cell before in
-      record {
+      left_unheard earlier entry old new left cell (record {
         last = cell_never earlier entry old old.pairs.last cell unheard.last;
         pages = λ row same. link_never earlier entry old row (unheard.pages row same);
-      }
+      })

@@ -20,7 +20,7 @@ use Rattle.law_steps.specs.Ready.{IsRising}
 use Rattle.law_steps.specs.DidOther.{first_last}
 use Rattle.law_steps.proofs.Tables.{put_rises}
 use Rattle.law_copies.specs.Copied.{AreCopying, HasPut, HasSent, IsFollowed, IsLastCopy, IsOfLast, IsSent, IsTrimming, number_above}
-use Rattle.law_copies.specs.Steps.{IsMarkedBy, KeepsRest, StaysTold}
+use Rattle.law_copies.specs.Steps.{IsLeftBy, KeepsRest, StaysTold}
 use Rattle.law_copies.proofs.Chains.{chain_put}
 use Rattle.law_copies.proofs.Epochs.{IsWithin, among, beyond, same_beyond, within, within_put}
 use Rattle.law_copies.proofs.Lasts.{GoesOn, GoesOnward, of_last, stays_told, to_put, trimmed_of}
@@ -28,7 +28,7 @@ use Rattle.law_copies.proofs.Rows.{row_at}
 
 -- ### What is to show of the last copy
 
-module _ (row : LinkRow) (cell : Cell) (vh : Option Own) (own : Own) (old : AreCopying row cell vh (Some own)) where
+module _ (links : ℕ) (row : LinkRow) (cell : Cell) (vh : Option Own) (own : Own) (old : AreCopying links row cell vh (Some own)) where
   -- the copy at the holder follows, and the last one is one of the holder's
   pub other_copying : (to : Own)
       → ((h : Own) (copy : Copying) → vh ≡ Some h → copying_on h cell ≡ Some copy → copy.trimmed ≡ true → IsFollowed h own cell copy
@@ -37,7 +37,7 @@ module _ (row : LinkRow) (cell : Cell) (vh : Option Own) (own : Own) (old : AreC
       → last_copy to cell ≡ Some last
       → last.op ≡ copy.op → (last.epochs ≡ epochs_of (chain_in h.store.chains cell)) × (last.index ≡ 0))
       → ((last : LastCopy) → last_copy to cell ≡ Some last → IsLastCopy vh to cell last)
-      → AreCopying row cell vh (Some to)
+      → AreCopying links row cell vh (Some to)
   other_copying to follows hears lasts = record {
     risen = old.risen;
     copying = λ h copy met is.
@@ -46,7 +46,7 @@ module _ (row : LinkRow) (cell : Cell) (vh : Option Own) (own : Own) (old : AreC
           below = c.below;
           free = c.free;
           begun = c.begun;
-          marked = c.marked;
+          left = c.left;
           beside = to;
           met = refl;
           followed = λ t. follows h copy met is t (subst (λ (o : Own). IsFollowed h o cell copy) (sym (same_some c.met)) (c.followed t));
@@ -56,6 +56,7 @@ module _ (row : LinkRow) (cell : Cell) (vh : Option Own) (own : Own) (old : AreC
         (lasts last (ap (λ x. last_copy x cell) (same_some met) ∙ is));
     caught = old.caught;
     met = λ h met page. refl;
+    ordered = old.ordered;
   }
 
   -- what the holder's copy had heard
@@ -94,7 +95,7 @@ module _ (row : LinkRow) (cell : Cell) (vh : Option Own) (own : Own) (old : AreC
           trimmed = elim l.trimmed [ inl none ↦ inl (same_beyond own to cell last.epochs k.chain ∙ none) | inr t ↦ inr t ];
         }
 
-    pub kept_copying : AreCopying row cell vh (Some to)
+    pub kept_copying : AreCopying links row cell vh (Some to)
     kept_copying = other_copying to (λ h copy met is t g. kept_followed h copy g)
         (λ h copy last met is fresh there op. was_heard h copy last met is fresh (sym k.last ∙ there) op) kept_last
 
@@ -108,8 +109,8 @@ module _ (row : LinkRow) (cell : Cell) (vh : Option Own) (own : Own) (old : AreC
       trimmed = λ none. same_beyond own to cell last.epochs k.chain ∙ none;
     })
 
-    pub kept_told : StaysTold cell vh (Some own) vh (Some to)
-    kept_told = stays_told own to cell kept_onward vh
+    pub kept_told : StaysTold row cell vh (Some own) vh (Some to)
+    kept_told = stays_told own to cell kept_onward row vh
 
   -- #### A new copy is remembered
 
@@ -125,7 +126,7 @@ module _ (row : LinkRow) (cell : Cell) (vh : Option Own) (own : Own) (old : AreC
     one_last : (last : LastCopy) → last_copy now cell ≡ Some last → first_last number epochs ≡ last
     one_last last is = same_some (sym now_last ∙ is)
 
-    pub begun_copying : AreCopying row cell vh (Some now)
+    pub begun_copying : AreCopying links row cell vh (Some now)
     begun_copying = other_copying now
         (λ h' copy met' is trimmed g. true_false trimmed
         (ap (λ (c : Copying). c.trimmed) (one_trimming h' h copy number met' met is t) ∙ t.waits))
@@ -164,7 +165,7 @@ module _ (row : LinkRow) (cell : Cell) (vh : Option Own) (own : Own) (old : AreC
         subst (IsLastCopy vh dropped cell) (same_some (sym is ∙ there))
         (record { by = w.0.by; met = w.0.met; below = w.0.below; trimmed = inr w.1 })
 
-    pub dropped_copying : AreCopying row cell vh (Some dropped)
+    pub dropped_copying : AreCopying links row cell vh (Some dropped)
     dropped_copying = other_copying dropped
         (λ h copy met there t g.
         let w = holder_waits in
@@ -181,20 +182,20 @@ module _ (row : LinkRow) (cell : Cell) (vh : Option Own) (own : Own) (old : AreC
       trimmed = λ none. not_trimmed (ap (λ (x : LastCopy). epochs_beyond own cell x.epochs) (same_some (sym is ∙ there)) ∙ none);
     })
 
-    pub dropped_by : IsMarkedBy vh cell
+    pub dropped_by : IsLeftBy row vh cell
     dropped_by =
         let w = holder_waits in
         let c = old.copying w.0.by w.1.copy w.0.met w.1.is in
-        record { by = w.0.by; met = w.0.met; marked = c.marked (inl w.1.waits) }
+        record { by = w.0.by; met = w.0.met; left = c.left (inl w.1.waits) }
 
 -- ### An entry is put
 
-module _ (row : LinkRow) (vh : Option Own) (own : Own) (entry : Entry) (holder : ℕ) (last : LastCopy)
-    (old : AreCopying row (cell_of entry.key) vh (Some own))
+module _ (links : ℕ) (row : LinkRow) (vh : Option Own) (own : Own) (entry : Entry) (holder : ℕ) (last : LastCopy)
+    (old : AreCopying links row (cell_of entry.key) vh (Some own))
     (rises : IsRising nat_cmp (chain_in own.store.chains (cell_of entry.key))) (is : last_copy own (cell_of entry.key) ≡ Some last)
     (op_is : entry.op ≡ last.op)
     (index_is : entry.index ≡ last.index)
-    (said : HasSent vh (Some own) (cell_of entry.key) entry.op entry.index (entry.key.epoch, entry.stored)) where
+    (said : HasSent row vh (Some own) (cell_of entry.key) entry.op entry.index (entry.key.epoch, entry.stored)) where
   abbrev q : Cell
   q = cell_of entry.key
 
@@ -204,8 +205,8 @@ module _ (row : LinkRow) (vh : Option Own) (own : Own) (entry : Entry) (holder :
   abbrev to : Own
   to = (puts_entry own entry last holder true).own
 
-  of_this : IsOfLast vh q last entry.key.epoch entry.index
-  of_this = of_last own q last is vh entry.op entry.index (entry.key.epoch, entry.stored) said op_is
+  of_this : IsOfLast row vh q last entry.key.epoch entry.index
+  of_this = of_last own q last is row vh entry.op entry.index (entry.key.epoch, entry.stored) said op_is
 
   put_chain : chain_in to.store.chains q ≡ put nat_cmp (chain_in own.store.chains q) entry.key.epoch entry.stored
   put_chain = chain_put own.store.chains q (put nat_cmp (chain_in own.store.chains q) entry.key.epoch entry.stored)
@@ -268,8 +269,8 @@ module _ (row : LinkRow) (vh : Option Own) (own : Own) (entry : Entry) (holder :
           put = put_so (sym op) (λ i r lt is_r. g.put i r (subst (λ (l : LastCopy). i < l.index) (sym same) lt) is_r);
         }
 
-  pub put_copying : AreCopying row q vh (Some to)
-  put_copying = other_copying row q vh own old to (λ h copy met there t g. put_followed h copy met there g)
+  pub put_copying : AreCopying links row q vh (Some to)
+  put_copying = other_copying links row q vh own old to (λ h copy met there t g. put_followed h copy met there g)
       (λ h copy l met there fresh at_cell op.
       let same : next ≡ l = same_some (sym put_last ∙ at_cell) in
       true_false (this_sent h copy met there (sym (ap (λ (x : LastCopy). x.op) same ∙ op))).0 fresh)
@@ -283,8 +284,8 @@ module _ (row : LinkRow) (vh : Option Own) (own : Own) (entry : Entry) (holder :
       inl (subst (GoesOn own to q) (same_some (sym is ∙ there))
       (record { now = next; is = put_last; op_is = refl; epochs_are = refl; onward = omega arith; trimmed = λ none. put_trimmed }))
 
-  pub put_by : IsMarkedBy vh q
-  put_by = record { by = of_this.own; met = of_this.met; marked = of_this.marked index_is }
+  pub put_by : IsLeftBy row vh q
+  put_by = record { by = of_this.own; met = of_this.met; left = of_this.left index_is }
 
   pub put_says : HasPut (Some to) q entry.op entry.index
   put_says = to_put to q next put_last entry.op entry.index (omega arith) (λ e. omega arith)

@@ -1,6 +1,6 @@
 -- What is kept at a front where a step leaves the cell as it is at both servers of the link: what they were at the place, and their
 -- stores' chain and marks.
-use Rattle.std.proofs.Common.{◌≡◌, ◌≤◌, ◌==◌, ℕ, List, true, false, Option, Some, None, is_some, refl, sym, ap, ◌∙◌, subst, inl, inr, arith}
+use Rattle.std.proofs.Common.{◌≡◌, ◌≤◌, ◌==◌, ◌⊎◌, ℕ, Bool, List, [], true, Option, Some, None, is_some, refl, sym, ap, ◌∙◌, subst, inl, inr, arith}
 use Rattle.busy_marks.specs.declared.marks.MarkKind.{MarkKind}
 use Rattle.busy_marks.specs.declared.marks.MarkKind.TheVariants.{Busy, Stale}
 use Rattle.global_tables.specs.Link.{has_server, other_of}
@@ -11,16 +11,17 @@ use Rattle.petal_command.specs.declared.command.Command.{Command}
 use Rattle.petal_table.specs.Table.{at}
 use Rattle.petal_msg.specs.declared.body.Body.{Body}
 use Rattle.petal_msg.specs.declared.operation.Pending.{Pending}
-use Rattle.petal_history.specs.Claims.{IsMarked}
+use Rattle.petal_history.specs.Claims.{IsMarked, IsToBeCopied}
+use Rattle.petal_state.specs.Command.{state_after}
 use Rattle.petal_rules.specs.Server.{Own, no_pairs}
 use Rattle.petal_rules.specs.Store.{Store, cell_cmp, chain_in, is_marked}
-use Rattle.petal_rules.specs.World.{Setting, World}
-use Rattle.petal_rules.proofs.Tests.{by_test}
+use Rattle.petal_rules.specs.World.{Setting}
+use Rattle.petal_rules.proofs.Tests.{by_test, none_some, some_or_none}
 use Rattle.law_state.proofs.Roles.{primary_is_one, secondary_is_one}
-use Rattle.law_copies.specs.Copied.{AreAlike, AreCopying, IsCovered, IsPage, IsTold, Is_equal, Is_marked_here, Is_marked_there}
-use Rattle.law_copies.specs.Good.{AloneOk, AreBeside, AreTwins, BothOk, SaidOk, pair_at, store_of}
+use Rattle.law_copies.specs.Copied.{AreAlike, AreCopying, IsCovered, IsPage, IsTold, links_of, Is_equal, Is_marked_here, Is_marked_there, Is_to_be_copied}
+use Rattle.law_copies.specs.Good.{AloneOk, AreBeside, AreTwins, BothOk, SaidOk, pair_at}
 use Rattle.law_copies.specs.Pair.{IsRecalled, Known, PairOk, pair_of}
-use Rattle.law_copies.specs.Visits.{Visits, half, place_by}
+use Rattle.law_copies.specs.Visits.{HasFilled, Visits, half, place_by, store_by}
 
 -- ### Stores
 
@@ -89,11 +90,17 @@ pair_same (Some x) (Some y) a b a' b' cell e f = λ i. record {
 
 -- ### Alike
 
+-- what is to be copied is so still
+pub to_copy_on : (row : LinkRow) (old new : Store) (cell : Cell) → chain_in new.chains cell ≡ chain_in old.chains cell → IsToBeCopied row old cell
+    → IsToBeCopied row new cell
+to_copy_on row old new cell same all = record { whole = all.whole; stored = λ none. all.stored (sym same ∙ none) }
+
 pub covered_same : (row : LinkRow) (cell : Cell) (a b a' b' : Store) (visit : Option Own) → LeavesStore a a' cell → LeavesStore b b' cell
     → IsCovered row cell a b visit → IsCovered row cell a' b' visit
 covered_same row cell a b a' b' visit one two (Is_equal same) = Is_equal (one.chain ∙ same ∙ sym two.chain)
 covered_same row cell a b a' b' visit one two (Is_marked_here marked) = Is_marked_here (marked_on a a' cell one marked)
 covered_same row cell a b a' b' visit one two (Is_marked_there marked ahead) = Is_marked_there (marked_on b b' cell two marked) ahead
+covered_same row cell a b a' b' visit one two (Is_to_be_copied all copied) = Is_to_be_copied (to_copy_on row a a' cell one.chain all) copied
 
 pub alike_same : (row : LinkRow) (cell : Cell) (a b a' b' : Store) (visit : Option Own) → LeavesStore a a' cell → LeavesStore b b' cell
     → AreAlike row cell a b visit → AreAlike row cell a' b' visit
@@ -109,106 +116,132 @@ other_is_one row n = by_test (λ m. has_server m row ≡ true) (row.primary == n
 
 -- ### At a front
 
-module _ (setting : Setting) (top : List Command) (w v : World) (visits later : Visits) (reached counted : Cell → ℕ) where
+module _ (setting : Setting) (top : List Command) (old new : ℕ → ℕ → Store) (visits later : Visits) (reached counted : Cell → ℕ) where
+  abbrev olds : List Command → ℕ → Store
+  olds = store_by setting old
+
+  abbrev news : List Command → ℕ → Store
+  news = store_by setting new
+
   -- the cell is as before at a server of its link
-  pub record LeavesAt (n place : ℕ) (cell : Cell) : Type 0 where
+  pub record LeavesAt (front : List Command) (n place : ℕ) (cell : Cell) : Type 0 where
     pub visit : later n place cell ≡ visits n place cell
-    pub store : LeavesStore (store_of w n) (store_of v n) cell
+    pub store : LeavesStore (olds front n) (news front n) cell
 
   -- at both
-  abbrev pub LeavesBoth : (place : ℕ) → Cell → LinkRow → Type 0
-  LeavesBoth place cell row = (n : ℕ) → has_server n row ≡ true → LeavesAt n place cell
+  abbrev pub LeavesBoth : List Command → (place : ℕ) → Cell → LinkRow → Type 0
+  LeavesBoth front place cell row = (n : ℕ) → has_server n row ≡ true → LeavesAt front n place cell
 
-  pub pair_framed : (place : ℕ) (cell : Cell) (n m : ℕ) → LeavesAt n place cell → LeavesAt m place cell
-      → pair_at w visits place cell n m ≡ pair_at v later place cell n m
-  pair_framed place cell n m one two =
-      pair_same (visits n place cell) (visits m place cell) (store_of w n) (store_of w m) (store_of v n) (store_of v m) cell one.store.chain two.store.chain
-      ∙ (λ i. pair_of (half (sym one.visit i) (store_of v n)) (half (sym two.visit i) (store_of v m)) cell)
+  pub pair_framed : (front : List Command) (place : ℕ) (cell : Cell) (n m : ℕ) → LeavesAt front n place cell → LeavesAt front m place cell
+      → pair_at (olds front) visits place cell n m ≡ pair_at (news front) later place cell n m
+  pair_framed front place cell n m one two =
+      pair_same (visits n place cell) (visits m place cell) (olds front n) (olds front m) (news front n) (news front m) cell one.store.chain two.store.chain
+      ∙ (λ i. pair_of (half (sym one.visit i) (news front n)) (half (sym two.visit i) (news front m)) cell)
 
-  pub twins_framed : (place : ℕ) (cell : Cell) (n m : ℕ) → LeavesAt n place cell → LeavesAt m place cell → AreTwins w visits place cell n m
-      → AreTwins v later place cell n m
-  twins_framed place cell n m one two twins = record {
-    pair = subst PairOk (pair_framed place cell n m one two) twins.pair;
-    recalled = λ own op is there. recalled_on (store_of w n) (store_of v n) cell op one.store (twins.recalled own op (sym one.visit ∙ is) there);
+  pub twins_framed : (front : List Command) (place : ℕ) (cell : Cell) (n m : ℕ) → LeavesAt front n place cell → LeavesAt front m place cell → AreTwins (olds front) visits place cell n m
+      → AreTwins (news front) later place cell n m
+  twins_framed front place cell n m one two twins = record {
+    pair = subst PairOk (pair_framed front place cell n m one two) twins.pair;
+    recalled = λ own op is there. recalled_on (olds front n) (news front n) cell op one.store (twins.recalled own op (sym one.visit ∙ is) there);
   }
 
-  pub beside_framed : (place : ℕ) (row : LinkRow) (cell : Cell) (holder other : ℕ) → LeavesAt holder place cell → LeavesAt other place cell
-      → AreBeside w visits place row cell holder other → AreBeside v later place row cell holder other
-  beside_framed place row cell holder other one two beside = record {
-    alike = subst (AreAlike row cell (store_of v holder) (store_of v other)) (sym one.visit)
-        (alike_same row cell (store_of w holder) (store_of w other) (store_of v holder) (store_of v other) (visits holder place cell) one.store two.store beside.alike);
+  pub beside_framed : (front : List Command) (place : ℕ) (row : LinkRow) (cell : Cell) (holder other : ℕ) → LeavesAt front holder place cell → LeavesAt front other place cell
+      → AreBeside (olds front) visits place row cell holder other → AreBeside (news front) later place row cell holder other
+  beside_framed front place row cell holder other one two beside = record {
+    alike = subst (AreAlike row cell (news front holder) (news front other)) (sym one.visit)
+        (alike_same row cell (olds front holder) (olds front other) (news front holder) (news front other) (visits holder place cell) one.store two.store beside.alike);
     still = λ own is. beside.still own (sym two.visit ∙ is) ∙ sym two.store.chain;
   }
 
-  pub page_framed : (place : ℕ) (cell : Cell) (other : ℕ) (after block : Option ℕ) → LeavesAt other place cell
-      → IsPage cell (store_of w other) (visits other place cell) after block → IsPage cell (store_of v other) (later other place cell) after block
-  page_framed place cell other after block two page = record {
+  pub page_framed : (front : List Command) (place : ℕ) (cell : Cell) (other : ℕ) (after block : Option ℕ) → LeavesAt front other place cell
+      → IsPage cell (olds front other) (visits other place cell) after block → IsPage cell (news front other) (later other place cell) after block
+  page_framed front place cell other after block two page = record {
     met = ap is_some two.visit ∙ page.met;
-    least = λ ahead upto marked. page.least ahead upto (marked_back (store_of w other) (store_of v other) cell two.store marked);
+    least = λ ahead upto marked. page.least ahead upto (marked_back (olds front other) (news front other) cell two.store marked);
   }
 
   module _ (up : (cell : Cell) → reached cell ≤ counted cell)
       (nones : (n place : ℕ) (cell : Cell) → later n place cell ≡ None → visits n place cell ≡ None) where
+    somes : (n place : ℕ) (cell : Cell) (own : Own) → visits n place cell ≡ Some own → (o : Own) × (later n place cell ≡ Some o)
+    somes n place cell own visit = elim (some_or_none (later n place cell)) [ inl h ↦ h | inr none ↦ none_some (nones n place cell none) visit ]
+
+    -- what was empty is so, or the holder has been at a place
+    pub filled_on : (front : List Command) (cell : Cell) (holder other : ℕ) → HasFilled setting top visits front cell holder other
+        → HasFilled setting top later front cell holder other
+    filled_on front cell holder other f =
+        let now = somes holder (place_by setting f.more f.row) cell f.own f.visited in
+        record { more = f.more; within = f.within; row = f.row; linked = f.linked; joins = f.joins; own = now.0; visited = now.1 }
+
+    pub filled_framed : (front : List Command) (cell : Cell) (holder other : ℕ) → chain_in (news front other).chains cell ≡ chain_in (olds front other).chains cell
+        → (chain_in (olds front other).chains cell ≡ []) ⊎ HasFilled setting top visits front cell holder other
+        → (chain_in (news front other).chains cell ≡ []) ⊎ HasFilled setting top later front cell holder other
+    filled_framed front cell holder other same (inl empty) = inl (same ∙ empty)
+    filled_framed front cell holder other same (inr f) = inr (filled_on front cell holder other f)
+
     -- what counts less still counts less
     pub last_before : (cell : Cell) (place : ℕ) → counted cell ≤ place → reached cell ≤ place
     last_before cell place le = let more = up cell in omega arith
 
-    pub both_framed : (front : List Command) (cell : Cell) (row : LinkRow) → LeavesBoth (place_by setting front row) cell row
-        → BothOk setting top w visits reached front cell row → BothOk setting top v later counted front cell row
+    pub both_framed : (front : List Command) (cell : Cell) (row : LinkRow) → LeavesBoth front (place_by setting front row) cell row
+        → BothOk setting top old visits reached front cell row → BothOk setting top new later counted front cell row
     both_framed front cell row leaves ok = record {
-      twins = λ last. twins_framed (place_by setting front row) cell row.primary row.secondary (leaves row.primary (primary_is_one row row.primary refl))
+      twins = λ last. twins_framed front (place_by setting front row) cell row.primary row.secondary (leaves row.primary (primary_is_one row row.primary refl))
           (leaves row.secondary (secondary_is_one row row.secondary refl)) (ok.twins (last_before cell (place_by setting front row) last));
     }
 
     -- what is so of the visits alone
-    pub copying_framed : (place : ℕ) (cell : Cell) (row : LinkRow) (holder : ℕ) → later holder place cell ≡ visits holder place cell
+    pub copying_framed : (links place : ℕ) (cell : Cell) (row : LinkRow) (holder : ℕ) → later holder place cell ≡ visits holder place cell
         → later (other_of holder row) place cell ≡ visits (other_of holder row) place cell
-        → AreCopying row cell (visits holder place cell) (visits (other_of holder row) place cell)
-        → AreCopying row cell (later holder place cell) (later (other_of holder row) place cell)
-    copying_framed place cell row holder one two old =
-        subst (λ o. AreCopying row cell o (later (other_of holder row) place cell)) (sym one)
-        (subst (AreCopying row cell (visits holder place cell)) (sym two) old)
+        → AreCopying links row cell (visits holder place cell) (visits (other_of holder row) place cell)
+        → AreCopying links row cell (later holder place cell) (later (other_of holder row) place cell)
+    copying_framed links place cell row holder one two old =
+        subst (λ o. AreCopying links row cell o (later (other_of holder row) place cell)) (sym one)
+        (subst (AreCopying links row cell (visits holder place cell)) (sym two) old)
 
     pub told_framed : (place : ℕ) (cell : Cell) (row : LinkRow) (holder : ℕ) (said : Body) → later holder place cell ≡ visits holder place cell
         → later (other_of holder row) place cell ≡ visits (other_of holder row) place cell
-        → IsTold (visits holder place cell) (visits (other_of holder row) place cell) said
-        → IsTold (later holder place cell) (later (other_of holder row) place cell) said
+        → IsTold row (visits holder place cell) (visits (other_of holder row) place cell) said
+        → IsTold row (later holder place cell) (later (other_of holder row) place cell) said
     told_framed place cell row holder said one two old =
-        subst (λ o. IsTold o (later (other_of holder row) place cell) said) (sym one)
-        (subst (λ o. IsTold (visits holder place cell) o said) (sym two) old)
+        subst (λ o. IsTold row o (later (other_of holder row) place cell) said) (sym one)
+        (subst (λ o. IsTold row (visits holder place cell) o said) (sym two) old)
 
     pub alone_framed : (front : List Command) (cell : Cell) (row : LinkRow) (holder : ℕ) → has_server holder row ≡ true
-        → LeavesBoth (place_by setting front row) cell row → AloneOk setting top w visits reached front cell row holder
-        → AloneOk setting top v later counted front cell row holder
+        → LeavesBoth front (place_by setting front row) cell row → AloneOk setting top old visits reached front cell row holder
+        → AloneOk setting top new later counted front cell row holder
     alone_framed front cell row holder has leaves ok =
         let place = place_by setting front row in
         let other = other_of holder row in
         let one = leaves holder has in
         let two = leaves other (other_is_one row holder) in
         record {
-          copying = copying_framed place cell row holder one.visit two.visit ok.copying;
-          beside = λ last. beside_framed place row cell holder other one two (ok.beside (last_before cell place last));
-          stays = λ own is beyond marked. marked_on (store_of w holder) (store_of v holder) cell one.store
-              (ok.stays own (sym one.visit ∙ is) (λ p lt. nones other p cell (beyond p lt)) marked);
+          copying = copying_framed (links_of (state_after setting.servers front) cell.map) place cell row holder one.visit two.visit ok.copying;
+          beside = λ last. beside_framed front place row cell holder other one two (ok.beside (last_before cell place last));
+          stays = λ own is beyond.
+              let was = ok.stays own (sym one.visit ∙ is) (λ p lt. nones other p cell (beyond p lt)) in (
+                λ marked. marked_on (olds front holder) (news front holder) cell one.store (was.0 marked),
+                λ all copied. to_copy_on row (olds front holder) (news front holder) cell one.store.chain (was.1 all copied),
+              );
+          unfilled = λ whole. filled_framed front cell holder other two.store.chain (ok.unfilled whole);
         }
 
     pub said_framed : (front : List Command) (said : Body) (cell : Cell) (row : LinkRow)
-        → ((holder : ℕ) → row.state ≡ Only holder false → has_server holder row ≡ true)
-        → LeavesBoth (place_by setting front row) cell row → SaidOk setting top w visits reached front said cell row
-        → SaidOk setting top v later counted front said cell row
+        → ((holder : ℕ) (whole : Bool) → row.state ≡ Only holder whole → has_server holder row ≡ true)
+        → LeavesBoth front (place_by setting front row) cell row → SaidOk setting top old visits reached front said cell row
+        → SaidOk setting top new later counted front said cell row
     said_framed front said cell row has leaves ok =
         let place = place_by setting front row in
         record {
           both = λ both last of. subst (λ p. Known p said)
-              (pair_framed place cell row.primary row.secondary (leaves row.primary (primary_is_one row row.primary refl))
+              (pair_framed front place cell row.primary row.secondary (leaves row.primary (primary_is_one row row.primary refl))
               (leaves row.secondary (secondary_is_one row row.secondary refl)))
               (ok.both both (last_before cell place last) of);
-          alone = λ holder alone of.
-              told_framed place cell row holder said (leaves holder (has holder alone)).visit (leaves (other_of holder row) (other_is_one row holder)).visit
-              (ok.alone holder alone of);
-          page = λ holder after block alone is last.
-              page_framed place cell (other_of holder row) after block (leaves (other_of holder row) (other_is_one row holder))
-              (ok.page holder after block alone is (last_before cell place last));
-          met = λ holder after block alone is.
-              ap is_some (leaves (other_of holder row) (other_is_one row holder)).visit ∙ ok.met holder after block alone is;
+          alone = λ holder whole alone of.
+              told_framed place cell row holder said (leaves holder (has holder whole alone)).visit (leaves (other_of holder row) (other_is_one row holder)).visit
+              (ok.alone holder whole alone of);
+          page = λ holder whole after block alone is last.
+              page_framed front place cell (other_of holder row) after block (leaves (other_of holder row) (other_is_one row holder))
+              (ok.page holder whole after block alone is (last_before cell place last));
+          met = λ holder whole after block alone is.
+              ap is_some (leaves (other_of holder row) (other_is_one row holder)).visit ∙ ok.met holder whole after block alone is;
         }

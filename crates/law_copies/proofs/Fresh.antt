@@ -17,7 +17,7 @@ use Rattle.petal_rules.proofs.Tests.{none_some, same_some, true_false}
 use Rattle.law_log.proofs.Flags.{same_caught}
 use Rattle.law_state.specs.Started.{is_flagged}
 use Rattle.law_steps.specs.Ready.{IsRising}
-use Rattle.law_copies.specs.Copied.{AreAlike, AreCopying, HasPage, HasSent, IsCovered, IsTold, Is_equal, Is_marked_here, Is_marked_there}
+use Rattle.law_copies.specs.Copied.{AreAlike, AreCopying, HasPage, HasSent, IsCovered, IsTold, Is_equal, Is_marked_here, Is_marked_there, Is_to_be_copied}
 use Rattle.law_copies.specs.Pair.{Grows, Known, PairOk, pair_of}
 use Rattle.law_copies.specs.Visits.{half}
 use Rattle.law_copies.proofs.Moves.{known_later}
@@ -38,33 +38,38 @@ module _ (own : Own) (row : LinkRow) (cell : Cell) (fresh : IsFresh own row cell
 
   no_page : {B : Type 0} → HasPage own row → B
   no_page (inl paged) = true_false paged (ap (λ (p : Progress). p.paged) fresh.pages)
-  no_page (inr after) = true_false after (ap (λ (p : Progress). is_some p.after) fresh.pages)
+  no_page (inr (inl after)) = true_false after (ap (λ (p : Progress). is_some p.after) fresh.pages)
+  no_page (inr (inr copied)) = true_false copied (ap (λ (p : Progress). is_some p.copied) fresh.pages)
 
   -- ### As the holder
 
-  pub fresh_holder : (other : Option Own) → IsRising nat_cmp (chain_in own.store.chains cell) → AreCopying row cell None other → AreCopying row cell (Some own) other
-  fresh_holder other rising old = record {
+  pub fresh_holder : (links : ℕ) (other : Option Own) → IsRising nat_cmp (chain_in own.store.chains cell)
+      → AreCopying links row cell None other → AreCopying links row cell (Some own) other
+  fresh_holder links other rising old = record {
     risen = λ by is. subst (λ (o : Own). IsRising nat_cmp (chain_in o.store.chains cell)) (same_some is) rising;
     copying = λ by copy is there. none_some (ap (λ (o : Own). copying_on o cell) (sym (same_some is)) ∙ fresh.copying) there;
     lasts = λ beside last is there. no_own (old.lasts beside last is there).met;
     caught = λ by is flagged. true_false flagged (ap (λ (o : Own). is_flagged o (id_of row)) (sym (same_some is)) ∙ unflagged);
     met = λ by is page. no_page (subst (λ (o : Own). HasPage o row) (sym (same_some is)) page);
+    ordered = λ by is paged later copy lt on there all ahead.
+        no_page (inl (ap (λ (o : Own). (progress_on o row).paged) (same_some is) ∙ paged));
   }
 
-  sent_on : (other : Option Own) (number index : ℕ) (entry : ℕ × Stored) → HasSent None other cell number index entry → HasSent (Some own) other cell number index entry
+  sent_on : (other : Option Own) (number index : ℕ) (entry : ℕ × Stored) → HasSent row None other cell number index entry
+      → HasSent row (Some own) other cell number index entry
   sent_on other number index entry told = record {
     trimmed = told.trimmed;
     of_last = λ same. no_own (told.of_last same).met;
     sent = λ by copy is there op. none_some (ap (λ (o : Own). copying_on o cell) (sym (same_some is)) ∙ fresh.copying) there;
   }
 
-  pub fresh_holder_told : (other : Option Own) (said : Body) → (about said).cell ≡ Some cell → IsTold None other said → IsTold (Some own) other said
+  pub fresh_holder_told : (other : Option Own) (said : Body) → (about said).cell ≡ Some cell → IsTold row None other said → IsTold row (Some own) other said
   fresh_holder_told other (body.Trim number q epochs) e (inl past) = inl past
   fresh_holder_told other (body.Trim number q epochs) e (inr asked) = no_own asked.met
   fresh_holder_told other (body.Trimmed number q) e told = told
   fresh_holder_told other (body.Sync number key version index bytes) e told =
       let entry : ℕ × Stored = (key.epoch, record { version = version; bytes = bytes }) in
-      subst (λ (q : Cell). HasSent None other q number index entry → HasSent (Some own) other q number index entry) (sym (same_some e))
+      subst (λ (q : Cell). HasSent row None other q number index entry → HasSent row (Some own) other q number index entry) (sym (same_some e))
       (sent_on other number index entry) told
   fresh_holder_told other (body.Synced number q index) e told = told
   fresh_holder_told other _ e told = tt
@@ -74,6 +79,7 @@ module _ (own : Own) (row : LinkRow) (cell : Cell) (fresh : IsFresh own row cell
   fresh_covered a b (Is_marked_here marked) = Is_marked_here marked
   fresh_covered a b (Is_marked_there marked ahead) = Is_marked_there marked
       (ap (λ (p : Progress). p.paged) fresh.pages, ap (λ (p : Progress). above p.after cell.block) fresh.pages)
+  fresh_covered a b (Is_to_be_copied all ahead) = Is_to_be_copied all (ap (λ (p : Progress). above p.copied cell.block) fresh.pages)
 
   pub fresh_alike : (a b : Store) → AreAlike row cell a b None → AreAlike row cell a b (Some own)
   fresh_alike a b alike = record {
@@ -83,16 +89,17 @@ module _ (own : Own) (row : LinkRow) (cell : Cell) (fresh : IsFresh own row cell
 
   -- ### As the other server
 
-  pub fresh_other : (holder : Option Own) → AreCopying row cell holder None → AreCopying row cell holder (Some own)
-  fresh_other holder old = record {
+  pub fresh_other : (links : ℕ) (holder : Option Own) → AreCopying links row cell holder None → AreCopying links row cell holder (Some own)
+  fresh_other links holder old = record {
     risen = old.risen;
     copying = λ by copy is there. no_own (old.copying by copy is there).met;
     lasts = λ beside last is there. none_some (ap (λ (o : Own). last_copy o cell) (sym (same_some is)) ∙ fresh.last_copy) there;
     caught = old.caught;
     met = λ by is page. refl;
+    ordered = old.ordered;
   }
 
-  pub fresh_other_told : (holder : Option Own) (said : Body) → IsTold holder None said → IsTold holder (Some own) said
+  pub fresh_other_told : (holder : Option Own) (said : Body) → IsTold row holder None said → IsTold row holder (Some own) said
   fresh_other_told holder (body.Trim number q epochs) (inl past) = no_own past.met
   fresh_other_told holder (body.Trim number q epochs) (inr asked) = inr asked
   fresh_other_told holder (body.Trimmed number q) told = no_own told.past.met

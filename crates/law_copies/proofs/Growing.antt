@@ -1,14 +1,16 @@
 -- The chosen log grows by an entry that no server has applied: what was kept at the fronts so far is kept at the new one. Where the
--- entry touches a link, no server has been at the link's new place.
-use Rattle.std.proofs.Common.{◌≡◌, ◌≤◌, ◌<◌, ◌++◌, ◌==◌, ℕ, List, [], ◌∷◌, length, length-append, true, false, if◌then◌else◌, Option, Some, None, refl, sym, ap, ◌∙◌, subst, inl, inr, arith, append_assoc}
-use Rattle.std.proofs.lemmas.List.{append-nil}
-use Rattle.global_tables.specs.Link.{has_server, other_of, row_left}
+-- entry touches a link, no server has been at the link's new place. Where it is a Join of a server with an empty store, that store is the
+-- server's from the new front on.
+use Rattle.std.proofs.Common.{◌≡◌, ◌≢◌, ◌≤◌, ◌++◌, ◌==◌, ◌⊎◌, ℕ, Bool, List, [], ◌∷◌, length, length-append, true, false, if◌then◌else◌, Option, Some, None, refl, sym, ap, ◌∙◌, subst, inl, inr, arith}
+use Rattle.std.specs.Prelude.{slice_get}
+use Rattle.std.specs.Ordering.{nat_cmp}
+use Rattle.global_tables.specs.Link.{has_server, left_state, other_of, row_blanked, row_left}
 use Rattle.global_tables.specs.declared.link.LinkRow.{LinkRow}
 use Rattle.global_tables.specs.declared.link.LinkState.TheVariants.{Both, Only}
 use Rattle.petal_base.specs.declared.cell.Cell.{Cell}
 use Rattle.petal_command.specs.declared.command.Command.{Command}
-use Rattle.petal_command.specs.declared.command.Command.TheVariants.{Caught}
-use Rattle.petal_history.specs.Claims.{IsMarked, IsPrefix}
+use Rattle.petal_command.specs.declared.command.Command.TheVariants.{Caught, Join, Leave}
+use Rattle.petal_history.specs.Claims.{IsPrefix}
 use Rattle.petal_history.specs.Legal.{world_after}
 use Rattle.petal_history.specs.declared.record.Record.{Record}
 use Rattle.petal_msg.specs.Kinds.{subject_of}
@@ -16,39 +18,46 @@ use Rattle.petal_msg.specs.declared.body.Body.{Body}
 use Rattle.petal_msg.specs.declared.copying.LinkId.{LinkId}
 use Rattle.petal_msg.specs.declared.operation.Pending.{Pending}
 use Rattle.petal_state.specs.CellState.{cell_link, serves}
-use Rattle.petal_state.specs.Command.{after, state_after}
+use Rattle.petal_state.specs.Command.{after, may_join, state_after}
 use Rattle.petal_state.specs.Place.{touches}
+use Rattle.petal_rules.specs.Blanked.{joins_blank}
 use Rattle.petal_rules.specs.Lists.{In}
 use Rattle.petal_rules.specs.Server.{Own}
-use Rattle.petal_rules.specs.State.{State, id_of, is_in}
+use Rattle.petal_rules.specs.State.{State, id_of, is_in, is_whole}
 use Rattle.petal_rules.specs.Store.{Store, cell_cmp, chain_in}
-use Rattle.petal_rules.specs.World.{Setting, World, chosen_log, start}
+use Rattle.petal_rules.specs.World.{Setting, World, blank_joins_in, server_state, start, with_store}
 use Rattle.petal_rules.proofs.ListLemmas.{in_later}
-use Rattle.petal_rules.proofs.Tests.{by_bool, none_some, same_some, some_or_none}
+use Rattle.petal_rules.proofs.Tests.{by_bool, none_some, number_itself, same_numbers, same_some, some_or_none, true_false}
 use Rattle.petal_table.specs.Table.{at}
 use Rattle.petal_table.proofs.Rows.{at-empty}
 use Rattle.law_log.specs.Requested.{WasStarted}
-use Rattle.law_state.specs.Firm.{Firm}
-use Rattle.law_state.specs.Places.{IsCaughtBy, By_caught, By_join, By_leave}
+use Rattle.law_state.specs.Places.{IsCaughtBy, By_caught, By_join, By_leave, row_joined}
 use Rattle.law_state.specs.Plain.{IsPlain, IsPlainLog}
-use Rattle.law_state.specs.Rows.{IsLater, ByBoth, ByOne}
+use Rattle.law_state.specs.Rows.{IsLater, ByBoth, ByNone, ByOne}
 use Rattle.law_state.specs.Started.{is_flagged}
 use Rattle.law_state.specs.Steady.{IsSteady}
 use Rattle.law_state.proofs.Again.{left_not_both, left_row, stays_row}
+use Rattle.law_state.proofs.BlankJoins.{joins_grow}
 use Rattle.law_state.proofs.Grown.{alone_not_both, one_before}
 use Rattle.law_state.proofs.Leaves.{other_between}
+use Rattle.law_state.proofs.Roles.{primary_is_one, secondary_is_one}
 use Rattle.law_state.proofs.Steady.{front_plain, log_steady}
 use Rattle.law_state.proofs.Touching.{log_entry_stays, log_touched}
 use Rattle.law_steps.specs.Happens.{is_between}
+use Rattle.law_steps.specs.Ready.{IsRising}
 use Rattle.law_steps.proofs.Fronts.{front_itself, front_long, front_more, front_on}
-use Rattle.law_copies.specs.Copied.{AreCopying, IsCovered, Is_equal, Is_marked_here, Is_marked_there}
-use Rattle.law_copies.specs.Good.{AloneOk, AreBeside, AreTwins, BothOk, Good, SaidOk, store_of}
-use Rattle.law_copies.specs.Pair.{IsRecalled, PairOk, pair_of}
-use Rattle.law_copies.specs.Visits.{AreReached, IsLinked, Visits, half, place_by}
+use Rattle.law_copies.specs.Copied.{AreAlike, AreCopying, IsCovered, IsPage, Is_equal, Is_marked_here, Is_marked_there, Is_to_be_copied, links_of}
+use Rattle.law_copies.specs.Good.{AloneOk, AreBeside, AreTwins, BothOk, Good, SaidOk, StaysLeft, pair_at}
+use Rattle.law_copies.specs.Pair.{HaveMarks, IsRecalled, Known, PairOk, pair_of}
+use Rattle.law_copies.specs.Steps.{AreFilled}
+use Rattle.law_copies.specs.Visits.{AreReached, HasFilled, IsHere, IsLinked, Visits, half, place_by, store_by, with_stores}
+use Rattle.law_copies.proofs.Counts.{joins_at, store_at}
 use Rattle.law_copies.proofs.Covering.{AreRecalled, covered_first, covered_second}
+use Rattle.law_copies.proofs.Framed.{other_is_one}
+use Rattle.law_copies.proofs.Later.{alone_not_lost, holder_is_one, other_than}
 use Rattle.law_copies.proofs.Mute.{said_mute}
-use Rattle.law_copies.proofs.Later.{AllStarted, holder_is_one}
-use Rattle.law_copies.proofs.Places.{front_or_all, linked_on, place_of_later, place_touched, place_untouched, places_up, rows_later, state_next}
+use Rattle.law_copies.proofs.Places.{front_or_all, linked_on, links_up, other_later, place_of_later, place_touched, place_untouched, places_up, rows_later, state_next}
+use Rattle.law_copies.proofs.Renewed.{blanked_alone, counts_more, counts_same, filled_cover, joined_not_both, joins_so, no_blank_join, no_chains}
 
 -- every server has applied entries of this log alone, now and at each world on the way
 pub record IsBehind (setting : Setting) (records : List Record) (top : List Command) (w : World) : Type 0 where
@@ -56,7 +65,7 @@ pub record IsBehind (setting : Setting) (records : List Record) (top : List Comm
   pub ever : (before later : List Record) → records ≡ before ++ later → (n : ℕ)
       → IsPrefix ((world_after setting (start setting) before).servers n).log.applied top
 
-behind_on : (setting : Setting) (records : List Record) (top more : List Command) (w : World) → IsPrefix top more → IsBehind setting records top w
+pub behind_on : (setting : Setting) (records : List Record) (top more : List Command) (w : World) → IsPrefix top more → IsBehind setting records top w
     → IsBehind setting records more w
 behind_on setting records top more w prefix behind = record {
   now = λ n. front_on _ top more (behind.now n) prefix;
@@ -85,98 +94,141 @@ recalled_half : (visit : Option Own) (a : Store) (cell : Cell)
 recalled_half None a cell recalled op there = none_some (at-empty cell_cmp cell) there
 recalled_half (Some own) a cell recalled op there = recalled own op refl there
 
-module _ (w : World) (visits : Visits) (place : ℕ) (row now : LinkRow) (cell : Cell) (twins : AreTwins w visits place cell row.primary row.secondary) where
+module _ (stores : ℕ → Store) (visits : Visits) (place : ℕ) (row now : LinkRow) (cell : Cell)
+    (twins : AreTwins stores visits place cell row.primary row.secondary) where
   abbrev lead_half : Own
-  lead_half = half (visits row.primary place cell) (store_of w row.primary)
+  lead_half = half (visits row.primary place cell) (stores row.primary)
 
   abbrev second_half : Own
-  second_half = half (visits row.secondary place cell) (store_of w row.secondary)
+  second_half = half (visits row.secondary place cell) (stores row.secondary)
 
   recalled : AreRecalled lead_half cell
-  recalled = recalled_half (visits row.primary place cell) (store_of w row.primary) cell twins.recalled
+  recalled = recalled_half (visits row.primary place cell) (stores row.primary) cell twins.recalled
 
-  lead_store : lead_half.store ≡ store_of w row.primary
-  lead_store = half_store (visits row.primary place cell) (store_of w row.primary)
+  lead_store : lead_half.store ≡ stores row.primary
+  lead_store = half_store (visits row.primary place cell) (stores row.primary)
 
-  second_store : second_half.store ≡ store_of w row.secondary
-  second_store = half_store (visits row.secondary place cell) (store_of w row.secondary)
+  second_store : second_half.store ≡ stores row.secondary
+  second_store = half_store (visits row.secondary place cell) (stores row.secondary)
 
   -- where one of them holds it alone from then on, an unequal block is marked
-  pub both_cover : (holder : ℕ) → has_server holder row ≡ true → IsCovered now cell (store_of w holder) (store_of w (other_of holder row)) None
+  pub both_cover : (holder : ℕ) → has_server holder row ≡ true → IsCovered now cell (stores holder) (stores (other_of holder row)) None
   both_cover holder has = elim (other_between row holder has) [
     | inr pair ↦
-        subst (λ n. IsCovered now cell (store_of w n) (store_of w (other_of holder row)) None) pair.0
-        (subst (λ m. IsCovered now cell (store_of w row.primary) (store_of w m) None) pair.1
-        (subst (λ a. IsCovered now cell a (store_of w row.secondary) None) lead_store
+        subst (λ n. IsCovered now cell (stores n) (stores (other_of holder row)) None) pair.0
+        (subst (λ m. IsCovered now cell (stores row.primary) (stores m) None) pair.1
+        (subst (λ a. IsCovered now cell a (stores row.secondary) None) lead_store
         (subst (λ b. IsCovered now cell lead_half.store b None) second_store (covered_first now lead_half second_half cell None twins.pair recalled))))
     | inl pair ↦
-        subst (λ n. IsCovered now cell (store_of w n) (store_of w (other_of holder row)) None) pair.1
-        (subst (λ m. IsCovered now cell (store_of w row.secondary) (store_of w m) None) pair.0
-        (subst (λ a. IsCovered now cell a (store_of w row.primary) None) second_store
+        subst (λ n. IsCovered now cell (stores n) (stores (other_of holder row)) None) pair.1
+        (subst (λ m. IsCovered now cell (stores row.secondary) (stores m) None) pair.0
+        (subst (λ a. IsCovered now cell a (stores row.primary) None) second_store
         (subst (λ b. IsCovered now cell second_half.store b None) lead_store (covered_second now lead_half second_half cell twins.pair recalled))))
   ]
 
 -- what covers the copies at one place covers them at the next one, at which the holder has heard of no block
-pub cover_anew : (row now : LinkRow) (cell : Cell) (a b : Store) (visit : Option Own) → IsCovered row cell a b visit → IsCovered now cell a b None
-cover_anew row now cell a b visit (Is_equal same) = Is_equal same
-cover_anew row now cell a b visit (Is_marked_here marked) = Is_marked_here marked
-cover_anew row now cell a b visit (Is_marked_there marked ahead) = Is_marked_there marked tt
+pub cover_anew : (row now : LinkRow) (cell : Cell) (a b : Store) (visit : Option Own) → (is_whole row.state ≡ true → is_whole now.state ≡ true)
+    → IsCovered row cell a b visit → IsCovered now cell a b None
+cover_anew row now cell a b visit whole (Is_equal same) = Is_equal same
+cover_anew row now cell a b visit whole (Is_marked_here marked) = Is_marked_here marked
+cover_anew row now cell a b visit whole (Is_marked_there marked ahead) = Is_marked_there marked tt
+cover_anew row now cell a b visit whole (Is_to_be_copied all copied) = Is_to_be_copied (record { whole = whole all.whole; stored = all.stored }) tt
 
 -- ### A new place
 
 -- two equal copies, of which nobody has anything in memory
-pub new_twins : (w : World) (visits : Visits) (place : ℕ) (cell : Cell) (n m : ℕ) → ((k : ℕ) → visits k place cell ≡ None)
-    → chain_in (store_of w n).chains cell ≡ chain_in (store_of w m).chains cell → AreTwins w visits place cell n m
+pub new_twins : (stores : ℕ → Store) (visits : Visits) (place : ℕ) (cell : Cell) (n m : ℕ) → ((k : ℕ) → visits k place cell ≡ None)
+    → chain_in (stores n).chains cell ≡ chain_in (stores m).chains cell → AreTwins stores visits place cell n m
 unfolding at
-new_twins w visits place cell n m unseen same = record {
-  pair = subst (λ o. PairOk (pair_of (half o (store_of w n)) (half (visits m place cell) (store_of w m)) cell)) (sym (unseen n))
-      (subst (λ o. PairOk (pair_of (half None (store_of w n)) (half o (store_of w m)) cell)) (sym (unseen m))
+new_twins stores visits place cell n m unseen same = record {
+  pair = subst (λ o. PairOk (pair_of (half o (stores n)) (half (visits m place cell) (stores m)) cell)) (sym (unseen n))
+      (subst (λ o. PairOk (pair_of (half None (stores n)) (half o (stores m)) cell)) (sym (unseen m))
       (record { copies = same; below = omega arith; fresh = omega arith }));
   recalled = λ own op visited there. none_some (unseen n) visited;
 }
 
 -- nobody has anything in memory of a place at which one server holds the link alone
-pub new_alone : (setting : Setting) (top : List Command) (w : World) (visits : Visits) (reached : Cell → ℕ) (front : List Command) (cell : Cell) (row : LinkRow) (holder : ℕ)
-    → ((k : ℕ) → visits k (place_by setting front row) cell ≡ None) → IsCovered row cell (store_of w holder) (store_of w (other_of holder row)) None
-    → AloneOk setting top w visits reached front cell row holder
-new_alone setting top w visits reached front cell row holder unseen covered = record {
+pub new_alone : (setting : Setting) (top : List Command) (stores : ℕ → ℕ → Store) (visits : Visits) (reached : Cell → ℕ) (front : List Command) (cell : Cell)
+    (row : LinkRow) (holder : ℕ) → ((k : ℕ) → visits k (place_by setting front row) cell ≡ None)
+    → IsCovered row cell (store_by setting stores front holder) (store_by setting stores front (other_of holder row)) None
+    → (is_whole row.state ≡ true → (chain_in (store_by setting stores front (other_of holder row)).chains cell ≡ [])
+    ⊎ HasFilled setting top visits front cell holder (other_of holder row))
+    → AloneOk setting top stores visits reached front cell row holder
+new_alone setting top stores visits reached front cell row holder unseen covered unfilled = record {
   copying = record {
     risen = λ own visited. none_some (unseen holder) visited;
     copying = λ own copy visited there. none_some (unseen holder) visited;
     lasts = λ own last visited there. none_some (unseen (other_of holder row)) visited;
     caught = λ own visited flagged. none_some (unseen holder) visited;
     met = λ own visited page. none_some (unseen holder) visited;
+    ordered = λ own visited. none_some (unseen holder) visited;
   };
   beside = λ last. record {
     alike = record {
-      covered = subst (IsCovered row cell (store_of w holder) (store_of w (other_of holder row))) (sym (unseen holder)) covered;
+      covered = subst (IsCovered row cell (store_by setting stores front holder) (store_by setting stores front (other_of holder row)))
+          (sym (unseen holder)) covered;
       caught = λ own visited flagged. none_some (unseen holder) visited;
     };
     still = λ own visited. none_some (unseen (other_of holder row)) visited;
   };
-  stays = λ own visited beyond marked. none_some (unseen holder) visited;
+  stays = λ own visited beyond. none_some (unseen holder) visited;
+  unfilled = unfilled;
 }
 
-pub other_later : (row now : LinkRow) (holder : ℕ) → IsLater row now → other_of holder now ≡ other_of holder row
-other_later row now holder so = λ i. if so.primary i == holder then so.secondary i else so.primary i
+-- ### The same two stores
+
+module _ (old new : ℕ → Store) (visits : Visits) (place : ℕ) (cell : Cell) where
+  pub twins_same : (n m : ℕ) → new n ≡ old n → new m ≡ old m → AreTwins old visits place cell n m → AreTwins new visits place cell n m
+  twins_same n m one two twins = record {
+    pair = subst (λ a. PairOk (pair_of (half (visits n place cell) a) (half (visits m place cell) (new m)) cell)) (sym one)
+        (subst (λ b. PairOk (pair_of (half (visits n place cell) (old n)) (half (visits m place cell) b) cell)) (sym two) twins.pair);
+    recalled = λ own op visit there. subst (λ a. IsRecalled op a cell) (sym one) (twins.recalled own op visit there);
+  }
+
+  pub beside_same : (row : LinkRow) (holder other : ℕ) → new holder ≡ old holder → new other ≡ old other
+      → AreBeside old visits place row cell holder other → AreBeside new visits place row cell holder other
+  beside_same row holder other one two beside = record {
+    alike = subst (λ a. AreAlike row cell a (new other) (visits holder place cell)) (sym one)
+        (subst (λ b. AreAlike row cell (old holder) b (visits holder place cell)) (sym two) beside.alike);
+    still = λ own visit. beside.still own visit ∙ ap (λ (s : Store). chain_in s.chains cell) (sym two);
+  }
 
 -- what is kept of this front of the log, with these visits and places that count
 pub record IsGrownTo (setting : Setting) (records : List Record) (w : World) (visits : Visits) (reached : Cell → ℕ) (log : List Command) : Type 0 where
   pub good : Good setting records log w
-  pub visits_are : good.visits ≡ visits
-  pub reached_is : good.reached ≡ reached
+  pub visits_are : (n place : ℕ) (cell : Cell) → good.visits n place cell ≡ visits n place cell
+  pub reached_is : (cell : Cell) → good.reached cell ≡ reached cell
 
 -- ### One entry more
 
-module _ (setting : Setting) (records : List Record) (top : List Command) (entry : Command) (w : World) (good : Good setting records top w)
-    (behind : IsBehind setting records top w) (all : IsPlainLog setting.servers (top ++ entry ∷ []))
+-- the server's store is empty once the entry counts: the server is not In as itself by its own entries, and has nothing pending
+pub record IsRenewed (setting : Setting) (u : World) (n : ℕ) (store : Store) : Type 0 where
+  pub chains : store.chains ≡ []
+  pub marks : store.marks ≡ []
+  pub out : is_in (server_state setting u n) n (u.servers n).life.inc ≡ false
+  pub rested : ((u.servers n).life.running ≡ true) ⊎ (u.before_blank n ≡ None) → HaveMarks (u.servers n).own.pairs.pending store
+
+-- the stores that count once the entry does
+pub record AreRecounted (setting : Setting) (u : World) (here : State) (entry : Command) (old new : ℕ → Store) : Type 0 where
+  pub same : (n : ℕ) → joins_blank here entry n ≡ false → new n ≡ old n
+  pub renewed : (n : ℕ) → joins_blank here entry n ≡ true → IsRenewed setting u n (new n)
+
+module _ (setting : Setting) (records : List Record) (top : List Command) (entry : Command) (u : World) (old new : ℕ → Store)
+    (good : Good setting records top (with_stores u old)) (behind : IsBehind setting records top u) (all : IsPlainLog setting.servers (top ++ entry ∷ []))
     (started : (of link holder inc other other_inc : ℕ) → entry ≡ Caught of link holder inc other other_inc
-    → WasStarted setting records holder inc top (record { map = of; link = link })) where
+    → WasStarted setting records holder inc top (record { map = of; link = link }))
+    (recounts : AreRecounted setting u (state_after setting.servers top) entry old new) where
+  abbrev v : World
+  v = with_stores u new
+
   abbrev next : List Command
   next = top ++ entry ∷ []
 
   abbrev here : State
   here = state_after setting.servers top
+
+  abbrev then_state : State
+  then_state = state_after setting.servers next
 
   plain_top : IsPlainLog setting.servers top
   plain_top = front_plain setting.servers top next all (front_more top entry)
@@ -200,8 +252,8 @@ module _ (setting : Setting) (records : List Record) (top : List Command) (entry
       → (row : LinkRow) × IsLinked setting top cell row × (place ≤ place_by setting top row)
   been_linked n place cell own visited =
       let b = good.been n place cell own visited in
-      let on = linked_on setting next all (w.servers n).log.applied top cell b.row (behind.now n) (front_more top entry) b.linked in
-      let up = places_up setting next all (w.servers n).log.applied top cell b.row on.0 (behind.now n) (front_more top entry) b.linked on.1 in
+      let on = linked_on setting next all (u.servers n).log.applied top cell b.row (behind.now n) (front_more top entry) b.linked in
+      let up = places_up setting next all (u.servers n).log.applied top cell b.row on.0 (behind.now n) (front_more top entry) b.linked on.1 in
       let past = b.past in
       (on.0, on.1, omega arith)
 
@@ -211,136 +263,405 @@ module _ (setting : Setting) (records : List Record) (top : List Command) (entry
       let b = been_linked n place cell own visited in
       subst (λ r. place ≤ place_by setting top r) (same_some (sym b.1 ∙ is)) b.2
 
+  -- the last place is not behind that by the entries so far
   reached_below : (cell : Cell) (row : LinkRow) → IsLinked setting top cell row → good.reached cell ≤ place_by setting top row
   reached_below cell row is = elim (good.reaching.by cell) [
     | inl none ↦ omega (arith, none)
     | inr r ↦ been_below r.server (good.reached cell) cell r.own row r.visited is
   ]
 
+  unvisited : (n : ℕ) (place : ℕ) (cell : Cell) → ((own : Own) → good.visits n place cell ≡ Some own → ⊥) → good.visits n place cell ≡ None
+  unvisited n place cell never = elim (some_or_none (good.visits n place cell)) [ inl h ↦ absurd (never h.0 h.1) | inr none ↦ none ]
+
+  -- nobody has been at the new place of a link that the entry touches
+  unseen_new : (cell : Cell) (row now : LinkRow) → IsLinked setting top cell row → IsLinked setting next cell now → touches here entry row ≡ true
+      → (n : ℕ) → good.visits n (place_by setting next now) cell ≡ None
+  unseen_new cell row now is end on n = unvisited n (place_by setting next now) cell (λ own visited.
+      let le = been_below n (place_by setting next now) cell own row visited is in
+      let same = place_of_later setting next all top next next cell row now (front_more top entry) (front_itself next) is end in
+      let one = place_touched setting top entry row on in
+      absurd (omega arith))
+
   -- a cell's link after the entry: as before; touched by the entry, or made by it, and then nobody has been at its place
   by_next : {B : Type 0} (cell : Cell) (now : LinkRow) → IsLinked setting next cell now
       → (IsLinked setting top cell now → place_by setting next now ≡ place_by setting top now → B)
-      → ((row : LinkRow) → IsLinked setting top cell row → touches here entry row ≡ true → ((n : ℕ) → good.visits n (place_by setting next now) cell ≡ None) → B)
+      → ((row : LinkRow) → IsLinked setting top cell row → touches here entry row ≡ true → ((n : ℕ) → good.visits n (place_by setting next now) cell ≡ None)
+      → B)
       → (cell_link here cell ≡ None → ((n : ℕ) → good.visits n (place_by setting next now) cell ≡ None) → B)
       → B
   by_next cell now end still moved made = elim (some_or_none (cell_link here cell)) [
     | inl h ↦ by_bool (touches here entry h.0)
-        (λ on. moved h.0 h.1 on (λ n. unvisited n (λ own visited.
-        let le = been_below n (place_by setting next now) cell own h.0 visited h.1 in
-        let same = place_of_later setting next all top next next cell h.0 now (front_more top entry) (front_itself next) h.1 end in
-        let one = place_touched setting top entry h.0 on in
-        absurd (omega arith))))
+        (λ on. moved h.0 h.1 on (unseen_new cell h.0 now h.1 end on))
         (λ off.
-        let as_before = log_entry_stays setting.servers top entry cell h.0 plain_top plain_entry h.1 off in
-        let same : h.0 ≡ now = same_some (sym as_before.same ∙ row_then cell now end) in
+        let stays = log_entry_stays setting.servers top entry cell h.0 plain_top plain_entry h.1 off in
+        let same : h.0 ≡ now = same_some (sym stays.same ∙ row_then cell now end) in
         still (subst (IsLinked setting top cell) same h.1)
         (subst (λ r. place_by setting next r ≡ place_by setting top r) same (place_untouched setting top entry h.0 off)))
-    | inr none ↦ made none (λ n. unvisited n (λ own visited. none_some none (been_linked n (place_by setting next now) cell own visited).1))
+    | inr none ↦ made none (λ n. unvisited n (place_by setting next now) cell
+        (λ own visited. none_some none (been_linked n (place_by setting next now) cell own visited).1))
   ]
-    where
-      unvisited : (n : ℕ) → ((own : Own) → good.visits n (place_by setting next now) cell ≡ Some own → ⊥) → good.visits n (place_by setting next now) cell ≡ None
-      unvisited n never = elim (some_or_none (good.visits n (place_by setting next now) cell)) [
-        | inl h ↦ absurd (never h.0 h.1)
-        | inr none ↦ none
-      ]
+
+  -- ### Stores
+
+  -- a server that comes back with nothing has a store more
+  abbrev stores : ℕ → ℕ → Store
+  stores n joins = if joins == blank_joins_in setting next n then new n else good.stores n joins
+
+  stores_so : (n joins : ℕ) (b : Bool) → (joins == blank_joins_in setting next n) ≡ b → stores n joins ≡ (if b then new n else good.stores n joins)
+  stores_so n joins b e = ap (λ c. if c then new n else good.stores n joins) e
+
+  next_store : (n : ℕ) → store_by setting stores next n ≡ new n
+  next_store n = stores_so n (blank_joins_in setting next n) true (number_itself (blank_joins_in setting next n))
+
+  -- at each front so far they are as they were
+  front_store : (f : List Command) (n : ℕ) → IsPrefix f top → store_by setting stores f n ≡ store_by setting good.stores f n
+  front_store f n prefix =
+      let joins = blank_joins_in setting f n in
+      let low = joins_grow setting.servers f top n prefix in
+      let high = joins_grow setting.servers top next n (front_more top entry) in
+      by_bool (joins == blank_joins_in setting next n)
+      (λ t.
+      let e = same_numbers joins (blank_joins_in setting next n) t in
+      let at_top : blank_joins_in setting top n ≡ joins = omega arith in
+      stores_so n joins true t
+      ∙ recounts.same n (by_bool (joins_blank here entry n) (λ on. let lt = counts_more setting top entry n on in absurd (omega arith)) (λ off. off))
+      ∙ sym (good.now n) ∙ ap (good.stores n) at_top)
+      (λ off. stores_so n joins false off)
+
+  front_stores : (f : List Command) → IsPrefix f top → store_by setting good.stores f ≡ store_by setting stores f
+  front_stores f prefix = λ i n. sym (front_store f n prefix) i
+
+  next_stores : new ≡ store_by setting stores next
+  next_stores = λ i n. sym (next_store n) i
+
+  old_stores : store_by setting good.stores top ≡ old
+  old_stores = λ i n. good.now n i
 
   -- a cell without a link is empty at each server
-  still_empty : (cell : Cell) → cell_link here cell ≡ None → (n m : ℕ) → chain_in (store_of w n).chains cell ≡ chain_in (store_of w m).chains cell
-  still_empty cell none n m = good.born cell none n ∙ sym (good.born cell none m)
+  born_then : (cell : Cell) → cell_link here cell ≡ None → (n : ℕ) → chain_in (new n).chains cell ≡ []
+  born_then cell none n = by_bool (joins_blank here entry n) (λ on. no_chains (new n) cell (recounts.renewed n on).chains)
+      (λ off. ap (λ (s : Store). chain_in s.chains cell) (recounts.same n off) ∙ good.born cell none n)
+
+  still_empty : (cell : Cell) → cell_link here cell ≡ None → (n m : ℕ) → chain_in (new n).chains cell ≡ chain_in (new m).chains cell
+  still_empty cell none n m = born_then cell none n ∙ sym (born_then cell none m)
+
+  -- an entry that is no Join with an empty store
+  same_all : ((server inc : ℕ) → entry ≡ Join server inc true → ⊥) → (n : ℕ) → new n ≡ old n
+  same_all never n = recounts.same n (no_blank_join here entry never n)
+
+  no_leave : (server inc : ℕ) → entry ≡ Leave server inc → (n : ℕ) → new n ≡ old n
+  no_leave server inc is = same_all (λ s i e. let f : Leave server inc ≡ Join s i true = sym is ∙ e in absurd cc)
+
+  no_caught : (of link holder inc other other_inc : ℕ) → entry ≡ Caught of link holder inc other other_inc → (n : ℕ) → new n ≡ old n
+  no_caught of link holder inc other other_inc is =
+      same_all (λ s i e. let f : Caught of link holder inc other other_inc ≡ Join s i true = sym is ∙ e in absurd cc)
+
+  no_blank : (server inc : ℕ) → entry ≡ Join server inc false → (n : ℕ) → new n ≡ old n
+  no_blank server inc is = same_all (λ s i e. let f : Join server inc false ≡ Join s i true = sym is ∙ e in absurd cc)
 
   -- ### In Both
 
+  twins_top : (cell : Cell) (row : LinkRow) → IsLinked setting top cell row → row.state ≡ Both
+      → AreTwins old good.visits (place_by setting top row) cell row.primary row.secondary
+  twins_top cell row is both = subst (λ s. AreTwins s good.visits (place_by setting top row) cell row.primary row.secondary) old_stores
+      ((good.both top cell row (front_itself top) is both).twins (reached_below cell row is))
+
+  beside_top : (cell : Cell) (row : LinkRow) (holder : ℕ) (whole : Bool) → IsLinked setting top cell row → row.state ≡ Only holder whole
+      → AreBeside old good.visits (place_by setting top row) row cell holder (other_of holder row)
+  beside_top cell row holder whole is alone =
+      subst (λ s. AreBeside s good.visits (place_by setting top row) row cell holder (other_of holder row)) old_stores
+      ((good.alone top cell row holder whole (front_itself top) is alone).beside (reached_below cell row is))
+
+  -- the holder has the link in mind
+  minded : (cell : Cell) (row : LinkRow) → IsLinked setting top cell row → (acts : IsCaughtBy here entry row)
+      → (own : Own) × (good.visits acts.holder (place_by setting top row) cell ≡ Some own) × (is_flagged own (id_of row) ≡ true)
+  minded cell row is acts =
+      let told = started row.map row.link acts.holder acts.inc (other_of acts.holder row) acts.other_inc acts.is in
+      good.started acts.holder acts.inc acts.whole top cell row (front_itself top) is acts.alone acts.holds told
+
   -- by its Caught, for which the holder was done: then the copies were equal
   caught_equal : (cell : Cell) (row : LinkRow) → IsLinked setting top cell row → (acts : IsCaughtBy here entry row)
-      → chain_in (store_of w row.primary).chains cell ≡ chain_in (store_of w row.secondary).chains cell
+      → chain_in (new row.primary).chains cell ≡ chain_in (new row.secondary).chains cell
   caught_equal cell row is acts =
-      let told = started row.map row.link acts.holder acts.inc (other_of acts.holder row) acts.other_inc acts.is in
-      let mind = good.started acts.holder acts.inc top cell row (front_itself top) is acts.alone acts.holds told in
-      let beside = (good.alone top cell row acts.holder (front_itself top) is acts.alone).beside (reached_below cell row is) in
-      in_common (λ n. chain_in (store_of w n).chains cell) row acts.holder (holder_is_one here steady_top acts.holder cell row is acts.alone)
+      let mind = minded cell row is acts in
+      let same = no_caught row.map row.link acts.holder acts.inc (other_of acts.holder row) acts.other_inc acts.is in
+      let beside = beside_top cell row acts.holder acts.whole is acts.alone in
+      ap (λ (s : Store). chain_in s.chains cell) (same row.primary)
+      ∙ in_common (λ n. chain_in (old n).chains cell) row acts.holder (holder_is_one here steady_top acts.holder cell row is acts.alone)
       (beside.alike.caught mind.0 mind.1 mind.2)
+      ∙ ap (λ (s : Store). chain_in s.chains cell) (sym (same row.secondary))
 
-  both_moved : (cell : Cell) (row now : LinkRow) → IsLinked setting top cell row → IsLinked setting next cell now → touches here entry row ≡ true → now.state ≡ Both
-      → chain_in (store_of w now.primary).chains cell ≡ chain_in (store_of w now.secondary).chains cell
+  both_moved : (cell : Cell) (row now : LinkRow) → IsLinked setting top cell row → IsLinked setting next cell now → touches here entry row ≡ true
+      → now.state ≡ Both
+      → chain_in (new now.primary).chains cell ≡ chain_in (new now.secondary).chains cell
   both_moved cell row now is end on both = elim (log_touched setting.servers top entry cell row plain_top plain_entry is on) [
     | By_leave left there seats ↦ left_not_both (other_of left.server row) row.state
         (sym (left_row row left.server left.one_of) ∙ ap (λ (r : LinkRow). r.state) (same_some (sym there ∙ row_then cell now end)) ∙ both)
-    | By_join joined there apart seats ↦ absurd (apart (ap (λ (r : LinkRow). r.state) (same_some (sym there ∙ row_then cell now end)) ∙ both))
+    | By_join joined there apart seats ↦
+        joined_not_both row joined.server joined.blank apart (ap (λ (r : LinkRow). r.state) (same_some (sym there ∙ row_then cell now end)) ∙ both)
     | By_caught acts stays ↦ (
         let so = later_then cell row now is end in
-        ap (λ n. chain_in (store_of w n).chains cell) so.primary ∙ caught_equal cell row is acts ∙ ap (λ n. chain_in (store_of w n).chains cell) (sym so.secondary))
+        ap (λ n. chain_in (new n).chains cell) so.primary ∙ caught_equal cell row is acts ∙ ap (λ n. chain_in (new n).chains cell) (sym so.secondary))
   ]
 
-  both_next : (cell : Cell) (now : LinkRow) → IsLinked setting next cell now → now.state ≡ Both → BothOk setting next w good.visits good.reached next cell now
+  both_on : (f : List Command) (cell : Cell) (row : LinkRow) → IsPrefix f top → BothOk setting top good.stores good.visits good.reached f cell row
+      → BothOk setting next stores good.visits good.reached f cell row
+  both_on f cell row prefix b = record {
+    twins = λ last. subst (λ s. AreTwins s good.visits (place_by setting f row) cell row.primary row.secondary) (front_stores f prefix) (b.twins last);
+  }
+
+  -- at a place that stays each server of the link has the store that it had
+  same_store : (cell : Cell) (now : LinkRow) (n : ℕ) → IsLinked setting top cell now → IsLinked setting next cell now
+      → place_by setting next now ≡ place_by setting top now → has_server n now ≡ true → store_by setting stores next n ≡ store_by setting stores top n
+  same_store cell now n is end same has = store_at setting next all stores next top cell now now n (front_itself next)
+      (front_more top entry) end is has has same
+
+  -- two equal copies, of which nobody has anything in memory
+  made_twins : (cell : Cell) (now : LinkRow) → ((k : ℕ) → good.visits k (place_by setting next now) cell ≡ None)
+      → chain_in (new now.primary).chains cell ≡ chain_in (new now.secondary).chains cell → BothOk setting next stores good.visits good.reached next cell now
+  made_twins cell now unseen same = record {
+    twins = λ last. subst (λ s. AreTwins s good.visits (place_by setting next now) cell now.primary now.secondary) next_stores
+        (new_twins new good.visits (place_by setting next now) cell now.primary now.secondary unseen same);
+  }
+
+  both_next : (cell : Cell) (now : LinkRow) → IsLinked setting next cell now → now.state ≡ Both
+      → BothOk setting next stores good.visits good.reached next cell now
   both_next cell now end both = by_next cell now end
       (λ is same. record {
-        twins = λ last. subst (λ place. AreTwins w good.visits place cell now.primary now.secondary) (sym same)
-            ((good.both top cell now (front_itself top) is both).twins (subst (λ place. good.reached cell ≤ place) same last));
+        twins = λ last. subst (λ place. AreTwins (store_by setting stores next) good.visits place cell now.primary now.secondary) (sym same)
+            (twins_same (store_by setting stores top) (store_by setting stores next) good.visits (place_by setting top now) cell now.primary now.secondary
+            (same_store cell now now.primary is end same (primary_is_one now now.primary refl))
+            (same_store cell now now.secondary is end same (secondary_is_one now now.secondary refl))
+            ((both_on top cell now (front_itself top) (good.both top cell now (front_itself top) is both)).twins
+            (subst (λ place. good.reached cell ≤ place) same last)));
       })
-      (λ row is on unseen. record {
-        twins = λ last. new_twins w good.visits (place_by setting next now) cell now.primary now.secondary unseen (both_moved cell row now is end on both);
-      })
-      (λ none unseen. record {
-        twins = λ last. new_twins w good.visits (place_by setting next now) cell now.primary now.secondary unseen (still_empty cell none now.primary now.secondary);
-      })
+      (λ row is on unseen. made_twins cell now unseen (both_moved cell row now is end on both))
+      (λ none unseen. made_twins cell now unseen (still_empty cell none now.primary now.secondary))
 
   -- ### Alone
 
+  cover_same : (now : LinkRow) (cell : Cell) (n m : ℕ) → new n ≡ old n → new m ≡ old m → IsCovered now cell (old n) (old m) None
+      → IsCovered now cell (new n) (new m) None
+  cover_same now cell n m one two covered =
+      subst (λ a. IsCovered now cell a (new m) None) (sym one) (subst (λ b. IsCovered now cell (old n) b None) (sym two) covered)
+
   -- a link that one server held alone, and holds so still
-  alone_cover : (cell : Cell) (row now : LinkRow) (holder : ℕ) → IsLinked setting top cell row → IsLinked setting next cell now → row.state ≡ Only holder false
-      → IsCovered now cell (store_of w holder) (store_of w (other_of holder now)) None
-  alone_cover cell row now holder is end alone =
-      let beside = (good.alone top cell row holder (front_itself top) is alone).beside (reached_below cell row is) in
-      subst (λ m. IsCovered now cell (store_of w holder) (store_of w m) None) (sym (other_later row now holder (later_then cell row now is end)))
-      (cover_anew row now cell (store_of w holder) (store_of w (other_of holder row)) (good.visits holder (place_by setting top row) cell) beside.alike.covered)
+  alone_cover : (cell : Cell) (row now : LinkRow) (holder : ℕ) (whole : Bool) → IsLinked setting top cell row → IsLinked setting next cell now
+      → row.state ≡ Only holder whole → now.state ≡ Only holder whole → IsCovered now cell (old holder) (old (other_of holder now)) None
+  alone_cover cell row now holder whole is end alone still =
+      let beside = beside_top cell row holder whole is alone in
+      subst (λ m. IsCovered now cell (old holder) (old m) None) (sym (other_later row now holder (later_then cell row now is end)))
+      (cover_anew row now cell (old holder) (old (other_of holder row)) (good.visits holder (place_by setting top row) cell)
+      (λ all. ap is_whole (still ∙ sym alone) ∙ all) beside.alike.covered)
 
   -- one of its two servers has left
-  left_cover : (cell : Cell) (row now : LinkRow) (holder server : ℕ) → IsLinked setting top cell row → IsLinked setting next cell now
-      → has_server server row ≡ true → row_left server row ≡ now → now.state ≡ Only holder false
-      → IsCovered now cell (store_of w holder) (store_of w (other_of holder now)) None
-  left_cover cell row now holder server is end has same alone = elim (steady_top.linked cell row is).served [
+  left_cover : (cell : Cell) (row now : LinkRow) (holder server : ℕ) (whole : Bool) → IsLinked setting top cell row → IsLinked setting next cell now
+      → has_server server row ≡ true → row_left server row ≡ now → now.state ≡ Only holder whole
+      → IsCovered now cell (old holder) (old (other_of holder now)) None
+  left_cover cell row now holder server whole is end has same alone = elim (steady_top.linked cell row is).served [
     | ByBoth so one other ↦ (
         let later = later_then cell row now is end in
         let has_holder : has_server holder row ≡ true = sym (one_before row now holder later)
-        ∙ holder_is_one (state_after setting.servers next) (log_steady setting.servers next all) holder cell now end alone in
-        subst (λ m. IsCovered now cell (store_of w holder) (store_of w m) None) (sym (other_later row now holder later))
-        (both_cover w good.visits (place_by setting top row) row now cell
-        ((good.both top cell row (front_itself top) is so).twins (reached_below cell row is)) holder has_holder))
-    | ByOne h other so pair out ↦
-        alone_cover cell row now holder is end (ap (λ (r : LinkRow). r.state) (sym (stays_row row server h has so) ∙ same) ∙ alone)
+        ∙ holder_is_one then_state (log_steady setting.servers next all) holder cell now end alone in
+        subst (λ m. IsCovered now cell (old holder) (old m) None) (sym (other_later row now holder later))
+        (both_cover old good.visits (place_by setting top row) row now cell (twins_top cell row is so) holder has_holder))
+    | ByOne h other kept so pair out ↦
+        alone_cover cell row now holder whole is end (ap (λ (r : LinkRow). r.state) (sym (stays_row row server h has so) ∙ same) ∙ alone) alone
+    | ByNone one other so pair out ↦ alone_not_lost now holder alone
+        (ap (λ (r : LinkRow). r.state) (sym same) ∙ left_row row server has ∙ ap (left_state (other_of server row)) so)
   ]
 
-  alone_moved : (cell : Cell) (row now : LinkRow) (holder : ℕ) → IsLinked setting top cell row → IsLinked setting next cell now → touches here entry row ≡ true
-      → now.state ≡ Only holder false → IsCovered now cell (store_of w holder) (store_of w (other_of holder now)) None
-  alone_moved cell row now holder is end on alone = elim (log_touched setting.servers top entry cell row plain_top plain_entry is on) [
-    | By_leave left there seats ↦ left_cover cell row now holder left.server is end left.one_of (same_some (sym there ∙ row_then cell now end)) alone
-    | By_join joined there apart seats ↦
-        alone_cover cell row now holder is end (ap (λ (r : LinkRow). r.state) (same_some (sym there ∙ row_then cell now end)) ∙ alone)
+  -- one of them has joined with nothing: the other one holds the link, and is to copy all
+  blank_other : (cell : Cell) (row now : LinkRow) (holder server : ℕ) (whole : Bool) → IsLinked setting top cell row → IsLinked setting next cell now
+      → has_server server row ≡ true → row_blanked server row ≡ now → row.state ≢ Both → now.state ≡ Only holder whole → other_of holder now ≡ server
+  blank_other cell row now holder server whole is end has same apart alone =
+      let kept = blanked_alone row server holder whole has apart (ap (λ (r : LinkRow). r.state) same ∙ alone) in
+      let later = later_then cell row now is end in
+      let its = sym (one_before row now holder later)
+      ∙ holder_is_one (state_after setting.servers next) (log_steady setting.servers next all) holder cell now end alone in
+      other_later row now holder later ∙ other_than holder server row its has kept.0
+
+  blank_cover : (cell : Cell) (row now : LinkRow) (holder server : ℕ) (whole : Bool) → IsLinked setting top cell row → IsLinked setting next cell now
+      → has_server server row ≡ true → row_blanked server row ≡ now → row.state ≢ Both → joins_blank here entry server ≡ true → now.state ≡ Only holder whole
+      → IsCovered now cell (new holder) (new (other_of holder now)) None
+  blank_cover cell row now holder server whole is end has same apart on alone =
+      let kept = blanked_alone row server holder whole has apart (ap (λ (r : LinkRow). r.state) same ∙ alone) in
+      subst (λ m. IsCovered now cell (new holder) (new m) None) (sym (blank_other cell row now holder server whole is end has same apart alone))
+      (filled_cover now cell (new holder) (new server) (ap is_whole alone ∙ kept.1) (no_chains (new server) cell (recounts.renewed server on).chains))
+
+  alone_moved : (cell : Cell) (row now : LinkRow) (holder : ℕ) (whole : Bool) → IsLinked setting top cell row → IsLinked setting next cell now
+      → touches here entry row ≡ true → now.state ≡ Only holder whole → IsCovered now cell (new holder) (new (other_of holder now)) None
+  alone_moved cell row now holder whole is end on alone = elim (log_touched setting.servers top entry cell row plain_top plain_entry is on) [
+    | By_leave left there seats ↦
+        cover_same now cell holder (other_of holder now) (no_leave left.server left.inc left.is holder)
+        (no_leave left.server left.inc left.is (other_of holder now))
+        (left_cover cell row now holder left.server whole is end left.one_of (same_some (sym there ∙ row_then cell now end)) alone)
+    | By_join joined there apart seats ↦ joins joined.server joined.inc joined.blank joined.is joined.may joined.one_of there apart
     | By_caught acts stays ↦ alone_not_both now holder alone (ap (λ (r : LinkRow). r.state) (same_some (sym (row_then cell now end) ∙ stays.same)))
   ]
-
-  alone_next : (cell : Cell) (now : LinkRow) (holder : ℕ) → IsLinked setting next cell now → now.state ≡ Only holder false
-      → AloneOk setting next w good.visits good.reached next cell now holder
-  alone_next cell now holder end alone = by_next cell now end
-      (λ is same. same_alone cell now holder same (good.alone top cell now holder (front_itself top) is alone))
-      (λ row is on unseen. new_alone setting next w good.visits good.reached next cell now holder unseen (alone_moved cell row now holder is end on alone))
-      (λ none unseen. new_alone setting next w good.visits good.reached next cell now holder unseen (Is_equal (still_empty cell none holder (other_of holder now))))
     where
-      same_alone : (cell : Cell) (now : LinkRow) (holder : ℕ) → place_by setting next now ≡ place_by setting top now
-          → AloneOk setting top w good.visits good.reached top cell now holder → AloneOk setting next w good.visits good.reached next cell now holder
-      same_alone cell now holder same a = record {
-        copying = subst (λ place. AreCopying now cell (good.visits holder place cell) (good.visits (other_of holder now) place cell)) (sym same) a.copying;
-        beside = λ last. subst (λ place. AreBeside w good.visits place now cell holder (other_of holder now)) (sym same)
-            (a.beside (subst (λ place. good.reached cell ≤ place) same last));
-        stays = subst (λ place. (own : Own) → good.visits holder place cell ≡ Some own
-            → ((beyond : ℕ) → place < beyond → good.visits (other_of holder now) beyond cell ≡ None) → IsMarked own.store cell → IsMarked (store_of w holder) cell)
-            (sym same) a.stays;
+      joins : (server inc : ℕ) (blank : Bool) → entry ≡ Join server inc blank → may_join (slice_get here.view.members server) inc ≡ true
+          → has_server server row ≡ true → cell_link (after here entry) cell ≡ Some (row_joined server blank row) → row.state ≢ Both
+          → IsCovered now cell (new holder) (new (other_of holder now)) None
+      joins server inc false e may has there apart =
+          cover_same now cell holder (other_of holder now) (no_blank server inc e holder) (no_blank server inc e (other_of holder now))
+          (alone_cover cell row now holder whole is end (ap (λ (r : LinkRow). r.state) (same_some (sym there ∙ row_then cell now end)) ∙ alone) alone)
+      joins server inc true e may has there apart =
+          blank_cover cell row now holder server whole is end has (same_some (sym there ∙ row_then cell now end)) apart
+          (ap (λ (c : Command). joins_blank here c server) e ∙ joins_so here server inc may) alone
+
+  -- ### What the other server has, where all is to be copied to it
+
+  filled_on : (f : List Command) (cell : Cell) (holder other : ℕ) → HasFilled setting top good.visits f cell holder other
+      → HasFilled setting next good.visits f cell holder other
+  filled_on f cell holder other h = record {
+    more = h.more;
+    within = front_on h.more top next h.within (front_more top entry);
+    row = h.row;
+    linked = h.linked;
+    joins = h.joins;
+    own = h.own;
+    visited = h.visited;
+  }
+
+  -- behind as many of its Joins with an empty store
+  filled_next : (cell : Cell) (holder other : ℕ) → blank_joins_in setting next other ≡ blank_joins_in setting top other
+      → HasFilled setting top good.visits top cell holder other → HasFilled setting next good.visits next cell holder other
+  filled_next cell holder other same h = record {
+    more = h.more;
+    within = front_on h.more top next h.within (front_more top entry);
+    row = h.row;
+    linked = h.linked;
+    joins = h.joins ∙ sym same;
+    own = h.own;
+    visited = h.visited;
+  }
+
+  abbrev IsUnfilled : Cell → LinkRow → ℕ → Type 0
+  IsUnfilled cell now holder =
+      (chain_in (new (other_of holder now)).chains cell ≡ []) ⊎ HasFilled setting next good.visits next cell holder (other_of holder now)
+
+  still_unfilled : (cell : Cell) (row now : LinkRow) (holder : ℕ) (whole : Bool) → IsLinked setting top cell row → IsLinked setting next cell now
+      → row.state ≡ Only holder whole → joins_blank here entry (other_of holder row) ≡ false → whole ≡ true → IsUnfilled cell now holder
+  still_unfilled cell row now holder whole is end alone off all_of =
+      let other = other_of holder row in
+      subst (λ m. (chain_in (new m).chains cell ≡ []) ⊎ HasFilled setting next good.visits next cell holder m)
+      (sym (other_later row now holder (later_then cell row now is end)))
+      (elim ((good.alone top cell row holder whole (front_itself top) is alone).unfilled (ap is_whole alone ∙ all_of)) [
+        | inl empty ↦ inl (ap (λ (s : Store). chain_in s.chains cell) (recounts.same other off ∙ sym (good.now other)) ∙ empty)
+        | inr h ↦ inr (filled_next cell holder other (counts_same setting top entry other off) h)
+      ])
+
+  -- one of the link's two servers has left
+  left_unfilled : (cell : Cell) (row now : LinkRow) (holder server inc : ℕ) (whole : Bool) → IsLinked setting top cell row → IsLinked setting next cell now
+      → entry ≡ Leave server inc → has_server server row ≡ true → row_left server row ≡ now → now.state ≡ Only holder whole → whole ≡ true
+      → IsUnfilled cell now holder
+  left_unfilled cell row now holder server inc whole is end entry_is has same alone all_of = elim (steady_top.linked cell row is).served [
+    | ByBoth so one other ↦ true_false all_of
+        (sym (ap is_whole alone) ∙ ap (λ (r : LinkRow). is_whole r.state) (sym same) ∙ ap is_whole (left_row row server has)
+        ∙ ap (λ x. is_whole (left_state (other_of server row) x)) so)
+    | ByOne h other kept so pair out ↦
+        still_unfilled cell row now holder whole is end (ap (λ (r : LinkRow). r.state) (sym (stays_row row server h has so) ∙ same) ∙ alone)
+        (no_blank_join here entry (λ s i e. let f : Leave server inc ≡ Join s i true = sym entry_is ∙ e in absurd cc) (other_of holder row)) all_of
+    | ByNone one other so pair out ↦ alone_not_lost now holder alone
+        (ap (λ (r : LinkRow). r.state) (sym same) ∙ left_row row server has ∙ ap (left_state (other_of server row)) so)
+  ]
+
+  unfilled_moved : (cell : Cell) (row now : LinkRow) (holder : ℕ) (whole : Bool) → IsLinked setting top cell row → IsLinked setting next cell now
+      → touches here entry row ≡ true → now.state ≡ Only holder whole → whole ≡ true → IsUnfilled cell now holder
+  unfilled_moved cell row now holder whole is end on alone all_of = elim (log_touched setting.servers top entry cell row plain_top plain_entry is on) [
+    | By_leave left there seats ↦
+        left_unfilled cell row now holder left.server left.inc whole is end left.is left.one_of (same_some (sym there ∙ row_then cell now end)) alone all_of
+    | By_join joined there apart seats ↦ joins joined.server joined.inc joined.blank joined.is joined.may joined.one_of there apart
+    | By_caught acts stays ↦ alone_not_both now holder alone (ap (λ (r : LinkRow). r.state) (same_some (sym (row_then cell now end) ∙ stays.same)))
+  ]
+    where
+      joins : (server inc : ℕ) (blank : Bool) → entry ≡ Join server inc blank → may_join (slice_get here.view.members server) inc ≡ true
+          → has_server server row ≡ true → cell_link (after here entry) cell ≡ Some (row_joined server blank row) → row.state ≢ Both
+          → IsUnfilled cell now holder
+      joins server inc false e may has there apart =
+          still_unfilled cell row now holder whole is end (ap (λ (r : LinkRow). r.state) (same_some (sym there ∙ row_then cell now end)) ∙ alone)
+          (no_blank_join here entry (λ s i f. let g : Join server inc false ≡ Join s i true = sym e ∙ f in absurd cc) (other_of holder row)) all_of
+      joins server inc true e may has there apart =
+          let other = blank_other cell row now holder server whole is end has (same_some (sym there ∙ row_then cell now end)) apart alone in
+          inl (ap (λ n. chain_in (new n).chains cell) other ∙ no_chains (new server) cell
+          (recounts.renewed server (ap (λ (c : Command). joins_blank here c server) e ∙ joins_so here server inc may)).chains)
+
+  alone_on : (f : List Command) (cell : Cell) (row : LinkRow) (holder : ℕ) → IsPrefix f top
+      → AloneOk setting top good.stores good.visits good.reached f cell row holder
+      → AloneOk setting next stores good.visits good.reached f cell row holder
+  alone_on f cell row holder prefix a =
+      let other = other_of holder row in
+      record {
+        copying = a.copying;
+        beside = λ last. subst (λ s. AreBeside s good.visits (place_by setting f row) row cell holder other) (front_stores f prefix) (a.beside last);
+        stays = λ own visit beyond. subst (λ (s : ℕ → Store). StaysLeft row cell own (s holder)) (front_stores f prefix) (a.stays own visit beyond);
+        unfilled = λ all_of. elim (a.unfilled all_of) [
+          | inl empty ↦ inl (subst (λ (s : ℕ → Store). chain_in (s other).chains cell ≡ []) (front_stores f prefix) empty)
+          | inr h ↦ inr (filled_on f cell holder other h)
+        ];
       }
+
+  same_alone : (cell : Cell) (now : LinkRow) (holder : ℕ) (whole : Bool) → IsLinked setting top cell now → IsLinked setting next cell now
+      → now.state ≡ Only holder whole
+      → place_by setting next now ≡ place_by setting top now → AloneOk setting next stores good.visits good.reached top cell now holder
+      → AloneOk setting next stores good.visits good.reached next cell now holder
+  same_alone cell now holder whole is end alone same a =
+      let other = other_of holder now in
+      let has = holder_is_one here steady_top holder cell now is alone in
+      let one = same_store cell now holder is end same has in
+      let two = same_store cell now other is end same (other_is_one now holder) in
+      record {
+        copying = subst (λ many. AreCopying many now cell (good.visits holder (place_by setting next now) cell)
+            (good.visits other (place_by setting next now) cell))
+            (sym (links_up setting next all top next cell now (front_more top entry) (front_itself next) is))
+            (subst (λ place. AreCopying (links_of here cell.map) now cell (good.visits holder place cell) (good.visits other place cell)) (sym same) a.copying);
+        beside = λ last. subst (λ place. AreBeside (store_by setting stores next) good.visits place now cell holder other) (sym same)
+            (beside_same (store_by setting stores top) (store_by setting stores next) good.visits (place_by setting top now) cell now holder other one two
+            (a.beside (subst (λ place. good.reached cell ≤ place) same last)));
+        stays = λ own visit beyond. subst (λ s. StaysLeft now cell own s) (sym one)
+            (a.stays own (ap (λ p. good.visits holder p cell) (sym same) ∙ visit) (λ p lt. beyond p (let e = same in omega arith)));
+        unfilled = λ all_of. elim (a.unfilled all_of) [
+          | inl empty ↦ inl (ap (λ (s : Store). chain_in s.chains cell) two ∙ empty)
+          | inr h ↦ inr (record {
+            more = h.more;
+            within = h.within;
+            row = h.row;
+            linked = h.linked;
+            joins = h.joins
+                ∙ sym (joins_at setting next all next top cell now now other (front_itself next) (front_more top entry) end is (other_is_one now holder)
+                (other_is_one now holder) same);
+            own = h.own;
+            visited = h.visited;
+          })
+        ];
+      }
+
+  made_alone : (cell : Cell) (now : LinkRow) (holder : ℕ) → ((k : ℕ) → good.visits k (place_by setting next now) cell ≡ None)
+      → IsCovered now cell (new holder) (new (other_of holder now)) None → (is_whole now.state ≡ true → IsUnfilled cell now holder)
+      → AloneOk setting next stores good.visits good.reached next cell now holder
+  made_alone cell now holder unseen covered unfilled =
+      let other = other_of holder now in
+      new_alone setting next stores good.visits good.reached next cell now holder unseen
+      (subst (λ (s : ℕ → Store). IsCovered now cell (s holder) (s other) None) next_stores covered)
+      (subst (λ (s : ℕ → Store). is_whole now.state ≡ true → (chain_in (s other).chains cell ≡ []) ⊎ HasFilled setting next good.visits next cell holder other)
+      next_stores unfilled)
+
+  alone_next : (cell : Cell) (now : LinkRow) (holder : ℕ) (whole : Bool) → IsLinked setting next cell now → now.state ≡ Only holder whole
+      → AloneOk setting next stores good.visits good.reached next cell now holder
+  alone_next cell now holder whole end alone = by_next cell now end
+      (λ is same. same_alone cell now holder whole is end alone same
+      (alone_on top cell now holder (front_itself top) (good.alone top cell now holder whole (front_itself top) is alone)))
+      (λ row is on unseen. made_alone cell now holder unseen (alone_moved cell row now holder whole is end on alone)
+      (λ all_of. unfilled_moved cell row now holder whole is end on alone (sym (ap is_whole alone) ∙ all_of)))
+      (λ none unseen. made_alone cell now holder unseen (Is_equal (still_empty cell none holder (other_of holder now)))
+      (λ all_of. inl (born_then cell none (other_of holder now))))
 
   -- ### All of it
 
   -- what is so of each front so far, and of the new one
-  at_fronts : (P : List Command → Type 0) → ((front : List Command) → IsPrefix front top → P front) → P next → (front : List Command) → IsPrefix front next → P front
+  at_fronts : (P : List Command → Type 0) → ((front : List Command) → IsPrefix front top → P front) → P next → (front : List Command) → IsPrefix front next
+      → P front
   at_fronts P before last front prefix = elim (front_or_all front top entry prefix) [
     | inl p ↦ before front p
     | inr same ↦ subst P (sym same) last
@@ -383,23 +704,26 @@ module _ (setting : Setting) (records : List Record) (top : List Command) (entry
     ];
   }
 
-  none_before : (cell : Cell) → cell_link (state_after setting.servers next) cell ≡ None → cell_link here cell ≡ None
+  none_before : (cell : Cell) → cell_link then_state cell ≡ None → cell_link here cell ≡ None
   none_before cell none = elim (some_or_none (cell_link here cell)) [
     | inl h ↦ none_some none (linked_on setting next all top next cell h.0 (front_more top entry) (front_itself next) h.1).1
     | inr before ↦ before
   ]
 
-  both_on : (front : List Command) (cell : Cell) (row : LinkRow) → BothOk setting top w good.visits good.reached front cell row
-      → BothOk setting next w good.visits good.reached front cell row
-  both_on front cell row b = record { twins = b.twins }
-
-  alone_on : (front : List Command) (cell : Cell) (row : LinkRow) (holder : ℕ) → AloneOk setting top w good.visits good.reached front cell row holder
-      → AloneOk setting next w good.visits good.reached front cell row holder
-  alone_on front cell row holder a = record { copying = a.copying; beside = a.beside; stays = a.stays }
-
-  said_on : (front : List Command) (said : Body) (cell : Cell) (row : LinkRow) → SaidOk setting top w good.visits good.reached front said cell row
-      → SaidOk setting next w good.visits good.reached front said cell row
-  said_on front said cell row s = record { both = s.both; alone = s.alone; page = s.page; met = s.met }
+  said_on : (f : List Command) (said : Body) (cell : Cell) (row : LinkRow) → IsPrefix f top
+      → SaidOk setting top good.stores good.visits good.reached f said cell row
+      → SaidOk setting next stores good.visits good.reached f said cell row
+  said_on f said cell row prefix s =
+      let place = place_by setting f row in
+      record {
+        both = λ both last of. subst (λ t. Known (pair_at t good.visits place cell row.primary row.secondary) said) (front_stores f prefix)
+            (s.both both last of);
+        alone = s.alone;
+        page = λ holder whole after block alone told last.
+            subst (λ (t : ℕ → Store). IsPage cell (t (other_of holder row)) (good.visits (other_of holder row) place cell) after block) (front_stores f prefix)
+            (s.page holder whole after block alone told last);
+        met = s.met;
+      }
 
   -- no server was behind the entry at a world on the way
   not_started : {B : Type 0} (holder inc : ℕ) (id : LinkId) → WasStarted setting records holder inc next id → B
@@ -407,58 +731,63 @@ module _ (setting : Setting) (records : List Record) (top : List Command) (entry
       let le = front_long _ top (behind.ever was.before was.later was.is holder) in
       absurd (omega (arith, ap length was.at, length-append top (entry ∷ [])))
 
-  pub grow_one : Good setting records next w
+  here_next : (n : ℕ) (cell : Cell) (row : LinkRow) → IsLinked setting (u.servers n).log.applied cell row
+      → is_in (server_state setting u n) n (u.servers n).life.inc ≡ true → IsHere setting v good.visits n cell row
+  here_next n cell row is seat =
+      let h = good.here n cell row is seat in
+      by_bool (joins_blank here entry n)
+      (λ on. true_false seat (recounts.renewed n on).out)
+      (λ off. record { own = h.own; is = h.is; same = h.same ∙ ap (λ (s : Store). (with_store (u.servers n) s).own) (sym (recounts.same n off)) })
+
+  rising_next : (n : ℕ) (cell : Cell) → IsRising nat_cmp (chain_in (new n).chains cell)
+  rising_next n cell = by_bool (joins_blank here entry n)
+      (λ on. subst (IsRising nat_cmp) (sym (no_chains (new n) cell (recounts.renewed n on).chains)) tt)
+      (λ off. subst (λ (s : Store). IsRising nat_cmp (chain_in s.chains cell)) (sym (recounts.same n off)) (good.rising n cell))
+
+  pub grow_one : Good setting records next v
   grow_one = record {
     visits = good.visits;
     reached = good.reached;
     reaching = reaching_next;
-    here = good.here;
-    been = good.been;
-    born = λ cell none. good.born cell (none_before cell none);
-    unheard = good.unheard;
-    rising = good.rising;
+    stores = stores;
+    now = next_store;
+    here = here_next;
+    been = λ n place cell own visit. let b = good.been n place cell own visit in record { row = b.row; linked = b.linked; past = b.past };
+    born = λ cell none. born_then cell (none_before cell none);
+    unheard = λ n cell none. let h = good.unheard n cell none in record { last = h.last; pages = h.pages };
+    rising = rising_next;
+    ever = λ n joins cell. by_bool (joins == blank_joins_in setting next n)
+        (λ t. subst (λ (s : Store). IsRising nat_cmp (chain_in s.chains cell)) (sym (stores_so n joins true t)) (rising_next n cell))
+        (λ f. subst (λ (s : Store). IsRising nat_cmp (chain_in s.chains cell)) (sym (stores_so n joins false f)) (good.ever n joins cell));
     counts = good.counts;
-    marks = good.marks;
-    both = λ front cell row prefix. at_fronts (λ f. IsLinked setting f cell row → row.state ≡ Both → BothOk setting next w good.visits good.reached f cell row)
-        (λ f p is both. both_on f cell row (good.both f cell row p is both)) (both_next cell row) front prefix;
-    alone = λ front cell row holder prefix.
-        at_fronts (λ f. IsLinked setting f cell row → row.state ≡ Only holder false → AloneOk setting next w good.visits good.reached f cell row holder)
-        (λ f p is alone. alone_on f cell row holder (good.alone f cell row holder p is alone)) (alone_next cell row holder) front prefix;
+    filled = λ n. by_bool (joins_blank here entry n)
+        (λ on. subst AreFilled (sym (recounts.renewed n on).chains) (λ cell there. none_some (at-empty cell_cmp cell) there))
+        (λ off. subst (λ (s : Store). AreFilled s.chains) (sym (recounts.same n off)) (good.filled n));
+    marks = λ n when. by_bool (joins_blank here entry n)
+        (λ on. (recounts.renewed n on).rested when)
+        (λ off. subst (HaveMarks (u.servers n).own.pairs.pending) (sym (recounts.same n off)) (good.marks n when));
+    both = λ front cell row prefix. at_fronts (λ f. IsLinked setting f cell row → row.state ≡ Both
+        → BothOk setting next stores good.visits good.reached f cell row)
+        (λ f p is both. both_on f cell row p (good.both f cell row p is both)) (both_next cell row) front prefix;
+    alone = λ front cell row holder whole prefix.
+        at_fronts (λ f. IsLinked setting f cell row → row.state ≡ Only holder whole → AloneOk setting next stores good.visits good.reached f cell row holder)
+        (λ f p is alone. alone_on f cell row holder p (good.alone f cell row holder whole p is alone)) (alone_next cell row holder whole) front prefix;
     revs = λ letter sent between. let le = good.revs letter sent between in omega (arith, length-append top (entry ∷ []));
     letters = λ letter sent front cell row prefix long is. by_bool (is_between (subject_of letter.body))
         (λ between. let le = good.revs letter sent between in
-        by_length front prefix (omega arith) (λ p. said_on front letter.body cell row (good.letters letter sent front cell row p long is)))
-        (λ mute. said_mute setting next w good.visits good.reached front letter.body cell row mute);
+        by_length front prefix (omega arith) (λ p. said_on front letter.body cell row p (good.letters letter sent front cell row p long is)))
+        (λ mute. said_mute setting next stores good.visits good.reached front letter.body cell row mute);
     pages = λ letter sent front prefix long of link block after said.
         let le = good.revs letter sent (ap (λ (b : Body). is_between (subject_of b)) said) in
         by_length front prefix (omega arith) (λ p. good.pages letter sent front p long of link block after said);
-    started = λ holder inc front cell row prefix.
-        at_fronts (λ f. IsLinked setting f cell row → row.state ≡ Only holder false → is_in (state_after setting.servers f) holder inc ≡ true
+    started = λ holder inc whole front cell row prefix.
+        at_fronts (λ f. IsLinked setting f cell row → row.state ≡ Only holder whole → is_in (state_after setting.servers f) holder inc ≡ true
         → WasStarted setting records holder inc f (id_of row)
         → (own : Own) × (good.visits holder (place_by setting f row) cell ≡ Some own) × (is_flagged own (id_of row) ≡ true))
-        (λ f p. good.started holder inc f cell row p) (λ is alone seat was. not_started holder inc (id_of row) was) front prefix;
+        (λ f p. good.started holder inc whole f cell row p) (λ is alone seat was. not_started holder inc (id_of row) was) front prefix;
   }
 
-  pub grown_one : (visits : Visits) (reached : Cell → ℕ) → good.visits ≡ visits → good.reached ≡ reached → IsGrownTo setting records w visits reached next
+  pub grown_one : (visits : Visits) (reached : Cell → ℕ) → ((n place : ℕ) (cell : Cell) → good.visits n place cell ≡ visits n place cell)
+      → ((cell : Cell) → good.reached cell ≡ reached cell) → IsGrownTo setting records v visits reached next
   unfolding grow_one
   grown_one visits reached same counts = record { good = grow_one; visits_are = same; reached_is = counts }
-
--- ### All entries that were chosen
-
-module _ (setting : Setting) (records : List Record) (w : World) (firm : Firm setting w) (started : AllStarted setting records w) (visits : Visits)
-    (reached : Cell → ℕ) where
-  grow_by : (more top : List Command) → chosen_log setting w ≡ top ++ more → IsBehind setting records top w → IsGrownTo setting records w visits reached top
-      → IsGrownTo setting records w visits reached (chosen_log setting w)
-  grow_by [] top e behind grown = subst (IsGrownTo setting records w visits reached) (sym (e ∙ append-nil top)) grown
-  grow_by (entry ∷ more) top e behind grown =
-      let onward : chosen_log setting w ≡ (top ++ entry ∷ []) ++ more = e ∙ sym (append_assoc top (entry ∷ []) more) in
-      let prefix : IsPrefix (top ++ entry ∷ []) (chosen_log setting w) = record { later = more; is = onward } in
-      grow_by more (top ++ entry ∷ []) onward (behind_on setting records top (top ++ entry ∷ []) w (front_more top entry) behind)
-      (grown_one setting records top entry w grown.good behind (front_plain setting.servers (top ++ entry ∷ []) (chosen_log setting w) firm.plain prefix)
-      (λ of link holder inc other other_inc same. started top of link holder inc other other_inc
-      (subst (λ (x : Command). IsPrefix (top ++ x ∷ []) (chosen_log setting w)) same prefix)) visits reached grown.visits_are grown.reached_is)
-
-  -- what is kept of a front of the chosen log that no server was beyond is kept of the whole
-  pub grow : (top : List Command) → IsPrefix top (chosen_log setting w) → IsBehind setting records top w → IsGrownTo setting records w visits reached top
-      → IsGrownTo setting records w visits reached (chosen_log setting w)
-  grow top prefix behind grown = grow_by prefix.later top prefix.is behind grown

@@ -1,5 +1,5 @@
 -- What each change at the holder of a link keeps of one of the link's cells.
-use Rattle.std.proofs.Common.{◌≡◌, ◌≤◌, ◌<◌, ◌+◌, ◌⊎◌, ℕ, true, List, [], length, Option, Some, None, refl, sym, ap, ◌∙◌, subst, inl, inr, arith}
+use Rattle.std.proofs.Common.{◌≡◌, ◌≢◌, ◌≤◌, ◌<◌, ◌+◌, ◌⊎◌, ℕ, true, false, List, [], length, Option, Some, None, refl, sym, ap, ◌∙◌, subst, inl, inr, arith}
 use Rattle.std.specs.Prelude.{is_some, slice_get}
 use Rattle.std.specs.Ordering.{nat_cmp}
 use Rattle.busy_marks.specs.Marks.{above}
@@ -9,7 +9,7 @@ use Rattle.petal_msg.specs.declared.body.Body.{Body}
 use Rattle.petal_msg.specs.declared.body.Body.TheVariants as body
 use Rattle.petal_msg.specs.declared.copying.Copying.{Copying}
 use Rattle.petal_msg.specs.declared.copying.LastCopy.{LastCopy}
-use Rattle.petal_history.specs.Claims.{IsMarked}
+use Rattle.petal_history.specs.Claims.{IsMarked, IsToBeCopied}
 use Rattle.petal_rules.specs.Copies.{epochs_beyond}
 use Rattle.petal_rules.specs.Progress.{copying_on, last_copy, progress_on}
 use Rattle.petal_rules.specs.Server.{Own}
@@ -19,61 +19,66 @@ use Rattle.petal_rules.specs.Writes.{pending_on}
 use Rattle.petal_rules.proofs.Tests.{same_some}
 use Rattle.law_state.specs.Started.{is_flagged}
 use Rattle.law_steps.specs.Ready.{IsRising}
-use Rattle.law_copies.specs.Copied.{AreAlike, AreCopying, HasPage, HasSent, IsCaught, IsCopying, IsCovered, Is_equal, Is_marked_here, Is_marked_there, IsLastCopy, IsPast, IsSent, IsTold, IsTrimming, number_above}
+use Rattle.law_copies.specs.Copied.{AreAlike, AreCopying, AreInOrder, HasPage, HasSent, IsCaught, IsCopied, IsCopying, IsCovered, Is_equal, Is_marked_here, Is_marked_there, Is_to_be_copied, IsLastCopy, IsLeft, IsPast, IsSent, IsTold, IsTrimming, NotCopied, number_above}
 use Rattle.law_copies.specs.Steps.{IsStill, PagesOf, StaysTold}
+use Rattle.law_copies.proofs.AllPut.{all_put, none_left_to_put}
 
 -- ### What is to show
 
 -- what a change keeps
-pub record HolderStep (heard : Body → Type 0) (row : LinkRow) (cell : Cell) (vo : Option Own) (own to : Own) : Type 0 where
-  pub copying : AreCopying row cell (Some to) vo
-  pub told : StaysTold cell (Some own) vo (Some to) vo
+pub record HolderStep (heard : Body → Type 0) (links : ℕ) (row : LinkRow) (cell : Cell) (vo : Option Own) (own to : Own) : Type 0 where
+  pub copying : AreCopying links row cell (Some to) vo
+  pub told : StaysTold row cell (Some own) vo (Some to) vo
   pub marks : IsMarked own.store cell → IsMarked to.store cell ⊎ (is_some vo ≡ true)
+  pub stored : chain_in own.store.chains cell ≢ [] → chain_in to.store.chains cell ≢ []
   pub alike : (now : Store) → IsStill cell vo now → PagesOf heard row cell now vo → IsRising nat_cmp (chain_in now.chains cell)
       → AreAlike row cell own.store now (Some own) → AreAlike row cell to.store now (Some to)
   pub caught : is_flagged own (id_of row) ≡ true
       → (chain_in to.store.chains cell ≡ chain_in own.store.chains cell) × (IsMarked to.store cell → ⊥) × (is_flagged to (id_of row) ≡ true)
 
 -- two changes
-pub step_on : (heard : Body → Type 0) (row : LinkRow) (cell : Cell) (vo : Option Own) (own now to : Own)
-    → HolderStep heard row cell vo own now
-    → HolderStep heard row cell vo now to → HolderStep heard row cell vo own to
-step_on heard row cell vo own now to one two = record {
+pub step_on : (heard : Body → Type 0) (links : ℕ) (row : LinkRow) (cell : Cell) (vo : Option Own) (own now to : Own)
+    → HolderStep heard links row cell vo own now
+    → HolderStep heard links row cell vo now to → HolderStep heard links row cell vo own to
+step_on heard links row cell vo own now to one two = record {
   copying = two.copying;
   told = λ said e t. two.told said e (one.told said e t);
   marks = λ m. elim (one.marks m) [ inl n ↦ two.marks n | inr there ↦ inr there ];
+  stored = λ some. two.stored (one.stored some);
   alike = λ store still pages rises a. two.alike store still pages rises (one.alike store still pages rises a);
   caught = λ flag. let a = one.caught flag in let b = two.caught a.2 in (b.0 ∙ a.0, b.1, b.2);
 }
 
-module _ (row : LinkRow) (cell : Cell) (vo : Option Own) (to : Own) where
+module _ (links : ℕ) (row : LinkRow) (cell : Cell) (vo : Option Own) (to : Own) where
   -- what a holder has to show of copies
   pub holder_copying : IsRising nat_cmp (chain_in to.store.chains cell)
-      → ((copy : Copying) → copying_on to cell ≡ Some copy → IsCopying to vo cell copy)
+      → ((copy : Copying) → copying_on to cell ≡ Some copy → IsCopying row to vo cell copy)
       → ((o : Own) (last : LastCopy) → vo ≡ Some o → last_copy o cell ≡ Some last → IsLastCopy (Some to) o cell last)
-      → (is_flagged to (id_of row) ≡ true → IsCaught to row cell) → (HasPage to row → is_some vo ≡ true) → AreCopying row cell (Some to) vo
-  holder_copying risen copying lasts caught met = record {
+      → (is_flagged to (id_of row) ≡ true → IsCaught to row cell) → (HasPage to row → is_some vo ≡ true)
+      → AreInOrder links row cell to → AreCopying links row cell (Some to) vo
+  holder_copying risen copying lasts caught met ordered = record {
     risen = λ h is. subst (λ (x : Own). IsRising nat_cmp (chain_in x.store.chains cell)) (same_some is) risen;
-    copying = λ h copy is there. subst (λ (x : Own). IsCopying x vo cell copy) (same_some is)
+    copying = λ h copy is there. subst (λ (x : Own). IsCopying row x vo cell copy) (same_some is)
         (copying copy (ap (λ x. copying_on x cell) (same_some is) ∙ there));
     lasts = lasts;
     caught = λ h is flag. subst (λ (x : Own). IsCaught x row cell) (same_some is)
         (caught (ap (λ x. is_flagged x (id_of row)) (same_some is) ∙ flag));
     met = λ h is page. met (subst (λ (x : Own). HasPage x row) (sym (same_some is)) page);
+    ordered = λ h is. subst (AreInOrder links row cell) (same_some is) ordered;
   }
 
   -- and of letters
   module _ (own : Own)
       (trims : (number : ℕ) → IsTrimming own cell number
       → IsPast vo cell number ⊎ (IsTrimming to cell number × (chain_in to.store.chains cell ≡ chain_in own.store.chains cell)))
-      (marks : (o : Own) (last : LastCopy) (index epoch : ℕ) → vo ≡ Some o → last_copy o cell ≡ Some last
+      (left : (o : Own) (last : LastCopy) (index epoch : ℕ) → vo ≡ Some o → last_copy o cell ≡ Some last
       → slice_get last.epochs index ≡ Some epoch
-      → index ≡ last.index → IsMarked own.store cell → IsMarked to.store cell)
-      (sends : (number index : ℕ) (r : ℕ × Stored) → HasSent (Some own) vo cell number index r → (copy : Copying)
+      → index ≡ last.index → IsLeft own row cell → IsLeft to row cell)
+      (sends : (number index : ℕ) (r : ℕ × Stored) → HasSent row (Some own) vo cell number index r → (copy : Copying)
       → copying_on to cell ≡ Some copy
       → copy.op ≡ number → IsSent to cell copy index r) where
-    told_trim : (number : ℕ) (epochs : List ℕ) → IsTold (Some own) vo (body.Trim number cell epochs)
-        → IsTold (Some to) vo (body.Trim number cell epochs)
+    told_trim : (number : ℕ) (epochs : List ℕ) → IsTold row (Some own) vo (body.Trim number cell epochs)
+        → IsTold row (Some to) vo (body.Trim number cell epochs)
     told_trim number epochs (inl past) = inl past
     told_trim number epochs (inr asked) =
         let own_is = same_some asked.met in
@@ -88,7 +93,7 @@ module _ (row : LinkRow) (cell : Cell) (vo : Option Own) (to : Own) where
           })
         ]
 
-    told_sync : (number index : ℕ) (r : ℕ × Stored) → HasSent (Some own) vo cell number index r → HasSent (Some to) vo cell number index r
+    told_sync : (number index : ℕ) (r : ℕ × Stored) → HasSent row (Some own) vo cell number index r → HasSent row (Some to) vo cell number index r
     told_sync number index r h = record {
       trimmed = h.trimmed;
       of_last = λ e.
@@ -99,22 +104,22 @@ module _ (row : LinkRow) (cell : Cell) (vo : Option Own) (to : Own) where
             near = o.near;
             own = to;
             met = refl;
-            marked = λ at_last. marks p.own p.last index r.0 p.met p.is o.epoch_is at_last
-                (subst (λ (x : Own). IsMarked x.store cell) (sym (same_some o.met)) (o.marked at_last));
+            left = λ at_last. left p.own p.last index r.0 p.met p.is o.epoch_is at_last
+                (subst (λ (x : Own). IsLeft x row cell) (sym (same_some o.met)) (o.left at_last));
           };
       sent = λ x copy is there op. subst (λ (y : Own). IsSent y cell copy index r) (same_some is)
           (sends number index r h copy (ap (λ y. copying_on y cell) (same_some is) ∙ there) op);
     }
 
-    pub holder_told : StaysTold cell (Some own) vo (Some to) vo
+    pub holder_told : StaysTold row cell (Some own) vo (Some to) vo
     holder_told (body.Trim number c epochs) e =
-        subst (λ (q : Cell). IsTold (Some own) vo (body.Trim number q epochs) → IsTold (Some to) vo (body.Trim number q epochs))
+        subst (λ (q : Cell). IsTold row (Some own) vo (body.Trim number q epochs) → IsTold row (Some to) vo (body.Trim number q epochs))
         (sym (same_some e))
         (told_trim number epochs)
     holder_told (body.Trimmed number c) e = λ t. t
     holder_told (body.Sync number key version index bytes) e =
-        subst (λ (q : Cell). HasSent (Some own) vo q number index (key.epoch, record { version = version; bytes = bytes })
-        → HasSent (Some to) vo q number index (key.epoch, record { version = version; bytes = bytes })) (sym (same_some e))
+        subst (λ (q : Cell). HasSent row (Some own) vo q number index (key.epoch, record { version = version; bytes = bytes })
+        → HasSent row (Some to) vo q number index (key.epoch, record { version = version; bytes = bytes })) (sym (same_some e))
         (told_sync number index (key.epoch, record { version = version; bytes = bytes }))
     holder_told (body.Synced number c index) e = λ t. t
     holder_told _ e = λ t. tt
@@ -122,16 +127,28 @@ module _ (row : LinkRow) (cell : Cell) (vo : Option Own) (to : Own) where
 -- ### Of the two copies
 
 module _ (row : LinkRow) (cell : Cell) (own to : Own) where
+  -- where the chain stays, a block that is one of all to be copied is so still
+  pub to_be_copied : chain_in to.store.chains cell ≡ chain_in own.store.chains cell → IsToBeCopied row own.store cell
+      → IsToBeCopied row to.store cell
+  to_be_copied same all = record { whole = all.whole; stored = λ none. all.stored (sym same ∙ none) }
+
   -- a copy that is covered stays so
   pub covers : (progress_on to row).paged ≡ (progress_on own row).paged → (progress_on to row).after ≡ (progress_on own row).after
       → (chain_in to.store.chains cell ≡ chain_in own.store.chains cell) ⊎ IsMarked to.store cell
-      → (IsMarked own.store cell → IsMarked to.store cell)
-      → (now : Store) → IsCovered row cell own.store now (Some own) → IsCovered row cell to.store now (Some to)
-  covers paged after (inr marked) marks now old = Is_marked_here marked
-  covers paged after (inl same) marks now (Is_equal e) = Is_equal (same ∙ e)
-  covers paged after (inl same) marks now (Is_marked_here m) = Is_marked_here (marks m)
-  covers paged after (inl same) marks now (Is_marked_there m np) = Is_marked_there m
+      → (IsMarked own.store cell → IsMarked to.store cell) → (now : Store)
+      → (IsToBeCopied row own.store cell → NotCopied (Some own) row cell.block
+      → NotCopied (Some to) row cell.block ⊎ IsMarked own.store cell ⊎ (chain_in own.store.chains cell ≡ chain_in now.chains cell))
+      → IsCovered row cell own.store now (Some own) → IsCovered row cell to.store now (Some to)
+  covers paged after (inr marked) marks now yet old = Is_marked_here marked
+  covers paged after (inl same) marks now yet (Is_equal e) = Is_equal (same ∙ e)
+  covers paged after (inl same) marks now yet (Is_marked_here m) = Is_marked_here (marks m)
+  covers paged after (inl same) marks now yet (Is_marked_there m np) = Is_marked_there m
       (paged ∙ np.0, ap (λ o. above o cell.block) after ∙ np.1)
+  covers paged after (inl same) marks now yet (Is_to_be_copied all ahead) = elim (yet all ahead) [
+    | inl still ↦ Is_to_be_copied (to_be_copied same all) still
+    | inr (inl m) ↦ Is_marked_here (marks m)
+    | inr (inr e) ↦ Is_equal (same ∙ e)
+  ]
 
   pub alike_by : (now : Store) → IsCovered row cell to.store now (Some to)
       → (is_flagged to (id_of row) ≡ true → chain_in to.store.chains cell ≡ chain_in now.chains cell)
@@ -143,14 +160,15 @@ module _ (row : LinkRow) (cell : Cell) (own to : Own) where
 
   -- where the store and how far the link is stay, the copies are alike as before
   pub alike_still : to.store ≡ own.store → (progress_on to row).paged ≡ (progress_on own row).paged
-      → (progress_on to row).after ≡ (progress_on own row).after → is_flagged to (id_of row) ≡ is_flagged own (id_of row)
+      → (progress_on to row).after ≡ (progress_on own row).after → (progress_on to row).copied ≡ (progress_on own row).copied
+      → is_flagged to (id_of row) ≡ is_flagged own (id_of row)
       → (now : Store) → AreAlike row cell own.store now (Some own) → AreAlike row cell to.store now (Some to)
-  alike_still store paged after flag now a = alike_by now
+  alike_still store paged after copied flag now a = alike_by now
       (covers paged after (inl (ap (λ (s : Store). chain_in s.chains cell) store)) (λ m. subst (λ (s : Store). IsMarked s cell) (sym store) m)
-      now a.covered)
+      now (λ all ahead. inl (ap (λ o. above o cell.block) copied ∙ ahead)) a.covered)
       (λ f. ap (λ (s : Store). chain_in s.chains cell) store ∙ a.caught own refl (sym flag ∙ f))
 
--- ### Where no copy begins, goes on or ends
+-- ### Where no copy of the cell begins, goes on or ends
 
 -- the chain stays, and no operation or mark is new
 pub record IsUntouched (cell : Cell) (own to : Own) : Type 0 where
@@ -159,16 +177,21 @@ pub record IsUntouched (cell : Cell) (own to : Own) : Type 0 where
   pub unmarked : IsMarked to.store cell → IsMarked own.store cell
 
 -- the cell's copy is as it was; and the cell is untouched while one is under way, or once a ballot was started
-pub record IsCalm (row : LinkRow) (cell : Cell) (own to : Own) : Type 0 where
+pub record IsCalm (links : ℕ) (row : LinkRow) (cell : Cell) (own to : Own) : Type 0 where
   pub copying : copying_on to cell ≡ copying_on own cell
   pub next : own.pairs.next ≤ to.pairs.next
   pub flag : is_flagged to (id_of row) ≡ is_flagged own (id_of row)
   pub busy : (copy : Copying) → copying_on own cell ≡ Some copy → IsUntouched cell own to
   pub caught : is_flagged own (id_of row) ≡ true → IsUntouched cell own to × ((progress_on to row).paged ≡ (progress_on own row).paged)
   pub marks : IsMarked own.store cell → IsMarked to.store cell
+  pub stored : chain_in own.store.chains cell ≢ [] → chain_in to.store.chains cell ≢ []
   pub risen : IsRising nat_cmp (chain_in to.store.chains cell)
+  pub late : NotCopied (Some to) row cell.block → NotCopied (Some own) row cell.block
+  pub left : IsLeft own row cell → IsLeft to row cell ⊎ IsCopied own cell
+  pub ordered : AreInOrder links row cell to
 
-module _ (heard : Body → Type 0) (row : LinkRow) (cell : Cell) (vo : Option Own) (own : Own) (old : AreCopying row cell (Some own) vo) where
+module _ (heard : Body → Type 0) (links : ℕ) (row : LinkRow) (cell : Cell) (vo : Option Own) (own : Own)
+    (old : AreCopying links row cell (Some own) vo) where
   -- the last copy's number is below
   pub below : (o : Own) (last : LastCopy) → vo ≡ Some o → last_copy o cell ≡ Some last
       → last.op < number_above (copying_on own cell) own.pairs.next
@@ -183,7 +206,7 @@ module _ (heard : Body → Type 0) (row : LinkRow) (cell : Cell) (vo : Option Ow
       let l = old.lasts o last met is in
       elim l.trimmed [ inl none ↦ inl none | inr t ↦ inr (subst (λ (x : Own). IsTrimming x cell last.op) (sym (same_some l.met)) t) ]
 
-  module _ (to : Own) (calm : IsCalm row cell own to) where
+  module _ (to : Own) (calm : IsCalm links row cell own to) where
     calm_number : number_above (copying_on own cell) own.pairs.next ≤ number_above (copying_on to cell) to.pairs.next
     calm_number = by (copying_on own cell) (copying_on to cell) calm.copying
       where
@@ -191,7 +214,7 @@ module _ (heard : Body → Type 0) (row : LinkRow) (cell : Cell) (vo : Option Ow
         by None p e = let le = calm.next in subst (λ x. own.pairs.next ≤ number_above x to.pairs.next) (sym e) le
         by (Some copy) p e = subst (λ x. copy.op + 1 ≤ number_above x to.pairs.next) (sym e) (omega arith)
 
-    calm_is : (copy : Copying) → copying_on to cell ≡ Some copy → IsCopying to vo cell copy
+    calm_is : (copy : Copying) → copying_on to cell ≡ Some copy → IsCopying row to vo cell copy
     calm_is copy is =
         let was = sym calm.copying ∙ is in
         let c = old.copying own copy refl was in
@@ -200,8 +223,10 @@ module _ (heard : Body → Type 0) (row : LinkRow) (cell : Cell) (vo : Option Ow
           below = (let lt = c.below in let le = calm.next in omega arith);
           free = same.free c.free;
           begun = c.begun;
-          marked = λ w. calm.marks (c.marked
-              (elim w [ inl fresh ↦ inl fresh | inr lt ↦ inr (subst (λ (chain : Chain). copy.index < length chain) same.chain lt) ]));
+          left = λ w.
+              let waits : (copy.trimmed ≡ false) ⊎ (copy.index < length (chain_in own.store.chains cell)) =
+              elim w [ inl fresh ↦ inl fresh | inr lt ↦ inr (subst (λ (chain : Chain). copy.index < length chain) same.chain lt) ] in
+              elim (calm.left (c.left waits)) [ inl left ↦ left | inr all ↦ all_put links row cell vo own old all copy was waits ];
           beside = c.beside;
           met = c.met;
           followed = λ t.
@@ -221,8 +246,8 @@ module _ (heard : Body → Type 0) (row : LinkRow) (cell : Cell) (vo : Option Ow
     calm_trimming : (number : ℕ) → IsTrimming own cell number → IsTrimming to cell number
     calm_trimming number t = record { copy = t.copy; is = calm.copying ∙ t.is; op_is = t.op_is; waits = t.waits }
 
-    pub calm_copying : (HasPage to row → is_some vo ≡ true) → AreCopying row cell (Some to) vo
-    calm_copying met = holder_copying row cell vo to calm.risen calm_is
+    pub calm_copying : (HasPage to row → is_some vo ≡ true) → AreCopying links row cell (Some to) vo
+    calm_copying met = holder_copying links row cell vo to calm.risen calm_is
         (λ o last there is. record {
           by = to;
           met = refl;
@@ -239,13 +264,17 @@ module _ (heard : Body → Type 0) (row : LinkRow) (cell : Cell) (vo : Option Ow
           idle = calm.copying
               ∙ c.idle;
           unmarked = λ m. c.unmarked (same.0.unmarked m);
+          copied = λ all ahead. c.copied (to_be_copied row cell to own (sym same.0.chain) all) (calm.late ahead);
         })
-        met
+        met calm.ordered
 
-    pub calm_told : StaysTold cell (Some own) vo (Some to) vo
-    calm_told = holder_told row cell vo to own
+    pub calm_told : StaysTold row cell (Some own) vo (Some to) vo
+    calm_told = holder_told links row cell vo to own
         (λ number t. inr (calm_trimming number t, (calm.busy t.copy t.is).chain))
-        (λ o last index epoch met is at e m. calm.marks m)
+        (λ o last index epoch met is at e l. elim (calm.left l) [
+          | inl left ↦ left
+          | inr all ↦ none_left_to_put links row cell vo own old all o last index epoch met is at e
+        ])
         (λ number index r h copy is op.
         let was = sym calm.copying ∙ is in
         let s = h.sent own copy refl was op in
@@ -253,14 +282,16 @@ module _ (heard : Body → Type 0) (row : LinkRow) (cell : Cell) (vo : Option Ow
 
     -- a step of the kind
     pub calm_step : (HasPage to row → is_some vo ≡ true)
-        → ((now : Store) → PagesOf heard row cell now vo → IsCovered row cell own.store now (Some own)
+        → ((now : Store) → IsStill cell vo now → PagesOf heard row cell now vo → IsRising nat_cmp (chain_in now.chains cell)
+        → IsCovered row cell own.store now (Some own)
         → IsCovered row cell to.store now (Some to))
-        → HolderStep heard row cell vo own to
+        → HolderStep heard links row cell vo own to
     calm_step met covered = record {
       copying = calm_copying met;
       told = calm_told;
       marks = λ m. inl (calm.marks m);
-      alike = λ now still pages rises a. alike_by row cell own to now (covered now pages a.covered)
+      stored = calm.stored;
+      alike = λ now still pages rises a. alike_by row cell own to now (covered now still pages rises a.covered)
           (λ flag.
           let was = sym calm.flag ∙ flag in
           (calm.caught was).0.chain ∙ a.caught own refl was);

@@ -1,5 +1,5 @@
 -- What a job, and a ballot that is started, keeps by itself.
-use Rattle.std.proofs.Common.{◌≡◌, ℕ, true, false, List, [], Option, Some, None, refl, sym, ap, ◌∙◌, subst, inl, arith}
+use Rattle.std.proofs.Common.{◌≡◌, ◌≢◌, ℕ, true, false, List, [], Option, Some, None, refl, sym, ap, ◌∙◌, subst, inl, arith}
 use Rattle.std.specs.Ordering.{eq_by_cmp, nat_cmp}
 use Rattle.global_tables.specs.declared.link.LinkRow.{LinkRow}
 use Rattle.petal_base.specs.declared.cell.Cell.{Cell}
@@ -14,7 +14,7 @@ use Rattle.petal_rules.specs.Lists.{In}
 use Rattle.petal_rules.specs.Progress.{progress_on}
 use Rattle.petal_rules.specs.Returns.{holds_link, proposed}
 use Rattle.petal_rules.specs.Server.{Own, Pairs, Here, Post, Done}
-use Rattle.petal_rules.specs.State.{holder_of, id_of, is_in, link_cmp, link_named}
+use Rattle.petal_rules.specs.State.{holder_of, id_of, link_cmp, link_named}
 use Rattle.petal_rules.specs.Store.{Store, cell_cmp, chain_in}
 use Rattle.petal_rules.specs.World.{Setting, World, chosen_log, server_state}
 use Rattle.law_state.specs.Firm.{Firm}
@@ -26,11 +26,14 @@ use Rattle.law_log.proofs.Flags.{progress_beside}
 use Rattle.law_steps.specs.Did.{Did}
 use Rattle.law_steps.specs.Happens.{Handled, Starts, is_between, own_place}
 use Rattle.law_steps.specs.Ready.{IsRising, Rests}
+use Rattle.law_copies.specs.Copied.{links_of}
 use Rattle.law_copies.specs.Good.{Good}
 use Rattle.law_copies.specs.Pair.{HaveMarks, IsRecalled, Keeps, PairOk, pair_of}
-use Rattle.law_copies.specs.Steps.{HolderKeeps, IsFollowing, IsHolding, OtherKeeps}
-use Rattle.law_copies.proofs.Apart.{not_of_idle, unlinked_keeps}
+use Rattle.law_copies.specs.Steps.{AreFilled, HolderKeeps, IsFollowing, IsHolding, OtherKeeps}
+use Rattle.law_copies.proofs.Apart.{lost_keeps, not_of_idle, unlinked_keeps}
 use Rattle.law_copies.proofs.Ballots.{IsBallot, ballot_alike, ballot_keeps}
+use Rattle.law_copies.specs.Visits.{with_stores}
+use Rattle.law_copies.proofs.Filled.{did_filled}
 use Rattle.law_copies.proofs.Following.{kept_copying, kept_told}
 use Rattle.law_copies.proofs.Frames.{keeps_alike}
 use Rattle.law_copies.proofs.HolderJobs as holders
@@ -40,6 +43,7 @@ use Rattle.law_copies.proofs.Mute.{known_mute, logged_mute, no_page, told_mute}
 use Rattle.law_copies.proofs.OtherJobs as others
 use Rattle.law_copies.proofs.Rising.{did_rising}
 use Rattle.law_copies.proofs.Seated as seated
+use Rattle.law_copies.proofs.Seated.{IsAtWork}
 use Rattle.law_copies.proofs.Sent.{page_link, page_map, page_sent, pages_sent}
 use Rattle.law_copies.proofs.Speaking.{idle_silent}
 use Rattle.law_copies.proofs.Standing.{named_id, one_named}
@@ -47,8 +51,9 @@ use Rattle.law_copies.proofs.Twins.{lead_step, second_step}
 use Rattle.law_copies.proofs.Unheard.{did_next, did_pages, unlinked_apart}
 use Rattle.law_copies.proofs.Worked.{IsKeeping}
 
-module _ (setting : Setting) (records : List Record) (w : World) (k : ℕ) (good : Good setting records (chosen_log setting w) w) (firm : Firm setting w)
-    (rests : Rests setting w) (runs : (w.servers k).life.running ≡ true) (seat : is_in (server_state setting w k) k (w.servers k).life.inc ≡ true) where
+module _ (setting : Setting) (records : List Record) (w : World) (stores : ℕ → Store) (k : ℕ)
+    (good : Good setting records (chosen_log setting w) (with_stores w stores)) (firm : Firm setting w) (rests : Rests setting w)
+    (works : IsAtWork setting w stores k) where
   abbrev here : Here
   here = own_place setting w k
 
@@ -59,21 +64,29 @@ module _ (setting : Setting) (records : List Record) (w : World) (k : ℕ) (good
   plain_here = log_plain setting.servers (w.servers k).log.applied
       (front_plain setting.servers (w.servers k).log.applied (chosen_log setting w) firm.plain (firm.servers k))
 
+  -- how many links the cell's map has, by its own entries
+  abbrev links_at : Cell → ℕ
+  links_at cell = links_of (server_state setting w k) cell.map
+
   -- ### A job
 
   pub job_keeping : (done : Done) → Did (Handled w k) here own done → IsKeeping setting w k done
   job_keeping done did =
-      let steady = seated.steady setting records w k good firm rests runs seat in
-      let fit = seated.fit setting records w k good firm rests runs seat in
-      let idle = seated.idle_copies setting records w k good firm rests runs seat in
+      let steady = seated.steady setting records w stores k good firm rests works in
+      let fit = seated.fit setting records w stores k good firm rests works in
+      let rising = seated.rising setting records w stores k good firm rests works in
+      let filled = seated.filled setting records w stores k good firm rests works in
+      let marks = seated.marks setting records w stores k good firm rests works in
+      let idle = seated.idle_copies setting records w stores k good firm rests works in
       record {
         lead = λ cell row second is both leads ok known.
-            lead_step (Handled w k) here own steady cell row is both leads second (rests.pending k) (good.marks k) idle (good.rising k) ok known done did;
+            lead_step (Handled w k) here own steady cell row is both leads second (rests.pending k) marks idle rising ok known done did;
         second = λ cell row first is both follows ok known.
-            second_step (Handled w k) here own steady cell row is both follows first (rests.pending k) (good.rising k) ok known done did;
-        holder = λ cell row other f. holders.holds (Handled w k) here row other own cell f done did;
-        other = λ cell row holder f. others.follows (Handled w k) here row holder own cell f done did;
+            second_step (Handled w k) here own steady cell row is both follows first (rests.pending k) rising ok known done did;
+        holder = λ cell row other f. holders.holds (Handled w k) here (links_at cell) row other own cell f done did;
+        other = λ cell row holder f. others.follows (Handled w k) here (links_at cell) row holder own cell f done did;
         unlinked = λ cell none. unlinked_keeps (Handled w k) here own fit cell none done did;
+        lost = λ cell row is lost. lost_keeps (Handled w k) here own fit cell row is lost done did;
         silent = λ cell not_of. idle_silent (Handled w k) here own fit cell (not_of_idle here steady cell not_of) done did;
         paged = λ cell row is post i after block e.
             let a = page_sent (Handled w k) here own done did post i row.map row.link after block e in
@@ -82,9 +95,10 @@ module _ (setting : Setting) (records : List Record) (w : World) (k : ℕ) (good
             let one : row ≡ a.row = one_named here.state cell row a.id a.row is a.named (sym name ∙ named_id here.state a.id a.row a.named) in
             (a.holder, ap (holder_of k) one ∙ a.held);
         pages = pages_sent (Handled w k) here own done did;
-        rising = did_rising (Handled w k) here own (good.rising k) done did;
+        rising = did_rising (Handled w k) here own rising done did;
+        filled = did_filled (Handled w k) here own filled done did;
         counts = did_next (Handled w k) here own done did;
-        marks = (job_marked (Handled w k) here own steady (rests.pending k) (good.marks k) idle done did).marks;
+        marks = (job_marked (Handled w k) here own steady (rests.pending k) marks idle done did).marks;
         unheard = λ cell none unheard. record {
           last = (unlinked_keeps (Handled w k) here own fit cell none done did).rest.followed ∙ unheard.last;
           pages = λ row map_is.
@@ -157,29 +171,32 @@ module _ (setting : Setting) (records : List Record) (w : World) (k : ℕ) (good
         held_pages row apart (record { map = of; link = link }) (link_named (server_state setting w k) (record { map = of; link = link })) refl
     ballot_pages row apart (Some _) = refl
 
-    holder_keeps : (cell : Cell) (row : LinkRow) (other : Option Own) → IsHolding (Handled w k) here row cell own other → HolderKeeps (Handled w k) row cell own other begun
+    holder_keeps : (cell : Cell) (row : LinkRow) (other : Option Own) → IsHolding (Handled w k) here (links_at cell) row cell own other
+        → HolderKeeps (Handled w k) (links_at cell) row cell own other begun
     holder_keeps cell row other f =
-        let b = ballot_keeps here row cell other own f.old f.is started starts in
+        let b = ballot_keeps here (links_at cell) row cell other own f.old f.is started starts in
         record {
           copying = b.copying;
           told = b.told;
-          says = λ post i of. told_mute (Some to) other post.body (mute post i);
+          says = λ post i of. told_mute row (Some to) other post.body (mute post i);
           marks = λ m. inl (subst (λ (s : Store). IsMarked s cell) (sym store_same) m);
+          stored = λ some. subst (λ (s : Store). chain_in s.chains cell ≢ []) (sym store_same) some;
           alike = λ now still pages rising a. b.alike now a;
           caught = λ flagged. (ap (λ (s : Store). chain_in s.chains cell) store_same, λ m. (f.old.caught own refl flagged).unmarked (marked cell m), b.flagged flagged);
         }
 
-    other_keeps : (cell : Cell) (row : LinkRow) (holder : Option Own) → IsFollowing (Handled w k) here row cell holder own → OtherKeeps row cell holder own begun
+    other_keeps : (cell : Cell) (row : LinkRow) (holder : Option Own) → IsFollowing (Handled w k) here (links_at cell) row cell holder own
+        → OtherKeeps (links_at cell) row cell holder own begun
     other_keeps cell row holder f =
         let keeps = keeps_alike cell own to alike.0 in
         record {
-          copying = kept_copying row cell holder own f.old to keeps.rest;
-          told = kept_told row cell holder own f.old to keeps.rest;
-          says = λ post i of. told_mute holder (Some to) post.body (mute post i);
+          copying = kept_copying (links_at cell) row cell holder own f.old to keeps.rest;
+          told = kept_told (links_at cell) row cell holder own f.old to keeps.rest;
+          says = λ post i of. told_mute row holder (Some to) post.body (mute post i);
           marks = keeps.marks;
           changes = inl keeps.rest.chain;
           pages = λ post i after block e. no_page post.body (mute post i) row.map row.link after block e;
-          rising = rises cell (good.rising k cell);
+          rising = rises cell (seated.rising setting records w stores k good firm rests works cell);
         }
 
     pub ballot_keeping : IsKeeping setting w k begun
@@ -188,7 +205,7 @@ module _ (setting : Setting) (records : List Record) (w : World) (k : ℕ) (good
         keeps = first_keeps second cell ok;
         recalled = λ op there.
             let was = ap (λ (p : Pairs). at cell_cmp p.pending cell) (sym pairs_same) ∙ there in
-            let marks = good.marks k cell op was in
+            let marks = seated.marks setting records w stores k good firm rests works cell op was in
             subst (λ (s : Store). IsRecalled op s cell) (sym store_same)
             (record { rests = ((rests.pending k).staged cell op was).stage (so_both (server_state setting w k) cell row is both); marks = marks });
         says = λ post i of. known_mute (pair_of to second cell) post.body (mute post i);
@@ -202,13 +219,15 @@ module _ (setting : Setting) (records : List Record) (w : World) (k : ℕ) (good
       holder = holder_keeps;
       other = other_keeps;
       unlinked = λ cell none. keeps_alike cell own to alike.0;
+      lost = λ cell row is lost. keeps_alike cell own to alike.0;
       silent = λ cell not_of post i of. mute post i;
       paged = λ cell row is post i after block e. no_page post.body (mute post i) row.map row.link after block e;
       pages = λ post i map link block after e. no_page post.body (mute post i) map link after (Some block) e;
-      rising = λ cell. rises cell (good.rising k cell);
+      rising = λ cell. rises cell (seated.rising setting records w stores k good firm rests works cell);
+      filled = subst (λ (s : Store). AreFilled s.chains) (sym store_same) (seated.filled setting records w stores k good firm rests works);
       counts = (let e = ap (λ (p : Pairs). p.next) pairs_same in omega arith);
       marks = subst (λ (s : Store). HaveMarks to.pairs.pending s) (sym store_same)
-          (subst (λ (p : Pairs). HaveMarks p.pending own.store) (sym pairs_same) (good.marks k));
+          (subst (λ (p : Pairs). HaveMarks p.pending own.store) (sym pairs_same) (seated.marks setting records w stores k good firm rests works));
       unheard = λ cell none unheard. record {
         last = alike_last cell ∙ unheard.last;
         pages = λ row map_is. ballot_pages row (unlinked_apart setting.servers (server_state setting w k) plain_here cell none row map_is) started ∙ unheard.pages row map_is;

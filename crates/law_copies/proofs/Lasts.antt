@@ -2,6 +2,7 @@
 -- newer one has come.
 use Rattle.std.proofs.Common.{◌≡◌, ◌≤◌, ◌<◌, ◌⊎◌, ℕ, [], Option, Some, refl, sym, ap, ◌∙◌, subst, inl, inr, arith}
 use Rattle.std.specs.Prelude.{slice_get}
+use Rattle.global_tables.specs.declared.link.LinkRow.{LinkRow}
 use Rattle.petal_base.specs.declared.cell.Cell.{Cell}
 use Rattle.petal_msg.specs.declared.body.Body.TheVariants as body
 use Rattle.petal_msg.specs.declared.copying.LastCopy.{LastCopy}
@@ -49,13 +50,14 @@ module _ (own : Own) (cell : Cell) (last : LastCopy) (is : last_copy own cell �
   abbrev pub to_put : (number index : ℕ) → number ≤ last.op → (number ≡ last.op → index < last.index) → HasPut (Some own) cell number index
   to_put number index le put = record { past = to_past number le; put = put }
 
-  pub of_last : (holder : Option Own) (number index : ℕ) (row : ℕ × Stored) → HasSent holder (Some own) cell number index row
+  pub of_last : (row : LinkRow) (holder : Option Own) (number index : ℕ) (entry : ℕ × Stored)
+      → HasSent row holder (Some own) cell number index entry
       → number ≡ last.op
-      → IsOfLast holder cell last row.0 index
-  of_last holder number index row h e =
+      → IsOfLast row holder cell last entry.0 index
+  of_last row holder number index entry h e =
       let p = h.trimmed.past in
       let l = same_last p.own p.last p.met p.is in
-      subst (λ (l : LastCopy). IsOfLast holder cell l row.0 index) l (h.of_last (e ∙ ap (λ (l : LastCopy). l.op) (sym l)))
+      subst (λ (l : LastCopy). IsOfLast row holder cell l entry.0 index) l (h.of_last (e ∙ ap (λ (l : LastCopy). l.op) (sym l)))
 
 -- ### Onward
 
@@ -108,27 +110,29 @@ module _ (own to : Own) (cell : Cell) (onward : GoesOnward own to cell) where
       ]
 
   -- an entry is of the copy as before
-  same_entry : (holder : Option Own) (epoch index : ℕ) (last : LastCopy) (g : GoesOn own to cell last)
-      → IsOfLast holder cell last epoch index
-      → IsOfLast holder cell g.now epoch index
-  same_entry holder epoch index last g o = record {
+  same_entry : (row : LinkRow) (holder : Option Own) (epoch index : ℕ) (last : LastCopy) (g : GoesOn own to cell last)
+      → IsOfLast row holder cell last epoch index
+      → IsOfLast row holder cell g.now epoch index
+  same_entry row holder epoch index last g o = record {
     epoch_is = ap (λ epochs. slice_get epochs index) g.epochs_are ∙ o.epoch_is;
     near = (let near = o.near in let more = g.onward in omega arith);
     own = o.own;
     met = o.met;
-    marked = λ e. o.marked (let near = o.near in let more = g.onward in omega arith);
+    left = λ e. o.left (let near = o.near in let more = g.onward in omega arith);
   }
 
-  sent_onward : (holder : Option Own) (number index : ℕ) (row : ℕ × Stored) → HasSent holder (Some own) cell number index row
-      → HasSent holder (Some to) cell number index row
-  sent_onward holder number index row h =
+  sent_onward : (row : LinkRow) (holder : Option Own) (number index : ℕ) (entry : ℕ × Stored)
+      → HasSent row holder (Some own) cell number index entry
+      → HasSent row holder (Some to) cell number index entry
+  sent_onward row holder number index entry h =
       let last = past_last own cell number h.trimmed.past in
       let le = past_of own cell last.0 last.1 number h.trimmed.past in
       elim (onward last.0 last.1) [
         | inl g ↦ (let e = g.op_is in record {
           trimmed = to_trimmed to cell g.now g.is number (omega arith)
               (λ same. g.trimmed (trimmed_of own cell last.0 last.1 number h.trimmed (same ∙ e)));
-          of_last = λ same. same_entry holder row.0 index last.0 g (of_last own cell last.0 last.1 holder number index row h (same ∙ e));
+          of_last = λ same. same_entry row holder entry.0 index last.0 g
+              (of_last own cell last.0 last.1 row holder number index entry h (same ∙ e));
           sent = h.sent;
         })
         | inr n ↦ (let lt = n.newer in record {
@@ -139,21 +143,21 @@ module _ (own to : Own) (cell : Cell) (onward : GoesOnward own to cell) where
       ]
 
   -- what was known of letters of the cell is known later
-  pub stays_told : (holder : Option Own) → StaysTold cell holder (Some own) holder (Some to)
-  stays_told holder (body.Trim number c epochs) e =
-      subst (λ (q : Cell). IsTold holder (Some own) (body.Trim number q epochs) → IsTold holder (Some to) (body.Trim number q epochs))
+  pub stays_told : (row : LinkRow) (holder : Option Own) → StaysTold row cell holder (Some own) holder (Some to)
+  stays_told row holder (body.Trim number c epochs) e =
+      subst (λ (q : Cell). IsTold row holder (Some own) (body.Trim number q epochs) → IsTold row holder (Some to) (body.Trim number q epochs))
       (sym (same_some e))
       (λ told. elim told [ inl past ↦ inl (past_onward number past) | inr asked ↦ inr asked ])
-  stays_told holder (body.Trimmed number c) e =
-      subst (λ (q : Cell). IsTold holder (Some own) (body.Trimmed number q) → IsTold holder (Some to) (body.Trimmed number q))
+  stays_told row holder (body.Trimmed number c) e =
+      subst (λ (q : Cell). IsTold row holder (Some own) (body.Trimmed number q) → IsTold row holder (Some to) (body.Trimmed number q))
       (sym (same_some e))
       (trimmed_onward number)
-  stays_told holder (body.Sync number key version index bytes) e =
-      subst (λ (q : Cell). HasSent holder (Some own) q number index (key.epoch, record { version = version; bytes = bytes })
-      → HasSent holder (Some to) q number index (key.epoch, record { version = version; bytes = bytes })) (sym (same_some e))
-      (sent_onward holder number index (key.epoch, record { version = version; bytes = bytes }))
-  stays_told holder (body.Synced number c index) e =
-      subst (λ (q : Cell). IsTold holder (Some own) (body.Synced number q index) → IsTold holder (Some to) (body.Synced number q index))
+  stays_told row holder (body.Sync number key version index bytes) e =
+      subst (λ (q : Cell). HasSent row holder (Some own) q number index (key.epoch, record { version = version; bytes = bytes })
+      → HasSent row holder (Some to) q number index (key.epoch, record { version = version; bytes = bytes })) (sym (same_some e))
+      (sent_onward row holder number index (key.epoch, record { version = version; bytes = bytes }))
+  stays_told row holder (body.Synced number c index) e =
+      subst (λ (q : Cell). IsTold row holder (Some own) (body.Synced number q index) → IsTold row holder (Some to) (body.Synced number q index))
       (sym (same_some e))
       (put_onward number index)
-  stays_told holder _ e = λ told. tt
+  stays_told row holder _ e = λ told. tt

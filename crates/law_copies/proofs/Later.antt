@@ -1,10 +1,10 @@
 -- Who may have served a cell's link at later fronts of the log: what a server that is at a place may rely on, whatever has been chosen
 -- since.
-use Rattle.std.proofs.Common.{◌≡◌, ◌≤◌, ◌<◌, ◌++◌, ◌==◌, ℕ, List, [], ◌∷◌, Bool, true, false, Some, None, is_some, sym, ap, ◌∙◌, subst, ◌⊎◌, inl, inr, arith}
+use Rattle.std.proofs.Common.{◌≡◌, ◌≤◌, ◌<◌, ◌++◌, ◌==◌, ℕ, List, [], ◌∷◌, Bool, true, false, Some, None, is_some, refl, sym, ap, ◌∙◌, subst, ◌⊎◌, inl, inr, arith}
 use Rattle.std.specs.Option.{option_map_or}
 use Rattle.global_tables.specs.Link.{has_server, other_of}
 use Rattle.global_tables.specs.declared.link.LinkRow.{LinkRow}
-use Rattle.global_tables.specs.declared.link.LinkState.TheVariants.{Both, Only}
+use Rattle.global_tables.specs.declared.link.LinkState.TheVariants.{Both, Lost, Only}
 use Rattle.petal_base.specs.declared.cell.Cell.{Cell}
 use Rattle.petal_command.specs.declared.command.Command.{Command}
 use Rattle.petal_command.specs.declared.command.Command.TheVariants.{Caught}
@@ -14,30 +14,30 @@ use Rattle.petal_state.specs.CellState.{cell_link, serves}
 use Rattle.petal_state.specs.Command.{state_after}
 use Rattle.petal_rules.specs.Server.{Own}
 use Rattle.petal_rules.specs.State.{State, id_of, is_alone_on, is_in}
+use Rattle.petal_rules.specs.Store.{Store}
 use Rattle.petal_rules.specs.World.{Setting, World, chosen_log, server_state}
 use Rattle.petal_rules.proofs.Tests.{by_bool, number_itself, same_numbers, same_some, some_or_none, true_false}
 use Rattle.law_log.specs.Requested.{WasStarted}
 use Rattle.law_state.specs.Firm.{Firm}
-use Rattle.law_state.specs.Places.{IsCaughtIn, StaysSo}
+use Rattle.law_state.specs.Places.{IsCaughtStill, IsHeldStill, StaysSo}
 use Rattle.law_state.specs.Plain.{IsPlainLog}
-use Rattle.law_state.specs.Rows.{ByBoth, ByOne}
+use Rattle.law_state.specs.Rows.{ByBoth, ByNone, ByOne}
 use Rattle.law_state.specs.Started.{is_flagged}
 use Rattle.law_state.specs.Steady.{IsSteady}
 use Rattle.law_state.proofs.Again.{log_alone, log_both_place}
 use Rattle.law_state.proofs.Ages.{up_some}
 use Rattle.law_state.proofs.Alone.{alone_row}
-use Rattle.law_state.proofs.Grown.{alone_not_both}
+use Rattle.law_state.proofs.Grown.{alone_not_both, lost_not_both}
 use Rattle.law_state.proofs.Leaves.{either_true, other_between}
 use Rattle.law_state.proofs.Roles.{primary_is_one, secondary_is_one}
 use Rattle.law_state.proofs.Steady.{front_plain, log_steady}
-use Rattle.law_state.proofs.Touching.{places_grow}
 use Rattle.law_steps.proofs.Fronts.{front_itself, front_more, front_on}
 use Rattle.law_steps.proofs.Minds.{held_as_flag}
 use Rattle.law_steps.proofs.Ties.{stays_alone, stays_both}
 use Rattle.law_copies.specs.Copied.{IsCaught}
 use Rattle.law_copies.specs.Good.{Good}
-use Rattle.law_copies.specs.Visits.{IsLinked, place_by}
-use Rattle.law_copies.proofs.Places.{at_most_or_above, fronts_meet, places_up}
+use Rattle.law_copies.specs.Visits.{IsLinked, place_by, with_stores}
+use Rattle.law_copies.proofs.Places.{at_most_or_above, fronts_meet, one_row, other_later, places_up, rows_later}
 
 -- each Caught that is chosen was started by its holder behind the entries before it
 abbrev pub AllStarted : Setting → List Record → World → Type 0
@@ -48,31 +48,34 @@ AllStarted setting records w = (front : List Command) (of link holder inc other 
 pub same_only : {h k : ℕ} {one other : Bool} → Only h one ≡ Only k other → h ≡ k
 same_only e = cc
 
+pub alone_not_lost : {B : Type 0} {whole : Bool} (row : LinkRow) (holder : ℕ) → row.state ≡ Only holder whole → row.state ≡ Lost → B
+alone_not_lost {whole = whole} row holder e f = let g : Only holder whole ≡ Lost = sym e ∙ f in absurd cc
+
 -- who is told by a state's row to hold a link alone
-only_holder : (state : State) → IsSteady state → (k : ℕ) (cell : Cell) (now : LinkRow) → cell_link state cell ≡ Some now → is_alone_on state k cell ≡ true
-    → now.state ≡ Only k false
-only_holder state steady k cell now there alone =
+only_holder : (state : State) (k : ℕ) (cell : Cell) (now : LinkRow) → cell_link state cell ≡ Some now → is_alone_on state k cell ≡ true
+    → (whole : Bool) × (now.state ≡ Only k whole)
+only_holder state k cell now there alone =
     let a = alone_row state k cell alone in
-    let is_only : now.state ≡ Only k a.whole = ap (λ (r : LinkRow). r.state) (same_some (sym there ∙ a.is)) ∙ a.alone in
-    elim (steady.linked cell now there).served [
-      | ByBoth so one other ↦ let f : Only k a.whole ≡ Both = sym is_only ∙ so in absurd cc
-      | ByOne holder other so pair out ↦ so ∙ ap (λ h. Only h false) (same_only (sym so ∙ is_only))
-    ]
+    (a.whole, ap (λ (r : LinkRow). r.state) (same_some (sym there ∙ a.is)) ∙ a.alone)
 
 -- the holder is one of the link's two servers
-pub holder_is_one : (state : State) → IsSteady state → (holder : ℕ) (cell : Cell) (row : LinkRow) → cell_link state cell ≡ Some row
-    → row.state ≡ Only holder false → has_server holder row ≡ true
+pub holder_is_one : {whole : Bool} (state : State) → IsSteady state → (holder : ℕ) (cell : Cell) (row : LinkRow) → cell_link state cell ≡ Some row
+    → row.state ≡ Only holder whole → has_server holder row ≡ true
 holder_is_one state steady holder cell row is alone = elim (steady.linked cell row is).served [
   | ByBoth so one other ↦ alone_not_both row holder alone so
-  | ByOne h other so pair out ↦ elim pair [
+  | ByOne h other kept so pair out ↦ elim pair [
     | inl at ↦ primary_is_one row holder (at.0 ∙ same_only (sym so ∙ alone))
     | inr at ↦ secondary_is_one row holder (at.1 ∙ same_only (sym so ∙ alone))
   ]
+  | ByNone one other so pair out ↦ alone_not_lost row holder alone so
 ]
 
 -- who serves a link that one server holds alone is the holder
-pub serves_alone : (holder n : ℕ) (row : LinkRow) → row.state ≡ Only holder false → serves n row row.state ≡ true → n ≡ holder
+pub serves_alone : {whole : Bool} (holder n : ℕ) (row : LinkRow) → row.state ≡ Only holder whole → serves n row row.state ≡ true → n ≡ holder
 serves_alone holder n row alone serving = sym (same_numbers holder n (sym (ap (serves n row) alone) ∙ serving))
+
+pub serves_its : {whole : Bool} (holder : ℕ) (row : LinkRow) → row.state ≡ Only holder whole → serves holder row row.state ≡ true
+serves_its holder row alone = ap (serves holder row) alone ∙ number_itself holder
 
 -- the one of the link's two servers that is not the holder
 pub other_than : (holder n : ℕ) (row : LinkRow) → has_server holder row ≡ true → has_server n row ≡ true → (holder == n) ≡ false → other_of holder row ≡ n
@@ -87,7 +90,9 @@ other_than holder n row holds has apart = elim (other_between row holder holds) 
     not_holder : {B : Type 0} → holder ≡ n → B
     not_holder e = true_false (ap (λ k. k == n) e ∙ number_itself n) apart
 
-module _ (setting : Setting) (records : List Record) (w : World) (firm : Firm setting w) (good : Good setting records (chosen_log setting w) w) where
+-- the worlds are those of a legal history, with the stores that count
+module _ (setting : Setting) (records : List Record) (w : World) (stores : ℕ → Store) (firm : Firm setting w)
+    (good : Good setting records (chosen_log setting w) (with_stores w stores)) where
   abbrev chosen : List Command
   chosen = chosen_log setting w
 
@@ -141,11 +146,15 @@ module _ (setting : Setting) (records : List Record) (w : World) (firm : Firm se
   -- ### A link that one server holds alone
 
   -- behind these entries the holder's Caught was started, for which it has the link in mind; and the other server was there
-  pub record IsCaughtUp (front more : List Command) (cell : Cell) (row : LinkRow) (holder : ℕ) : Type 0 where
+  pub record IsCaughtUp (front more : List Command) (cell : Cell) (holder : ℕ) (whole : Bool) : Type 0 where
     pub until : List Command
     pub behind : IsPrefix front until
     pub before : IsPrefix until more
+    pub row : LinkRow
     pub linked : IsLinked setting until cell row
+    pub later : Bool
+    pub alone : row.state ≡ Only holder later
+    pub kept : whole ≡ true → later ≡ true
     pub own : Own
     pub visited : good.visits holder (place_by setting until row) cell ≡ Some own
     pub flagged : is_flagged own (id_of row) ≡ true
@@ -153,55 +162,84 @@ module _ (setting : Setting) (records : List Record) (w : World) (firm : Firm se
     pub met : is_some (good.visits (other_of holder row) (place_by setting until row) cell) ≡ true
 
   module _ (started : AllStarted setting records w) where
-    caught_up : (front more : List Command) (cell : Cell) (row : LinkRow) → IsPrefix more chosen
-        → (c : IsCaughtIn setting.servers front more cell row) → IsCaughtUp front more cell row c.acts.holder
-    caught_up front more cell row two c =
+    caught_up : (front more : List Command) (cell : Cell) (row : LinkRow) (holder : ℕ) (whole : Bool) → IsPrefix more chosen
+        → IsCaughtStill setting.servers front more cell row holder whole → IsCaughtUp front more cell holder whole
+    caught_up front more cell row holder whole two still =
+        let c = still.found in
+        let was : LinkRow = record row { state = Only holder still.later } in
         let acts = c.acts in
+        let holder_is : acts.holder ≡ holder = same_only (sym acts.alone) in
         let stands = front_on (c.until ++ c.entry ∷ []) more chosen c.stands two in
         let until_chosen = front_on c.until (c.until ++ c.entry ∷ []) chosen (front_more c.until c.entry) stands in
-        let told = started c.until row.map row.link acts.holder acts.inc (other_of acts.holder row) acts.other_inc
+        let told = started c.until was.map was.link acts.holder acts.inc (other_of acts.holder was) acts.other_inc
         (subst (λ (x : Command). IsPrefix (c.until ++ x ∷ []) chosen) acts.is stands) in
-        let mind = good.started acts.holder acts.inc c.until cell row until_chosen c.was acts.alone acts.holds told in
-        let copying = (good.alone c.until cell row acts.holder until_chosen c.was acts.alone).copying in
+        let mind = good.started acts.holder acts.inc acts.whole c.until cell was until_chosen c.was acts.alone acts.holds told in
+        let copying = (good.alone c.until cell was acts.holder acts.whole until_chosen c.was acts.alone).copying in
         let caught = copying.caught mind.0 mind.1 mind.2 in
         record {
           until = c.until;
           behind = c.behind;
           before = front_on c.until (c.until ++ c.entry ∷ []) more (front_more c.until c.entry) c.stands;
+          row = was;
           linked = c.was;
+          later = still.later;
+          alone = refl;
+          kept = still.kept;
           own = mind.0;
-          visited = mind.1;
+          visited = subst (λ n. good.visits n (place_by setting c.until was) cell ≡ Some mind.0) holder_is mind.1;
           flagged = mind.2;
           caught = caught;
-          met = copying.met mind.0 mind.1 (inl caught.paged);
+          met = subst (λ n. is_some (good.visits (other_of n was) (place_by setting c.until was) cell) ≡ true) holder_is
+              (copying.met mind.0 mind.1 (inl caught.paged));
         }
 
-    -- at each later front its holder has it alone still, or the holder was done with it before it was in Both again
-    pub alone_since : (front more : List Command) (cell : Cell) (row now : LinkRow) (holder : ℕ) → IsPrefix front more → IsPrefix more chosen
-        → IsLinked setting front cell row → row.state ≡ Only holder false → IsLinked setting more cell now
-        → (now.state ≡ Only holder false) ⊎ IsCaughtUp front more cell row holder
-    alone_since front more cell row now holder one two is alone end =
-        elim (log_alone setting.servers front more (plain_at more two) one cell row now holder is alone end) [
+    -- at each later front its holder has it alone still, or it is Lost, or the holder was done with it before it was in Both again
+    pub alone_since : (front more : List Command) (cell : Cell) (row now : LinkRow) (holder : ℕ) (whole : Bool) → IsPrefix front more → IsPrefix more chosen
+        → IsLinked setting front cell row → row.state ≡ Only holder whole → IsLinked setting more cell now
+        → IsHeldStill holder whole now.state ⊎ (now.state ≡ Lost) ⊎ IsCaughtUp front more cell holder whole
+    alone_since front more cell row now holder whole one two is alone end =
+        elim (log_alone setting.servers front more (plain_at more two) one cell row now holder whole is alone end) [
           | inl same ↦ inl same
-          | inr c ↦ inr (subst (IsCaughtUp front more cell row) (same_only (sym c.acts.alone ∙ alone)) (caught_up front more cell row two c))
+          | inr (inl lost) ↦ inr (inl lost.0)
+          | inr (inr c) ↦ inr (inr (caught_up front more cell row holder whole two c))
+        ]
+
+    -- the holder started its ballot at a place at which the other server was
+    not_later : (front more : List Command) (cell : Cell) (row : LinkRow) (holder : ℕ) (whole : Bool) → IsPrefix front chosen → IsPrefix more chosen
+        → IsLinked setting front cell row → (u : IsCaughtUp front more cell holder whole)
+        → ((place : ℕ) → place_by setting front row < place → good.visits (other_of holder row) place cell ≡ None)
+        → place_by setting u.until u.row ≡ place_by setting front row
+    not_later front more cell row holder whole one two is u unseen =
+        let until_chosen = front_on u.until more chosen u.before two in
+        let up = places_up setting chosen firm.plain front u.until cell row u.row u.behind until_chosen is u.linked in
+        elim (at_most_or_above (place_by setting u.until u.row) (place_by setting front row)) [
+          | inl le ↦ omega arith
+          | inr lt ↦ (
+              let so = rows_later setting chosen firm.plain front u.until cell row u.row u.behind until_chosen is u.linked in
+              true_false u.met (ap is_some (ap (λ n. good.visits n (place_by setting u.until u.row) cell) (other_later row u.row holder so)
+              ∙ unseen (place_by setting u.until u.row) lt)))
         ]
 
     -- where the other server was at no later place, the holder was done with it at this one
-    pub alone_or_flagged : (front more : List Command) (cell : Cell) (row now : LinkRow) (holder : ℕ) → IsPrefix front more → IsPrefix more chosen
-        → IsLinked setting front cell row → row.state ≡ Only holder false → IsLinked setting more cell now
+    pub alone_or_flagged : (front more : List Command) (cell : Cell) (row now : LinkRow) (holder : ℕ) (whole : Bool) → IsPrefix front more → IsPrefix more chosen
+        → IsLinked setting front cell row → row.state ≡ Only holder whole → IsLinked setting more cell now
         → ((place : ℕ) → place_by setting front row < place → good.visits (other_of holder row) place cell ≡ None)
-        → (now.state ≡ Only holder false)
+        → IsHeldStill holder whole now.state ⊎ (now.state ≡ Lost)
         ⊎ ((own : Own) × (good.visits holder (place_by setting front row) cell ≡ Some own) × (is_flagged own (id_of row) ≡ true))
-    alone_or_flagged front more cell row now holder one two is alone end unseen =
-        elim (alone_since front more cell row now holder one two is alone end) [
+    alone_or_flagged front more cell row now holder whole one two is alone end unseen =
+        elim (alone_since front more cell row now holder whole one two is alone end) [
           | inl same ↦ inl same
-          | inr u ↦ elim (at_most_or_above (place_by setting u.until row) (place_by setting front row)) [
-            | inl le ↦ (
-                let up = places_grow setting.servers front u.until row u.behind in
-                let same : place_by setting u.until row ≡ place_by setting front row = omega arith in
-                inr (u.own, subst (λ place. good.visits holder place cell ≡ Some u.own) same u.visited, u.flagged))
-            | inr lt ↦ true_false u.met (ap is_some (unseen (place_by setting u.until row) lt))
-          ]
+          | inr (inl lost) ↦ inr (inl lost)
+          | inr (inr u) ↦ (
+              let one_chosen = front_on front more chosen one two in
+              let until_chosen = front_on u.until more chosen u.before two in
+              let same = not_later front more cell row holder whole one_chosen two is u unseen in
+              let same_row = one_row setting chosen firm.plain front u.until cell row u.row one_chosen until_chosen is u.linked (sym same) in
+              inr (inr (
+                u.own,
+                subst (λ place. good.visits holder place cell ≡ Some u.own) same u.visited,
+                ap (λ (r : LinkRow). is_flagged u.own (id_of r)) (sym same_row) ∙ u.flagged,
+              )))
         ]
 
   -- ### What a server that is at its own place may rely on
@@ -221,32 +259,22 @@ module _ (setting : Setting) (records : List Record) (w : World) (firm : Firm se
               ∙ log_both_place setting.servers (own_front k) more (plain_at more two) one cell row inc.0 other.0 is both inc.1 other.1
               (ap (λ o. option_map_or (λ present. present == inc.0) o false) stays.primary ∙ inc.1)
               (ap (λ o. option_map_or (λ present. present == other.0) o false) stays.secondary ∙ other.1))
-          | ByOne holder other so pair out ↦ alone_not_both row holder so both
+          | ByOne holder other whole so pair out ↦ alone_not_both row holder so both
+          | ByNone one other so pair out ↦ lost_not_both row so both
         ]
 
     -- a link in Both is at the same place at each later front, or the server holds it alone
     pub both_since : row.state ≡ Both → has_server k row ≡ true → (more : List Command) (now : LinkRow) → IsPrefix (own_front k) more → IsPrefix more chosen
-        → IsLinked setting more cell now → (place_by setting more now ≡ place_by setting (own_front k) row) ⊎ (now.state ≡ Only k false)
+        → IsLinked setting more cell now → (place_by setting more now ≡ place_by setting (own_front k) row) ⊎ ((whole : Bool) × (now.state ≡ Only k whole))
     both_since both has more now one two end =
         elim (stays_both setting w firm k runs (own_front k) more (front_itself (own_front k)) one two seat cell row is has (ap (serves k row) both ∙ has) both) [
           | inl stays ↦ inl (still_both more now both one two stays end)
-          | inr alone ↦ inr (only_holder (state_after setting.servers more) (steady_at more two) k cell now end alone)
-        ]
-
-    -- one that the server holds alone it holds so still, or it was done with it
-    pub holds_since : row.state ≡ Only k false → (more : List Command) (now : LinkRow) → IsPrefix (own_front k) more → IsPrefix more chosen
-        → IsLinked setting more cell now → (now.state ≡ Only k false) ⊎ (is_flagged (w.servers k).own (id_of row) ≡ true)
-    holds_since alone more now one two end =
-        let has = holder_is_one (server_state setting w k) (steady_at (own_front k) (firm.servers k)) k cell row is alone in
-        elim (stays_alone setting w firm k runs (own_front k) more (front_itself (own_front k)) one two seat cell row is has
-        (ap (serves k row) alone ∙ number_itself k) alone) [
-          | inl on ↦ inl (only_holder (state_after setting.servers more) (steady_at more two) k cell now end on)
-          | inr own ↦ inr (sym (held_as_flag (server_state setting w k) (w.servers k).own cell row is) ∙ own.proposed)
+          | inr alone ↦ inr (only_holder (state_after setting.servers more) k cell now end alone)
         ]
 
     -- no server that serves the link has been at a later place, where each later front is at this one, or the server serves it alone
     last_by : {B : Type 0} → ((more : List Command) (now : LinkRow) → IsPrefix (own_front k) more → IsPrefix more chosen → IsLinked setting more cell now
-        → (place_by setting more now ≡ place_by setting (own_front k) row) ⊎ (now.state ≡ Only k false) ⊎ B)
+        → (place_by setting more now ≡ place_by setting (own_front k) row) ⊎ ((whole : Bool) × (now.state ≡ Only k whole)) ⊎ B)
         → (good.reached cell ≤ place_by setting (own_front k) row) ⊎ B
     last_by since = elim (good.reaching.by cell) [
       | inl none ↦ inl (omega (arith, none))
@@ -258,7 +286,7 @@ module _ (setting : Setting) (records : List Record) (w : World) (firm : Firm se
         | inr p ↦ elim (since r.front r.row p r.prefix r.linked) [
           | inl same ↦ let at = r.at in inl (omega arith)
           | inr (inl alone) ↦ inl (been_below k (good.reached cell) cell r.own row
-              (subst (λ n. good.visits n (good.reached cell) cell ≡ Some r.own) (serves_alone k r.server r.row alone r.serving) r.visited) is)
+              (subst (λ n. good.visits n (good.reached cell) cell ≡ Some r.own) (serves_alone k r.server r.row alone.1 r.serving) r.visited) is)
           | inr (inr other) ↦ inr other
         ]
       ]
@@ -271,6 +299,33 @@ module _ (setting : Setting) (records : List Record) (w : World) (firm : Firm se
         either_left (inl a) = a
         either_left (inr never) = absurd never
 
-    pub alone_last : row.state ≡ Only k false
-        → (good.reached cell ≤ place_by setting (own_front k) row) ⊎ (is_flagged (w.servers k).own (id_of row) ≡ true)
-    alone_last alone = last_by (λ more now one two end. inr (holds_since alone more now one two end))
+    module _ (started : AllStarted setting records w) where
+      -- one that the server holds alone it holds so still, or it was done with it
+      pub holds_since : (whole : Bool) → row.state ≡ Only k whole → (more : List Command) (now : LinkRow) → IsPrefix (own_front k) more → IsPrefix more chosen
+          → IsLinked setting more cell now → IsHeldStill k whole now.state ⊎ (is_flagged (w.servers k).own (id_of row) ≡ true)
+      holds_since whole alone more now one two end =
+          let has = holder_is_one (server_state setting w k) (steady_at (own_front k) (firm.servers k)) k cell row is alone in
+          elim (stays_alone setting w firm k runs (own_front k) more (front_itself (own_front k)) one two seat cell row is has (serves_its k row alone) whole alone) [
+            | inl on ↦ elim (alone_since started (own_front k) more cell row now k whole one two is alone end) [
+              | inl same ↦ inl same
+              | inr (inl lost) ↦ alone_not_lost now k (only_holder (state_after setting.servers more) k cell now end on).1 lost
+              | inr (inr u) ↦ (
+                  let until_chosen = front_on u.until more chosen u.before two in
+                  let up = places_up setting chosen firm.plain (own_front k) u.until cell row u.row u.behind until_chosen is u.linked in
+                  let most = been_below k (place_by setting u.until u.row) cell u.own row u.visited is in
+                  let same : place_by setting u.until u.row ≡ place_by setting (own_front k) row = omega arith in
+                  let one_is : u.row ≡ row =
+                  one_row setting chosen firm.plain (own_front k) u.until cell row u.row (firm.servers k) until_chosen is u.linked (sym same) in
+                  let here = good.here k cell row is seat in
+                  let mine : u.own ≡ here.own = same_some (sym u.visited ∙ ap (λ p. good.visits k p cell) same ∙ here.is) in
+                  inr (ap (λ (o : Own). is_flagged o (id_of row)) (sym here.same ∙ sym mine) ∙ ap (λ (r : LinkRow). is_flagged u.own (id_of r)) (sym one_is) ∙ u.flagged))
+            ]
+            | inr own ↦ inr (sym (held_as_flag (server_state setting w k) (w.servers k).own cell row is) ∙ own.proposed)
+          ]
+
+      pub alone_last : (whole : Bool) → row.state ≡ Only k whole
+          → (good.reached cell ≤ place_by setting (own_front k) row) ⊎ (is_flagged (w.servers k).own (id_of row) ≡ true)
+      alone_last whole alone = last_by (λ more now one two end. elim (holds_since whole alone more now one two end) [
+        | inl still ↦ inr (inl (still.0, still.1))
+        | inr flagged ↦ inr (inr flagged)
+      ])

@@ -1,10 +1,11 @@
 -- What is left to copy of a link, by what the holder has marked and under way.
-use Rattle.std.proofs.Common.{cond, ◌≡◌, ◌≤◌, ◌==◌, ◌&&◌, ℕ, true, false, List, [], ◌∷◌, Option, Some, None, refl, sym, ap, ◌∙◌, subst, inl, inr, arith}
-use Rattle.std.specs.Prelude.{filter, is_some, nat_lt, if◌then◌else◌}
+use Rattle.std.proofs.Common.{cond, ◌≡◌, ◌≢◌, ◌≤◌, ◌⊎◌, ◌==◌, ◌&&◌, ℕ, true, false, List, [], ◌∷◌, Option, Some, None, refl, sym, ap, ◌∙◌, subst, inl, inr, arith}
+use Rattle.std.specs.Prelude.{filter, is_some, nat_lt, unwrap_or, if◌then◌else◌}
 use Rattle.std.specs.List.{list_any}
 use Rattle.std.specs.Option.{option_map_or}
 use Rattle.std.specs.Map.{lookup}
 use Rattle.std.specs.BTreeMap.{is_at}
+use Rattle.std.specs.Cmp.{tied_itself}
 use Rattle.std.specs.Ordering.{is_eq}
 use Rattle.std.specs.declared.cmp.Ordering.{Ordering}
 use Rattle.std.specs.declared.cmp.Ordering.TheVariants.{Less, Equal, Greater}
@@ -23,16 +24,16 @@ use Rattle.petal_msg.specs.declared.copying.NextCopy.TheVariants.{Ask, Block, Wa
 use Rattle.petal_msg.specs.declared.operation.Pending.{Pending}
 use Rattle.petal_state.specs.CellState.{cell_link}
 use Rattle.petal_table.specs.Table.{Table, at}
-use Rattle.petal_history.specs.Claims.{IsMarked}
+use Rattle.petal_history.specs.Claims.{IsMarked, IsToBeCopied}
 use Rattle.petal_rules.specs.Copies.{blocks_left, cell_at, is_link_under_way, least, marked_blocks, next_block, next_copy, stored_blocks}
 use Rattle.petal_rules.specs.Lists.{In}
 use Rattle.petal_rules.specs.Progress.{copying_on, progress_on}
 use Rattle.petal_rules.specs.Server.{Own}
 use Rattle.petal_rules.specs.State.{State, is_on, is_whole, link_named}
-use Rattle.petal_rules.specs.Store.{Store, cell_cmp, is_marked, mark_on}
+use Rattle.petal_rules.specs.Store.{Chain, Store, cell_cmp, chain_in, is_marked, mark_on}
 use Rattle.petal_rules.specs.Writes.{is_under_way, pending_on}
-use Rattle.petal_rules.proofs.CellTables.{cell_cmp_same}
-use Rattle.petal_rules.proofs.ListLemmas.{in-append, in_former}
+use Rattle.petal_rules.proofs.CellTables.{cell_cmp_same, cell_cmp_total}
+use Rattle.petal_rules.proofs.ListLemmas.{in-append, in_former, in_later}
 use Rattle.petal_rules.proofs.Tests.{by_bool, by_test, none_some, number_itself, same_some, some_or_none, true_false}
 use Rattle.law_state.proofs.Links.{either_false, in_map}
 use Rattle.law_steps.proofs.Resting.{among_least, cell_left, in_none, on_row, same_cell}
@@ -138,6 +139,17 @@ cell_in {X} (e ∷ es) cell x is = by_bool (is_eq (cell_cmp cell e.0))
     inl (λ i. (same i, sym value i)))
     (λ f. inr (cell_in es cell x (sym (ap (λ b. cond b (Some e.1) (lookup (is_at (cell_cmp cell)) es)) f) ∙ is)))
 
+-- and a row stands at its cell
+in_found : {X : Type 0} (t : Table Cell X) (e : Cell × X) → In e t → is_some (at cell_cmp t e.0) ≡ true
+unfolding In at
+in_found [] e i = absurd i
+in_found {X} (d ∷ ds) e i = by_bool (is_eq (cell_cmp e.0 d.0))
+    (λ t. ap (λ b. is_some (cond b (Some d.1) (lookup (is_at (cell_cmp e.0)) ds))) t)
+    (λ f. ap (λ b. is_some (cond b (Some d.1) (lookup (is_at (cell_cmp e.0)) ds))) f ∙ elim i [
+      | inl same ↦ true_false (ap (λ (x : Cell × X). is_eq (cell_cmp e.0 x.0)) (sym same) ∙ ap is_eq (tied_itself cell_cmp_total e.0)) f
+      | inr j ↦ in_found ds e j
+    ])
+
 -- a table of which no row is of a cell of the link has nothing of such a cell
 none_on : {X : Type 0} (state : State) (row : LinkRow) (t : Table Cell X) (cell : Cell)
     → list_any (λ (r : Cell × X). is_on state row r.0) t ≡ false
@@ -147,31 +159,79 @@ none_on {X} state row t cell none on = elim (some_or_none (at cell_cmp t cell)) 
   | inr gone ↦ gone
 ]
 
+-- ### Stored blocks
+
+-- a cell of the link that has an entry is one of its stored blocks
+among_stored : (state : State) (row : LinkRow) (own : Own) (cell : Cell) → is_on state row cell ≡ true → chain_in own.store.chains cell ≢ []
+    → In cell.block (stored_blocks state row own)
+among_stored state row own cell on stored = elim (some_or_none (at cell_cmp own.store.chains cell)) [
+  | inl there ↦ in_mapped (λ (chain : Cell × Chain). chain.0.block) (filter (λ chain. is_on state row chain.0) own.store.chains) (cell, there.0)
+      (in_kept (λ (chain : Cell × Chain). is_on state row chain.0) own.store.chains (cell, there.0)
+      (cell_in own.store.chains cell there.0 there.1) on)
+  | inr none ↦ absurd (stored (ap (λ o. unwrap_or {T = Chain} o []) none))
+]
+
+-- a stored block of the link has a chain
+stored_on : (state : State) (id : LinkId) (row : LinkRow) (own : Own) (block : ℕ) → link_named state id ≡ Some row
+    → In block (stored_blocks state row own) → is_some (at cell_cmp own.store.chains (cell_at row block)) ≡ true
+stored_on state id row own block named i =
+    let m = in_map (λ (chain : Cell × Chain). chain.0.block) (filter (λ chain. is_on state row chain.0) own.store.chains) block i in
+    let left = in_left (λ (chain : Cell × Chain). is_on state row chain.0) own.store.chains m.0 m.1 in
+    let there = on_row state id row named m.0.0 left.1 in
+    let same : m.0.0 ≡ cell_at row block = λ j. record { map = there.1 j; block = sym m.2 j } in
+    ap (λ c. is_some (at cell_cmp own.store.chains c)) (sym same) ∙ in_found own.store.chains m.0 left.0
+
+-- where all is to be copied, each of them above what was copied is left
+left_stored : (state : State) (row : LinkRow) (own : Own) (block : ℕ) → is_whole row.state ≡ true
+    → above (progress_on own row).copied block ≡ true
+    → In block (stored_blocks state row own) → In block (blocks_left state row own)
+left_stored state row own block whole past i = in_later block (marked_blocks state row own) _
+    (subst (λ (xs : List ℕ). In block xs)
+    (ap (λ b. if b then filter (above (progress_on own row).copied) (stored_blocks state row own) else []) (sym whole))
+    (in_kept (above (progress_on own row).copied) (stored_blocks state row own) block i past))
+
 -- ### The next copy
 
--- the cell whose copy begins next: nothing is under way on it, and it is marked, but where all that the holder has is copied
+-- the block has a chain, all is to be copied, and it is above what was copied
+pub record IsStored (row : LinkRow) (own : Own) (cell : Cell) : Type 0 where
+  pub whole : is_whole row.state ≡ true
+  pub stored : is_some (at cell_cmp own.store.chains cell) ≡ true
+  pub past : above (progress_on own row).copied cell.block ≡ true
+
+-- the cell whose copy begins next: nothing is under way on it, it is left to copy, and none below it is
 pub record IsNext (state : State) (row : LinkRow) (own : Own) (cell : Cell) : Type 0 where
   pub is : cell_link state cell ≡ Some row
   pub paged : (progress_on own row).paged ≡ true
   pub free : pending_on own cell ≡ None
   pub idle : copying_on own cell ≡ None
-  pub marked : is_whole row.state ≡ false → IsMarked own.store cell
+  pub left : IsMarked own.store cell ⊎ IsStored row own cell
+  pub least : (block : ℕ) → In block (blocks_left state row own) → cell.block ≤ block
 
--- nothing is left: the pages are done, and nothing of the link is marked or under way
+-- nothing is left: the pages are done, and nothing of the link is marked, to be copied or under way
 pub record IsDone (state : State) (row : LinkRow) (own : Own) (cell : Cell) : Type 0 where
   pub paged : (progress_on own row).paged ≡ true
   pub free : pending_on own cell ≡ None
   pub idle : copying_on own cell ≡ None
   pub unmarked : IsMarked own.store cell → ⊥
+  pub copied : IsToBeCopied row own.store cell → above (progress_on own row).copied cell.block ≡ true → ⊥
 
 module _ (state : State) (id : LinkId) (row : LinkRow) (own : Own) (named : link_named state id ≡ Some row) where
-  among_left : (block : ℕ) → is_whole row.state ≡ false → In block (blocks_left state row own) → In block (marked_blocks state row own)
-  among_left block not_whole i =
-      elim (in-append block (marked_blocks state row own) _ i) [
-        | inl marked ↦ marked
-        | inr stored ↦ in_none block (subst (λ (xs : List ℕ). In block xs)
-            (ap (λ b. if b then filter (above (progress_on own row).copied) (stored_blocks state row own) else []) not_whole) stored)
-      ]
+  left_so : (block : ℕ) → In block (blocks_left state row own)
+      → IsMarked own.store (cell_at row block) ⊎ IsStored row own (cell_at row block)
+  left_so block i = elim (in-append block (marked_blocks state row own) _ i) [
+    | inl marked ↦ inl (marked_on state id row own block named marked).marked
+    | inr stored ↦ inr (by_test
+        (λ (xs : List ℕ). is_whole row.state ≡ true → In block xs → IsStored row own (cell_at row block)) (is_whole row.state)
+        (filter (above (progress_on own row).copied) (stored_blocks state row own)) []
+        (λ t whole j.
+        let two = in_left (above (progress_on own row).copied) (stored_blocks state row own) block j in
+        record { whole = whole; stored = stored_on state id row own block named two.0; past = two.1 })
+        (λ f whole j. true_false whole f) (is_stored stored) stored)
+  ]
+    where
+      is_stored : In block (if is_whole row.state then filter (above (progress_on own row).copied) (stored_blocks state row own) else [])
+          → is_whole row.state ≡ true
+      is_stored = by_test (λ (xs : List ℕ). In block xs → is_whole row.state ≡ true) (is_whole row.state) _ _ (λ t j. t) (λ f j. in_none block j)
 
   next_at : (progress_on own row).paged ≡ true → (block : ℕ) → least (blocks_left state row own) ≡ Some block
       → is_under_way own (cell_at row block) ≡ false → IsNext state row own (cell_at row block)
@@ -183,7 +243,12 @@ module _ (state : State) (id : LinkId) (row : LinkRow) (own : Own) (named : link
         paged = paged;
         free = two.0;
         idle = two.1;
-        marked = λ not_whole. (marked_on state id row own block named (among_left block not_whole i)).marked;
+        left = left_so block i;
+        least = λ other j.
+            let first = least_below (blocks_left state row own) other j in
+            let same : block ≡ first.0 = same_some (sym is ∙ first.1) in
+            let le = first.2 in
+            omega arith;
       }
 
   next_block_is : (progress_on own row).paged ≡ true → (o : Option ℕ) → least (blocks_left state row own) ≡ o → (cell : Cell)
@@ -204,6 +269,12 @@ module _ (state : State) (id : LinkId) (row : LinkRow) (own : Own) (named : link
       (λ paged e. next_block_is paged (least (blocks_left state row own)) refl cell e) (λ f e. let g : Ask ≡ Block cell = e in absurd cc)
 
   module _ (cell : Cell) (is : cell_link state cell ≡ Some row) where
+    -- a block of all that are to be copied is left
+    pub to_be_copied_left : IsToBeCopied row own.store cell → above (progress_on own row).copied cell.block ≡ true
+        → In cell.block (blocks_left state row own)
+    to_be_copied_left all past = left_stored state row own cell.block all.whole past
+        (among_stored state row own cell (on_itself state row cell is) all.stored)
+
     done_at : (progress_on own row).paged ≡ true → least (blocks_left state row own) ≡ None → is_link_under_way state row own ≡ false
         → IsDone state row own cell
     done_at paged none unused =
@@ -218,6 +289,7 @@ module _ (state : State) (id : LinkId) (row : LinkRow) (own : Own) (named : link
               let least_is = least_below (blocks_left state row own) cell.block
               (in_former cell.block _ _ (among_marked state row own cell on marked)) in
               none_some none least_is.1;
+          copied = λ all past. none_some none (least_below (blocks_left state row own) cell.block (to_be_copied_left all past)).1;
         }
 
     done_by : (progress_on own row).paged ≡ true → (o : Option ℕ) → least (blocks_left state row own) ≡ o

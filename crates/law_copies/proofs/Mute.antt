@@ -8,13 +8,14 @@ use Rattle.petal_msg.specs.Kinds.{Subject, is_asked, is_logged, subject_of, Logg
 use Rattle.petal_msg.specs.declared.body.Body.{Body}
 use Rattle.petal_msg.specs.declared.body.Body.TheVariants as body
 use Rattle.petal_rules.specs.Server.{Own}
-use Rattle.petal_rules.specs.World.{Setting, World}
+use Rattle.petal_rules.specs.Store.{Store}
+use Rattle.petal_rules.specs.World.{Setting}
 use Rattle.petal_rules.proofs.Tests.{true_false}
 use Rattle.law_steps.specs.Happens.{is_between}
 use Rattle.law_copies.specs.Copied.{IsTold}
 use Rattle.law_copies.specs.Good.{SaidOk, pair_at}
 use Rattle.law_copies.specs.Pair.{Known, Pair}
-use Rattle.law_copies.specs.Visits.{Visits, place_by}
+use Rattle.law_copies.specs.Visits.{Visits, place_by, store_by}
 
 pub known_mute : (pair : Pair) (said : Body) → is_between (subject_of said) ≡ false → Known pair said
 known_mute pair (body.Reserve number cell) e = cc
@@ -24,25 +25,25 @@ known_mute pair (body.Replicate number key version bytes) e = cc
 known_mute pair (body.Replicated number cell) e = cc
 known_mute pair _ e = tt
 
-pub told_mute : (holder other : Option Own) (said : Body) → is_between (subject_of said) ≡ false → IsTold holder other said
-told_mute holder other (body.Trim number cell epochs) e = cc
-told_mute holder other (body.Trimmed number cell) e = cc
-told_mute holder other (body.Sync number key version index bytes) e = cc
-told_mute holder other (body.Synced number cell index) e = cc
-told_mute holder other _ e = tt
+pub told_mute : (row : LinkRow) (holder other : Option Own) (said : Body) → is_between (subject_of said) ≡ false → IsTold row holder other said
+told_mute row holder other (body.Trim number cell epochs) e = cc
+told_mute row holder other (body.Trimmed number cell) e = cc
+told_mute row holder other (body.Sync number key version index bytes) e = cc
+told_mute row holder other (body.Synced number cell index) e = cc
+told_mute row holder other _ e = tt
 
 -- a page is no such letter
 pub no_page : {B : Type 0} (said : Body) → is_between (subject_of said) ≡ false → (map link : ℕ) (after block : Option ℕ) → said ≡ body.Hello map link after block → B
 no_page said e map link after block is = true_false (ap (λ (b : Body). is_between (subject_of b)) is) e
 
-pub said_mute : (setting : Setting) (top : List Command) (w : World) (visits : Visits) (reached : Cell → ℕ) (front : List Command) (said : Body) (cell : Cell)
-    (row : LinkRow) → is_between (subject_of said) ≡ false → SaidOk setting top w visits reached front said cell row
-said_mute setting top w visits reached front said cell row e = record {
-  both = λ both last of. known_mute (pair_at w visits (place_by setting front row) cell row.primary row.secondary) said e;
-  alone = λ holder alone of.
-      told_mute (visits holder (place_by setting front row) cell) (visits (other_of holder row) (place_by setting front row) cell) said e;
-  page = λ holder after block alone is last. no_page said e row.map row.link after block is;
-  met = λ holder after block alone is. no_page said e row.map row.link after block is;
+pub said_mute : (setting : Setting) (top : List Command) (stores : ℕ → ℕ → Store) (visits : Visits) (reached : Cell → ℕ) (front : List Command) (said : Body) (cell : Cell)
+    (row : LinkRow) → is_between (subject_of said) ≡ false → SaidOk setting top stores visits reached front said cell row
+said_mute setting top stores visits reached front said cell row e = record {
+  both = λ both last of. known_mute (pair_at (store_by setting stores front) visits (place_by setting front row) cell row.primary row.secondary) said e;
+  alone = λ holder whole alone of.
+      told_mute row (visits holder (place_by setting front row) cell) (visits (other_of holder row) (place_by setting front row) cell) said e;
+  page = λ holder whole after block alone is last. no_page said e row.map row.link after block is;
+  met = λ holder whole after block alone is. no_page said e row.map row.link after block is;
 }
 
 -- what clients send, and what speaks of the agreed log

@@ -30,7 +30,7 @@ use Rattle.law_steps.proofs.Letters.{one_post, posted}
 use Rattle.law_steps.proofs.Staged.{same_cell_or_apart}
 use Rattle.law_steps.proofs.Subjects.{of_read, of_second}
 use Rattle.law_copies.specs.Copied.{AreCopying, IsPage, IsTold, IsUpTo}
-use Rattle.law_copies.specs.Steps.{IsFollowing, IsMarkedBy, KeepsCell, OtherKeeps, StaysTold}
+use Rattle.law_copies.specs.Steps.{IsFollowing, IsLeftBy, KeepsCell, OtherKeeps, StaysTold}
 use Rattle.law_copies.proofs.Apart.{away}
 use Rattle.law_copies.proofs.Following as following
 use Rattle.law_copies.proofs.Frames.{keeps_itself}
@@ -43,55 +43,55 @@ use Rattle.law_copies.proofs.Standing.{IsHeldHere, IsOtherOf, alone_not_row, alo
 use Rattle.law_copies.proofs.Working.{Away, holder_beside, holder_cell, lead_beside, lead_cell, lead_leads, other_beside, other_cell, second_beside, second_follows}
 
 -- what a job keeps of the cell, but for pages and for the order of its epochs
-record KeepsHere (row : LinkRow) (cell : Cell) (vh : Option Own) (own : Own) (done : Done) : Type 0 where
-  copying : AreCopying row cell vh (Some done.own)
-  told : StaysTold cell vh (Some own) vh (Some done.own)
-  says : (post : Post) → In post done.posts → (about post.body).cell ≡ Some cell → IsTold vh (Some done.own) post.body
+record KeepsHere (links : ℕ) (row : LinkRow) (cell : Cell) (vh : Option Own) (own : Own) (done : Done) : Type 0 where
+  copying : AreCopying links row cell vh (Some done.own)
+  told : StaysTold row cell vh (Some own) vh (Some done.own)
+  says : (post : Post) → In post done.posts → (about post.body).cell ≡ Some cell → IsTold row vh (Some done.own) post.body
   marks : (kind : MarkKind) → is_marked done.own.store kind cell ≡ is_marked own.store kind cell
-  changes : (chain_in done.own.store.chains cell ≡ chain_in own.store.chains cell) ⊎ IsMarkedBy vh cell
+  changes : (chain_in done.own.store.chains cell ≡ chain_in own.store.chains cell) ⊎ IsLeftBy row vh cell
 
-kept_here : (row : LinkRow) (cell : Cell) (vh : Option Own) (own : Own) (old : AreCopying row cell vh (Some own)) (done : Done)
+kept_here : (links : ℕ) (row : LinkRow) (cell : Cell) (vh : Option Own) (own : Own) (old : AreCopying links row cell vh (Some own)) (done : Done)
     → KeepsCell cell own done.own
-    → ((post : Post) → In post done.posts → (about post.body).cell ≡ Some cell → IsTold vh (Some done.own) post.body)
-    → KeepsHere row cell vh own done
-kept_here row cell vh own old done k says = record {
-  copying = following.kept_copying row cell vh own old done.own k.rest;
-  told = following.kept_told row cell vh own old done.own k.rest;
+    → ((post : Post) → In post done.posts → (about post.body).cell ≡ Some cell → IsTold row vh (Some done.own) post.body)
+    → KeepsHere links row cell vh own done
+kept_here links row cell vh own old done k says = record {
+  copying = following.kept_copying links row cell vh own old done.own k.rest;
+  told = following.kept_told links row cell vh own old done.own k.rest;
   says = says;
   marks = k.marks;
   changes = inl k.rest.chain;
 }
 
 -- the last copy does its next step, where it was remembered in this job or before
-trims_here : (row : LinkRow) (cell : Cell) (vh : Option Own) (own now : Own) → now.store ≡ own.store
-    → (copying : AreCopying row cell vh (Some now))
-    → StaysTold cell vh (Some own) vh (Some now) → (last : LastCopy) → last_copy now cell ≡ Some last → (holder : ℕ) (done : Done)
-    → TrimStep now cell last holder done → KeepsHere row cell vh own done
-trims_here row cell vh own now same copying told last is holder _ (Is_trimmed none) = record {
+trims_here : (links : ℕ) (row : LinkRow) (cell : Cell) (vh : Option Own) (own now : Own) → now.store ≡ own.store
+    → (copying : AreCopying links row cell vh (Some now))
+    → StaysTold row cell vh (Some own) vh (Some now) → (last : LastCopy) → last_copy now cell ≡ Some last → (holder : ℕ) (done : Done)
+    → TrimStep now cell last holder done → KeepsHere links row cell vh own done
+trims_here links row cell vh own now same copying told last is holder _ (Is_trimmed none) = record {
   copying = copying;
   told = told;
-  says = λ post i e. subst (IsTold vh (Some now)) (sym (posted (Some holder) (body.Trimmed last.op cell) post i))
+  says = λ post i e. subst (IsTold row vh (Some now)) (sym (posted (Some holder) (body.Trimmed last.op cell) post i))
       (to_trimmed now cell last is last.op (omega arith) (λ same. none));
   marks = λ kind. ap (λ (s : Store). is_marked s kind cell) same;
   changes = inl (ap (λ (s : Store). chain_in s.chains cell) same);
 }
-trims_here row cell vh own now same copying told last is holder _ (Drops_entry epoch epochs left) = record {
-  copying = following.dropped_copying row cell vh now copying last is epoch epochs left;
-  told = λ said e t. stays_told now _ cell (following.dropped_onward row cell vh now copying last is epoch epochs left) vh said e
+trims_here links row cell vh own now same copying told last is holder _ (Drops_entry epoch epochs left) = record {
+  copying = following.dropped_copying links row cell vh now copying last is epoch epochs left;
+  told = λ said e t. stays_told now _ cell (following.dropped_onward links row cell vh now copying last is epoch epochs left) row vh said e
       (told said e t);
   says = λ post i. none_in post i;
   marks = λ kind. ap (λ (s : Store). is_marked s kind cell) same;
-  changes = inr (following.dropped_by row cell vh now copying last is epoch epochs left);
+  changes = inr (following.dropped_by links row cell vh now copying last is epoch epochs left);
 }
 
-module _ (heard : Body → Type 0) (here : Here) (row : LinkRow) (vh : Option Own) (own : Own) where
+module _ (heard : Body → Type 0) (here : Here) (links : ℕ) (row : LinkRow) (vh : Option Own) (own : Own) where
   -- ### At the cell
 
-  copied_to : (cell : Cell) (f : IsFollowing heard here row cell vh own) (number : ℕ) (epochs : List ℕ) (holder : ℕ) (done : Done)
+  copied_to : (cell : Cell) (f : IsFollowing heard here links row cell vh own) (number : ℕ) (epochs : List ℕ) (holder : ℕ) (done : Done)
       → heard (body.Trim number cell epochs)
       → ((last : LastCopy) → last_copy own cell ≡ Some last → last.op < number)
       → TrimStep (with_last_copy own cell (first_last number epochs)) cell (first_last number epochs) holder done
-      → KeepsHere row cell vh own done
+      → KeepsHere links row cell vh own done
   copied_to cell f number epochs holder done h newer step = elim (f.told (body.Trim number cell epochs) h refl) [
     | inl past ↦ (
         let last = past_last own cell number past in
@@ -100,50 +100,50 @@ module _ (heard : Body → Type 0) (here : Here) (row : LinkRow) (vh : Option Ow
         absurd (omega arith))
     | inr asked ↦
         let o = asked.own in
-        trims_here row cell vh own (with_last_copy own cell (first_last number epochs)) refl
-        (following.begun_copying row cell vh own f.old number epochs o asked.met asked.trimming asked.epochs_are newer)
+        trims_here links row cell vh own (with_last_copy own cell (first_last number epochs)) refl
+        (following.begun_copying links row cell vh own f.old number epochs o asked.met asked.trimming asked.epochs_are newer)
         (stays_told own _ cell
-        (following.begun_onward row cell vh own f.old number epochs o asked.met asked.trimming asked.epochs_are newer) vh)
+        (following.begun_onward links row cell vh own f.old number epochs o asked.met asked.trimming asked.epochs_are newer) row vh)
         (first_last number epochs)
-        (following.now_last row cell vh own f.old number epochs o asked.met asked.trimming asked.epochs_are newer) holder done step
+        (following.now_last links row cell vh own f.old number epochs o asked.met asked.trimming asked.epochs_are newer) holder done step
   ]
 
-  trims_on : (cell : Cell) (f : IsFollowing heard here row cell vh own) (last : LastCopy) → last_copy own cell ≡ Some last
+  trims_on : (cell : Cell) (f : IsFollowing heard here links row cell vh own) (last : LastCopy) → last_copy own cell ≡ Some last
       → (holder : ℕ) (done : Done)
-      → TrimStep own cell last holder done → KeepsHere row cell vh own done
-  trims_on cell f last is holder done step = trims_here row cell vh own own refl f.old (λ said e t. t) last is holder done step
+      → TrimStep own cell last holder done → KeepsHere links row cell vh own done
+  trims_on cell f last is holder done step = trims_here links row cell vh own own refl f.old (λ said e t. t) last is holder done step
 
-  module _ (entry : Entry) (holder : ℕ) (last : LastCopy) (f : IsFollowing heard here row (cell_of entry.key) vh own)
+  module _ (entry : Entry) (holder : ℕ) (last : LastCopy) (f : IsFollowing heard here links row (cell_of entry.key) vh own)
       (of : IsOfCopy heard here own entry holder last) where
     abbrev said : Body
     said = body.Synced entry.op (cell_of entry.key) entry.index
 
-    puts_here : entry.index ≡ last.index → KeepsHere row (cell_of entry.key) vh own (puts_entry own entry last holder true)
+    puts_here : entry.index ≡ last.index → KeepsHere links row (cell_of entry.key) vh own (puts_entry own entry last holder true)
     puts_here at =
         let sent = f.told (body.Sync entry.op entry.key entry.stored.version entry.index entry.stored.bytes) of.said refl in
         let rises = f.fit.rising (cell_of entry.key) in
         record {
-          copying = following.put_copying row vh own entry holder last f.old rises of.last_is of.op_is at sent;
+          copying = following.put_copying links row vh own entry holder last f.old rises of.last_is of.op_is at sent;
           told = stays_told own _ (cell_of entry.key)
-              (following.put_onward row vh own entry holder last f.old rises of.last_is of.op_is at sent) vh;
-          says = λ post i e. subst (IsTold vh (Some (puts_entry own entry last holder true).own)) (sym (posted (Some holder) said post i))
-              (following.put_says row vh own entry holder last f.old rises of.last_is of.op_is at sent);
+              (following.put_onward links row vh own entry holder last f.old rises of.last_is of.op_is at sent) row vh;
+          says = λ post i e. subst (IsTold row vh (Some (puts_entry own entry last holder true).own)) (sym (posted (Some holder) said post i))
+              (following.put_says links row vh own entry holder last f.old rises of.last_is of.op_is at sent);
           marks = λ kind. refl;
-          changes = inr (following.put_by row vh own entry holder last f.old rises of.last_is of.op_is at sent);
+          changes = inr (following.put_by links row vh own entry holder last f.old rises of.last_is of.op_is at sent);
         }
 
-    has_here : entry.index < last.index → KeepsHere row (cell_of entry.key) vh own (says_to own (Some holder) said)
-    has_here lt = kept_here row (cell_of entry.key) vh own f.old _ (keeps_itself (cell_of entry.key) own)
-        (λ post i e. subst (IsTold vh (Some own)) (sym (posted (Some holder) said post i))
+    has_here : entry.index < last.index → KeepsHere links row (cell_of entry.key) vh own (says_to own (Some holder) said)
+    has_here lt = kept_here links row (cell_of entry.key) vh own f.old _ (keeps_itself (cell_of entry.key) own)
+        (λ post i e. subst (IsTold row vh (Some own)) (sym (posted (Some holder) said post i))
         (let op = of.op_is in to_put own (cell_of entry.key) last of.last_is entry.op entry.index (omega arith) (λ same. lt)))
 
-    full_here : KeepsHere row (cell_of entry.key) vh own (says_to own (Some holder) (body.SyncFull entry.op (cell_of entry.key)))
-    full_here = kept_here row (cell_of entry.key) vh own f.old _ (keeps_itself (cell_of entry.key) own)
-        (λ post i e. subst (IsTold vh (Some own)) (sym (posted (Some holder) (body.SyncFull entry.op (cell_of entry.key)) post i)) tt)
+    full_here : KeepsHere links row (cell_of entry.key) vh own (says_to own (Some holder) (body.SyncFull entry.op (cell_of entry.key)))
+    full_here = kept_here links row (cell_of entry.key) vh own f.old _ (keeps_itself (cell_of entry.key) own)
+        (λ post i e. subst (IsTold row vh (Some own)) (sym (posted (Some holder) (body.SyncFull entry.op (cell_of entry.key)) post i)) tt)
 
   -- ### All jobs
 
-  module _ (cell : Cell) (f : IsFollowing heard here row cell vh own) where
+  module _ (cell : Cell) (f : IsFollowing heard here links row cell vh own) where
     abbrev mine : IsOtherOf here.me row f.by
     mine = other_row here.me row f.by f.held
 
@@ -156,12 +156,12 @@ module _ (heard : Body → Type 0) (here : Here) (row : LinkRow) (vh : Option Ow
     no_both b = alone_not_row here f.fit.steady cell row f.is (other_of here.me row) mine.alone b
 
     abbrev Says : Done → Type 0
-    Says done = (post : Post) → In post done.posts → (about post.body).cell ≡ Some cell → IsTold vh (Some done.own) post.body
+    Says done = (post : Post) → In post done.posts → (about post.body).cell ≡ Some cell → IsTold row vh (Some done.own) post.body
 
-    beside : (done : Done) → KeepsCell cell own done.own → Says done → KeepsHere row cell vh own done
-    beside done k says = kept_here row cell vh own f.old done k says
+    beside : (done : Done) → KeepsCell cell own done.own → Says done → KeepsHere links row cell vh own done
+    beside done k says = kept_here links row cell vh own f.old done k says
 
-    asks_told : (to : Own) (post : Post) → Asks here own post → (about post.body).cell ≡ Some cell → IsTold vh (Some to) post.body
+    asks_told : (to : Own) (post : Post) → Asks here own post → (about post.body).cell ≡ Some cell → IsTold row vh (Some to) post.body
     asks_told to _ (A_slot op at is stage so) e = tt
     asks_told to _ (A_copy op at is stage so) e = tt
     asks_told to _ (A_trim c copy at is fresh so) e = absurd
@@ -169,9 +169,9 @@ module _ (heard : Body → Type 0) (here : Here) (row : LinkRow) (vh : Option Ow
     asks_told to _ (A_copied_entry c copy r at is trimmed there so) e = absurd
         (no_holder (subst (IsHeldHere here) (same_some e) (copying_held heard here own f.fit c copy is)))
     asks_told to _ (A_page r at on so fresh) e = tt
-    asks_told to post (Of_the_log _ logged) e = untold vh (Some to) post.body (logged_not (subject_of post.body) logged)
+    asks_told to post (Of_the_log _ logged) e = untold row vh (Some to) post.body (logged_not (subject_of post.body) logged)
 
-    lead_here : (done : Done) → DidLead heard here own done → KeepsHere row cell vh own done
+    lead_here : (done : Done) → DidLead heard here own done → KeepsHere links row cell vh own done
     lead_here done d = beside done
         (lead_beside heard here own f.fit.ready done d cell
         (away (λ c. is_lead here.state here.me c ≡ true) cell (λ e. other_not_lead here f.fit.steady cell row f.is f.by f.held e)
@@ -179,17 +179,17 @@ module _ (heard : Body → Type 0) (here : Here) (row : LinkRow) (vh : Option Ow
         (lead_leads heard here own f.fit.ready done d)))
         (λ post i e. elim (lead_sends heard here own done d post i) [
           | inl asks ↦ asks_told done.own post asks.0 e
-          | inr ne ↦ untold vh (Some done.own) post.body ne
+          | inr ne ↦ untold row vh (Some done.own) post.body ne
         ])
 
-    second_here : (done : Done) → DidSecond heard here own done → KeepsHere row cell vh own done
+    second_here : (done : Done) → DidSecond heard here own done → KeepsHere links row cell vh own done
     second_here done d = beside done
         (second_beside heard here own done d cell
         (λ e. alone_not_second here f.fit.steady cell row f.is (other_of here.me row) mine.alone
         (subst (λ (c : Cell). is_second here.state here.me c ≡ true) (sym e) (second_follows heard here own done d))))
-        (λ post i e. untold vh (Some done.own) post.body (paired_not post.body ((of_second heard here own done d).says post i)))
+        (λ post i e. untold row vh (Some done.own) post.body (paired_not post.body ((of_second heard here own done d).says post i)))
 
-    holder_here : (done : Done) → DidHolder heard here own done → KeepsHere row cell vh own done
+    holder_here : (done : Done) → DidHolder heard here own done → KeepsHere links row cell vh own done
     holder_here done d =
         let apart = away (λ c. IsHeldHere here c ⊎ IsBothRow here.state c) cell
         (λ w. elim w [ inl held ↦ no_holder held | inr both ↦ no_both both ])
@@ -198,11 +198,11 @@ module _ (heard : Body → Type 0) (here : Here) (row : LinkRow) (vh : Option Ow
         (λ post i e. at_away cell (holder_cell heard here own done d) (holder_says heard here own done d post i cell e) apart)
 
     other_apart : (done : Done) (d : DidOther heard here own done) → Away cell (other_cell heard here own done d)
-        → KeepsHere row cell vh own done
+        → KeepsHere links row cell vh own done
     other_apart done d apart = beside done (other_beside heard here own done d cell apart)
         (λ post i e. at_away cell (other_cell heard here own done d) (other_says heard here own done d post i cell e) apart)
 
-    other_here : (done : Done) → DidOther heard here own done → KeepsHere row cell vh own done
+    other_here : (done : Done) → DidOther heard here own done → KeepsHere links row cell vh own done
     other_here _ (Answers_page id r after h is) = other_apart _ (Answers_page id r after h is) tt
     other_here done (Is_copied_to number c epochs holder _ h held newer step) = elim (same_cell_or_apart cell c) [
       | inl e ↦ copied_to cell f number epochs holder done (subst (λ (x : Cell). heard (body.Trim number x epochs)) (sym e) h)
@@ -217,32 +217,32 @@ module _ (heard : Body → Type 0) (here : Here) (row : LinkRow) (vh : Option Ow
       | inr ne ↦ other_apart done (Goes_on_trimming c holder last _ held is step) ne
     ]
     other_here _ (Puts_entry entry holder last of at room) = elim (same_cell_or_apart cell (cell_of entry.key)) [
-      | inl e ↦ subst (λ (x : Cell). IsFollowing heard here row x vh own
-          → KeepsHere row x vh own (puts_entry own entry last holder true)) (sym e)
+      | inl e ↦ subst (λ (x : Cell). IsFollowing heard here links row x vh own
+          → KeepsHere links row x vh own (puts_entry own entry last holder true)) (sym e)
           (λ g. puts_here entry holder last g of at) f
       | inr ne ↦ other_apart _ (Puts_entry entry holder last of at room) ne
     ]
     other_here _ (Has_entry entry holder last of lt) = elim (same_cell_or_apart cell (cell_of entry.key)) [
-      | inl e ↦ subst (λ (x : Cell). IsFollowing heard here row x vh own
-          → KeepsHere row x vh own (says_to own (Some holder) (body.Synced entry.op (cell_of entry.key) entry.index))) (sym e)
+      | inl e ↦ subst (λ (x : Cell). IsFollowing heard here links row x vh own
+          → KeepsHere links row x vh own (says_to own (Some holder) (body.Synced entry.op (cell_of entry.key) entry.index))) (sym e)
           (λ g. has_here entry holder last g of lt) f
       | inr ne ↦ other_apart _ (Has_entry entry holder last of lt) ne
     ]
     other_here _ (Has_no_slot entry holder last of at full) = elim (same_cell_or_apart cell (cell_of entry.key)) [
-      | inl e ↦ subst (λ (x : Cell). IsFollowing heard here row x vh own
-          → KeepsHere row x vh own (says_to own (Some holder) (body.SyncFull entry.op (cell_of entry.key)))) (sym e)
+      | inl e ↦ subst (λ (x : Cell). IsFollowing heard here links row x vh own
+          → KeepsHere links row x vh own (says_to own (Some holder) (body.SyncFull entry.op (cell_of entry.key)))) (sym e)
           (λ g. full_here entry holder last g of) f
       | inr ne ↦ other_apart _ (Has_no_slot entry holder last of at full) ne
     ]
 
-    here_by : (done : Done) → Did heard here own done → KeepsHere row cell vh own done
+    here_by : (done : Done) → Did heard here own done → KeepsHere links row cell vh own done
     here_by _ Ignores = beside _ (keeps_itself cell own) (λ post i. none_in post i)
     here_by _ (Refuses to said is why) = beside _ (keeps_itself cell own)
-        (λ post i e. untold vh (Some own) post.body (refused_not post.body (ap subject_of (one_post to said post i).1 ∙ is)))
+        (λ post i e. untold row vh (Some own) post.body (refused_not post.body (ap subject_of (one_post to said post i).1 ∙ is)))
     here_by done (By_read _ d) =
         let r = of_read heard here own done d in
         beside done (subst (KeepsCell cell own) (sym r.same) (keeps_itself cell own))
-        (λ post i e. untold vh (Some done.own) post.body (answered_not post.body (ap subject_of (r.says post i).is)))
+        (λ post i e. untold row vh (Some done.own) post.body (answered_not post.body (ap subject_of (r.says post i).is)))
     here_by done (By_lead _ d) = lead_here done d
     here_by done (By_second _ d) = second_here done d
     here_by done (By_holder _ d) = holder_here done d
@@ -274,7 +274,7 @@ module _ (heard : Body → Type 0) (here : Here) (row : LinkRow) (vh : Option Ow
         }
 
     -- what is kept
-    pub follows : (done : Done) → Did heard here own done → OtherKeeps row cell vh own done
+    pub follows : (done : Done) → Did heard here own done → OtherKeeps links row cell vh own done
     follows done d =
         let h = here_by done d in
         record {

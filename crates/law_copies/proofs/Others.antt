@@ -73,6 +73,6 @@ held_not_lead here steady cell holder held lead =
           let same : alone.row ≡ h.0 = same_some (sym alone.is ∙ h.1.is) in
           let me : here.me ≡ other_of here.me h.0 =
           alone_both here.me (other_of here.me h.0) h.0.state
-          (ap (is_alone here.me) (ap (λ (r : LinkRow). r.state) (sym same)) ∙ only_alone here.me alone.row false alone.so) h.1.alone in
+          (ap (is_alone here.me) (ap (λ (r : LinkRow). r.state) (sym same)) ∙ only_alone here.me alone.row alone.whole alone.so) h.1.alone in
           absurd (other_apart h.0 here.me (steady.linked cell h.0 h.1.is).apart (sym me))
     ]

@@ -1,6 +1,11 @@
 -- Fronts of one log, and the places of a link by them.
-use Rattle.std.proofs.Common.{◌≡◌, ◌+◌, ◌≤◌, ◌<◌, ◌++◌, ℕ, List, [], ◌∷◌, length, length-append, true, false, if◌then◌else◌, Some, sym, ap, ◌∙◌, subst, ◌⊎◌, inl, inr, arith}
+use Rattle.std.proofs.Common.{◌≡◌, ◌+◌, ◌≤◌, ◌<◌, ◌++◌, ◌==◌, ℕ, List, [], ◌∷◌, length, length-append, true, false, if◌then◌else◌, Some, sym, ap, ◌∙◌, subst, ◌⊎◌, inl, inr, arith}
 use Rattle.std.proofs.lemmas.Grind.{fold-append}
+use Rattle.std.specs.Prelude.{option_and_then}
+use Rattle.std.specs.Option.{option_map_or}
+use Rattle.global_tables.specs.Link.{link_at, other_of}
+use Rattle.global_tables.specs.Map.{tuple_of}
+use Rattle.global_tables.specs.Region.{link_of}
 use Rattle.global_tables.specs.declared.link.LinkRow.{LinkRow}
 use Rattle.petal_base.specs.declared.cell.Cell.{Cell}
 use Rattle.petal_command.specs.declared.command.Command.{Command}
@@ -11,15 +16,16 @@ use Rattle.petal_state.specs.Place.{touches}
 use Rattle.petal_state.specs.State.{start}
 use Rattle.petal_rules.specs.State.{State}
 use Rattle.petal_rules.specs.World.{Setting}
-use Rattle.petal_rules.proofs.Tests.{same_some}
+use Rattle.petal_rules.proofs.Tests.{none_some, same_some, some_or_none}
 use Rattle.law_state.specs.Below.{IsBelow}
 use Rattle.law_state.specs.Places.{StaysSo}
 use Rattle.law_state.specs.Plain.{IsPlainLog}
 use Rattle.law_state.specs.Rows.{IsLater}
 use Rattle.law_state.proofs.Again.{places_later}
-use Rattle.law_state.proofs.Steady.{front_plain, log_below}
+use Rattle.law_state.proofs.Steady.{front_plain, log_below, log_grown}
 use Rattle.law_state.proofs.Touching.{places_grow, places_on, same_place}
 use Rattle.law_steps.proofs.Fronts.{front_itself, front_long, front_more, front_within, one_front}
+use Rattle.law_copies.specs.Copied.{links_of}
 use Rattle.law_copies.specs.Visits.{IsLinked, place_by}
 
 -- ### Fronts
@@ -42,6 +48,10 @@ front_or_all front log entry p = elim (at_most_or_above (length front) (length l
   | inr lt ↦ inr (one_front front (log ++ entry ∷ []) (log ++ entry ∷ []) p (front_itself (log ++ entry ∷ []))
       (let most = front_long front (log ++ entry ∷ []) p in omega (arith, length-append log (entry ∷ []))))
 ]
+
+-- the other server of a link stays so
+pub other_later : (row now : LinkRow) (holder : ℕ) → IsLater row now → other_of holder now ≡ other_of holder row
+other_later row now holder so = λ i. if so.primary i == holder then so.secondary i else so.primary i
 
 -- ### Places
 
@@ -88,6 +98,24 @@ module _ (setting : Setting) where
         → IsLinked setting front cell row → IsLinked setting more cell now → place_by setting counted_by now ≡ place_by setting counted_by row
     place_of_later front more counted_by cell row now one two is end =
         places_later row now (rows_later front more cell row now one two is end) counted_by (start setting.servers)
+
+    -- the map of a cell that has a link stays as it is
+    pub links_up : (front more : List Command) (cell : Cell) (row : LinkRow) → IsPrefix front more → IsPrefix more whole → IsLinked setting front cell row
+        → links_of (state_after setting.servers more) cell.map ≡ links_of (state_after setting.servers front) cell.map
+    links_up front more cell row one two is = elim (some_or_none (tuple_of (state_after setting.servers front).maps cell.map)) [
+      | inl h ↦
+          ap (λ o. option_map_or length o 0)
+          ((log_grown setting.servers front more (front_plain setting.servers more whole all two) one).maps cell.map h.0 h.1 ∙ sym h.1)
+      | inr none ↦ none_some (ap (option_and_then (λ tuple. link_at (state_after setting.servers front).links cell.map (link_of (length tuple) cell.block))) none) is
+    ]
+
+    pub links_same : (front more : List Command) (cell : Cell) (row now : LinkRow) → IsPrefix front whole → IsPrefix more whole
+        → IsLinked setting front cell row → IsLinked setting more cell now
+        → links_of (state_after setting.servers front) cell.map ≡ links_of (state_after setting.servers more) cell.map
+    links_same front more cell row now one two is end = elim (fronts_meet front more whole one two) [
+      | inl p ↦ sym (links_up front more cell row p two is)
+      | inr p ↦ links_up more front cell now p one end
+    ]
 
     -- places only rise
     pub places_up : (front more : List Command) (cell : Cell) (row now : LinkRow) → IsPrefix front more → IsPrefix more whole

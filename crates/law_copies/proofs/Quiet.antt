@@ -1,5 +1,5 @@
 -- Steps that leave two copies as they are: glances, boots, what clients do, and jobs of a server that is not In as itself.
-use Rattle.std.proofs.Common.{◌≡◌, ◌≤◌, ◌++◌, ℕ, List, [], ◌∷◌, true, false, Some, None, sym, ap, ◌∙◌, subst, ◌⊎◌, inl, inr}
+use Rattle.std.proofs.Common.{◌≡◌, ◌≤◌, ◌++◌, ℕ, List, [], ◌∷◌, Bool, true, false, Some, None, sym, ap, ◌∙◌, subst, ◌⊎◌, inl, inr}
 use Rattle.global_tables.specs.Link.{has_server}
 use Rattle.global_tables.specs.declared.link.LinkRow.{LinkRow}
 use Rattle.global_tables.specs.declared.link.LinkState.TheVariants.{Only}
@@ -9,48 +9,67 @@ use Rattle.petal_msg.specs.Kinds.{subject_of}
 use Rattle.petal_msg.specs.declared.body.Body.{Body}
 use Rattle.petal_msg.specs.declared.letter.Letter.{Letter}
 use Rattle.petal_history.specs.Claims.{IsPrefix}
-use Rattle.petal_history.specs.Legal.{world_after}
 use Rattle.petal_history.specs.declared.record.Record.{Record}
 use Rattle.petal_state.specs.Command.{state_after}
 use Rattle.petal_rules.specs.Lists.{In}
 use Rattle.petal_rules.specs.Log.{state_in}
 use Rattle.petal_rules.specs.Server.{Own, Post, Sender, Server, letters_of}
 use Rattle.petal_rules.specs.State.{id_of, is_in}
-use Rattle.petal_rules.specs.World.{Setting, World, stamped, start}
+use Rattle.petal_rules.specs.Store.{Store}
+use Rattle.petal_rules.specs.World.{Setting, World, blank_joins_in, stamped}
 use Rattle.petal_rules.proofs.Tests.{same_or_apart, same_some, true_false}
 use Rattle.law_state.specs.Started.{is_flagged}
 use Rattle.law_state.proofs.Steady.{front_plain, log_steady}
 use Rattle.law_steps.specs.Happens.{is_between}
 use Rattle.law_steps.proofs.Letters.{said}
-use Rattle.law_copies.specs.Good.{Good, store_of}
-use Rattle.law_copies.specs.Visits.{IsLinked, Visits, place_by}
+use Rattle.law_copies.specs.Good.{Good}
+use Rattle.law_copies.specs.Visits.{IsLinked, Visits, place_by, store_by}
 use Rattle.law_copies.proofs.Framed.{LeavesBoth, LeavesStore, alone_framed, both_framed, said_framed, store_same}
 use Rattle.law_copies.proofs.Later.{holder_is_one}
 use Rattle.law_copies.proofs.Mute.{no_page, said_mute}
 use Rattle.law_copies.proofs.Stepping.{GoesOn, IsSoundOwn, IsTrue, KeepsFronts, good_after}
-use Rattle.law_copies.proofs.Visited.{IsAt, IsStep, KeepsFlags, counted, counted_up, later, none_before, visited_beside, visited_by, visited_here}
+use Rattle.law_copies.proofs.Visited.{IsAt, IsStep, IsThen, KeepsFlags, counted, counted_up, later, none_before, stored, stored_apart, stored_by, stored_frozen, visited_beside, visited_by, visited_here, was_stored}
 
 -- a letter that speaks neither of pairs nor of copies is true
-pub mute_true : (setting : Setting) (top : List Command) (v : World) (visits : Visits) (reached : Cell → ℕ) (letter : Letter)
-    → is_between (subject_of letter.body) ≡ false → IsTrue setting top v visits reached letter
-mute_true setting top v visits reached letter e = record {
+pub mute_true : (setting : Setting) (top : List Command) (stores : ℕ → ℕ → Store) (visits : Visits) (reached : Cell → ℕ) (letter : Letter)
+    → is_between (subject_of letter.body) ≡ false → IsTrue setting top stores visits reached letter
+mute_true setting top stores visits reached letter e = record {
   rev = λ between. true_false between e;
-  said = λ front cell row prefix long is. said_mute setting top v visits reached front letter.body cell row e;
+  said = λ front cell row prefix long is. said_mute setting top stores visits reached front letter.body cell row e;
   page = λ front prefix long map link block after is. no_page letter.body e map link after (Some block) is;
 }
 
 -- posts of which none speaks of pairs or copies
-pub posts_mute : (setting : Setting) (top : List Command) (v : World) (visits : Visits) (reached : Cell → ℕ) (who : Sender) (stamp : ℕ) (posts : List Post)
+pub posts_mute : (setting : Setting) (top : List Command) (stores : ℕ → ℕ → Store) (visits : Visits) (reached : Cell → ℕ) (who : Sender) (stamp : ℕ) (posts : List Post)
     → ((post : Post) → In post posts → is_between (subject_of post.body) ≡ false) → (letter : Letter) → In letter (stamped stamp (letters_of who 0 posts))
-    → IsTrue setting top v visits reached letter
-posts_mute setting top v visits reached who stamp posts quiet letter there =
+    → IsTrue setting top stores visits reached letter
+posts_mute setting top stores visits reached who stamp posts quiet letter there =
     let s = said who stamp 0 posts letter there in
-    mute_true setting top v visits reached letter (ap (λ (b : Body). is_between (subject_of b)) s.body ∙ quiet s.post s.there)
+    mute_true setting top stores visits reached letter (ap (λ (b : Body). is_between (subject_of b)) s.body ∙ quiet s.post s.there)
+
+-- a step that leaves a cell's chain and marks at the server leaves them in all stores
+pub stores_leave : (setting : Setting) (records : List Record) (top : List Command) (w v : World) (k : ℕ) (server : Server)
+    (good : Good setting records top w) (step : IsStep setting top w v k server) (cell : Cell) → LeavesStore (w.servers k).own.store server.own.store cell
+    → (front : List Command) (n : ℕ)
+    → LeavesStore (store_by setting good.stores front n) (store_by setting (stored setting records top w v k server good step) front n) cell
+stores_leave setting records top w v k server good step cell same front n = elim (same_or_apart n k) [
+  | inl e ↦ subst (λ m. LeavesStore (store_by setting good.stores front m) (store_by setting (stored setting records top w v k server good step) front m) cell) (sym e)
+      (elim (same_or_apart (blank_joins_in setting front k) (blank_joins_in setting top k)) [
+        | inl is ↦ subst (λ a. LeavesStore a (store_by setting (stored setting records top w v k server good step) front k) cell)
+            (sym (was_stored setting records top w v k server good step front is))
+            (subst (λ b. LeavesStore (w.servers k).own.store b cell) (sym (stored_by setting records top w v k server good step front is)) same)
+        | inr ne ↦ store_same _ _ cell (stored_frozen setting records top w v k server good step k (blank_joins_in setting front k) ne)
+      ])
+  | inr ne ↦ store_same _ _ cell (stored_apart setting records top w v k server good step n (blank_joins_in setting front n) ne)
+]
 
 module _ (setting : Setting) (records : List Record) (top : List Command) (w v : World) (k : ℕ) (server : Server)
     (good : Good setting records top w) (step : IsStep setting top w v k server) where
   abbrev visits : Visits
   visits = later setting records top w v k server good step
+
+  abbrev next_stores : ℕ → ℕ → Store
+  next_stores = stored setting records top w v k server good step
 
   abbrev reached : Cell → ℕ
   reached = counted setting records top w v k server good step
@@ -77,15 +96,11 @@ module _ (setting : Setting) (records : List Record) (top : List Command) (w v :
 
   module _ (still : (n place : ℕ) (cell : Cell) → visits n place cell ≡ good.visits n place cell)
       (stores : (cell : Cell) → LeavesStore (w.servers k).own.store server.own.store cell) where
-    leaves : (place : ℕ) (cell : Cell) (row : LinkRow) → LeavesBoth setting top w v good.visits visits good.reached reached place cell row
-    leaves place cell row n has = record {
-      visit = still n place cell;
-      store = elim (same_or_apart n k) [
-        | inl e ↦ subst (λ m. LeavesStore (store_of w m) (store_of v m) cell) (sym e)
-            (subst (λ (s : Server). LeavesStore (store_of w k) s.own.store cell) (sym step.here) (stores cell))
-        | inr ne ↦ store_same (store_of w n) (store_of v n) cell (ap (λ (s : Server). s.own.store) (step.others n ne))
-      ];
-    }
+    store_leaves : (front : List Command) (n : ℕ) (cell : Cell) → LeavesStore (store_by setting good.stores front n) (store_by setting next_stores front n) cell
+    store_leaves front n cell = stores_leave setting records top w v k server good step cell (stores cell) front n
+
+    leaves : (front : List Command) (place : ℕ) (cell : Cell) (row : LinkRow) → LeavesBoth setting top good.stores next_stores good.visits visits good.reached reached front place cell row
+    leaves front place cell row n has = record { visit = still n place cell; store = store_leaves front n cell }
 
     up : (cell : Cell) → good.reached cell ≤ reached cell
     up = counted_up setting records top w v k server good step
@@ -94,33 +109,33 @@ module _ (setting : Setting) (records : List Record) (top : List Command) (w v :
     nones = none_before setting records top w v k server good step
 
     holds : (front : List Command) (cell : Cell) (row : LinkRow) (holder : ℕ) → IsPrefix front top → IsLinked setting front cell row
-        → row.state ≡ Only holder false → has_server holder row ≡ true
-    holds front cell row holder prefix is alone =
+        → (whole : Bool) → row.state ≡ Only holder whole → has_server holder row ≡ true
+    holds front cell row holder prefix is whole alone =
         holder_is_one (state_after setting.servers front) (log_steady setting.servers front (front_plain setting.servers front top step.plain prefix))
         holder cell row is alone
 
     quiet_fronts : KeepsFronts setting records top w v k server good step
     quiet_fronts = record {
       both = λ front cell row prefix is both.
-          both_framed setting top w v good.visits visits good.reached reached up nones front cell row (leaves (place_by setting front row) cell row)
+          both_framed setting top good.stores next_stores good.visits visits good.reached reached up nones front cell row (leaves front (place_by setting front row) cell row)
           (good.both front cell row prefix is both);
-      alone = λ front cell row holder prefix is alone.
-          alone_framed setting top w v good.visits visits good.reached reached up nones front cell row holder (holds front cell row holder prefix is alone)
-          (leaves (place_by setting front row) cell row) (good.alone front cell row holder prefix is alone);
+      alone = λ front cell row holder whole prefix is alone.
+          alone_framed setting top good.stores next_stores good.visits visits good.reached reached up nones front cell row holder (holds front cell row holder prefix is whole alone)
+          (leaves front (place_by setting front row) cell row) (good.alone front cell row holder whole prefix is alone);
       said = λ letter there front cell row prefix long is.
-          said_framed setting top w v good.visits visits good.reached reached up nones front letter.body cell row
-          (λ holder alone. holds front cell row holder prefix is alone) (leaves (place_by setting front row) cell row)
+          said_framed setting top good.stores next_stores good.visits visits good.reached reached up nones front letter.body cell row
+          (λ holder whole alone. holds front cell row holder prefix is whole alone) (leaves front (place_by setting front row) cell row)
           (good.letters letter there front cell row prefix long is);
     }
 
     quiet_flags : KeepsFlags setting records top w v k server good step
-    quiet_flags cell row own is alone seat visit flagged =
+    quiet_flags cell row own whole is alone seat visit flagged =
         let same : own ≡ server.own =
         same_some (sym visit ∙ sym (still k (place_by setting server.log.applied row) cell)
         ∙ visited_here setting records top w v k server good step cell row is seat) in
         ap (λ (o : Own). is_flagged o (id_of row)) (sym same) ∙ flagged
 
-    pub quiet_good : (own : Record) → world_after setting (start setting) (records ++ own ∷ []) ≡ v → IsSoundOwn setting top server
-        → ((letter : Letter) → In letter v.sent → In letter w.sent ⊎ IsTrue setting top v visits reached letter)
+    pub quiet_good : (own : Record) → IsThen setting (records ++ own ∷ []) v → IsSoundOwn setting top v k server
+        → ((letter : Letter) → In letter v.sent → In letter w.sent ⊎ IsTrue setting top next_stores visits reached letter)
         → GoesOn setting records top top w v good own
     quiet_good own then_is sound sent = good_after setting records top w v k server good step own then_is quiet_flags sound quiet_fronts sent

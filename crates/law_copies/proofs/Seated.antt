@@ -1,5 +1,6 @@
 -- What a server that is In as itself has before a job, at the place of each cell's link by its own entries.
-use Rattle.std.proofs.Common.{◌≡◌, ◌≢◌, ◌≤◌, ◌&&◌, ℕ, List, true, false, if◌then◌else◌, Option, Some, None, refl, sym, ap, ◌∙◌, subst, inl, inr}
+use Rattle.std.proofs.Common.{◌≡◌, ◌≢◌, ◌≤◌, ◌&&◌, ℕ, List, Bool, true, if◌then◌else◌, Option, Some, None, refl, sym, ap, ◌∙◌, subst, inl, inr}
+use Rattle.std.specs.Ordering.{nat_cmp}
 use Rattle.global_tables.specs.Link.{has_server, other_of}
 use Rattle.global_tables.specs.declared.link.LinkRow.{LinkRow}
 use Rattle.global_tables.specs.declared.link.LinkState.TheVariants.{Both, Only}
@@ -14,22 +15,23 @@ use Rattle.petal_state.specs.Command.{is_alone}
 use Rattle.petal_rules.specs.Progress.{copying_on}
 use Rattle.petal_rules.specs.Server.{Own, Here}
 use Rattle.petal_rules.specs.State.{holder_of, is_in}
-use Rattle.petal_rules.specs.World.{Setting, World, chosen_log, server_state}
+use Rattle.petal_rules.specs.Store.{Store, chain_in}
+use Rattle.petal_rules.specs.World.{Setting, World, blank_joins_in, chosen_log, server_state}
 use Rattle.petal_rules.specs.Writes.{pending_on}
-use Rattle.petal_rules.proofs.Tests.{number_itself, same_numbers}
+use Rattle.petal_rules.proofs.Tests.{number_itself, same_numbers, true_false}
 use Rattle.law_state.specs.Firm.{Firm}
-use Rattle.law_state.specs.Rows.{ByBoth, ByOne}
+use Rattle.law_state.specs.Rows.{ByBoth, ByNone, ByOne}
 use Rattle.law_state.specs.Steady.{IsSteady}
 use Rattle.law_state.proofs.Leaves.{other_between}
 use Rattle.law_state.proofs.Roles.{primary_is_one, secondary_is_one}
 use Rattle.law_state.proofs.Steady.{front_plain, log_steady}
 use Rattle.law_steps.specs.Happens.{Handled, own_place}
-use Rattle.law_steps.specs.Ready.{Rests}
-use Rattle.law_copies.specs.Copied.{AreCopying, IsTold}
-use Rattle.law_copies.specs.Good.{AloneOk, AreTwins, Good, SaidOk, pair_at, store_of}
-use Rattle.law_copies.specs.Pair.{Known, PairOk, pair_of}
-use Rattle.law_copies.specs.Steps.{IsFit, IsFollowing, IsHolding, PagesOf}
-use Rattle.law_copies.specs.Visits.{IsLinked, half, place_by}
+use Rattle.law_steps.specs.Ready.{IsRising, Rests}
+use Rattle.law_copies.specs.Copied.{AreCopying, IsTold, links_of}
+use Rattle.law_copies.specs.Good.{AloneOk, AreTwins, Good, SaidOk, pair_at}
+use Rattle.law_copies.specs.Pair.{HaveMarks, Known, PairOk, pair_of}
+use Rattle.law_copies.specs.Steps.{AreFilled, IsFit, IsFollowing, IsHolding, PagesOf}
+use Rattle.law_copies.specs.Visits.{IsLinked, half, place_by, store_by, with_stores}
 use Rattle.law_copies.proofs.Later.{both_last}
 use Rattle.law_copies.proofs.Standing.{copying_held, other_alone}
 
@@ -43,7 +45,8 @@ other_back row n m one two ne = elim (other_between row n one) [
 ]
 
 -- it knows the other one as the holder
-pub holder_other : (row : LinkRow) (n holder : ℕ) → has_server n row ≡ true → other_of n row ≡ holder → row.state ≡ Only holder false → holder_of n row ≡ Some holder
+pub holder_other : {whole : Bool} (row : LinkRow) (n holder : ℕ) → has_server n row ≡ true → other_of n row ≡ holder → row.state ≡ Only holder whole
+    → holder_of n row ≡ Some holder
 holder_other row n holder has other alone =
     ap (λ b. if b && is_alone (other_of n row) row.state then Some (other_of n row) else None) has
     ∙ ap (λ b. if b then Some (other_of n row) else None)
@@ -52,8 +55,17 @@ holder_other row n holder has other alone =
 
 -- ### At its own place
 
-module _ (setting : Setting) (records : List Record) (w : World) (k : ℕ) (good : Good setting records (chosen_log setting w) w) (firm : Firm setting w)
-    (rests : Rests setting w) (runs : (w.servers k).life.running ≡ true) (seat : is_in (server_state setting w k) k (w.servers k).life.inc ≡ true) where
+-- a running server that is In as itself: its store is the one that counts, and no Join of it with an empty store is chosen behind its
+-- own entries
+pub record IsAtWork (setting : Setting) (w : World) (stores : ℕ → Store) (k : ℕ) : Type 0 where
+  pub runs : (w.servers k).life.running ≡ true
+  pub seat : is_in (server_state setting w k) k (w.servers k).life.inc ≡ true
+  pub real : stores k ≡ (w.servers k).own.store
+  pub counts : blank_joins_in setting (w.servers k).log.applied k ≡ blank_joins_in setting (chosen_log setting w) k
+
+module _ (setting : Setting) (records : List Record) (w : World) (stores : ℕ → Store) (k : ℕ)
+    (good : Good setting records (chosen_log setting w) (with_stores w stores)) (firm : Firm setting w) (rests : Rests setting w)
+    (works : IsAtWork setting w stores k) where
   abbrev pub front : List Command
   front = (w.servers k).log.applied
 
@@ -66,26 +78,47 @@ module _ (setting : Setting) (records : List Record) (w : World) (k : ℕ) (good
   abbrev pub heard : Body → Type 0
   heard = Handled w k
 
+  -- the stores by the server's own entries
+  abbrev pub by : ℕ → Store
+  by = store_by setting good.stores front
+
   pub steady : IsSteady (server_state setting w k)
   steady = log_steady setting.servers front (front_plain setting.servers front (chosen_log setting w) firm.plain (firm.servers k))
 
+  pub own_same : ((with_stores w stores).servers k).own ≡ own
+  own_same = λ i. record (w.servers k).own { store = works.real i }
+
+  -- its own one is as it is now
+  pub own_store : by k ≡ own.store
+  own_store = ap (good.stores k) works.counts ∙ good.now k ∙ works.real
+
   pub here_visit : (cell : Cell) (row : LinkRow) → IsLinked setting front cell row → good.visits k (place_by setting front row) cell ≡ Some own
-  here_visit cell row is = let h = good.here k cell row is seat in h.is ∙ ap Some h.same
+  here_visit cell row is = let h = good.here k cell row is works.seat in h.is ∙ ap Some (h.same ∙ own_same)
 
   -- what it handles tells what is known of it at the place
   pub heard_said : (said : Body) → heard said → (cell : Cell) (row : LinkRow) → IsLinked setting front cell row
-      → SaidOk setting (chosen_log setting w) w good.visits good.reached front said cell row
+      → SaidOk setting (chosen_log setting w) good.stores good.visits good.reached front said cell row
   heard_said said h cell row is =
-      subst (λ b. SaidOk setting (chosen_log setting w) w good.visits good.reached front b cell row) h.is
+      subst (λ b. SaidOk setting (chosen_log setting w) good.stores good.visits good.reached front b cell row) h.is
       (good.letters h.letter h.sent front cell row (firm.servers k) (sym h.at) is)
+
+  pub marks : HaveMarks own.pairs.pending own.store
+  marks = subst (HaveMarks own.pairs.pending) works.real (good.marks k (inl works.runs))
+
+  pub rising : (cell : Cell) → IsRising nat_cmp (chain_in own.store.chains cell)
+  rising cell = subst (λ (s : Store). IsRising nat_cmp (chain_in s.chains cell)) works.real (good.rising k cell)
+
+  pub filled : AreFilled own.store.chains
+  filled = subst (λ (s : Store). AreFilled s.chains) works.real (good.filled k)
 
   pub fit : IsFit heard here own
   fit = record {
     steady = steady;
     ready = rests.pending k;
     resting = rests.resting k;
-    marks = good.marks k;
-    rising = good.rising k;
+    marks = marks;
+    rising = rising;
+    filled = filled;
     pages = λ q link after h. good.pages h.letter h.sent front (firm.servers k) (sym h.at) q.map link q.block after h.is;
   }
 
@@ -98,28 +131,28 @@ module _ (setting : Setting) (records : List Record) (w : World) (k : ℕ) (good
     module _ (both : row.state ≡ Both) (has : has_server k row ≡ true) where
       -- no server of the link has been at a later place
       pub last_here : good.reached cell ≤ place
-      last_here = both_last setting records w firm good k runs seat cell row is both has
+      last_here = both_last setting records w stores firm good k works.runs works.seat cell row is both has
 
-      pub twins_here : AreTwins w good.visits place cell row.primary row.secondary
+      pub twins_here : AreTwins by good.visits place cell row.primary row.secondary
       twins_here = (good.both front cell row (firm.servers k) is both).twins last_here
 
-      pub known_here : (said : Body) → heard said → (about said).cell ≡ Some cell → Known (pair_at w good.visits place cell row.primary row.secondary) said
+      pub known_here : (said : Body) → heard said → (about said).cell ≡ Some cell → Known (pair_at by good.visits place cell row.primary row.secondary) said
       known_here said h of = (heard_said said h cell row is).both both last_here of
 
     -- what the other server is, by its store as it is now
     abbrev pub beside : ℕ → Own
-    beside n = half (good.visits n place cell) (store_of w n)
+    beside n = half (good.visits n place cell) (by n)
 
-    first_pair : (m : ℕ) → pair_at w good.visits place cell k m ≡ pair_of own (beside m) cell
-    first_pair m = λ i. pair_of (half (here_visit cell row is i) own.store) (beside m) cell
+    first_pair : (m : ℕ) → pair_at by good.visits place cell k m ≡ pair_of own (beside m) cell
+    first_pair m = λ i. pair_of (half (here_visit cell row is i) (own_store i)) (beside m) cell
 
-    second_pair : (n : ℕ) → pair_at w good.visits place cell n k ≡ pair_of (beside n) own cell
-    second_pair n = λ i. pair_of (beside n) (half (here_visit cell row is i) own.store) cell
+    second_pair : (n : ℕ) → pair_at by good.visits place cell n k ≡ pair_of (beside n) own cell
+    second_pair n = λ i. pair_of (beside n) (half (here_visit cell row is i) (own_store i)) cell
 
     -- as the first server
     module _ (both : row.state ≡ Both) (leads : row.primary ≡ k) where
-      pub first_at : pair_at w good.visits place cell row.primary row.secondary ≡ pair_of own (beside row.secondary) cell
-      first_at = (λ i. pair_at w good.visits place cell (leads i) row.secondary) ∙ first_pair row.secondary
+      pub first_at : pair_at by good.visits place cell row.primary row.secondary ≡ pair_of own (beside row.secondary) cell
+      first_at = (λ i. pair_at by good.visits place cell (leads i) row.secondary) ∙ first_pair row.secondary
 
       pub first_ok : PairOk (pair_of own (beside row.secondary) cell)
       first_ok = subst PairOk first_at (twins_here both (primary_is_one row k leads)).pair
@@ -129,8 +162,8 @@ module _ (setting : Setting) (records : List Record) (w : World) (k : ℕ) (good
 
     -- as the second one
     module _ (both : row.state ≡ Both) (follows : row.secondary ≡ k) where
-      pub second_at : pair_at w good.visits place cell row.primary row.secondary ≡ pair_of (beside row.primary) own cell
-      second_at = (λ i. pair_at w good.visits place cell row.primary (follows i)) ∙ second_pair row.primary
+      pub second_at : pair_at by good.visits place cell row.primary row.secondary ≡ pair_of (beside row.primary) own cell
+      second_at = (λ i. pair_at by good.visits place cell row.primary (follows i)) ∙ second_pair row.primary
 
       pub second_ok : PairOk (pair_of (beside row.primary) own cell)
       second_ok = subst PairOk second_at (twins_here both (secondary_is_one row k follows)).pair
@@ -140,50 +173,57 @@ module _ (setting : Setting) (records : List Record) (w : World) (k : ℕ) (good
 
     -- ### Alone
 
-    pub alone_here : (holder : ℕ) → row.state ≡ Only holder false → AloneOk setting (chosen_log setting w) w good.visits good.reached front cell row holder
-    alone_here holder alone = good.alone front cell row holder (firm.servers k) is alone
+    abbrev pub links : ℕ
+    links = links_of (server_state setting w k) cell.map
+
+    pub alone_here : (holder : ℕ) (whole : Bool) → row.state ≡ Only holder whole
+        → AloneOk setting (chosen_log setting w) good.stores good.visits good.reached front cell row holder
+    alone_here holder whole alone = good.alone front cell row holder whole (firm.servers k) is alone
 
     -- as the holder
-    module _ (alone : row.state ≡ Only k false) where
+    module _ (whole : Bool) (alone : row.state ≡ Only k whole) where
       abbrev pub visit_beside : Option Own
       visit_beside = good.visits (other_of k row) place cell
 
-      pub copying_here : AreCopying row cell (Some own) visit_beside
-      copying_here = subst (λ o. AreCopying row cell o visit_beside) (here_visit cell row is) (alone_here k alone).copying
+      pub copying_here : AreCopying links row cell (Some own) visit_beside
+      copying_here = subst (λ o. AreCopying links row cell o visit_beside) (here_visit cell row is) (alone_here k whole alone).copying
 
-      pub holding : IsHolding heard here row cell own visit_beside
+      pub holding : IsHolding heard here links row cell own visit_beside
       holding = record {
         fit = fit;
         is = is;
+        links_are = refl;
+        whole = whole;
         held = alone;
         old = copying_here;
-        told = λ said h of. subst (λ o. IsTold o visit_beside said) (here_visit cell row is) ((heard_said said h cell row is).alone k alone of);
-        met = λ after block h. (heard_said (body.Hello row.map row.link after block) h cell row is).met k after block alone refl;
+        told = λ said h of. subst (λ o. IsTold row o visit_beside said) (here_visit cell row is)
+            ((heard_said said h cell row is).alone k whole alone of);
+        met = λ after block h. (heard_said (body.Hello row.map row.link after block) h cell row is).met k whole after block alone refl;
       }
 
       -- pages that it handles tell of the other server's store as it is now, where no server has been at a later place
-      pub pages_here : good.reached cell ≤ place → PagesOf heard row cell (store_of w (other_of k row)) visit_beside
-      pages_here last after block h = (heard_said (body.Hello row.map row.link after block) h cell row is).page k after block alone refl last
+      pub pages_here : good.reached cell ≤ place → PagesOf heard row cell (by (other_of k row)) visit_beside
+      pages_here last after block h = (heard_said (body.Hello row.map row.link after block) h cell row is).page k whole after block alone refl last
 
     -- as the other server
-    module _ (holder : ℕ) (alone : row.state ≡ Only holder false) (other : other_of holder row ≡ k) where
+    module _ (holder : ℕ) (whole : Bool) (alone : row.state ≡ Only holder whole) (other : other_of holder row ≡ k) where
       abbrev pub visit_holder : Option Own
       visit_holder = good.visits holder place cell
 
       other_visit : good.visits (other_of holder row) place cell ≡ Some own
       other_visit = ap (λ n. good.visits n place cell) other ∙ here_visit cell row is
 
-      pub follows_here : AreCopying row cell visit_holder (Some own)
-      follows_here = subst (AreCopying row cell visit_holder) other_visit (alone_here holder alone).copying
+      pub follows_here : AreCopying links row cell visit_holder (Some own)
+      follows_here = subst (AreCopying links row cell visit_holder) other_visit (alone_here holder whole alone).copying
 
-      pub following : has_server k row ≡ true → other_of k row ≡ holder → IsFollowing heard here row cell visit_holder own
+      pub following : has_server k row ≡ true → other_of k row ≡ holder → IsFollowing heard here links row cell visit_holder own
       following has back = record {
         fit = fit;
         is = is;
         by = holder;
         held = holder_other row k holder has back alone;
         old = follows_here;
-        told = λ said h of. subst (λ o. IsTold visit_holder o said) other_visit ((heard_said said h cell row is).alone holder alone of);
+        told = λ said h of. subst (λ o. IsTold row visit_holder o said) other_visit ((heard_said said h cell row is).alone holder whole alone of);
       }
 
   -- a cell of which a copy is under way has no operation
@@ -192,9 +232,10 @@ module _ (setting : Setting) (records : List Record) (w : World) (k : ℕ) (good
       let held = copying_held heard here own fit q copy there in
       let alone = other_alone here.state k held.other held.row held.other_is in
       elim (steady.linked q held.row held.is).served [
-        | ByBoth so one other ↦ (let f : false ≡ true = sym (ap (is_alone k) so) ∙ alone in absurd cc)
-        | ByOne holder other so pair out ↦ (
+        | ByBoth so one other ↦ true_false alone (ap (is_alone k) so)
+        | ByNone one other so pair out ↦ true_false alone (ap (is_alone k) so)
+        | ByOne holder other whole so pair out ↦ (
             let mine : holder ≡ k = same_numbers holder k (sym (ap (is_alone k) so) ∙ alone) in
-            let is_mine : held.row.state ≡ Only k false = so ∙ ap (λ n. Only n false) mine in
-            ((copying_here q held.row held.is is_mine).copying own copy refl there).free)
+            let is_mine : held.row.state ≡ Only k whole = so ∙ ap (λ n. Only n whole) mine in
+            ((copying_here q held.row held.is whole is_mine).copying own copy refl there).free)
       ]

@@ -34,12 +34,12 @@ use Rattle.law_copies.proofs.Rows.{in_left}
 use Rattle.law_copies.proofs.Working.{Away, holder_cell, other_cell}
 
 -- of what isn't about copies nothing need be known
-pub untold : (holder other : Option Own) (said : Body) → (subject_of said ≡ Copied → ⊥) → IsTold holder other said
-untold holder other (body.Trim number cell epochs) ne = absurd (ne refl)
-untold holder other (body.Trimmed number cell) ne = absurd (ne refl)
-untold holder other (body.Sync number key version index bytes) ne = absurd (ne refl)
-untold holder other (body.Synced number cell index) ne = absurd (ne refl)
-untold holder other _ ne = tt
+pub untold : (row : LinkRow) (holder other : Option Own) (said : Body) → (subject_of said ≡ Copied → ⊥) → IsTold row holder other said
+untold row holder other (body.Trim number cell epochs) ne = absurd (ne refl)
+untold row holder other (body.Trimmed number cell) ne = absurd (ne refl)
+untold row holder other (body.Sync number key version index bytes) ne = absurd (ne refl)
+untold row holder other (body.Synced number cell index) ne = absurd (ne refl)
+untold row holder other _ ne = tt
 
 abbrev pub is_page : Body → Bool
 is_page (body.Hello map link after block) = true

@@ -1,5 +1,5 @@
 -- What is kept after a step of one server, from what the step keeps at each front, and of what it sends.
-use Rattle.std.proofs.Common.{◌≡◌, ◌≤◌, ◌++◌, ℕ, List, [], ◌∷◌, length, true, false, Option, Some, None, sym, subst, ◌⊎◌, inl, inr}
+use Rattle.std.proofs.Common.{◌≡◌, ◌≤◌, ◌++◌, ℕ, List, [], ◌∷◌, length, Bool, true, Option, Some, None, sym, subst, ◌⊎◌, inl, inr}
 use Rattle.std.specs.Ordering.{nat_cmp}
 use Rattle.global_tables.specs.declared.link.LinkRow.{LinkRow}
 use Rattle.global_tables.specs.declared.link.LinkState.TheVariants.{Both, Only}
@@ -9,29 +9,29 @@ use Rattle.petal_msg.specs.Kinds.{subject_of}
 use Rattle.petal_msg.specs.declared.body.Body.TheVariants as body
 use Rattle.petal_msg.specs.declared.letter.Letter.{Letter}
 use Rattle.petal_history.specs.Claims.{IsPrefix}
-use Rattle.petal_history.specs.Legal.{world_after}
 use Rattle.petal_history.specs.declared.record.Record.{Record}
 use Rattle.petal_state.specs.CellState.{cell_link}
 use Rattle.petal_state.specs.Command.{state_after}
 use Rattle.petal_rules.specs.Lists.{In}
 use Rattle.petal_rules.specs.Log.{state_in}
 use Rattle.petal_rules.specs.Server.{Own, Server}
-use Rattle.petal_rules.specs.Store.{chain_in}
-use Rattle.petal_rules.specs.World.{Setting, World, start}
+use Rattle.petal_rules.specs.Store.{Store, chain_in}
+use Rattle.petal_rules.specs.World.{Setting, World}
 use Rattle.petal_rules.proofs.Tests.{same_or_apart}
 use Rattle.law_steps.specs.Happens.{is_between}
 use Rattle.law_steps.specs.Ready.{IsRising}
 use Rattle.law_copies.specs.Copied.{IsOfLink}
 use Rattle.law_copies.specs.Good.{AloneOk, BothOk, Good, IsUnheard, SaidOk}
 use Rattle.law_copies.specs.Pair.{HaveMarks}
+use Rattle.law_copies.specs.Steps.{AreFilled}
 use Rattle.law_copies.specs.Visits.{IsLinked}
-use Rattle.law_copies.proofs.Visited.{IsStep, KeepsFlags, all_visited, been_now, counted, counted_up, here_now, later, reaching_now, seen, started_now}
+use Rattle.law_copies.proofs.Visited.{IsStep, IsThen, KeepsFlags, all_visited, been_now, counted, counted_up, ever_then, here_now, later, now_then, reaching_now, seen, started_now, stored}
 
 -- a letter that is sent tells what is so, by the link at the front of its sender
-pub record IsTrue (setting : Setting) (top : List Command) (v : World) (visits : (n place : ℕ) → Cell → Option Own) (reached : Cell → ℕ) (letter : Letter) : Type 0 where
+pub record IsTrue (setting : Setting) (top : List Command) (stores : ℕ → ℕ → Store) (visits : (n place : ℕ) → Cell → Option Own) (reached : Cell → ℕ) (letter : Letter) : Type 0 where
   pub rev : is_between (subject_of letter.body) ≡ true → letter.rev ≤ length top
   pub said : (front : List Command) (cell : Cell) (row : LinkRow) → IsPrefix front top → length front ≡ letter.rev → IsLinked setting front cell row
-      → SaidOk setting top v visits reached front letter.body cell row
+      → SaidOk setting top stores visits reached front letter.body cell row
   pub page : (front : List Command) → IsPrefix front top → length front ≡ letter.rev → (map link block : ℕ) (after : Option ℕ)
       → letter.body ≡ body.Hello map link after (Some block) → IsOfLink (state_after setting.servers front) (record { map = map; block = block }) link
 
@@ -44,17 +44,21 @@ pub record GoesOn (setting : Setting) (records : List Record) (top next : List C
   pub behind : (n : ℕ) → IsPrefix (v.servers n).log.applied top
 
 -- the server's own part, by its own state then
-pub record IsSoundOwn (setting : Setting) (top : List Command) (server : Server) : Type 0 where
+pub record IsSoundOwn (setting : Setting) (top : List Command) (v : World) (k : ℕ) (server : Server) : Type 0 where
   pub born : (cell : Cell) → cell_link (state_after setting.servers top) cell ≡ None → chain_in server.own.store.chains cell ≡ []
   pub unheard : (cell : Cell) → cell_link (state_in setting.servers server.log) cell ≡ None → IsUnheard server.own cell
   pub rising : (cell : Cell) → IsRising nat_cmp (chain_in server.own.store.chains cell)
   pub counts : 1 ≤ server.own.pairs.next
-  pub marks : HaveMarks server.own.pairs.pending server.own.store
+  pub filled : AreFilled server.own.store.chains
+  pub marks : (server.life.running ≡ true) ⊎ (v.before_blank k ≡ None) → HaveMarks server.own.pairs.pending server.own.store
 
 module _ (setting : Setting) (records : List Record) (top : List Command) (w v : World) (k : ℕ) (server : Server)
     (good : Good setting records top w) (step : IsStep setting top w v k server) where
   abbrev visits : (n place : ℕ) → Cell → Option Own
   visits = later setting records top w v k server good step
+
+  abbrev stores : ℕ → ℕ → Store
+  stores = stored setting records top w v k server good step
 
   abbrev reached : Cell → ℕ
   reached = counted setting records top w v k server good step
@@ -69,27 +73,32 @@ module _ (setting : Setting) (records : List Record) (top : List Command) (w v :
   -- at each front, what the step keeps
   pub record KeepsFronts : Type 0 where
     pub both : (front : List Command) (cell : Cell) (row : LinkRow) → IsPrefix front top → IsLinked setting front cell row → row.state ≡ Both
-        → BothOk setting top v visits reached front cell row
-    pub alone : (front : List Command) (cell : Cell) (row : LinkRow) (holder : ℕ) → IsPrefix front top → IsLinked setting front cell row
-        → row.state ≡ Only holder false → AloneOk setting top v visits reached front cell row holder
+        → BothOk setting top stores visits reached front cell row
+    pub alone : (front : List Command) (cell : Cell) (row : LinkRow) (holder : ℕ) (whole : Bool) → IsPrefix front top → IsLinked setting front cell row
+        → row.state ≡ Only holder whole → AloneOk setting top stores visits reached front cell row holder
     pub said : (letter : Letter) → In letter w.sent → (front : List Command) (cell : Cell) (row : LinkRow) → IsPrefix front top
-        → length front ≡ letter.rev → IsLinked setting front cell row → SaidOk setting top v visits reached front letter.body cell row
+        → length front ≡ letter.rev → IsLinked setting front cell row → SaidOk setting top stores visits reached front letter.body cell row
 
-  good_now : (own : Record) → world_after setting (start setting) (records ++ own ∷ []) ≡ v → KeepsFlags setting records top w v k server good step
-      → IsSoundOwn setting top server → KeepsFronts
-      → ((letter : Letter) → In letter v.sent → In letter w.sent ⊎ IsTrue setting top v visits reached letter)
+  good_now : (own : Record) → IsThen setting (records ++ own ∷ []) v → KeepsFlags setting records top w v k server good step
+      → IsSoundOwn setting top v k server → KeepsFronts
+      → ((letter : Letter) → In letter v.sent → In letter w.sent ⊎ IsTrue setting top stores visits reached letter)
       → Good setting (records ++ own ∷ []) top v
   good_now own then_is flags sound keeps sent = record {
     visits = visits;
     reached = reached;
     reaching = reaching_now setting records top w v k server good step;
+    stores = stores;
+    now = now_then setting records top w v k server good step;
     here = here_now setting records top w v k server good step;
     been = been_now setting records top w v k server good step;
     born = λ cell none. all_servers (λ n (s : Server). chain_in s.own.store.chains cell ≡ []) (good.born cell none) (sound.born cell none);
     unheard = all_servers (λ n (s : Server). (cell : Cell) → cell_link (state_in setting.servers s.log) cell ≡ None → IsUnheard s.own cell) good.unheard sound.unheard;
     rising = all_servers (λ n (s : Server). (cell : Cell) → IsRising nat_cmp (chain_in s.own.store.chains cell)) good.rising sound.rising;
+    ever = ever_then setting records top w v k server good step sound.rising;
     counts = all_servers (λ n (s : Server). 1 ≤ s.own.pairs.next) good.counts sound.counts;
-    marks = all_servers (λ n (s : Server). HaveMarks s.own.pairs.pending s.own.store) good.marks sound.marks;
+    filled = all_servers (λ n (s : Server). AreFilled s.own.store.chains) good.filled sound.filled;
+    marks = all_servers (λ n (s : Server). (s.life.running ≡ true) ⊎ (v.before_blank n ≡ None) → HaveMarks s.own.pairs.pending s.own.store)
+        (λ n when. good.marks n (elim when [ inl runs ↦ inl runs | inr none ↦ inr (step.blanks n none) ])) sound.marks;
     both = keeps.both;
     alone = keeps.alone;
     revs = λ letter i. elim (sent letter i) [ inl old ↦ good.revs letter old | inr new ↦ new.rev ];
@@ -98,9 +107,9 @@ module _ (setting : Setting) (records : List Record) (top : List Command) (w v :
     started = started_now setting records top w v k server good step own then_is flags;
   }
 
-  pub good_after : (own : Record) → world_after setting (start setting) (records ++ own ∷ []) ≡ v → KeepsFlags setting records top w v k server good step
-      → IsSoundOwn setting top server → KeepsFronts
-      → ((letter : Letter) → In letter v.sent → In letter w.sent ⊎ IsTrue setting top v visits reached letter)
+  pub good_after : (own : Record) → IsThen setting (records ++ own ∷ []) v → KeepsFlags setting records top w v k server good step
+      → IsSoundOwn setting top v k server → KeepsFronts
+      → ((letter : Letter) → In letter v.sent → In letter w.sent ⊎ IsTrue setting top stores visits reached letter)
       → GoesOn setting records top top w v good own
   unfolding good_now
   good_after own then_is flags sound keeps sent = record {

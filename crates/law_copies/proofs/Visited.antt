@@ -1,7 +1,8 @@
 -- Where servers have been, once one of them has done a step.
-use Rattle.std.proofs.Common.{◌≡◌, ◌≢◌, ◌≤◌, ◌++◌, ◌==◌, ◌&&◌, ℕ, List, [], ◌∷◌, true, false, if◌then◌else◌, Option, Some, None, is_some, refl, sym, ap, ◌∙◌, subst, ◌⊎◌, inl, inr, arith}
+use Rattle.std.proofs.Common.{◌≡◌, ◌≢◌, ◌≤◌, ◌++◌, ◌==◌, ◌&&◌, ℕ, List, [], ◌∷◌, Bool, true, false, if◌then◌else◌, Option, Some, None, is_some, sym, ap, ◌∙◌, subst, ◌⊎◌, inl, inr, arith}
 use Rattle.std.specs.Prelude.{max, nat_eq, option_map}
 use Rattle.std.specs.Option.{option_map_or}
+use Rattle.std.specs.Ordering.{nat_cmp}
 use Rattle.global_tables.specs.declared.link.LinkRow.{LinkRow}
 use Rattle.global_tables.specs.declared.link.LinkState.TheVariants.{Only}
 use Rattle.petal_base.specs.declared.cell.Cell.{Cell}
@@ -14,37 +15,17 @@ use Rattle.petal_state.specs.Command.{state_after}
 use Rattle.petal_rules.specs.Log.{state_in}
 use Rattle.petal_rules.specs.Server.{Own, Server}
 use Rattle.petal_rules.specs.State.{id_of, is_in}
-use Rattle.petal_rules.specs.World.{Setting, World, server_state, start}
+use Rattle.petal_rules.specs.Store.{Store, chain_in}
+use Rattle.petal_rules.specs.World.{Setting, World, blank_joins_in, server_state, start, with_store}
 use Rattle.petal_rules.proofs.Tests.{both_true, by_bool, number_itself, same_numbers, same_or_apart, some_or_none, true_false}
 use Rattle.law_log.specs.Requested.{WasStarted}
 use Rattle.law_state.specs.Plain.{IsPlainLog}
 use Rattle.law_state.specs.Started.{is_flagged}
+use Rattle.law_steps.specs.Ready.{IsRising}
+use Rattle.law_steps.proofs.Records.{split_last}
 use Rattle.law_copies.specs.Good.{Good}
-use Rattle.law_copies.specs.Visits.{AreReached, HasBeen, HasReached, IsHere, IsLinked, Visits, is_at, place_by, place_on, visited}
+use Rattle.law_copies.specs.Visits.{AreReached, HasBeen, HasReached, IsHere, IsLinked, Visits, is_at, place_by, place_on, store_by, visited}
 use Rattle.law_copies.proofs.Places.{linked_on, one_row, places_up}
-
--- ### Before the last record
-
-heads : {A : Type 0} {x z : A} {xs zs : List A} → x ∷ xs ≡ z ∷ zs → x ≡ z
-heads e = cc
-
-tails : {A : Type 0} {x z : A} {xs zs : List A} → x ∷ xs ≡ z ∷ zs → xs ≡ zs
-tails e = cc
-
--- nothing stands before nothing
-pub none_before_none : {A : Type 0} (xs zs : List A) → [] ≡ xs ++ zs → xs ≡ []
-none_before_none [] zs e = refl
-none_before_none (x ∷ xs) zs e = cc
-
--- a part of a list with one element more is all of it, or a part of the list
-pub split_last : {A : Type 0} (xs : List A) (y : A) (before later : List A) → xs ++ y ∷ [] ≡ before ++ later
-    → (before ≡ xs ++ y ∷ []) ⊎ ((rest : List A) × (xs ≡ before ++ rest))
-split_last xs y [] later e = inr (xs, refl)
-split_last [] y (b ∷ before) later e = inl (ap (λ zs. b ∷ zs) (none_before_none before later (tails e)) ∙ ap (λ x. x ∷ []) (sym (heads e)))
-split_last (x ∷ xs) y (b ∷ before) later e = elim (split_last xs y before later (tails e)) [
-  | inl same ↦ inl (ap (λ zs. b ∷ zs) same ∙ ap (λ z. z ∷ (xs ++ y ∷ [])) (sym (heads e)))
-  | inr more ↦ inr (more.0, ap (λ zs. x ∷ zs) more.1 ∙ ap (λ z. z ∷ (before ++ more.0)) (heads e))
-]
 
 -- ### Where a server is
 
@@ -120,6 +101,10 @@ module _ (setting : Setting) (n : ℕ) (server : Server) where
 abbrev pub seen : Setting → Visits → World → Visits
 seen setting visits v n place cell = if is_at setting n (v.servers n) place cell then Some (v.servers n).own else visits n place cell
 
+-- the world after these records, but for stores
+abbrev pub IsThen : Setting → List Record → World → Type 0
+IsThen setting records v = (n : ℕ) → with_store ((world_after setting (start setting) records).servers n) (v.servers n).own.store ≡ v.servers n
+
 -- ### A step of a server
 
 -- the world after a step of this server, which leaves each other server as it is, and does not take the server beyond the log so far
@@ -130,6 +115,7 @@ pub record IsStep (setting : Setting) (top : List Command) (w v : World) (k : �
   pub before : (n : ℕ) → IsPrefix (w.servers n).log.applied top
   pub onward : IsPrefix (w.servers k).log.applied server.log.applied
   pub within : IsPrefix server.log.applied top
+  pub blanks : (n : ℕ) → v.before_blank n ≡ None → w.before_blank n ≡ None
 
 module _ (setting : Setting) (records : List Record) (top : List Command) (w v : World) (k : ℕ) (server : Server)
     (good : Good setting records top w) (step : IsStep setting top w v k server) where
@@ -348,32 +334,76 @@ module _ (setting : Setting) (records : List Record) (top : List Command) (w v :
         ]
       ]
 
+  -- ### Stores
+
+  -- the stores then: the server's last one is what it has now
+  abbrev pub stored : ℕ → ℕ → Store
+  stored n joins = if (n == k) && (joins == blank_joins_in setting top k) then server.own.store else good.stores n joins
+
+  pub stored_here : stored k (blank_joins_in setting top k) ≡ server.own.store
+  stored_here = ap (λ b. if b then server.own.store else good.stores k (blank_joins_in setting top k))
+      (ap (λ b. b && (blank_joins_in setting top k == blank_joins_in setting top k)) (number_itself k) ∙ number_itself (blank_joins_in setting top k))
+
+  pub stored_apart : (n joins : ℕ) → n ≢ k → stored n joins ≡ good.stores n joins
+  stored_apart n joins ne = by_bool (n == k)
+      (λ same. absurd (ne (same_numbers n k same)))
+      (λ off. ap (λ b. if b && (joins == blank_joins_in setting top k) then server.own.store else good.stores n joins) off)
+
+  pub stored_frozen : (n joins : ℕ) → joins ≢ blank_joins_in setting top k → stored n joins ≡ good.stores n joins
+  stored_frozen n joins ne = by_bool (joins == blank_joins_in setting top k)
+      (λ same. absurd (ne (same_numbers joins (blank_joins_in setting top k) same)))
+      (λ off. by_bool (n == k)
+      (λ on. ap (λ b. if b && (joins == blank_joins_in setting top k) then server.own.store else good.stores n joins) on
+      ∙ ap (λ b. if b then server.own.store else good.stores n joins) off)
+      (λ apart. ap (λ b. if b && (joins == blank_joins_in setting top k) then server.own.store else good.stores n joins) apart))
+
+  -- by a front behind which the server has joined no more
+  pub stored_by : (f : List Command) → blank_joins_in setting f k ≡ blank_joins_in setting top k → store_by setting stored f k ≡ server.own.store
+  stored_by f same = ap (stored k) same ∙ stored_here
+
+  pub was_stored : (f : List Command) → blank_joins_in setting f k ≡ blank_joins_in setting top k → store_by setting good.stores f k ≡ (w.servers k).own.store
+  was_stored f same = ap (good.stores k) same ∙ good.now k
+
+  pub now_then : (n : ℕ) → stored n (blank_joins_in setting top n) ≡ (v.servers n).own.store
+  now_then n = elim (same_or_apart n k) [
+    | inl e ↦ subst (λ m. stored m (blank_joins_in setting top m) ≡ (v.servers m).own.store) (sym e) (stored_here ∙ ap (λ (s : Server). s.own.store) (sym step.here))
+    | inr ne ↦ stored_apart n (blank_joins_in setting top n) ne ∙ good.now n ∙ ap (λ (s : Server). s.own.store) (sym (step.others n ne))
+  ]
+
+  pub ever_then : ((cell : Cell) → IsRising nat_cmp (chain_in server.own.store.chains cell)) → (n joins : ℕ) (cell : Cell)
+      → IsRising nat_cmp (chain_in (stored n joins).chains cell)
+  ever_then rising n joins cell = by ((n == k) && (joins == blank_joins_in setting top k))
+    where
+      by : (b : Bool) → IsRising nat_cmp (chain_in (if b then server.own.store else good.stores n joins).chains cell)
+      by true = rising cell
+      by false = good.ever n joins cell
+
   -- ### Ballots that were started
 
   -- the server forgets no ballot for the Caught of a link that it holds alone, while it stays at the link's place
   abbrev pub KeepsFlags : Type 0
-  KeepsFlags = (cell : Cell) (row : LinkRow) (own : Own) → IsLinked setting front cell row → row.state ≡ Only k false
+  KeepsFlags = (cell : Cell) (row : LinkRow) (own : Own) (whole : Bool) → IsLinked setting front cell row → row.state ≡ Only k whole
       → is_in (state_in setting.servers server.log) k server.life.inc ≡ true
       → good.visits k (place_by setting front row) cell ≡ Some own → is_flagged own (id_of row) ≡ true → is_flagged server.own (id_of row) ≡ true
 
-  module _ (own : Record) (then_is : world_after setting (start setting) (records ++ own ∷ []) ≡ v) (flags : KeepsFlags) where
-    pub started_now : (holder inc : ℕ) (f : List Command) (cell : Cell) (row : LinkRow) → IsPrefix f top → IsLinked setting f cell row
-        → row.state ≡ Only holder false → is_in (state_after setting.servers f) holder inc ≡ true
+  module _ (own : Record) (then_is : IsThen setting (records ++ own ∷ []) v) (flags : KeepsFlags) where
+    pub started_now : (holder inc : ℕ) (whole : Bool) (f : List Command) (cell : Cell) (row : LinkRow) → IsPrefix f top → IsLinked setting f cell row
+        → row.state ≡ Only holder whole → is_in (state_after setting.servers f) holder inc ≡ true
         → WasStarted setting (records ++ own ∷ []) holder inc f (id_of row)
         → (o : Own) × (later holder (place_by setting f row) cell ≡ Some o) × (is_flagged o (id_of row) ≡ true)
-    started_now holder inc f cell row prefix is alone seat was = elim (split_last records own was.before was.later was.is) [
-      | inl all ↦ now (ap (λ rs. world_after setting (start setting) rs) all ∙ then_is)
-      | inr more ↦ still (good.started holder inc f cell row prefix is alone seat
+    started_now holder inc whole f cell row prefix is alone seat was = elim (split_last records own was.before was.later was.is) [
+      | inl all ↦ now (subst (λ rs. IsThen setting rs v) (sym all) then_is)
+      | inr more ↦ still (good.started holder inc whole f cell row prefix is alone seat
           (record { before = was.before; later = more.0; is = more.1; lives = was.lives; at = was.at; minded = was.minded }))
     ]
       where
-        now : world_after setting (start setting) was.before ≡ v
+        now : IsThen setting was.before v
             → (o : Own) × (later holder (place_by setting f row) cell ≡ Some o) × (is_flagged o (id_of row) ≡ true)
         now e =
-            let at : (v.servers holder).log.applied ≡ f = sym (ap (λ (u : World). (u.servers holder).log.applied) e) ∙ was.at in
-            let lives : (v.servers holder).life.inc ≡ inc = sym (ap (λ (u : World). (u.servers holder).life.inc) e) ∙ was.lives in
+            let at : (v.servers holder).log.applied ≡ f = sym (ap (λ (s : Server). s.log.applied) (e holder)) ∙ was.at in
+            let lives : (v.servers holder).life.inc ≡ inc = sym (ap (λ (s : Server). s.life.inc) (e holder)) ∙ was.lives in
             let minded : is_flagged (v.servers holder).own (id_of row) ≡ true =
-            sym (ap (λ (u : World). is_flagged (u.servers holder).own (id_of row)) e) ∙ was.minded in
+            sym (ap (λ (s : Server). is_flagged s.own (id_of row)) (e holder)) ∙ was.minded in
             let h = here_now holder cell row (subst (λ g. IsLinked setting g cell row) (sym at) is)
             (subst (λ i. is_in (server_state setting v holder) holder i ≡ true) (sym lives)
             (subst (λ g. is_in (state_after setting.servers g) holder inc ≡ true) (sym at) seat)) in
@@ -388,7 +418,7 @@ module _ (setting : Setting) (records : List Record) (top : List Command) (w v :
               let one : there.row ≡ row = one_row setting top step.plain f front cell row there.row prefix step.within is there.linked there.at in
               let before : good.visits k (place_by setting front there.row) cell ≡ Some h.0 =
               ap (λ place. good.visits k place cell) (sym there.at) ∙ subst (λ m. good.visits m (place_by setting f row) cell ≡ Some h.0) is_now.who h.1 in
-              let mine : there.row.state ≡ Only k false = ap (λ (r : LinkRow). r.state) one ∙ alone ∙ ap (λ n. Only n false) is_now.who in
-              let flagged = flags cell there.row h.0 there.linked mine there.seat before (ap (λ (r : LinkRow). is_flagged h.0 (id_of r)) one ∙ h.2) in
+              let mine : there.row.state ≡ Only k whole = ap (λ (r : LinkRow). r.state) one ∙ alone ∙ ap (λ n. Only n whole) is_now.who in
+              let flagged = flags cell there.row h.0 whole there.linked mine there.seat before (ap (λ (r : LinkRow). is_flagged h.0 (id_of r)) one ∙ h.2) in
               (server.own, is_now.is, ap (λ (r : LinkRow). is_flagged server.own (id_of r)) (sym one) ∙ flagged))
         ]

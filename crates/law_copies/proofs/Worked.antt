@@ -1,25 +1,25 @@
 -- What a job of a server that is In as itself keeps at the places of its own entries.
-use Rattle.std.proofs.Common.{◌≡◌, ◌≢◌, ◌≤◌, ◌<◌, ℕ, List, true, false, Option, Some, None, is_some, sym, ap, ◌∙◌, subst, inl, inr}
+use Rattle.std.proofs.Common.{◌≡◌, ◌≢◌, ◌≤◌, ◌<◌, ◌⊎◌, ℕ, List, [], Bool, true, false, Option, Some, None, is_some, refl, sym, ap, ◌∙◌, subst, inl, inr}
 use Rattle.std.specs.Ordering.{nat_cmp}
 use Rattle.global_tables.specs.Link.{has_server, other_of}
 use Rattle.global_tables.specs.declared.link.LinkRow.{LinkRow}
-use Rattle.global_tables.specs.declared.link.LinkState.TheVariants.{Both, Only}
+use Rattle.global_tables.specs.declared.link.LinkState.TheVariants.{Both, Lost, Only}
 use Rattle.petal_base.specs.declared.cell.Cell.{Cell}
 use Rattle.petal_command.specs.declared.command.Command.{Command}
 use Rattle.petal_table.specs.Table.{at}
 use Rattle.petal_msg.specs.Kinds.{about, subject_of}
 use Rattle.petal_msg.specs.declared.body.Body.{Body}
 use Rattle.petal_msg.specs.declared.body.Body.TheVariants as body
-use Rattle.petal_history.specs.Claims.{IsMarked}
+use Rattle.petal_history.specs.Claims.{IsMarked, IsToBeCopied}
 use Rattle.petal_history.specs.declared.record.Record.{Record}
 use Rattle.petal_state.specs.CellState.{cell_link}
 use Rattle.petal_state.specs.Command.{is_alone, state_after}
 use Rattle.petal_rules.specs.Lists.{In}
 use Rattle.petal_rules.specs.Log.{state_in}
 use Rattle.petal_rules.specs.Server.{Own, Post, Server, Done}
-use Rattle.petal_rules.specs.State.{holder_of, id_of, is_in}
+use Rattle.petal_rules.specs.State.{holder_of, id_of, is_in, is_whole}
 use Rattle.petal_rules.specs.Store.{Store, cell_cmp, chain_in}
-use Rattle.petal_rules.specs.World.{Setting, World, chosen_log, server_state}
+use Rattle.petal_rules.specs.World.{Setting, World, blank_joins_in, chosen_log, server_state}
 use Rattle.petal_rules.proofs.Tests.{same_numbers, same_or_apart, same_some}
 use Rattle.law_state.specs.Firm.{Firm}
 use Rattle.law_state.specs.Started.{is_flagged}
@@ -28,19 +28,19 @@ use Rattle.law_state.proofs.Roles.{secondary_is_one}
 use Rattle.law_steps.specs.Happens.{Handled, is_between, own_place}
 use Rattle.law_steps.specs.Ready.{IsRising, Rests}
 use Rattle.law_copies.specs.BothSteps.{LeadKeeps, SecondKeeps}
-use Rattle.law_copies.specs.Copied.{AreAlike, AreCopying, IsOfLink, IsPage, IsTold, Is_marked_here}
-use Rattle.law_copies.specs.Good.{AreBeside, AreTwins, Good, IsUnheard, pair_at, store_of}
+use Rattle.law_copies.specs.Copied.{AreAlike, AreCopying, IsCovered, IsLeft, IsOfLink, IsPage, IsTold, Is_marked_here, Is_to_be_copied, NotCopied, links_of}
+use Rattle.law_copies.specs.Good.{AreBeside, AreTwins, Good, IsUnheard, StaysLeft, pair_at}
 use Rattle.law_copies.specs.Pair.{HaveMarks, IsRecalled, Known, PairOk, pair_of}
-use Rattle.law_copies.specs.Steps.{HolderKeeps, IsFollowing, IsHolding, IsMarkedBy, IsNotOf, KeepsCell, OtherKeeps}
-use Rattle.law_copies.specs.Visits.{IsLinked, Visits, half, place_by}
+use Rattle.law_copies.specs.Steps.{AreFilled, HolderKeeps, IsFollowing, IsHolding, IsLeftBy, IsNotOf, KeepsCell, OtherKeeps}
+use Rattle.law_copies.specs.Visits.{HasFilled, IsLinked, Visits, half, place_by, store_by, with_stores}
 use Rattle.law_copies.proofs.Framed.{LeavesStore, alike_same, marks_back, store_same}
 use Rattle.law_copies.proofs.Later.{holder_is_one, unseen_beyond}
 use Rattle.law_copies.proofs.Moves.{known_later}
 use Rattle.law_copies.proofs.Others.{other_apart}
 use Rattle.law_copies.proofs.Seated as seated
-use Rattle.law_copies.proofs.Seated.{holder_other, other_back}
+use Rattle.law_copies.proofs.Seated.{IsAtWork, other_back}
 use Rattle.law_copies.proofs.Standing.{other_row}
-use Rattle.law_copies.proofs.Visited.{IsStep, counted, counted_up, later, none_before, visited_apart, visited_here}
+use Rattle.law_copies.proofs.Visited.{IsStep, counted, counted_up, later, none_before, stored, stored_apart, stored_by, visited_apart, visited_here}
 
 -- what a job, or a ballot that is started, keeps by itself
 pub record IsKeeping (setting : Setting) (w : World) (k : ℕ) (done : Done) : Type 0 where
@@ -52,11 +52,14 @@ pub record IsKeeping (setting : Setting) (w : World) (k : ℕ) (done : Done) : T
       → PairOk (pair_of first (w.servers k).own cell)
       → ((said : Body) → Handled w k said → (about said).cell ≡ Some cell → Known (pair_of first (w.servers k).own cell) said)
       → SecondKeeps (w.servers k).own done.own done.posts first cell
-  pub holder : (cell : Cell) (row : LinkRow) (other : Option Own) → IsHolding (Handled w k) (own_place setting w k) row cell (w.servers k).own other
-      → HolderKeeps (Handled w k) row cell (w.servers k).own other done
-  pub other : (cell : Cell) (row : LinkRow) (holder : Option Own) → IsFollowing (Handled w k) (own_place setting w k) row cell holder (w.servers k).own
-      → OtherKeeps row cell holder (w.servers k).own done
+  pub holder : (cell : Cell) (row : LinkRow) (other : Option Own)
+      → IsHolding (Handled w k) (own_place setting w k) (links_of (server_state setting w k) cell.map) row cell (w.servers k).own other
+      → HolderKeeps (Handled w k) (links_of (server_state setting w k) cell.map) row cell (w.servers k).own other done
+  pub other : (cell : Cell) (row : LinkRow) (holder : Option Own)
+      → IsFollowing (Handled w k) (own_place setting w k) (links_of (server_state setting w k) cell.map) row cell holder (w.servers k).own
+      → OtherKeeps (links_of (server_state setting w k) cell.map) row cell holder (w.servers k).own done
   pub unlinked : (cell : Cell) → cell_link (server_state setting w k) cell ≡ None → KeepsCell cell (w.servers k).own done.own
+  pub lost : (cell : Cell) (row : LinkRow) → cell_link (server_state setting w k) cell ≡ Some row → row.state ≡ Lost → KeepsCell cell (w.servers k).own done.own
   pub silent : (cell : Cell) → IsNotOf (own_place setting w k) cell → (post : Post) → In post done.posts → (about post.body).cell ≡ Some cell
       → is_between (subject_of post.body) ≡ false
   pub paged : (cell : Cell) (row : LinkRow) → cell_link (server_state setting w k) cell ≡ Some row → (post : Post) → In post done.posts
@@ -64,24 +67,24 @@ pub record IsKeeping (setting : Setting) (w : World) (k : ℕ) (done : Done) : T
   pub pages : (post : Post) → In post done.posts → (map link block : ℕ) (after : Option ℕ) → post.body ≡ body.Hello map link after (Some block)
       → IsOfLink (server_state setting w k) (record { map = map; block = block }) link
   pub rising : (cell : Cell) → IsRising nat_cmp (chain_in done.own.store.chains cell)
+  pub filled : AreFilled done.own.store.chains
   pub counts : (w.servers k).own.pairs.next ≤ done.own.pairs.next
   pub marks : HaveMarks done.own.pairs.pending done.own.store
   pub unheard : (cell : Cell) → cell_link (server_state setting w k) cell ≡ None → IsUnheard (w.servers k).own cell → IsUnheard done.own cell
 
--- a job of a server that runs, and is In as itself: its step applies no entry, and leaves what the job does
-pub record IsJob (setting : Setting) (w v : World) (k : ℕ) (server : Server) (done : Done) : Type 0 where
-  pub step : IsStep setting (chosen_log setting w) w v k server
+-- a job of a server that runs, and is In as itself: its step applies no entry, and leaves what the job does; by the stores that count
+pub record IsJob (setting : Setting) (w : World) (stores : ℕ → Store) (v : World) (k : ℕ) (server : Server) (done : Done) : Type 0 where
+  pub step : IsStep setting (chosen_log setting w) (with_stores w stores) v k server
   pub firm : Firm setting w
   pub rests : Rests setting w
-  pub runs : (w.servers k).life.running ≡ true
-  pub seat : is_in (server_state setting w k) k (w.servers k).life.inc ≡ true
+  pub works : IsAtWork setting w stores k
   pub keeping : IsKeeping setting w k done
   pub own_is : server.own ≡ done.own
   pub applied : server.log.applied ≡ (w.servers k).log.applied
   pub inc : server.life.inc ≡ (w.servers k).life.inc
 
-module _ (setting : Setting) (records : List Record) (w v : World) (k : ℕ) (server : Server) (good : Good setting records (chosen_log setting w) w)
-    (done : Done) (job : IsJob setting w v k server done) where
+module _ (setting : Setting) (records : List Record) (w : World) (stores : ℕ → Store) (v : World) (k : ℕ) (server : Server)
+    (good : Good setting records (chosen_log setting w) (with_stores w stores)) (done : Done) (job : IsJob setting w stores v k server done) where
   abbrev pub top : List Command
   top = chosen_log setting w
 
@@ -92,40 +95,52 @@ module _ (setting : Setting) (records : List Record) (w v : World) (k : ℕ) (se
   own = (w.servers k).own
 
   abbrev pub visits : Visits
-  visits = later setting records top w v k server good job.step
+  visits = later setting records top (with_stores w stores) v k server good job.step
 
   abbrev pub reached : Cell → ℕ
-  reached = counted setting records top w v k server good job.step
+  reached = counted setting records top (with_stores w stores) v k server good job.step
 
   pub up : (cell : Cell) → good.reached cell ≤ reached cell
-  up = counted_up setting records top w v k server good job.step
+  up = counted_up setting records top (with_stores w stores) v k server good job.step
 
   pub nones : (n place : ℕ) (cell : Cell) → visits n place cell ≡ None → good.visits n place cell ≡ None
-  nones = none_before setting records top w v k server good job.step
+  nones = none_before setting records top (with_stores w stores) v k server good job.step
 
   pub own_now : (v.servers k).own ≡ done.own
   own_now = ap (λ (s : Server). s.own) job.step.here ∙ job.own_is
 
-  pub store_now : store_of v k ≡ done.own.store
-  store_now = ap (λ (o : Own). o.store) own_now
+  -- the stores by the server's own entries, before and then
+  abbrev pub olds : ℕ → Store
+  olds = store_by setting good.stores front
 
-  pub store_apart : (n : ℕ) → n ≢ k → store_of v n ≡ store_of w n
-  store_apart n ne = ap (λ (s : Server). s.own.store) (job.step.others n ne)
+  abbrev pub news : ℕ → Store
+  news = store_by setting (stored setting records top (with_stores w stores) v k server good job.step) front
 
-  pub leaves_apart : (n : ℕ) (cell : Cell) → n ≢ k → LeavesStore (store_of w n) (store_of v n) cell
-  leaves_apart n cell ne = store_same (store_of w n) (store_of v n) cell (store_apart n ne)
+  -- the server's own one was its store, and is what the job leaves
+  pub store_was : olds k ≡ own.store
+  store_was = seated.own_store setting records w stores k good job.firm job.rests job.works
+
+  pub store_now : news k ≡ done.own.store
+  store_now = stored_by setting records top (with_stores w stores) v k server good job.step front job.works.counts
+      ∙ ap (λ (o : Own). o.store) job.own_is
+
+  pub store_apart : (n : ℕ) → n ≢ k → news n ≡ olds n
+  store_apart n ne = stored_apart setting records top (with_stores w stores) v k server good job.step n (blank_joins_in setting front n) ne
+
+  pub leaves_apart : (n : ℕ) (cell : Cell) → n ≢ k → LeavesStore (olds n) (news n) cell
+  leaves_apart n cell ne = store_same (olds n) (news n) cell (store_apart n ne)
 
   pub visit_apart : (n place : ℕ) (cell : Cell) → n ≢ k → visits n place cell ≡ good.visits n place cell
-  visit_apart = visited_apart setting records top w v k server good job.step
+  visit_apart = visited_apart setting records top (with_stores w stores) v k server good job.step
 
   pub visit_now : (cell : Cell) (row : LinkRow) → IsLinked setting front cell row → visits k (place_by setting front row) cell ≡ Some done.own
   visit_now cell row is =
       ap (λ f. visits k (place_by setting f row) cell) (sym job.applied)
-      ∙ visited_here setting records top w v k server good job.step cell row (subst (λ f. IsLinked setting f cell row) (sym job.applied) is) seat_now
+      ∙ visited_here setting records top (with_stores w stores) v k server good job.step cell row (subst (λ f. IsLinked setting f cell row) (sym job.applied) is) seat_now
       ∙ ap Some job.own_is
     where
       seat_now : is_in (state_in setting.servers server.log) k server.life.inc ≡ true
-      seat_now = (λ i. is_in (state_after setting.servers (job.applied i)) k (job.inc i)) ∙ job.seat
+      seat_now = (λ i. is_in (state_after setting.servers (job.applied i)) k (job.inc i)) ∙ job.works.seat
 
   module _ (cell : Cell) (row : LinkRow) (is : IsLinked setting front cell row) where
     abbrev place : ℕ
@@ -135,38 +150,38 @@ module _ (setting : Setting) (records : List Record) (w v : World) (k : ℕ) (se
 
     -- what is so of the pair then, and what letters tell of it
     pub record BothNow : Type 0 where
-      pub twins : AreTwins v visits place cell row.primary row.secondary
-      pub known : (said : Body) → Known (pair_at w good.visits place cell row.primary row.secondary) said
-          → Known (pair_at v visits place cell row.primary row.secondary) said
-      pub says : (post : Post) → In post done.posts → (about post.body).cell ≡ Some cell → Known (pair_at v visits place cell row.primary row.secondary) post.body
+      pub twins : AreTwins news visits place cell row.primary row.secondary
+      pub known : (said : Body) → Known (pair_at olds good.visits place cell row.primary row.secondary) said
+          → Known (pair_at news visits place cell row.primary row.secondary) said
+      pub says : (post : Post) → In post done.posts → (about post.body).cell ≡ Some cell → Known (pair_at news visits place cell row.primary row.secondary) post.body
 
     apart : row.primary ≢ row.secondary
-    apart = ((seated.steady setting records w k good job.firm job.rests job.runs job.seat).linked cell row is).apart
+    apart = ((seated.steady setting records w stores k good job.firm job.rests job.works).linked cell row is).apart
 
     abbrev beside : ℕ → Own
-    beside n = half (good.visits n place cell) (store_of w n)
+    beside n = half (good.visits n place cell) (olds n)
 
-    beside_now : (n : ℕ) → n ≢ k → beside n ≡ half (visits n place cell) (store_of v n)
+    beside_now : (n : ℕ) → n ≢ k → beside n ≡ half (visits n place cell) (news n)
     beside_now n ne = λ i. half (sym (visit_apart n place cell ne) i) (sym (store_apart n ne) i)
 
-    own_half : done.own ≡ half (visits k place cell) (store_of v k)
+    own_half : done.own ≡ half (visits k place cell) (news k)
     own_half = λ i. half (sym (visit_now cell row is) i) (sym store_now i)
 
     both_first : row.state ≡ Both → row.primary ≡ k → BothNow
     both_first both leads =
         let m = row.secondary in
         let ne : m ≢ k = λ f. apart (leads ∙ sym f) in
-        let keeps = job.keeping.lead cell row (beside m) is both leads (seated.first_ok setting records w k good job.firm job.rests job.runs job.seat cell row is both leads)
-        (seated.first_known setting records w k good job.firm job.rests job.runs job.seat cell row is both leads) in
-        let old_at = seated.first_at setting records w k good job.firm job.rests job.runs job.seat cell row is both leads in
-        let new_at : pair_of done.own (beside m) cell ≡ pair_at v visits place cell row.primary m =
-        (λ i. pair_of (own_half i) (beside_now m ne i) cell) ∙ (λ i. pair_at v visits place cell (sym leads i) m) in
+        let keeps = job.keeping.lead cell row (beside m) is both leads (seated.first_ok setting records w stores k good job.firm job.rests job.works cell row is both leads)
+        (seated.first_known setting records w stores k good job.firm job.rests job.works cell row is both leads) in
+        let old_at = seated.first_at setting records w stores k good job.firm job.rests job.works cell row is both leads in
+        let new_at : pair_of done.own (beside m) cell ≡ pair_at news visits place cell row.primary m =
+        (λ i. pair_of (own_half i) (beside_now m ne i) cell) ∙ (λ i. pair_at news visits place cell (sym leads i) m) in
         record {
           twins = record {
             pair = subst PairOk new_at keeps.keeps.ok;
             recalled = λ o op visit there.
                 let same : done.own ≡ o = same_some (sym (visit_now cell row is) ∙ ap (λ n. visits n place cell) (sym leads) ∙ visit) in
-                subst (λ s. IsRecalled op s cell) (sym (ap (store_of v) leads ∙ store_now))
+                subst (λ s. IsRecalled op s cell) (sym (ap news leads ∙ store_now))
                 (keeps.recalled op (ap (λ (x : Own). at cell_cmp x.pairs.pending cell) same ∙ there));
           };
           known = λ said h. subst (λ p. Known p said) new_at
@@ -178,12 +193,12 @@ module _ (setting : Setting) (records : List Record) (w v : World) (k : ℕ) (se
     both_second both follows =
         let n = row.primary in
         let ne : n ≢ k = λ f. apart (f ∙ sym follows) in
-        let keeps = job.keeping.second cell row (beside n) is both follows (seated.second_ok setting records w k good job.firm job.rests job.runs job.seat cell row is both follows)
-        (seated.second_known setting records w k good job.firm job.rests job.runs job.seat cell row is both follows) in
-        let old_at = seated.second_at setting records w k good job.firm job.rests job.runs job.seat cell row is both follows in
-        let new_at : pair_of (beside n) done.own cell ≡ pair_at v visits place cell n row.secondary =
-        (λ i. pair_of (beside_now n ne i) (own_half i) cell) ∙ (λ i. pair_at v visits place cell n (sym follows i)) in
-        let twins = seated.twins_here setting records w k good job.firm job.rests job.runs job.seat cell row is both (secondary_is_one row k follows) in
+        let keeps = job.keeping.second cell row (beside n) is both follows (seated.second_ok setting records w stores k good job.firm job.rests job.works cell row is both follows)
+        (seated.second_known setting records w stores k good job.firm job.rests job.works cell row is both follows) in
+        let old_at = seated.second_at setting records w stores k good job.firm job.rests job.works cell row is both follows in
+        let new_at : pair_of (beside n) done.own cell ≡ pair_at news visits place cell n row.secondary =
+        (λ i. pair_of (beside_now n ne i) (own_half i) cell) ∙ (λ i. pair_at news visits place cell n (sym follows i)) in
+        let twins = seated.twins_here setting records w stores k good job.firm job.rests job.works cell row is both (secondary_is_one row k follows) in
         record {
           twins = record {
             pair = subst PairOk new_at keeps.keeps.ok;
@@ -200,29 +215,33 @@ module _ (setting : Setting) (records : List Record) (w v : World) (k : ℕ) (se
 
     -- ### Alone
 
+    abbrev links : ℕ
+    links = links_of (server_state setting w k) cell.map
+
     -- what is so of the two servers then, and what letters tell
     pub record AloneNow (holder other : ℕ) : Type 0 where
-      pub copying : AreCopying row cell (visits holder place cell) (visits other place cell)
-      pub told : (said : Body) → (about said).cell ≡ Some cell → IsTold (good.visits holder place cell) (good.visits other place cell) said
-          → IsTold (visits holder place cell) (visits other place cell) said
-      pub says : (post : Post) → In post done.posts → (about post.body).cell ≡ Some cell → IsTold (visits holder place cell) (visits other place cell) post.body
-      pub beside : good.reached cell ≤ place → AreBeside v visits place row cell holder other
-      pub stays : (o : Own) → visits holder place cell ≡ Some o → ((p : ℕ) → place < p → visits other p cell ≡ None) → IsMarked o.store cell
-          → IsMarked (store_of v holder) cell
-      pub page : (after block : Option ℕ) → IsPage cell (store_of w other) (good.visits other place cell) after block
-          → IsPage cell (store_of v other) (visits other place cell) after block
+      pub copying : AreCopying links row cell (visits holder place cell) (visits other place cell)
+      pub told : (said : Body) → (about said).cell ≡ Some cell → IsTold row (good.visits holder place cell) (good.visits other place cell) said
+          → IsTold row (visits holder place cell) (visits other place cell) said
+      pub says : (post : Post) → In post done.posts → (about post.body).cell ≡ Some cell → IsTold row (visits holder place cell) (visits other place cell) post.body
+      pub beside : good.reached cell ≤ place → AreBeside news visits place row cell holder other
+      pub stays : (o : Own) → visits holder place cell ≡ Some o → ((p : ℕ) → place < p → visits other p cell ≡ None)
+          → StaysLeft row cell o (news holder)
+      pub unfilled : is_whole row.state ≡ true → (chain_in (news other).chains cell ≡ []) ⊎ HasFilled setting top visits front cell holder other
+      pub page : (after block : Option ℕ) → IsPage cell (olds other) (good.visits other place cell) after block
+          → IsPage cell (news other) (visits other place cell) after block
       pub pages : (post : Post) → In post done.posts → (after block : Option ℕ) → post.body ≡ body.Hello row.map row.link after block
-          → IsPage cell (store_of v other) (visits other place cell) after block
+          → IsPage cell (news other) (visits other place cell) after block
       pub some : is_some (good.visits other place cell) ≡ true → is_some (visits other place cell) ≡ true
 
     -- the server's visit was its own part
     was_here : good.visits k place cell ≡ Some own
-    was_here = seated.here_visit setting records w k good job.firm job.rests job.runs job.seat cell row is
+    was_here = seated.here_visit setting records w stores k good job.firm job.rests job.works cell row is
 
     is_now : visits k place cell ≡ Some done.own
     is_now = visit_now cell row is
 
-    module _ (alone : row.state ≡ Only k false) where
+    module _ (whole : Bool) (alone : row.state ≡ Only k whole) where
       abbrev o : ℕ
       o = other_of k row
 
@@ -235,22 +254,23 @@ module _ (setting : Setting) (records : List Record) (w v : World) (k : ℕ) (se
       o_visit : visits o place cell ≡ vo
       o_visit = visit_apart o place cell o_apart
 
-      pub keeps_holder : HolderKeeps (Handled w k) row cell own vo done
-      keeps_holder = job.keeping.holder cell row vo (seated.holding setting records w k good job.firm job.rests job.runs job.seat cell row is alone)
+      pub keeps_holder : HolderKeeps (Handled w k) links row cell own vo done
+      keeps_holder = job.keeping.holder cell row vo (seated.holding setting records w stores k good job.firm job.rests job.works cell row is whole alone)
 
       -- the two visits then
       then_holder : (P : Option Own → Option Own → Type 0) → P (Some done.own) vo → P (visits k place cell) (visits o place cell)
       then_holder P h = subst (λ x. P x (visits o place cell)) (sym is_now) (subst (P (Some done.own)) (sym o_visit) h)
 
-      holder_beside : good.reached cell ≤ place → AreBeside v visits place row cell k o
+      holder_beside : good.reached cell ≤ place → AreBeside news visits place row cell k o
       holder_beside last =
-          let old = (seated.alone_here setting records w k good job.firm job.rests job.runs job.seat cell row is k alone).beside last in
-          let alike = keeps_holder.alike (store_of w o) old.still
-          (seated.pages_here setting records w k good job.firm job.rests job.runs job.seat cell row is alone last) (good.rising o cell)
-          (subst (AreAlike row cell own.store (store_of w o)) was_here old.alike) in
+          let old = (seated.alone_here setting records w stores k good job.firm job.rests job.works cell row is k whole alone).beside last in
+          let was = subst (λ x. AreAlike row cell (olds k) (olds o) x) was_here old.alike in
+          let alike = keeps_holder.alike (olds o) old.still
+          (seated.pages_here setting records w stores k good job.firm job.rests job.works cell row is whole alone last) (good.ever o (blank_joins_in setting front o) cell)
+          (subst (λ a. AreAlike row cell a (olds o) (Some own)) store_was was) in
           record {
-            alike = subst (λ x. AreAlike row cell (store_of v k) (store_of v o) x) (sym is_now)
-                (subst (λ a. AreAlike row cell a (store_of v o) (Some done.own)) (sym store_now)
+            alike = subst (λ x. AreAlike row cell (news k) (news o) x) (sym is_now)
+                (subst (λ a. AreAlike row cell a (news o) (Some done.own)) (sym store_now)
                 (subst (λ b. AreAlike row cell done.own.store b (Some done.own)) (sym (store_apart o o_apart)) alike));
             still = λ by e. old.still by (sym o_visit ∙ e) ∙ ap (λ (x : Store). chain_in x.chains cell) (sym (store_apart o o_apart));
           }
@@ -264,18 +284,31 @@ module _ (setting : Setting) (records : List Record) (w v : World) (k : ℕ) (se
 
       holder_now : AloneNow k o
       holder_now = record {
-        copying = then_holder (λ x y. AreCopying row cell x y) keeps_holder.copying;
-        told = λ said of h. then_holder (λ x y. IsTold x y said) (keeps_holder.told said of (subst (λ x. IsTold x vo said) was_here h));
-        says = λ post i of. then_holder (λ x y. IsTold x y post.body) (keeps_holder.says post i of);
+        copying = then_holder (λ x y. AreCopying links row cell x y) keeps_holder.copying;
+        told = λ said of h. then_holder (λ x y. IsTold row x y said) (keeps_holder.told said of (subst (λ x. IsTold row x vo said) was_here h));
+        says = λ post i of. then_holder (λ x y. IsTold row x y post.body) (keeps_holder.says post i of);
         beside = holder_beside;
-        stays = λ by e beyond marked. subst (λ a. IsMarked a cell) (sym store_now) (subst (λ (x : Own). IsMarked x.store cell) (same_some (sym e ∙ is_now)) marked);
-        page = λ after block page. subst (λ x. IsPage cell (store_of v o) x after block) (sym o_visit)
+        stays = λ by e beyond. (
+          (λ marked. subst (λ a. IsMarked a cell) (sym store_now) (subst (λ (x : Own). IsMarked x.store cell) (same_some (sym e ∙ is_now)) marked)),
+          (λ all copied. subst (λ a. IsToBeCopied row a cell) (sym store_now)
+              (subst (λ (x : Own). IsToBeCopied row x.store cell) (same_some (sym e ∙ is_now)) all)),
+        );
+        unfilled = λ all. inr (record {
+          more = front;
+          within = job.firm.servers k;
+          row = row;
+          linked = is;
+          joins = refl;
+          own = done.own;
+          visited = is_now;
+        });
+        page = λ after block page. subst (λ x. IsPage cell (news o) x after block) (sym o_visit)
             (subst (λ b. IsPage cell b vo after block) (sym (store_apart o o_apart)) page);
         pages = λ post i after block e. no_page post i after block e;
         some = λ there. ap is_some o_visit ∙ there;
       }
 
-    module _ (h : ℕ) (alone : row.state ≡ Only h false) (other : other_of h row ≡ k) (has : has_server k row ≡ true) where
+    module _ (h : ℕ) (whole : Bool) (alone : row.state ≡ Only h whole) (other : other_of h row ≡ k) (has : has_server k row ≡ true) where
       abbrev vh : Option Own
       vh = good.visits h place cell
 
@@ -287,66 +320,112 @@ module _ (setting : Setting) (records : List Record) (w v : World) (k : ℕ) (se
 
       back : other_of k row ≡ h
       back = other_back row k h has
-          (holder_is_one (server_state setting w k) (seated.steady setting records w k good job.firm job.rests job.runs job.seat) h cell row is alone) (λ e. h_apart (sym e))
+          (holder_is_one (server_state setting w k) (seated.steady setting records w stores k good job.firm job.rests job.works) h cell row is alone) (λ e. h_apart (sym e))
 
-      pub keeps_other : OtherKeeps row cell vh own done
-      keeps_other = job.keeping.other cell row vh (seated.following setting records w k good job.firm job.rests job.runs job.seat cell row is h alone other has back)
+      pub keeps_other : OtherKeeps links row cell vh own done
+      keeps_other = job.keeping.other cell row vh (seated.following setting records w stores k good job.firm job.rests job.works cell row is h whole alone other has back)
 
       then_other : (P : Option Own → Option Own → Type 0) → P vh (Some done.own) → P (visits h place cell) (visits k place cell)
       then_other P x = subst (λ a. P a (visits k place cell)) (sym h_visit) (subst (P vh) (sym is_now) x)
 
-      -- the block that the holder had marked is marked there still
-      pub marked_still : IsMarkedBy vh cell → IsMarked (store_of w h) cell
-      marked_still m =
-          (seated.alone_here setting records w k good job.firm job.rests job.runs job.seat cell row is h alone).stays m.by m.met
-          (λ p lt. ap (λ n. good.visits n p cell) other ∙ unseen_beyond setting records w job.firm good k cell row is p lt) m.marked
+      -- the block that the holder had left to copy is so still
+      pub left_still : (m : IsLeftBy row vh cell) → IsMarked (olds h) cell
+          ⊎ (IsToBeCopied row (olds h) cell × NotCopied (Some m.by) row cell.block)
+      left_still m =
+          let stays = (seated.alone_here setting records w stores k good job.firm job.rests job.works cell row is h whole alone).stays m.by m.met
+          (λ p lt. ap (λ n. good.visits n p cell) other ∙ unseen_beyond setting records w stores job.firm good k cell row is p lt) in
+          elim m.left [ inl marked ↦ inl (stays.0 marked) | inr all ↦ inr (stays.1 all.0 all.1, all.1) ]
 
       -- and then the holder has not started its ballot
-      pub not_caught : {B : Type 0} → IsMarkedBy vh cell → (by : Own) → vh ≡ Some by → is_flagged by (id_of row) ≡ true → B
+      pub not_caught : {B : Type 0} → IsLeftBy row vh cell → (by : Own) → vh ≡ Some by → is_flagged by (id_of row) ≡ true → B
       not_caught m by e flagged =
-          let caught = (seated.alone_here setting records w k good job.firm job.rests job.runs job.seat cell row is h alone).copying.caught by e flagged in
-          absurd (caught.unmarked (subst (λ (x : Own). IsMarked x.store cell) (same_some (sym m.met ∙ e)) m.marked))
+          let caught = (seated.alone_here setting records w stores k good job.firm job.rests job.works cell row is h whole alone).copying.caught by e flagged in
+          elim (subst (λ (x : Own). IsLeft x row cell) (same_some (sym m.met ∙ e)) m.left) [
+            | inl marked ↦ absurd (caught.unmarked marked)
+            | inr all ↦ absurd (caught.copied all.0 all.1)
+          ]
 
-      other_alike : good.reached cell ≤ place → AreAlike row cell (store_of v h) (store_of v k) vh
+      -- the copies are covered by that
+      left_covers : (m : IsLeftBy row vh cell) → IsCovered row cell (news h) (news k) vh
+      left_covers m = elim (left_still m) [
+        | inl marked ↦ Is_marked_here (subst (λ a. IsMarked a cell) (sym (store_apart h h_apart)) marked)
+        | inr all ↦ Is_to_be_copied (subst (λ a. IsToBeCopied row a cell) (sym (store_apart h h_apart)) all.0)
+            (subst (λ x. NotCopied x row cell.block) (sym m.met) all.1)
+      ]
+
+      other_alike : good.reached cell ≤ place → AreAlike row cell (news h) (news k) vh
       other_alike last = elim keeps_other.changes [
         | inl chain ↦
-            alike_same row cell (store_of w h) own.store (store_of v h) (store_of v k) vh (leaves_apart h cell h_apart)
+            alike_same row cell (olds h) own.store (news h) (news k) vh (leaves_apart h cell h_apart)
             (subst (λ b. LeavesStore own.store b cell) (sym store_now) (record { chain = chain; marks = keeps_other.marks }))
-            (subst (λ n. AreAlike row cell (store_of w h) (store_of w n) vh) other
-            ((seated.alone_here setting records w k good job.firm job.rests job.runs job.seat cell row is h alone).beside last).alike)
+            (subst (λ a. AreAlike row cell (olds h) a vh) (ap olds other ∙ store_was)
+            ((seated.alone_here setting records w stores k good job.firm job.rests job.works cell row is h whole alone).beside last).alike)
         | inr m ↦ record {
-          covered = Is_marked_here (subst (λ a. IsMarked a cell) (sym (store_apart h h_apart)) (marked_still m));
+          covered = left_covers m;
           caught = λ by e flagged. not_caught m by e flagged;
         }
       ]
 
+      -- where the server's copy changed, the holder has been here
+      unfilled_now : (chain_in (olds k).chains cell ≡ []) ⊎ HasFilled setting top good.visits front cell h k
+          → (chain_in (news k).chains cell ≡ []) ⊎ HasFilled setting top visits front cell h k
+      unfilled_now (inr f) = inr (record {
+        more = f.more;
+        within = f.within;
+        row = f.row;
+        linked = f.linked;
+        joins = f.joins;
+        own = f.own;
+        visited = visit_apart h (place_by setting f.more f.row) cell h_apart ∙ f.visited;
+      })
+      unfilled_now (inl empty) = elim keeps_other.changes [
+        | inl chain ↦ inl (ap (λ (a : Store). chain_in a.chains cell) store_now ∙ chain
+            ∙ ap (λ (a : Store). chain_in a.chains cell) (sym store_was) ∙ empty)
+        | inr m ↦ inr (record {
+          more = front;
+          within = job.firm.servers k;
+          row = row;
+          linked = is;
+          joins = refl;
+          own = m.by;
+          visited = h_visit ∙ m.met;
+        })
+      ]
+
       other_now : AloneNow h k
       other_now = record {
-        copying = then_other (λ x y. AreCopying row cell x y) keeps_other.copying;
-        told = λ said of t. then_other (λ x y. IsTold x y said) (keeps_other.told said of (subst (λ y. IsTold vh y said) was_here t));
-        says = λ post i of. then_other (λ x y. IsTold x y post.body) (keeps_other.says post i of);
+        copying = then_other (λ x y. AreCopying links row cell x y) keeps_other.copying;
+        told = λ said of t. then_other (λ x y. IsTold row x y said) (keeps_other.told said of (subst (λ y. IsTold row vh y said) was_here t));
+        says = λ post i of. then_other (λ x y. IsTold row x y post.body) (keeps_other.says post i of);
         beside = λ last. record {
-          alike = subst (AreAlike row cell (store_of v h) (store_of v k)) (sym h_visit) (other_alike last);
+          alike = subst (AreAlike row cell (news h) (news k)) (sym h_visit) (other_alike last);
           still = λ by e. ap (λ (x : Own). chain_in x.store.chains cell) (same_some (sym e ∙ is_now)) ∙ ap (λ (a : Store). chain_in a.chains cell) (sym store_now);
         };
-        stays = λ by e beyond marked. subst (λ a. IsMarked a cell) (sym (store_apart h h_apart))
-            ((seated.alone_here setting records w k good job.firm job.rests job.runs job.seat cell row is h alone).stays by (sym h_visit ∙ e)
-            (λ p lt. ap (λ n. good.visits n p cell) other ∙ nones k p cell (beyond p lt)) marked);
+        stays = λ by e beyond.
+            let stays = (seated.alone_here setting records w stores k good job.firm job.rests job.works cell row is h whole alone).stays by
+            (sym h_visit ∙ e) (λ p lt. ap (λ n. good.visits n p cell) other ∙ nones k p cell (beyond p lt)) in (
+              (λ marked. subst (λ a. IsMarked a cell) (sym (store_apart h h_apart)) (stays.0 marked)),
+              (λ all copied. subst (λ a. IsToBeCopied row a cell) (sym (store_apart h h_apart)) (stays.1 all copied)),
+            );
+        unfilled = λ all. unfilled_now
+            (subst (λ n. (chain_in (olds n).chains cell ≡ []) ⊎ HasFilled setting top good.visits front cell h n) other
+            ((seated.alone_here setting records w stores k good job.firm job.rests job.works cell row is h whole alone).unfilled all));
         page = λ after block page. record {
           met = ap is_some is_now;
           least = λ ahead upto marked. page.least ahead upto
-              (marks_back own.store done.own.store cell keeps_other.marks (subst (λ a. IsMarked a cell) store_now marked));
+              (subst (λ a. IsMarked a cell) (sym store_was)
+              (marks_back own.store done.own.store cell keeps_other.marks (subst (λ a. IsMarked a cell) store_now marked)));
         };
-        pages = λ post i after block e. subst (λ x. IsPage cell (store_of v k) x after block) (sym is_now)
+        pages = λ post i after block e. subst (λ x. IsPage cell (news k) x after block) (sym is_now)
             (subst (λ b. IsPage cell b (Some done.own) after block) (sym store_now) (keeps_other.pages post i after block e));
         some = λ there. ap is_some is_now;
       }
 
-    pub alone_now : (h : ℕ) → row.state ≡ Only h false → has_server k row ≡ true → AloneNow h (other_of h row)
-    alone_now h alone has = elim (same_or_apart h k) [
-      | inl e ↦ subst (λ n. AloneNow n (other_of n row)) (sym e) (holder_now (alone ∙ ap (λ n. Only n false) e))
+    pub alone_now : (h : ℕ) (whole : Bool) → row.state ≡ Only h whole → has_server k row ≡ true → AloneNow h (other_of h row)
+    alone_now h whole alone has = elim (same_or_apart h k) [
+      | inl e ↦ subst (λ n. AloneNow n (other_of n row)) (sym e) (holder_now whole (alone ∙ ap (λ n. Only n whole) e))
       | inr ne ↦ (
-          let one = holder_is_one (server_state setting w k) (seated.steady setting records w k good job.firm job.rests job.runs job.seat) h cell row is alone in
+          let one = holder_is_one (server_state setting w k) (seated.steady setting records w stores k good job.firm job.rests job.works) h cell row is alone in
           let other = other_back row h k one has ne in
-          subst (AloneNow h) (sym other) (other_now h alone other has))
+          subst (AloneNow h) (sym other) (other_now h whole alone other has))
     ]

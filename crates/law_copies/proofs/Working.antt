@@ -226,7 +226,7 @@ module _ (heard : Body → Type 0) (here : Here) (own : Own) where
   taken_copy_beside cell _ _ q ne (Copy_trimmed copy h is fresh) = copying_beside own cell q ne (record copy { trimmed = true })
   taken_copy_beside cell _ _ q ne (Copy_synced copy h is trimmed lt) = copying_beside own cell q ne (record copy { index = copy.index + 1 })
 
-  copy_step_beside : (now : Own) (cell : Cell) (copy : Copying) (done : Done) (q : Cell) → q ≢ cell → CopyStep here now cell copy done
+  pub copy_step_beside : (now : Own) (cell : Cell) (copy : Copying) (done : Done) (q : Cell) → q ≢ cell → CopyStep here now cell copy done
       → KeepsCell q now done.own
   copy_step_beside now cell copy _ q ne (Asks_to_trim fresh) = keeps_itself q now
   copy_step_beside now cell copy _ q ne (Sends row trimmed is) = keeps_itself q now

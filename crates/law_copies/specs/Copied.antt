@@ -1,8 +1,11 @@
 -- One cell of a link that one server holds alone, as the holder and the other server had it at one place of the link: how far a copy of
 -- it is, at both, and what the letters between them tell.
 use Rattle.std.specs.Prelude.{◌≡◌, ℕ, ◌+◌, ◌≤◌, ◌<◌, ◌⊎◌, true, false, List, [], length, slice_get, Option, Some, None, is_some}
+use Rattle.std.specs.Option.{option_map_or}
 use Rattle.std.specs.Ordering.{nat_cmp}
 use Rattle.busy_marks.specs.Marks.{above}
+use Rattle.global_tables.specs.Map.{tuple_of}
+use Rattle.global_tables.specs.Region.{link_of}
 use Rattle.global_tables.specs.declared.link.LinkRow.{LinkRow}
 use Rattle.petal_base.specs.declared.cell.Cell.{Cell}
 use Rattle.petal_base.specs.Cells.{cell_of}
@@ -11,8 +14,8 @@ use Rattle.petal_msg.specs.declared.body.Body.{Body}
 use Rattle.petal_msg.specs.declared.body.Body.TheVariants as body
 use Rattle.petal_msg.specs.declared.copying.Copying.{Copying}
 use Rattle.petal_msg.specs.declared.copying.LastCopy.{LastCopy}
-use Rattle.petal_history.specs.Claims.{IsMarked}
-use Rattle.petal_rules.specs.Copies.{epochs_beyond}
+use Rattle.petal_history.specs.Claims.{IsMarked, IsToBeCopied}
+use Rattle.petal_rules.specs.Copies.{cell_at, epochs_beyond}
 use Rattle.petal_rules.specs.Progress.{copying_on, last_copy, progress_on}
 use Rattle.petal_rules.specs.Server.{Own}
 use Rattle.petal_rules.specs.Store.{Store, Stored, chain_in, epochs_of}
@@ -21,6 +24,28 @@ use Rattle.law_state.specs.Started.{is_flagged}
 use Rattle.law_steps.specs.Ready.{IsRising}
 use Rattle.petal_state.specs.CellState.{cell_link}
 use Rattle.petal_rules.specs.State.{State, id_of}
+
+-- ### What is left to copy
+
+-- how many links the map has
+abbrev pub links_of : State → (map : ℕ) → ℕ
+links_of state map = option_map_or length (tuple_of state.maps map) 0
+
+-- the holder has not been at the place, or has copied no block so far that is not below this one
+abbrev pub NotCopied : Option Own → LinkRow → (block : ℕ) → Type 0
+NotCopied None row block = Unit {0}
+NotCopied (Some own) row block = above (progress_on own row).copied block ≡ true
+
+-- the holder is to copy the block: it is marked, or one of all that it has, where the other server came back with nothing
+abbrev pub IsLeft : Own → LinkRow → Cell → Type 0
+IsLeft own row cell = IsMarked own.store cell ⊎ (IsToBeCopied row own.store cell × NotCopied (Some own) row cell.block)
+
+-- a copy is under way on the cell, and the other server has put all entries of it
+pub record IsCopied (own : Own) (cell : Cell) : Type 0 where
+  pub copy : Copying
+  pub is : copying_on own cell ≡ Some copy
+  pub trimmed : copy.trimmed ≡ true
+  pub past : length (chain_in own.store.chains cell) ≤ copy.index
 
 -- ### Copies
 
@@ -40,12 +65,12 @@ pub record IsFollowed (holder other : Own) (cell : Cell) (copy : Copying) : Type
   pub put : (i : ℕ) (row : ℕ × Stored) → i < last.index → slice_get (chain_in holder.store.chains cell) i ≡ Some row
       → at nat_cmp (chain_in other.store.chains cell) row.0 ≡ Some row.1
 
--- a copy that is under way at the holder: nothing else is, the other server was there, and the block is marked until all is put
-pub record IsCopying (holder : Own) (other : Option Own) (cell : Cell) (copy : Copying) : Type 0 where
+-- a copy that is under way at the holder: nothing else is, the other server was there, and the block is left to copy until all is put
+pub record IsCopying (row : LinkRow) (holder : Own) (other : Option Own) (cell : Cell) (copy : Copying) : Type 0 where
   pub below : copy.op < holder.pairs.next
   pub free : pending_on holder cell ≡ None
   pub begun : copy.trimmed ≡ false → copy.index ≡ 0
-  pub marked : (copy.trimmed ≡ false) ⊎ (copy.index < length (chain_in holder.store.chains cell)) → IsMarked holder.store cell
+  pub left : (copy.trimmed ≡ false) ⊎ (copy.index < length (chain_in holder.store.chains cell)) → IsLeft holder row cell
   pub beside : Own
   pub met : other ≡ Some beside
   pub followed : copy.trimmed ≡ true → IsFollowed holder beside cell copy
@@ -72,18 +97,28 @@ pub record IsCaught (holder : Own) (row : LinkRow) (cell : Cell) : Type 0 where
   pub free : pending_on holder cell ≡ None
   pub idle : copying_on holder cell ≡ None
   pub unmarked : IsMarked holder.store cell → ⊥
+  pub copied : IsToBeCopied row holder.store cell → NotCopied (Some holder) row cell.block → ⊥
 
--- the holder has heard a page
+-- the holder has heard a page, or has copied a block
 abbrev pub HasPage : Own → LinkRow → Type 0
 HasPage holder row = ((progress_on holder row).paged ≡ true) ⊎ (is_some (progress_on holder row).after ≡ true)
+    ⊎ (is_some (progress_on holder row).copied ≡ true)
 
--- what is so of a cell, by the holder and the other server as they last were at the place, where they have been there
-pub record AreCopying (row : LinkRow) (cell : Cell) (holder other : Option Own) : Type 0 where
+-- while a later block of the link is copied, one that is still to be copied is marked, or the other server has it all
+abbrev pub AreInOrder : (links : ℕ) → LinkRow → Cell → Own → Type 0
+AreInOrder links row cell own = (progress_on own row).paged ≡ true → (later : ℕ) (copy : Copying) → cell.block < later
+    → link_of links later ≡ row.link → copying_on own (cell_at row later) ≡ Some copy → IsToBeCopied row own.store cell
+    → NotCopied (Some own) row cell.block → IsMarked own.store cell ⊎ IsCopied own cell
+
+-- what is so of a cell, by the holder and the other server as they last were at the place, where they have been there; its map has so
+-- many links
+pub record AreCopying (links : ℕ) (row : LinkRow) (cell : Cell) (holder other : Option Own) : Type 0 where
   pub risen : (own : Own) → holder ≡ Some own → IsRising nat_cmp (chain_in own.store.chains cell)
-  pub copying : (own : Own) (copy : Copying) → holder ≡ Some own → copying_on own cell ≡ Some copy → IsCopying own other cell copy
+  pub copying : (own : Own) (copy : Copying) → holder ≡ Some own → copying_on own cell ≡ Some copy → IsCopying row own other cell copy
   pub lasts : (own : Own) (last : LastCopy) → other ≡ Some own → last_copy own cell ≡ Some last → IsLastCopy holder own cell last
   pub caught : (own : Own) → holder ≡ Some own → is_flagged own (id_of row) ≡ true → IsCaught own row cell
   pub met : (own : Own) → holder ≡ Some own → HasPage own row → is_some other ≡ true
+  pub ordered : (own : Own) → holder ≡ Some own → AreInOrder links row cell own
 
 -- ### Letters
 
@@ -112,18 +147,18 @@ abbrev pub IsSent : Own → Cell → Copying → (index : ℕ) → ℕ × Stored
 IsSent holder cell copy index row =
     (copy.trimmed ≡ true) × (index ≤ copy.index) × (slice_get (chain_in holder.store.chains cell) index ≡ Some row)
 
--- an entry of a copy that the other server has trimmed to: one of its epochs; put already, or the holder has the block marked
-pub record IsOfLast (holder : Option Own) (cell : Cell) (last : LastCopy) (epoch index : ℕ) : Type 0 where
+-- an entry of a copy that the other server has trimmed to: one of its epochs; put already, or the holder has the block left to copy
+pub record IsOfLast (row : LinkRow) (holder : Option Own) (cell : Cell) (last : LastCopy) (epoch index : ℕ) : Type 0 where
   pub epoch_is : slice_get last.epochs index ≡ Some epoch
   pub near : index ≤ last.index
   pub own : Own
   pub met : holder ≡ Some own
-  pub marked : index ≡ last.index → IsMarked own.store cell
+  pub left : index ≡ last.index → IsLeft own row cell
 
-pub record HasSent (holder other : Option Own) (cell : Cell) (number index : ℕ) (row : ℕ × Stored) : Type 0 where
+pub record HasSent (row : LinkRow) (holder other : Option Own) (cell : Cell) (number index : ℕ) (entry : ℕ × Stored) : Type 0 where
   pub trimmed : HasTrimmed other cell number
-  pub of_last : number ≡ trimmed.past.last.op → IsOfLast holder cell trimmed.past.last row.0 index
-  pub sent : (own : Own) (copy : Copying) → holder ≡ Some own → copying_on own cell ≡ Some copy → copy.op ≡ number → IsSent own cell copy index row
+  pub of_last : number ≡ trimmed.past.last.op → IsOfLast row holder cell trimmed.past.last entry.0 index
+  pub sent : (own : Own) (copy : Copying) → holder ≡ Some own → copying_on own cell ≡ Some copy → copy.op ≡ number → IsSent own cell copy index entry
 
 -- the other server has put the entry, or is with a later copy
 pub record HasPut (other : Option Own) (cell : Cell) (number index : ℕ) : Type 0 where
@@ -131,13 +166,13 @@ pub record HasPut (other : Option Own) (cell : Cell) (number index : ℕ) : Type
   pub put : number ≡ past.last.op → index < past.last.index
 
 -- what is known of a letter of the cell that was ever sent at the place
-abbrev pub IsTold : Option Own → Option Own → Body → Type 0
-IsTold holder other (body.Trim number cell epochs) = IsPast other cell number ⊎ IsAskedToTrim holder cell number epochs
-IsTold holder other (body.Trimmed number cell) = HasTrimmed other cell number
-IsTold holder other (body.Sync number key version index bytes) =
-    HasSent holder other (cell_of key) number index (key.epoch, record { version = version; bytes = bytes })
-IsTold holder other (body.Synced number cell index) = HasPut other cell number index
-IsTold holder other _ = Unit {0}
+abbrev pub IsTold : LinkRow → Option Own → Option Own → Body → Type 0
+IsTold row holder other (body.Trim number cell epochs) = IsPast other cell number ⊎ IsAskedToTrim holder cell number epochs
+IsTold row holder other (body.Trimmed number cell) = HasTrimmed other cell number
+IsTold row holder other (body.Sync number key version index bytes) =
+    HasSent row holder other (cell_of key) number index (key.epoch, record { version = version; bytes = bytes })
+IsTold row holder other (body.Synced number cell index) = HasPut other cell number index
+IsTold row holder other _ = Unit {0}
 
 -- ### The two copies
 
@@ -147,11 +182,12 @@ NotPassed None row block = Unit {0}
 NotPassed (Some own) row block = ((progress_on own row).paged ≡ false) × (above (progress_on own row).after block ≡ true)
 
 -- by the stores as they are now: the copies are equal, or the block is marked at the holder, or it is marked at the other server, and
--- the holder's pages have not passed it
+-- the holder's pages have not passed it, or it is one of all that are to be copied, and the holder has not copied it
 pub data IsCovered (row : LinkRow) (cell : Cell) (holder other : Store) (visit : Option Own) : Type 0 where
   Is_equal : chain_in holder.chains cell ≡ chain_in other.chains cell → IsCovered row cell holder other visit
   Is_marked_here : IsMarked holder cell → IsCovered row cell holder other visit
   Is_marked_there : IsMarked other cell → NotPassed visit row cell.block → IsCovered row cell holder other visit
+  Is_to_be_copied : IsToBeCopied row holder cell → NotCopied visit row cell.block → IsCovered row cell holder other visit
 
 -- so it is; and equal, once a ballot was started for the link's Caught
 pub record AreAlike (row : LinkRow) (cell : Cell) (holder other : Store) (visit : Option Own) : Type 0 where

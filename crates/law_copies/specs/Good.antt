@@ -1,5 +1,5 @@
 -- What is kept of the two copies of each cell: at each place of its link, and at the stores as they are now.
-use Rattle.std.specs.Prelude.{◌≡◌, ◌≤◌, ◌<◌, ℕ, true, false, List, [], length, Option, Some, None, is_some}
+use Rattle.std.specs.Prelude.{◌≡◌, ◌≤◌, ◌<◌, ◌⊎◌, ℕ, Bool, true, List, [], length, Option, Some, None, is_some}
 use Rattle.std.specs.Ordering.{nat_cmp}
 use Rattle.global_tables.specs.Link.{other_of}
 use Rattle.global_tables.specs.declared.link.LinkRow.{LinkRow}
@@ -12,67 +12,81 @@ use Rattle.petal_msg.specs.declared.body.Body.{Body}
 use Rattle.petal_msg.specs.declared.body.Body.TheVariants as body
 use Rattle.petal_msg.specs.declared.letter.Letter.{Letter}
 use Rattle.petal_msg.specs.declared.operation.Pending.{Pending}
-use Rattle.petal_history.specs.Claims.{IsPrefix, IsMarked}
+use Rattle.petal_history.specs.Claims.{IsPrefix, IsMarked, IsToBeCopied}
 use Rattle.petal_history.specs.declared.record.Record.{Record}
 use Rattle.petal_rules.specs.Lists.{In}
 use Rattle.petal_rules.specs.Progress.{no_progress, progress_on}
 use Rattle.petal_rules.specs.Server.{Own}
-use Rattle.petal_rules.specs.State.{id_of, is_in}
+use Rattle.petal_rules.specs.State.{id_of, is_in, is_whole}
 use Rattle.petal_rules.specs.Store.{Store, cell_cmp, chain_in}
-use Rattle.petal_rules.specs.World.{Setting, World, server_state}
+use Rattle.petal_rules.specs.World.{Setting, World, blank_joins_in, server_state}
 use Rattle.petal_state.specs.CellState.{cell_link}
 use Rattle.petal_state.specs.Command.{state_after}
 use Rattle.law_log.specs.Requested.{WasStarted}
 use Rattle.law_state.specs.Started.{is_flagged}
 use Rattle.law_steps.specs.Happens.{is_between}
 use Rattle.law_steps.specs.Ready.{IsRising}
-use Rattle.law_copies.specs.Copied.{AreAlike, AreCopying, IsOfLink, IsPage, IsTold}
+use Rattle.law_copies.specs.Copied.{AreAlike, AreCopying, IsOfLink, IsPage, IsTold, NotCopied, links_of}
 use Rattle.law_copies.specs.Pair.{HaveMarks, IsRecalled, Known, Pair, PairOk, pair_of}
-use Rattle.law_copies.specs.Visits.{AreReached, HasBeen, IsHere, IsLast, IsLinked, Visits, half, place_by}
+use Rattle.law_copies.specs.Steps.{AreFilled}
+use Rattle.law_copies.specs.Visits.{AreReached, HasBeen, HasFilled, IsHere, IsLast, IsLinked, Visits, half, place_by, store_by}
 
 abbrev pub store_of : World → ℕ → Store
 store_of w n = (w.servers n).own.store
 
--- the two copies of a cell in Both, by the stores as they are now and by what its servers had in memory of the place
-abbrev pub pair_at : World → Visits → (place : ℕ) → Cell → (n m : ℕ) → Pair
-pair_at w visits place cell n m = pair_of (half (visits n place cell) (store_of w n)) (half (visits m place cell) (store_of w m)) cell
+-- what the holder had left to copy, as it was at the place, it has by this store
+abbrev pub StaysLeft : LinkRow → Cell → Own → Store → Type 0
+StaysLeft row cell own store = (IsMarked own.store cell → IsMarked store cell)
+    × (IsToBeCopied row own.store cell → NotCopied (Some own) row cell.block → IsToBeCopied row store cell)
+
+-- the two copies of a cell in Both, by these stores and by what its servers had in memory of the place
+abbrev pub pair_at : (ℕ → Store) → Visits → (place : ℕ) → Cell → (n m : ℕ) → Pair
+pair_at stores visits place cell n m = pair_of (half (visits n place cell) (stores n)) (half (visits m place cell) (stores m)) cell
 
 -- a cell in Both, whose servers have been at no later place at which they served it
-pub record AreTwins (w : World) (visits : Visits) (place : ℕ) (cell : Cell) (n m : ℕ) : Type 0 where
-  pub pair : PairOk (pair_at w visits place cell n m)
+pub record AreTwins (stores : ℕ → Store) (visits : Visits) (place : ℕ) (cell : Cell) (n m : ℕ) : Type 0 where
+  pub pair : PairOk (pair_at stores visits place cell n m)
   pub recalled : (own : Own) (op : Pending) → visits n place cell ≡ Some own → at cell_cmp own.pairs.pending cell ≡ Some op
-      → IsRecalled op (store_of w n) cell
+      → IsRecalled op (stores n) cell
 
 -- a cell that one server holds alone, likewise: what the other server has is what it had at the place, if it was there
-pub record AreBeside (w : World) (visits : Visits) (place : ℕ) (row : LinkRow) (cell : Cell) (holder other : ℕ) : Type 0 where
-  pub alike : AreAlike row cell (store_of w holder) (store_of w other) (visits holder place cell)
-  pub still : (own : Own) → visits other place cell ≡ Some own → chain_in own.store.chains cell ≡ chain_in (store_of w other).chains cell
+pub record AreBeside (stores : ℕ → Store) (visits : Visits) (place : ℕ) (row : LinkRow) (cell : Cell) (holder other : ℕ) : Type 0 where
+  pub alike : AreAlike row cell (stores holder) (stores other) (visits holder place cell)
+  pub still : (own : Own) → visits other place cell ≡ Some own → chain_in own.store.chains cell ≡ chain_in (stores other).chains cell
 
-module _ (setting : Setting) (top : List Command) (w : World) (visits : Visits) (reached : Cell → ℕ) where
+module _ (setting : Setting) (top : List Command) (stores : ℕ → ℕ → Store) (visits : Visits) (reached : Cell → ℕ) where
+  -- the stores by these entries
+  abbrev by : List Command → ℕ → Store
+  by = store_by setting stores
+
   -- at a front of the log at which the cell's link is in Both
   pub record BothOk (front : List Command) (cell : Cell) (row : LinkRow) : Type 0 where
-    pub twins : IsLast reached setting front cell row → AreTwins w visits (place_by setting front row) cell row.primary row.secondary
+    pub twins : IsLast reached setting front cell row → AreTwins (by front) visits (place_by setting front row) cell row.primary row.secondary
 
   -- at one at which one server holds it alone
   pub record AloneOk (front : List Command) (cell : Cell) (row : LinkRow) (holder : ℕ) : Type 0 where
-    pub copying : AreCopying row cell (visits holder (place_by setting front row) cell) (visits (other_of holder row) (place_by setting front row) cell)
-    pub beside : IsLast reached setting front cell row → AreBeside w visits (place_by setting front row) row cell holder (other_of holder row)
-    -- what was marked at the holder is marked there still, while the other server has been at no later place
+    pub copying : AreCopying (links_of (state_after setting.servers front) cell.map) row cell
+        (visits holder (place_by setting front row) cell) (visits (other_of holder row) (place_by setting front row) cell)
+    pub beside : IsLast reached setting front cell row → AreBeside (by front) visits (place_by setting front row) row cell holder (other_of holder row)
+    -- what was left to copy at the holder is so still, while the other server has been at no later place
     pub stays : (own : Own) → visits holder (place_by setting front row) cell ≡ Some own
         → ((place : ℕ) → place_by setting front row < place → visits (other_of holder row) place cell ≡ None)
-        → IsMarked own.store cell → IsMarked (store_of w holder) cell
+        → StaysLeft row cell own (by front holder)
+    -- where all is to be copied to the other server, it has nothing until the holder has been at such a place
+    pub unfilled : is_whole row.state ≡ true → (chain_in (by front (other_of holder row)).chains cell ≡ [])
+        ⊎ HasFilled setting top visits front cell holder (other_of holder row)
 
   -- what is known of a letter by the link at the front of its sender
   pub record SaidOk (front : List Command) (said : Body) (cell : Cell) (row : LinkRow) : Type 0 where
     pub both : row.state ≡ Both → IsLast reached setting front cell row → (about said).cell ≡ Some cell
-        → Known (pair_at w visits (place_by setting front row) cell row.primary row.secondary) said
-    pub alone : (holder : ℕ) → row.state ≡ Only holder false → (about said).cell ≡ Some cell
-        → IsTold (visits holder (place_by setting front row) cell) (visits (other_of holder row) (place_by setting front row) cell) said
-    pub page : (holder : ℕ) (after block : Option ℕ) → row.state ≡ Only holder false → said ≡ body.Hello row.map row.link after block
+        → Known (pair_at (by front) visits (place_by setting front row) cell row.primary row.secondary) said
+    pub alone : (holder : ℕ) (whole : Bool) → row.state ≡ Only holder whole → (about said).cell ≡ Some cell
+        → IsTold row (visits holder (place_by setting front row) cell) (visits (other_of holder row) (place_by setting front row) cell) said
+    pub page : (holder : ℕ) (whole : Bool) (after block : Option ℕ) → row.state ≡ Only holder whole → said ≡ body.Hello row.map row.link after block
         → IsLast reached setting front cell row
-        → IsPage cell (store_of w (other_of holder row)) (visits (other_of holder row) (place_by setting front row) cell) after block
+        → IsPage cell (by front (other_of holder row)) (visits (other_of holder row) (place_by setting front row) cell) after block
     -- and that the other server was there, at each place
-    pub met : (holder : ℕ) (after block : Option ℕ) → row.state ≡ Only holder false → said ≡ body.Hello row.map row.link after block
+    pub met : (holder : ℕ) (whole : Bool) (after block : Option ℕ) → row.state ≡ Only holder whole → said ≡ body.Hello row.map row.link after block
         → is_some (visits (other_of holder row) (place_by setting front row) cell) ≡ true
 
 -- of a cell without a link a server has heard of no operation, and it counts no pages of a link of the cell's map
@@ -85,26 +99,32 @@ pub record Good (setting : Setting) (records : List Record) (top : List Command)
   pub visits : Visits
   pub reached : Cell → ℕ
   pub reaching : AreReached setting top visits reached
+  -- each server's stores, by the number of its Joins with an empty store: the last one is what it has now
+  pub stores : (n joins : ℕ) → Store
+  pub now : (n : ℕ) → stores n (blank_joins_in setting top n) ≡ store_of w n
   pub here : (n : ℕ) (cell : Cell) (row : LinkRow) → IsLinked setting (w.servers n).log.applied cell row
       → is_in (server_state setting w n) n (w.servers n).life.inc ≡ true → IsHere setting w visits n cell row
   pub been : (n place : ℕ) (cell : Cell) (own : Own) → visits n place cell ≡ Some own → HasBeen setting w n place cell
   pub born : (cell : Cell) → cell_link (state_after setting.servers top) cell ≡ None → (n : ℕ) → chain_in (store_of w n).chains cell ≡ []
   pub unheard : (n : ℕ) (cell : Cell) → cell_link (server_state setting w n) cell ≡ None → IsUnheard (w.servers n).own cell
   pub rising : (n : ℕ) (cell : Cell) → IsRising nat_cmp (chain_in (store_of w n).chains cell)
+  pub ever : (n joins : ℕ) (cell : Cell) → IsRising nat_cmp (chain_in (stores n joins).chains cell)
   pub counts : (n : ℕ) → 1 ≤ (w.servers n).own.pairs.next
-  pub marks : (n : ℕ) → HaveMarks (w.servers n).own.pairs.pending (store_of w n)
+  pub filled : (n : ℕ) → AreFilled (store_of w n).chains
+  -- of a server that was blanked, while it runs
+  pub marks : (n : ℕ) → ((w.servers n).life.running ≡ true) ⊎ (w.before_blank n ≡ None) → HaveMarks (w.servers n).own.pairs.pending (store_of w n)
   pub both : (front : List Command) (cell : Cell) (row : LinkRow) → IsPrefix front top → IsLinked setting front cell row → row.state ≡ Both
-      → BothOk setting top w visits reached front cell row
-  pub alone : (front : List Command) (cell : Cell) (row : LinkRow) (holder : ℕ) → IsPrefix front top → IsLinked setting front cell row
-      → row.state ≡ Only holder false → AloneOk setting top w visits reached front cell row holder
+      → BothOk setting top stores visits reached front cell row
+  pub alone : (front : List Command) (cell : Cell) (row : LinkRow) (holder : ℕ) (whole : Bool) → IsPrefix front top
+      → IsLinked setting front cell row → row.state ≡ Only holder whole → AloneOk setting top stores visits reached front cell row holder
   pub revs : (letter : Letter) → In letter w.sent → is_between (subject_of letter.body) ≡ true → letter.rev ≤ length top
   pub letters : (letter : Letter) → In letter w.sent → (front : List Command) (cell : Cell) (row : LinkRow) → IsPrefix front top
-      → length front ≡ letter.rev → IsLinked setting front cell row → SaidOk setting top w visits reached front letter.body cell row
+      → length front ≡ letter.rev → IsLinked setting front cell row → SaidOk setting top stores visits reached front letter.body cell row
   -- a page tells of a block of its own link
   pub pages : (letter : Letter) → In letter w.sent → (front : List Command) → IsPrefix front top → length front ≡ letter.rev → (map link block : ℕ)
       (after : Option ℕ) → letter.body ≡ body.Hello map link after (Some block)
       → IsOfLink (state_after setting.servers front) (record { map = map; block = block }) link
-  pub started : (holder inc : ℕ) (front : List Command) (cell : Cell) (row : LinkRow) → IsPrefix front top → IsLinked setting front cell row
-      → row.state ≡ Only holder false → is_in (state_after setting.servers front) holder inc ≡ true
+  pub started : (holder inc : ℕ) (whole : Bool) (front : List Command) (cell : Cell) (row : LinkRow) → IsPrefix front top
+      → IsLinked setting front cell row → row.state ≡ Only holder whole → is_in (state_after setting.servers front) holder inc ≡ true
       → WasStarted setting records holder inc front (id_of row)
       → (own : Own) × (visits holder (place_by setting front row) cell ≡ Some own) × (is_flagged own (id_of row) ≡ true)

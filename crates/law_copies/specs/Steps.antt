@@ -1,6 +1,6 @@
 -- What a job of a server leaves of a cell whose link one server holds alone: at the holder, at the other server of the link, and at a
 -- server that the link is not of.
-use Rattle.std.specs.Prelude.{◌≡◌, ◌⊎◌, ℕ, true, false, Option, Some, None, is_some}
+use Rattle.std.specs.Prelude.{◌≡◌, ◌≢◌, ◌⊎◌, ℕ, Bool, true, false, [], Option, Some, None, is_some}
 use Rattle.std.specs.Ordering.{nat_cmp}
 use Rattle.busy_marks.specs.declared.marks.MarkKind.{MarkKind}
 use Rattle.global_tables.specs.Link.{has_server}
@@ -11,19 +11,24 @@ use Rattle.petal_msg.specs.Kinds.{about}
 use Rattle.petal_msg.specs.declared.body.Body.{Body}
 use Rattle.petal_msg.specs.declared.body.Body.TheVariants as body
 use Rattle.petal_state.specs.CellState.{cell_link}
+use Rattle.petal_table.specs.Table.{Table, at}
 use Rattle.petal_history.specs.Claims.{IsMarked}
 use Rattle.petal_rules.specs.Lists.{In}
 use Rattle.petal_rules.specs.Progress.{copying_on, has_proposed, last_copy}
 use Rattle.petal_rules.specs.Server.{Own, Here, Post, Done}
 use Rattle.petal_rules.specs.State.{holder_of, id_of}
-use Rattle.petal_rules.specs.Store.{Store, chain_in, is_marked}
+use Rattle.petal_rules.specs.Store.{Chain, Store, cell_cmp, chain_in, is_marked}
 use Rattle.petal_rules.specs.Writes.{last_on, pending_on}
 use Rattle.law_state.specs.Started.{is_flagged}
 use Rattle.law_state.specs.Steady.{IsSteady}
 use Rattle.law_steps.specs.Ready.{IsReady, IsRising}
 use Rattle.law_steps.specs.Resting.{AreResting}
-use Rattle.law_copies.specs.Copied.{AreAlike, AreCopying, IsOfLink, IsPage, IsTold}
+use Rattle.law_copies.specs.Copied.{AreAlike, AreCopying, IsLeft, IsOfLink, IsPage, IsTold, links_of}
 use Rattle.law_copies.specs.Pair.{HaveMarks}
+
+-- a cell without entries has no chain
+abbrev pub AreFilled : Table Cell Chain → Type 0
+AreFilled chains = (cell : Cell) → at cell_cmp chains cell ≢ Some []
 
 -- what a server has before a job, by its own state
 pub record IsFit (heard : Body → Type 0) (here : Here) (own : Own) : Type 0 where
@@ -32,24 +37,27 @@ pub record IsFit (heard : Body → Type 0) (here : Here) (own : Own) : Type 0 wh
   pub resting : AreResting here.state here.me own
   pub marks : HaveMarks own.pairs.pending own.store
   pub rising : (q : Cell) → IsRising nat_cmp (chain_in own.store.chains q)
+  pub filled : AreFilled own.store.chains
   -- a page tells of a block of its own link
   pub pages : (q : Cell) (link : ℕ) (after : Option ℕ) → heard (body.Hello q.map link after (Some q.block)) → IsOfLink here.state q link
 
 -- ### At the holder
 
 -- the server holds the cell's link alone, and what stands before the job, where the other server has been as this
-pub record IsHolding (heard : Body → Type 0) (here : Here) (row : LinkRow) (cell : Cell) (own : Own) (other : Option Own) : Type 0 where
+pub record IsHolding (heard : Body → Type 0) (here : Here) (links : ℕ) (row : LinkRow) (cell : Cell) (own : Own) (other : Option Own) : Type 0 where
   pub fit : IsFit heard here own
   pub is : cell_link here.state cell ≡ Some row
-  pub held : row.state ≡ Only here.me false
-  pub old : AreCopying row cell (Some own) other
-  pub told : (said : Body) → heard said → (about said).cell ≡ Some cell → IsTold (Some own) other said
+  pub links_are : links_of here.state cell.map ≡ links
+  pub whole : Bool
+  pub held : row.state ≡ Only here.me whole
+  pub old : AreCopying links row cell (Some own) other
+  pub told : (said : Body) → heard said → (about said).cell ≡ Some cell → IsTold row (Some own) other said
   pub met : (after block : Option ℕ) → heard (body.Hello row.map row.link after block) → is_some other ≡ true
 
 -- what was known of letters of the cell is known later
-abbrev pub StaysTold : (cell : Cell) → (holder other holder' other' : Option Own) → Type 0
-StaysTold cell holder other holder' other' = (said : Body) → (about said).cell ≡ Some cell → IsTold holder other said
-    → IsTold holder' other' said
+abbrev pub StaysTold : LinkRow → (cell : Cell) → (holder other holder' other' : Option Own) → Type 0
+StaysTold row cell holder other holder' other' = (said : Body) → (about said).cell ≡ Some cell → IsTold row holder other said
+    → IsTold row holder' other' said
 
 -- the other server's store, as it is now, has the chain that the server had when it last was at the place
 abbrev pub IsStill : Cell → Option Own → Store → Type 0
@@ -60,13 +68,14 @@ abbrev pub PagesOf : (heard : Body → Type 0) → LinkRow → Cell → Store �
 PagesOf heard row cell now visit = (after block : Option ℕ) → heard (body.Hello row.map row.link after block)
     → IsPage cell now visit after block
 
--- what the job keeps, with what is known of what it sends; a mark goes only by a copy, whose other server was there; and nothing is
--- changed of the cell once a ballot was started for the link's Caught
-pub record HolderKeeps (heard : Body → Type 0) (row : LinkRow) (cell : Cell) (own : Own) (other : Option Own) (done : Done) : Type 0 where
-  pub copying : AreCopying row cell (Some done.own) other
-  pub told : StaysTold cell (Some own) other (Some done.own) other
-  pub says : (post : Post) → In post done.posts → (about post.body).cell ≡ Some cell → IsTold (Some done.own) other post.body
+-- what the job keeps, with what is known of what it sends; a mark goes only by a copy, whose other server was there; what the holder
+-- has stays; and nothing is changed of the cell once a ballot was started for the link's Caught
+pub record HolderKeeps (heard : Body → Type 0) (links : ℕ) (row : LinkRow) (cell : Cell) (own : Own) (other : Option Own) (done : Done) : Type 0 where
+  pub copying : AreCopying links row cell (Some done.own) other
+  pub told : StaysTold row cell (Some own) other (Some done.own) other
+  pub says : (post : Post) → In post done.posts → (about post.body).cell ≡ Some cell → IsTold row (Some done.own) other post.body
   pub marks : IsMarked own.store cell → IsMarked done.own.store cell ⊎ (is_some other ≡ true)
+  pub stored : chain_in own.store.chains cell ≢ [] → chain_in done.own.store.chains cell ≢ []
   pub alike : (now : Store) → IsStill cell other now → PagesOf heard row cell now other → IsRising nat_cmp (chain_in now.chains cell)
       → AreAlike row cell own.store now (Some own) → AreAlike row cell done.own.store now (Some done.own)
   pub caught : is_flagged own (id_of row) ≡ true
@@ -74,9 +83,9 @@ pub record HolderKeeps (heard : Body → Type 0) (row : LinkRow) (cell : Cell) (
       (is_flagged done.own (id_of row) ≡ true)
 
 -- what a ballot that is started keeps: stores stay as they are
-pub record BallotKeeps (row : LinkRow) (cell : Cell) (own : Own) (other : Option Own) (to : Own) : Type 0 where
-  pub copying : AreCopying row cell (Some to) other
-  pub told : StaysTold cell (Some own) other (Some to) other
+pub record BallotKeeps (links : ℕ) (row : LinkRow) (cell : Cell) (own : Own) (other : Option Own) (to : Own) : Type 0 where
+  pub copying : AreCopying links row cell (Some to) other
+  pub told : StaysTold row cell (Some own) other (Some to) other
   pub store : to.store ≡ own.store
   pub alike : (now : Store) → AreAlike row cell own.store now (Some own) → AreAlike row cell to.store now (Some to)
   pub flagged : is_flagged own (id_of row) ≡ true → is_flagged to (id_of row) ≡ true
@@ -84,27 +93,27 @@ pub record BallotKeeps (row : LinkRow) (cell : Cell) (own : Own) (other : Option
 -- ### At the other server
 
 -- the server is the other one of the cell's link, and what stands before the job, where the holder has been as this
-pub record IsFollowing (heard : Body → Type 0) (here : Here) (row : LinkRow) (cell : Cell) (holder : Option Own) (own : Own) : Type 0 where
+pub record IsFollowing (heard : Body → Type 0) (here : Here) (links : ℕ) (row : LinkRow) (cell : Cell) (holder : Option Own) (own : Own) : Type 0 where
   pub fit : IsFit heard here own
   pub is : cell_link here.state cell ≡ Some row
   pub by : ℕ
   pub held : holder_of here.me row ≡ Some by
-  pub old : AreCopying row cell holder (Some own)
-  pub told : (said : Body) → heard said → (about said).cell ≡ Some cell → IsTold holder (Some own) said
+  pub old : AreCopying links row cell holder (Some own)
+  pub told : (said : Body) → heard said → (about said).cell ≡ Some cell → IsTold row holder (Some own) said
 
--- the holder has been at the place, and had the block marked
-pub record IsMarkedBy (holder : Option Own) (cell : Cell) : Type 0 where
+-- the holder has been at the place, and had the block left to copy
+pub record IsLeftBy (row : LinkRow) (holder : Option Own) (cell : Cell) : Type 0 where
   pub by : Own
   pub met : holder ≡ Some by
-  pub marked : IsMarked by.store cell
+  pub left : IsLeft by row cell
 
--- what the job keeps, with what is known of what it sends; the cell's chain changes only where the holder has the block marked
-pub record OtherKeeps (row : LinkRow) (cell : Cell) (holder : Option Own) (own : Own) (done : Done) : Type 0 where
-  pub copying : AreCopying row cell holder (Some done.own)
-  pub told : StaysTold cell holder (Some own) holder (Some done.own)
-  pub says : (post : Post) → In post done.posts → (about post.body).cell ≡ Some cell → IsTold holder (Some done.own) post.body
+-- what the job keeps, with what is known of what it sends; the cell's chain changes only where the holder has the block left to copy
+pub record OtherKeeps (links : ℕ) (row : LinkRow) (cell : Cell) (holder : Option Own) (own : Own) (done : Done) : Type 0 where
+  pub copying : AreCopying links row cell holder (Some done.own)
+  pub told : StaysTold row cell holder (Some own) holder (Some done.own)
+  pub says : (post : Post) → In post done.posts → (about post.body).cell ≡ Some cell → IsTold row holder (Some done.own) post.body
   pub marks : (kind : MarkKind) → is_marked done.own.store kind cell ≡ is_marked own.store kind cell
-  pub changes : (chain_in done.own.store.chains cell ≡ chain_in own.store.chains cell) ⊎ IsMarkedBy holder cell
+  pub changes : (chain_in done.own.store.chains cell ≡ chain_in own.store.chains cell) ⊎ IsLeftBy row holder cell
   pub pages : (post : Post) → In post done.posts → (after block : Option ℕ) → post.body ≡ body.Hello row.map row.link after block
       → IsPage cell done.own.store (Some done.own) after block
   pub rising : IsRising nat_cmp (chain_in done.own.store.chains cell)

@@ -14,7 +14,7 @@ use Rattle.petal_rules.specs.Log.{state_in}
 use Rattle.petal_rules.specs.Server.{Own, Server, no_copies, no_pairs}
 use Rattle.petal_rules.specs.State.{is_in}
 use Rattle.petal_rules.specs.Store.{Store}
-use Rattle.petal_rules.specs.World.{Setting, World}
+use Rattle.petal_rules.specs.World.{Setting, World, blank_joins_in, with_store}
 
 -- of each server and each place of a cell's link, the server's own part as it last was while the server was there and was In as
 -- itself
@@ -24,6 +24,14 @@ Visits = (server place : ℕ) → Cell → Option Own
 -- the place of a link by these entries
 abbrev pub place_by : Setting → List Command → LinkRow → ℕ
 place_by setting front row = places_from (start setting.servers) front row
+
+-- the world with these stores
+abbrev pub with_stores : World → (ℕ → Store) → World
+with_stores w stores = record w { servers = λ n. with_store (w.servers n) (stores n) }
+
+-- the stores by these entries, of all that servers ever had: one for each number of their Joins with an empty store
+abbrev pub store_by : Setting → (stores : ℕ → ℕ → Store) → List Command → ℕ → Store
+store_by setting stores front n = stores n (blank_joins_in setting front n)
 
 -- the cell's link, by these entries
 abbrev pub IsLinked : Setting → List Command → Cell → LinkRow → Type 0
@@ -74,6 +82,16 @@ pub record HasReached (setting : Setting) (top : List Command) (visits : Visits)
   pub serving : serves server row row.state ≡ true
   pub own : Own
   pub visited : visits server place cell ≡ Some own
+
+-- the holder has been at a place of the cell's link behind as many Joins of the other server with an empty store
+pub record HasFilled (setting : Setting) (top : List Command) (visits : Visits) (front : List Command) (cell : Cell) (holder other : ℕ) : Type 0 where
+  pub more : List Command
+  pub within : IsPrefix more top
+  pub row : LinkRow
+  pub linked : IsLinked setting more cell row
+  pub joins : blank_joins_in setting more other ≡ blank_joins_in setting front other
+  pub own : Own
+  pub visited : visits holder (place_by setting more row) cell ≡ Some own
 
 -- places of servers that serve the link, and of none other, are counted
 pub record AreReached (setting : Setting) (top : List Command) (visits : Visits) (reached : Cell → ℕ) : Type 0 where

@@ -100,7 +100,7 @@ module _ (here : Here) (own : Own) where
 -- a ballot for any command forgets nothing
 kept_link : (own : Own) (o : Option LinkRow) → IsKept own (holds_link own o)
 kept_link own None = kept_itself own
-kept_link own (Some row) = record { fresh = refl; flags = flags_put own row (record (progress_on own row) { caught = true }) (λ h. refl) }
+kept_link own (Some row) = record { flags = flags_put own row (record (progress_on own row) { caught = true }) (λ h. refl) }
 
 pub kept_proposed : (state : State) (own : Own) (o : Option Command) → IsKept own (proposed state own o)
 kept_proposed state own (Some (Caught of link holder holder_inc other other_inc)) = kept_link own (link_named state (record { map = of; link = link }))

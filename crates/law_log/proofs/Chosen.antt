@@ -21,11 +21,12 @@ use Rattle.petal_rules.specs.World.{Setting, World, devices, chosen_log, chosen_
 use Rattle.petal_rules.proofs.Tests.{by_bool, none_some, true_false}
 use Rattle.law_state.specs.Firm.{Firm}
 use Rattle.law_state.specs.Plain.{IsPlainLog}
-use Rattle.law_state.proofs.Disks.{who_is_in, who_is_out}
-use Rattle.law_log.specs.Logged.{IsBacked, IsSaidBy, Logged, Minded, WasMinded}
-use Rattle.law_log.specs.Requested.{CatchesUp, HasBegun, HasCaughtUp, HasStopped, IsCalledFor, IsCaughtAt}
-use Rattle.law_log.proofs.Facts.{IsFair, told_chosen, chosen_wanted, chosen_once, told_wanted, join_begun, leave_stopped, not_called, uncaught, wanted_plain}
-use Rattle.law_log.proofs.Lists.{at_among, at_next, next_at, one_front}
+use Rattle.law_state.proofs.Disks.{who_is_out}
+use Rattle.law_state.proofs.Incarnations.{who_is_in}
+use Rattle.law_log.specs.Logged.{Catches, IsBacked, IsCalledAnywhere, IsJoinAt, IsSaidBy, Logged, Minded, Returns, Waits, WasMinded}
+use Rattle.law_log.specs.Requested.{HasBegun, HasCaughtUp, HasStopped, IsCalledFor, IsCaughtAt}
+use Rattle.law_log.proofs.Facts.{IsFair, told_chosen, chosen_wanted, chosen_once, told_wanted, leave_stopped, no_join, not_called, uncaught, wanted_plain}
+use Rattle.law_log.proofs.Lists.{at_among, at_next, next_at, one_front, parted}
 use Rattle.law_log.proofs.Worlds.{IsGrown}
 
 within_or_past : (i many : ℕ) → (i ≤ many) ⊎ (many < i)
@@ -87,49 +88,74 @@ module _ {Was : Minded} (setting : Setting) (w : World) (fair : IsFair setting) 
         record { later = front.0; is = front.1 };
   }
 
-  -- a chosen command is called for, or a Caught behind the entries before it
+  -- a chosen command is called for, or a Caught or a Join that acts behind the entries before it
   called_at : (i : ℕ) (c : Command) → slice_get (chosen_log setting w) i ≡ Some c
-      → IsCalledFor setting w c
-      ⊎ ((front : List Command) × IsPrefix front (chosen_log setting w) × (length front ≡ i) × CatchesUp setting.servers w.servers front c
+      → IsCalledAnywhere setting w c
+      ⊎ ((front : List Command) × IsPrefix front (chosen_log setting w) × (length front ≡ i) × Returns setting.servers w.servers front c
       × WasMinded Was front c)
   called_at i c e =
       elim (chosen_wanted setting w fair.small l (i + 1) c
       (by_schedule (i + 1) c (told_is_chosen setting.servers (devices w) (i + 1) c (log_tells setting.servers (devices w) i c e)))).0 [
         | inl called ↦ inl called
-        | inr caught ↦ (
-            let many = caught.told.many in
-            let front = front_of_log setting.servers (devices w) caught.front (λ j d is. told_at (j + 1) d (caught.told.told j d is)) in
-            inr (caught.front, record { later = front.0; is = front.1 }, omega arith, caught.is, caught.was))
+        | inr returns ↦ (
+            let many = returns.told.many in
+            let front = front_of_log setting.servers (devices w) returns.front (λ j d is. told_at (j + 1) d (returns.told.told j d is)) in
+            inr (returns.front, record { later = front.0; is = front.1 }, omega arith, returns.is, returns.was))
       ]
+
+  -- what stands behind a front, and is called for nowhere else, acts behind that front
+  returns_at : (front : List Command) (c : Command) → (IsCalledAnywhere setting w c → ⊥) → IsPrefix (front ++ c ∷ []) (chosen_log setting w)
+      → Returns setting.servers w.servers front c × WasMinded Was front c
+  returns_at front c none prefix = elim (called_at (length front) c (stands_next front (chosen_log setting w) c prefix)) [
+    | inl called ↦ absurd (none called)
+    | inr returns ↦ subst (λ (xs : List Command). Returns setting.servers w.servers xs c × WasMinded Was xs c)
+        (same_front returns.0 front (chosen_log setting w) c returns.1 returns.2 prefix) (returns.3, returns.4)
+  ]
+
+  pub caught_at : (front : List Command) (of link holder inc other other_inc : ℕ)
+      → IsPrefix (front ++ Caught of link holder inc other other_inc ∷ []) (chosen_log setting w)
+      → IsCaughtAt setting.servers w.servers front of link holder inc other other_inc
+  caught_at front of link holder inc other other_inc prefix =
+      (returns_at front (Caught of link holder inc other other_inc) (λ called. not_called setting w of link holder inc other other_inc called.0) prefix).0
+
+  -- and its holder had it in mind there
+  pub caught_was : (front : List Command) (of link holder inc other other_inc : ℕ)
+      → IsPrefix (front ++ Caught of link holder inc other other_inc ∷ []) (chosen_log setting w)
+      → Was holder inc front (Catches (record { map = of; link = link }))
+  caught_was front of link holder inc other other_inc prefix =
+      (returns_at front (Caught of link holder inc other other_inc) (λ called. not_called setting w of link holder inc other other_inc called.0) prefix).1
+
+  pub join_at : (front : List Command) (server inc : ℕ) (blank : Bool) → IsPrefix (front ++ Join server inc blank ∷ []) (chosen_log setting w)
+      → IsJoinAt setting.servers w.servers front server inc
+  join_at front server inc blank prefix = (returns_at front (Join server inc blank) (no_join setting w server inc blank) prefix).0
+
+  -- and its server's store waited to be filled, or not, as it says
+  join_was : (front : List Command) (server inc : ℕ) (blank : Bool) → IsPrefix (front ++ Join server inc blank ∷ []) (chosen_log setting w)
+      → Was server inc front (Waits blank)
+  join_was front server inc blank prefix = (returns_at front (Join server inc blank) (no_join setting w server inc blank) prefix).1
+
+  -- each chosen command stands behind a front
+  stands_at : (c : Command) → Among c (chosen_log setting w) → (front : List Command) × IsPrefix (front ++ c ∷ []) (chosen_log setting w)
+  stands_at c i =
+      let part = parted c (chosen_log setting w) i in
+      (part.0, record { later = part.1; is = part.2 ∙ sym (append_assoc part.0 (c ∷ []) part.1) })
+
+  pub join_waited : (server inc : ℕ) (blank : Bool) → Among (Join server inc blank) (chosen_log setting w)
+      → (front : List Command) × Was server inc front (Waits blank)
+  join_waited server inc blank i = let at = stands_at (Join server inc blank) i in (at.0, join_was at.0 server inc blank at.1)
+
+  caught_or_join : (c : Command) (front : List Command) → IsPrefix (front ++ c ∷ []) (chosen_log setting w) → Returns setting.servers w.servers front c
+      → IsCalledFor setting w c ⊎ HasCaughtUp setting w c
+  caught_or_join (Caught of link holder inc other other_inc) front stands h = inr (record { front = front; stands = stands; is = h })
+  caught_or_join (Join server inc blank) front stands h = inl (inr (h.later, h.begun))
+  caught_or_join _ front stands h = absurd h
 
   pub called_for : (c : Command) → Among c (chosen_log setting w) → IsCalledFor setting w c ⊎ HasCaughtUp setting w c
   called_for c i =
       let at = at_among c (chosen_log setting w) i in
       elim (called_at at.0 c at.1) [
-        | inl called ↦ inl called
-        | inr caught ↦ inr (record { front = caught.0; stands = next_stands caught.0 (chosen_log setting w) c at.0 caught.1 caught.2 at.1; is = caught.3 })
-      ]
-
-  -- what stands behind a front as a Caught is so behind that front
-  pub caught_at : (front : List Command) (of link holder inc other other_inc : ℕ)
-      → IsPrefix (front ++ Caught of link holder inc other other_inc ∷ []) (chosen_log setting w)
-      → IsCaughtAt setting.servers w.servers front of link holder inc other other_inc
-  caught_at front of link holder inc other other_inc prefix =
-      elim (called_at (length front) (Caught of link holder inc other other_inc) (stands_next front (chosen_log setting w) _ prefix)) [
-        | inl called ↦ not_called setting w of link holder inc other other_inc called
-        | inr caught ↦ subst (λ (xs : List Command). IsCaughtAt setting.servers w.servers xs of link holder inc other other_inc)
-            (same_front caught.0 front (chosen_log setting w) (Caught of link holder inc other other_inc) caught.1 caught.2 prefix) caught.3
-      ]
-
-  -- and its holder had it in mind there
-  pub caught_was : (front : List Command) (of link holder inc other other_inc : ℕ)
-      → IsPrefix (front ++ Caught of link holder inc other other_inc ∷ []) (chosen_log setting w)
-      → Was holder inc front (record { map = of; link = link })
-  caught_was front of link holder inc other other_inc prefix =
-      elim (called_at (length front) (Caught of link holder inc other other_inc) (stands_next front (chosen_log setting w) _ prefix)) [
-        | inl called ↦ not_called setting w of link holder inc other other_inc called
-        | inr caught ↦ subst (λ (xs : List Command). Was holder inc xs (record { map = of; link = link }))
-            (same_front caught.0 front (chosen_log setting w) (Caught of link holder inc other other_inc) caught.1 caught.2 prefix) caught.4
+        | inl called ↦ inl called.0
+        | inr returns ↦ caught_or_join c returns.0 (next_stands returns.0 (chosen_log setting w) c at.0 returns.1 returns.2 at.1) returns.3
       ]
 
   plain : IsPlainLog setting.servers (chosen_log setting w)
@@ -141,8 +167,8 @@ module _ {Was : Minded} (setting : Setting) (w : World) (fair : IsFair setting) 
   pub leave_chosen : (n inc : ℕ) → Among (Leave n inc) (chosen_log setting w) → HasStopped w n inc
   leave_chosen n inc i = elim (called_for (Leave n inc) i) [ inl called ↦ leave_stopped setting w n inc called | inr caught ↦ absurd caught.is ]
 
-  join_chosen : (n inc : ℕ) (blank : Bool) → Among (Join n inc blank) (chosen_log setting w) → HasBegun w n inc
-  join_chosen n inc blank i = elim (called_for (Join n inc blank) i) [ inl called ↦ (join_begun setting w n inc blank called).1 | inr caught ↦ absurd caught.is ]
+  pub join_chosen : (n inc : ℕ) (blank : Bool) → Among (Join n inc blank) (chosen_log setting w) → HasBegun w n inc
+  join_chosen n inc blank i = let at = stands_at (Join n inc blank) i in (join_at at.0 n inc blank at.1).begun
 
   -- an incarnation that was In by a front of the log, and is not by the whole, has its Leave chosen, so it has stopped
   pub out_stopped : (n inc : ℕ) (front : List Command) → IsPrefix front (chosen_log setting w) → is_in (state_after setting.servers front) n inc ≡ true
@@ -174,14 +200,14 @@ module _ {Was : Minded} (setting : Setting) (w : World) (fair : IsFair setting) 
     runs = runs_in;
     started = λ front of link holder inc other other_inc prefix. (caught_at front of link holder inc other other_inc prefix).started;
     asked = λ n command i. elim i [
-      | inl wanted ↦ uncaught setting w command (l.is.wants n command wanted)
-      | inr leaving ↦ uncaught setting w command (l.is.leaves n command leaving)
+      | inl wanted ↦ uncaught setting w command (l.is.wants n command wanted).0
+      | inr leaving ↦ uncaught setting w command (l.is.leaves n command leaving).0
     ];
   }
 
   news_told : (letter : Letter) → Among letter w.sent → (after : ℕ) (commands : List Command) → letter.body ≡ body.News after commands
       → (i : ℕ) (command : Command) → slice_get commands i ≡ Some command → IsTold P (after + i + 1) command
-  news_told letter there after commands is = subst (IsBacked P (IsCalledFor setting w) (IsSaidBy P letter.from)) is (l.is.sent letter there)
+  news_told letter there after commands is = subst (IsBacked P (IsCalledAnywhere setting w) (IsSaidBy P letter.from)) is (l.is.sent letter there)
 
   pub has_schedule : HasSchedule setting.servers w
   has_schedule = record {
@@ -194,7 +220,7 @@ module _ {Was : Minded} (setting : Setting) (w : World) (fair : IsFair setting) 
       asked = λ s lt. (l.is.busy s lt).asked;
       votes = λ s place ballot command. (l.is.servers s).votes place ballot command;
       letters = λ letter from said i who is.
-          let backed : IsSaidBy P letter.from said = subst (IsBacked P (IsCalledFor setting w) (IsSaidBy P letter.from)) is (l.is.sent letter i) in
+          let backed : IsSaidBy P letter.from said = subst (IsBacked P (IsCalledAnywhere setting w) (IsSaidBy P letter.from)) is (l.is.sent letter i) in
           subst (λ who. IsSaidBy P who said) who backed;
       told = λ s place command e. (l.is.servers s).told place command e;
       news = λ letter after i commands command there is e. news_told letter there after commands is i command e;

@@ -239,6 +239,7 @@ module _ (Told : ℕ → Command → Type 0) (lines : List Line) (me : ℕ) (sta
       → Reacts Told lines me client.seq (sees_for state client asked sight what)
   seen_for client asked sight (request.Stop server) f o = answering client asked answer.Ok f
   seen_for client asked sight (request.Start server) f o = answering client asked (if sight.running then answer.Ok else answer.Failed) f
+  seen_for client asked sight (request.Blank server) f o = answering client asked (if sight.running then answer.Ok else answer.Failed) f
   seen_for client asked sight request.Settle f o = settling client asked sight f o
   seen_for client asked sight _ f o = resting client f
 

@@ -1,6 +1,5 @@
--- Jobs of copies: they say nothing of the log, put no letter into the queue, make no store fresh nor take that away, and forget no
--- Caught for which a ballot was started.
-use Rattle.std.proofs.Common.{◌≡◌, ◌==◌, ◌&&◌, not, ℕ, Bool, true, false, List, [], ◌∷◌, Option, Some, None, refl, ◌∙◌, inl, inr}
+-- Jobs of copies: they say nothing of the log, put no letter into the queue, and forget no Caught for which a ballot was started.
+use Rattle.std.proofs.Common.{◌≡◌, ◌==◌, ◌&&◌, not, ℕ, Bool, true, false, List, [], ◌∷◌, Option, Some, None, inl, inr}
 use Rattle.std.specs.Prelude.{nat_lt}
 use Rattle.std.specs.List.{flat_map}
 use Rattle.global_tables.specs.declared.link.LinkRow.{LinkRow}
@@ -33,9 +32,8 @@ use Rattle.law_log.proofs.Flags.{flags_put}
 use Rattle.law_log.proofs.Pairs.{IsOther, IsQuiet, no_letter, only_stage, posted_other, quiet_says_to}
 use Rattle.law_log.proofs.Turns.{no_posts}
 
--- what a job leaves of the store and of what it has started ballots for
+-- what a job leaves of what it has started ballots for
 pub record IsKept (before after : Own) : Type 0 where
-  pub fresh : after.store.fresh ≡ before.store.fresh
   pub flags : (id : LinkId) → is_flagged before id ≡ true → is_flagged after id ≡ true
 
 pub record IsCalm (own : Own) (done : Done) : Type 0 where
@@ -43,7 +41,7 @@ pub record IsCalm (own : Own) (done : Done) : Type 0 where
   pub kept : IsKept own done.own
 
 pub kept_itself : (own : Own) → IsKept own own
-kept_itself own = record { fresh = refl; flags = λ id h. h }
+kept_itself own = record { flags = λ id h. h }
 
 pub calm_silent : (own : Own) → IsCalm own (silent own)
 calm_silent own = record { quiet = record { posts = λ post i. no_posts post i; jobs = no_letter }; kept = kept_itself own }
@@ -66,7 +64,7 @@ kept_copied : (row : Option LinkRow) (own : Own) (block : ℕ) → IsKept own (w
 kept_copied None own block = kept_itself own
 kept_copied (Some row) own block =
     by_test (IsKept own) (above (progress_on own row).copied block) (with_progress own row (record (progress_on own row) { copied = Some block })) own
-    (λ e. record { fresh = refl; flags = flags_put own row (record (progress_on own row) { copied = Some block }) (λ h. h) }) (λ e. kept_itself own)
+    (λ e. record { flags = flags_put own row (record (progress_on own row) { copied = Some block }) (λ h. h) }) (λ e. kept_itself own)
 
 mends_only : (row : Option LinkRow) (letter : Letter) → Among (job.Letter letter) (mend_after row) → ⊥
 mends_only None letter i = no_letter letter i
@@ -76,7 +74,7 @@ calm_closes : (here : Here) (own : Own) (cell : Cell) → IsCalm own (closes her
 calm_closes here own cell =
     let k = kept_copied (cell_link here.state cell) (without_copying own cell) cell.block in record {
       quiet = record { posts = λ post i. no_posts post i; jobs = mends_only (cell_link here.state cell) };
-      kept = record { fresh = k.fresh; flags = k.flags };
+      kept = record { flags = k.flags };
     }
 
 calm_entry : (here : Here) (own : Own) (cell : Cell) (copy : Copying) (row : _) → IsCalm own (sends_entry here own cell copy row)
@@ -88,7 +86,7 @@ calm_act here own cell copy copy_action.Trim = calm_says own _ _ tt
 calm_act here own cell copy copy_action.Sync = calm_entry here own cell copy _
 calm_act here own cell copy (copy_action.Unmark kind) = record {
   quiet = record { posts = λ post i. no_posts post i; jobs = λ letter i. only_stage letter cell i };
-  kept = record { fresh = refl; flags = λ id h. h };
+  kept = record { flags = λ id h. h };
 }
 calm_act here own cell copy copy_action.Close = calm_closes here own cell
 
@@ -104,13 +102,13 @@ calm_copies here own cell = calm_with here own cell (copying_on own cell)
 calm_from : (own from : Own) (done : Done) → IsKept own from → IsCalm from done → IsCalm own done
 calm_from own from done kept calm = record {
   quiet = calm.quiet;
-  kept = record { fresh = calm.kept.fresh ∙ kept.fresh; flags = λ id h. calm.kept.flags id (kept.flags id h) };
+  kept = record { flags = λ id h. calm.kept.flags id (kept.flags id h) };
 }
 
 calm_goes : (here : Here) (own : Own) (row : LinkRow) (other : ℕ) (next : NextCopy) → IsCalm own (goes_for here own row other next)
 calm_goes here own row other Ask = calm_says own (Some other) (page_wanted own row) tt
 calm_goes here own row other (Block cell) =
-    calm_from own (begins_copy own cell) _ (record { fresh = refl; flags = λ id h. h }) (calm_copies here (begins_copy own cell) cell)
+    calm_from own (begins_copy own cell) _ (record { flags = λ id h. h }) (calm_copies here (begins_copy own cell) cell)
 calm_goes here own row other Wait = calm_silent own
 calm_goes here own row other Nothing = calm_silent own
 
@@ -120,7 +118,7 @@ calm_catches here own row (Some other) = calm_goes here own row other (next_copy
 
 calm_takes_mark : (own : Own) (row : LinkRow) (cell : Cell) (kind : _) → IsCalm own (takes_mark own row cell kind)
 calm_takes_mark own row cell None = calm_silent own
-calm_takes_mark own row cell (Some kind) = calm_mend own _ _ (record { fresh = refl; flags = λ id h. h })
+calm_takes_mark own row cell (Some kind) = calm_mend own _ _ (record { flags = λ id h. h })
 
 calm_tidies : (own : Own) (row : LinkRow) (block : Option ℕ) → IsCalm own (tidies own row block)
 calm_tidies own row None = calm_silent own
@@ -150,8 +148,8 @@ unfolding on_hello_ask
 calm_hello_ask here own id after = calm_answers here own after (link_named here.state id)
 
 kept_page : (own : Own) (row : LinkRow) (block : Option ℕ) → IsKept own (with_page own row (progress_on own row) block)
-kept_page own row None = record { fresh = refl; flags = flags_put own row (record (progress_on own row) { paged = true }) (λ h. h) }
-kept_page own row (Some block) = record { fresh = refl; flags = flags_put own row (record (progress_on own row) { after = Some block }) (λ h. h) }
+kept_page own row None = record { flags = flags_put own row (record (progress_on own row) { paged = true }) (λ h. h) }
+kept_page own row (Some block) = record { flags = flags_put own row (record (progress_on own row) { after = Some block }) (λ h. h) }
 
 calm_page : (own : Own) (after block : Option ℕ) (row : LinkRow) (other : Option ℕ) → IsCalm own (hears_page own after block row other)
 calm_page own after block row None = calm_silent own
@@ -173,7 +171,7 @@ calm_first : (own : Own) (cell : Cell) (number holder : ℕ) (epochs : List ℕ)
 calm_first own cell number holder [] = calm_says own (Some holder) (body.Trimmed number cell) tt
 calm_first own cell number holder (epoch ∷ epochs) = record {
   quiet = record { posts = λ post i. no_posts post i; jobs = λ letter i. only_stage letter cell i };
-  kept = record { fresh = refl; flags = λ id h. h };
+  kept = record { flags = λ id h. h };
 }
 
 calm_trims_for : (own : Own) (cell : Cell) (holder : Option ℕ) (last : Option LastCopy) → IsCalm own (trims_for own cell holder last)
@@ -187,7 +185,7 @@ calm_trims here own cell = calm_trims_for own cell (cell_holder here cell) (last
 
 calm_newly : (here : Here) (own : Own) (number : ℕ) (cell : Cell) (epochs : List ℕ) → IsCalm own (trims_newly here own number cell epochs)
 calm_newly here own number cell epochs = let from = with_last_copy own cell (record { op = number; epochs = epochs; index = 0 }) in
-    calm_from own from _ (record { fresh = refl; flags = λ id h. h }) (calm_trims here from cell)
+    calm_from own from _ (record { flags = λ id h. h }) (calm_trims here from cell)
 
 calm_again : (own : Own) (cell : Cell) (number holder : ℕ) (epochs : List ℕ) → IsCalm own (trims_again own cell number holder epochs)
 calm_again own cell number holder [] = calm_says own (Some holder) (body.Trimmed number cell) tt
@@ -211,7 +209,7 @@ calm_trim here own number cell epochs = calm_trim_of here own number cell epochs
 calm_puts : (own : Own) (entry : Entry) (last : LastCopy) (holder : ℕ) (room : Bool) → IsCalm own (puts_entry own entry last holder room)
 calm_puts own entry last holder true = record {
   quiet = quiet_says_to _ (Some holder) (body.Synced entry.op (cell_of entry.key) entry.index) tt;
-  kept = record { fresh = refl; flags = λ id h. h };
+  kept = record { flags = λ id h. h };
 }
 calm_puts own entry last holder false = calm_says own (Some holder) (body.SyncFull entry.op (cell_of entry.key)) tt
 
@@ -234,7 +232,7 @@ calm_sync here own entry = calm_hears_sync own entry (cell_holder here (cell_of 
 
 calm_copying : (here : Here) (own : Own) (cell : Cell) (copy : Copying) → IsCalm own (copies_on here (with_copying own cell copy) cell)
 calm_copying here own cell copy =
-    calm_from own (with_copying own cell copy) _ (record { fresh = refl; flags = λ id h. h }) (calm_copies here (with_copying own cell copy) cell)
+    calm_from own (with_copying own cell copy) _ (record { flags = λ id h. h }) (calm_copies here (with_copying own cell copy) cell)
 
 calm_hears_trimmed : (here : Here) (own : Own) (number : ℕ) (cell : Cell) (copy : Option Copying) → IsCalm own (hears_trimmed here own number cell copy)
 calm_hears_trimmed here own number cell None = calm_silent own
@@ -261,7 +259,7 @@ calm_hears_full own number cell (Some copy) =
     by_test (IsCalm own) (is_syncing own cell copy number) _ _
     (λ e. record {
       quiet = record { posts = λ post i. no_posts post i; jobs = no_letter };
-      kept = record { fresh = refl; flags = λ id h. h };
+      kept = record { flags = λ id h. h };
     }) (λ e. calm_silent own)
 
 pub calm_sync_full : (own : Own) (number : ℕ) (cell : Cell) → IsCalm own (on_sync_full own number cell)

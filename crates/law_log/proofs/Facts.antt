@@ -1,5 +1,5 @@
 -- What follows from what is kept: one command a place is told, those that are told were asked for, and logs are plain.
-use Rattle.std.proofs.Common.{◌≡◌, ◌<◌, ◌≤◌, ◌+◌, inl, inr, ℕ, Bool, true, false, List, Some, refl, sym, subst}
+use Rattle.std.proofs.Common.{◌≡◌, ◌≤◌, ◌+◌, inl, inr, ℕ, Bool, true, false, List, Some, refl, sym, ap, subst}
 use Rattle.std.specs.Prelude.{slice_get, ◌==◌}
 use Rattle.petal_base.specs.Tuple.{is_tuple}
 use Rattle.petal_command.specs.declared.command.Command.{Command}
@@ -14,7 +14,7 @@ use Rattle.petal_rules.specs.Clients.{command_of}
 use Rattle.petal_rules.specs.Lists.{In as Among}
 use Rattle.petal_rules.specs.State.{servers_of}
 use Rattle.petal_rules.specs.World.{Setting, World, lines_of, server_state}
-use Rattle.petal_rules.proofs.Tests.{same_some, none_some}
+use Rattle.petal_rules.proofs.Tests.{same_some, none_some, true_false}
 use Rattle.script_lines.specs.declared.request.Line.{Line}
 use Rattle.script_lines.specs.declared.request.Request.{Request}
 use Rattle.script_lines.specs.declared.request.Request.TheVariants as request
@@ -22,8 +22,8 @@ use Rattle.law_state.specs.Plain.{IsPlain, IsPlainLog}
 use Rattle.law_state.specs.Started.{is_caught}
 use Rattle.law_state.proofs.Disks.{log_in}
 use Rattle.petal_rules.specs.Server.{Server}
-use Rattle.law_log.specs.Logged.{Logged, MayWant, Minded}
-use Rattle.law_log.specs.Requested.{CatchesUp, HasBegun, HasStopped, IsCalledFor, IsOfLives, IsScripted}
+use Rattle.law_log.specs.Logged.{IsCalledAnywhere, Logged, MayWant, Minded, Returns, is_join}
+use Rattle.law_log.specs.Requested.{HasStopped, IsCalledFor, IsOfLives, IsScripted}
 use Rattle.law_log.proofs.Lists.{among_at, at_among, kept_among}
 
 -- what the laws need of a setting: ballots tell the servers apart, and each disk is made over a tuple of them
@@ -78,22 +78,23 @@ scripted_plain setting w fair c s = elim s.so [
 
 lives_plain : (servers : ℕ) (w : World) (c : Command) → IsOfLives w c → IsPlain servers c
 lives_plain servers w (Leave server inc) h = tt
-lives_plain servers w (Join server inc blank) h = h.2
+lives_plain servers w (Join server inc blank) h = tt
 lives_plain servers w _ h = absurd h
 
-pub called_plain : (setting : Setting) (w : World) → IsFair setting → (c : Command) → IsCalledFor setting w c → IsPlain setting.servers c
+called_plain : (setting : Setting) (w : World) → IsFair setting → (c : Command) → IsCalledFor setting w c → IsPlain setting.servers c
 called_plain setting w fair c (inl s) = scripted_plain setting w fair c s
 called_plain setting w fair c (inr h) = lives_plain setting.servers w c h
 
-caught_plain : (servers : ℕ) (actors : ℕ → Server) (front : List Command) (c : Command) → CatchesUp servers actors front c → IsPlain servers c
-caught_plain servers actors front (Caught of link holder inc other other_inc) h = tt
-caught_plain servers actors front _ h = absurd h
+returns_plain : (servers : ℕ) (actors : ℕ → Server) (front : List Command) (c : Command) → Returns servers actors front c → IsPlain servers c
+returns_plain servers actors front (Caught of link holder inc other other_inc) h = tt
+returns_plain servers actors front (Join server inc blank) h = tt
+returns_plain servers actors front _ h = absurd h
 
 pub wanted_plain : {Was : Minded} (setting : Setting) (w : World) (p : schedule.World) → IsFair setting → (place : ℕ) (c : Command)
     → MayWant Was setting w w.servers p place c → IsPlain setting.servers c
 wanted_plain setting w p fair place c h = elim h.0 [
-  | inl called ↦ called_plain setting w fair c called
-  | inr caught ↦ caught_plain setting.servers w.servers caught.front c caught.is
+  | inl called ↦ called_plain setting w fair c called.0
+  | inr returns ↦ returns_plain setting.servers w.servers returns.front c returns.is
 ]
 
 -- no line of a script asks for a Leave
@@ -129,17 +130,21 @@ uncaught setting w (Caught of link holder inc other other_inc) h = not_called se
 uncaught setting w _ h = refl
 
 -- nor for a Join
-not_asked_join : {B : Type 0} (client seq server inc : ℕ) (blank : Bool) (asked : Request) → command_of client seq asked ≡ Some (Join server inc blank) → B
-not_asked_join client seq server inc blank (request.Disk name tuple) e =
-    let f : MakeDisk client seq name tuple ≡ Join server inc blank = same_some e in absurd cc
-not_asked_join client seq server inc blank _ e = none_some refl e
+asked_no_join : (client seq : ℕ) (asked : Request) (c : Command) → command_of client seq asked ≡ Some c → is_join c ≡ false
+asked_no_join client seq (request.Disk name tuple) c e = ap is_join (sym (same_some e))
+asked_no_join client seq _ c e = none_some refl e
 
-pub join_begun : (setting : Setting) (w : World) (server inc : ℕ) (blank : Bool) → IsCalledFor setting w (Join server inc blank) → (1 < inc) × HasBegun w server inc × (blank ≡ false)
-join_begun setting w server inc blank (inl s) = elim s.so [
-  | inl e ↦ not_asked_join s.client (s.before + 1) server inc blank s.line.request e
-  | inr e ↦ (let f : Join server inc blank ≡ Witness s.client (s.before + 1) e.0 = e.1 in absurd cc)
-]
-join_begun setting w server inc blank (inr h) = h
+pub scripted_anywhere : (setting : Setting) (w : World) (c : Command) → IsScripted setting w c → IsCalledAnywhere setting w c
+scripted_anywhere setting w c s = (
+  inl s,
+  elim s.so [
+    | inl e ↦ asked_no_join s.client (s.before + 1) s.line.request c e
+    | inr e ↦ ap is_join e.1
+  ],
+)
+
+pub no_join : {B : Type 0} (setting : Setting) (w : World) (server inc : ℕ) (blank : Bool) → IsCalledAnywhere setting w (Join server inc blank) → B
+no_join setting w server inc blank h = true_false refl h.1
 
 module _ {Was : Minded} (setting : Setting) (w : World) (fair : IsFair setting) (l : Logged Was setting w) where
   pub applied_plain : (n : ℕ) → IsPlainLog setting.servers (w.servers n).log.applied

@@ -1,5 +1,5 @@
--- Each job of the pairs and of the copies is calm: it says nothing of the log, puts no letter into the queue, makes no store fresh nor
--- takes that away, and forgets no Caught for which a ballot was started.
+-- Each job of the pairs and of the copies is calm: it says nothing of the log, puts no letter into the queue, and forgets no
+-- Caught for which a ballot was started.
 use Rattle.std.proofs.Common.{◌==◌, ◌++◌, not, [], ℕ, false, Option, Some, None, refl, ap, ◌∙◌, inl, inr}
 use Rattle.std.specs.Prelude.{is_some}
 use Rattle.std.specs.Option.{option_map_or}
@@ -32,8 +32,7 @@ calm_pair : (own : Own) (done : Done) → IsQuiet done → Keeps (kept own) done
 calm_pair own done quiet keeps = record {
   quiet = quiet;
   kept = record {
-    fresh = ap (λ (x : _ × Copies). x.0) keeps;
-    flags = λ id h. ap (λ (x : _ × Copies). option_map_or (λ (p : Progress). p.caught) (at link_cmp x.1.progress id) false) keeps ∙ h;
+    flags = λ id h. ap (λ (x : Copies). option_map_or (λ (p : Progress). p.caught) (at link_cmp x.progress id) false) keeps ∙ h;
   };
 }
 

@@ -1,8 +1,8 @@
 -- The laws, over every legal history of a sound script.
-use Rattle.std.proofs.Common.{◌≡◌, ◌<◌, ◌≤◌, ◌++◌, ◌⊎◌, ℕ, true, false, List, [], ◌∷◌, refl, sym, ap, ◌∙◌, subst}
-use Rattle.std.specs.Prelude.{⊤}
+use Rattle.std.proofs.Common.{◌≡◌, ◌<◌, ◌≤◌, ◌++◌, ◌⊎◌, ℕ, Bool, true, false, List, [], ◌∷◌, refl, sym, ap, ◌∙◌, subst, append_assoc}
+use Rattle.std.specs.Prelude.{⊤, slice_get}
 use Rattle.petal_command.specs.declared.command.Command.{Command}
-use Rattle.petal_command.specs.declared.command.Command.TheVariants.{Leave, Caught}
+use Rattle.petal_command.specs.declared.command.Command.TheVariants.{Join, Leave, Caught}
 use Rattle.petal_msg.specs.declared.body.Body.TheVariants as body
 use Rattle.petal_msg.specs.declared.letter.Letter.{Letter}
 use Rattle.petal_paxos.specs.Schedule.{run, begin}
@@ -16,13 +16,15 @@ use Rattle.petal_rules.specs.Lists.{In}
 use Rattle.petal_rules.specs.State.{is_in}
 use Rattle.petal_rules.specs.World.{Setting, World, start, setting_of, chosen_log, chosen_state}
 use Rattle.petal_paxos.specs.Kept.{inc_of}
-use Rattle.petal_state.specs.Command.{state_after}
+use Rattle.petal_state.specs.Command.{may_join, state_after}
+use Rattle.petal_rules.specs.Server.{Server}
 use Rattle.law_state.specs.Firm.{Firm}
-use Rattle.law_log.specs.Logged.{IsBacked, IsSaidBy, Logged, Minded}
-use Rattle.law_log.specs.Requested.{HasBegun, HasCaughtUp, HasStopped, IsCalledFor, IsCaughtAt, WasStarted}
-use Rattle.law_log.proofs.Chosen.{agrees, caught_at, caught_was, firm, called_for, in_begun, leave_chosen, out_stopped, runs_in, has_schedule, grown_log}
+use Rattle.law_log.specs.Logged.{Catches, IsBacked, IsCalledAnywhere, IsSaidBy, Logged, Minded, Waits}
+use Rattle.law_log.specs.Requested.{HasBegun, HasCaughtUp, HasStopped, IsCalledFor, IsCaughtAt, WasReturning, WasStarted}
+use Rattle.law_log.proofs.Chosen.{agrees, caught_at, caught_was, firm, called_for, join_at, join_chosen, join_waited, in_begun, leave_chosen, out_stopped, runs_in, has_schedule, grown_log}
 use Rattle.law_log.proofs.Facts.{IsFair, leave_stopped}
 use Rattle.law_log.proofs.Steps.{history_goes, start_logged}
+use Rattle.law_log.proofs.Worlds.{Remembers}
 
 sound_fair : (script : Script) → IsSound script → IsFair (setting_of script)
 sound_fair script sound = record { small = sound.told_apart; spread = sound.spread }
@@ -32,13 +34,24 @@ At script records = world_after (setting_of script) (start (setting_of script)) 
 
 -- what is remembered is what was so in a world on the way
 abbrev pub Past : Script → List Record → Minded
-Past script records holder inc front id = WasStarted (setting_of script) records holder inc front id
+Past script records server inc front (Catches id) = WasStarted (setting_of script) records server inc front id
+Past script records server inc front (Waits blank) = WasReturning (setting_of script) records server inc blank
 
 pub logged : (script : Script) (records : List Record) → IsSound script → IsLegal script records
     → Logged (Past script records) (setting_of script) (At script records)
 logged script records sound legal =
     (history_goes (setting_of script) (sound_fair script sound) records (start (setting_of script)) (start_logged (setting_of script)) legal
-    (λ before later is n id minded. record { before = before; later = later; is = is; lives = refl; at = refl; minded = minded })).logged
+    (λ before own later is n. record {
+      waits = λ runs. record { before = before; own = own; later = later; is = is; lives = refl; runs = runs; waits = refl };
+      catches = λ id minded. record {
+        before = before ++ own ∷ [];
+        later = later;
+        is = is ∙ sym (append_assoc before (own ∷ []) later);
+        lives = refl;
+        at = refl;
+        minded = minded;
+      };
+    })).logged
 
 pub history_agrees : (script : Script) (records : List Record) → IsSound script → IsLegal script records → Agrees (setting_of script) (At script records)
 history_agrees script records sound legal = agrees (setting_of script) (At script records) (sound_fair script sound) (logged script records sound legal)
@@ -71,6 +84,23 @@ pub chosen_caught_was : (script : Script) (records : List Record) → IsSound sc
 chosen_caught_was script records sound legal front of link holder inc other other_inc prefix =
     caught_was (setting_of script) (At script records) (sound_fair script sound) (logged script records sound legal)
     front of link holder inc other other_inc prefix
+
+-- a Join that is chosen acts there, and was wanted on the way
+pub chosen_join_acts : (script : Script) (records : List Record) → IsSound script → IsLegal script records → (front : List Command) (server inc : ℕ)
+    (blank : Bool) → IsPrefix (front ++ Join server inc blank ∷ []) (chosen_log (setting_of script) (At script records))
+    → may_join (slice_get (state_after script.servers front).view.members server) inc ≡ true
+chosen_join_acts script records sound legal front server inc blank prefix =
+    (join_at (setting_of script) (At script records) (sound_fair script sound) (logged script records sound legal) front server inc blank prefix).may
+
+pub join_was_wanted : (script : Script) (records : List Record) → IsSound script → IsLegal script records → (server inc : ℕ) (blank : Bool)
+    → In (Join server inc blank) (chosen_log (setting_of script) (At script records)) → WasReturning (setting_of script) records server inc blank
+join_was_wanted script records sound legal server inc blank i =
+    (join_waited (setting_of script) (At script records) (sound_fair script sound) (logged script records sound legal) server inc blank i).1
+
+pub join_has_begun : (script : Script) (records : List Record) → IsSound script → IsLegal script records → (server inc : ℕ) (blank : Bool)
+    → In (Join server inc blank) (chosen_log (setting_of script) (At script records)) → HasBegun (At script records) server inc
+join_has_begun script records sound legal server inc blank i =
+    join_chosen (setting_of script) (At script records) (sound_fair script sound) (logged script records sound legal) server inc blank i
 
 -- a server that runs, and was In as itself, is so by the chosen state
 pub who_runs_is_in : (script : Script) (records : List Record) → IsSound script → IsLegal script records → (n : ℕ) (front : List Command)
@@ -108,7 +138,7 @@ told_stops script records sound legal letter server inc i is =
     let l = logged script records sound legal in
     let p = run script.servers l.events begin in
     leave_stopped (setting_of script) (At script records) server inc
-    (subst (IsBacked p (IsCalledFor (setting_of script) (At script records)) (IsSaidBy p letter.from)) is (l.is.sent letter i))
+    (subst (IsBacked p (IsCalledAnywhere (setting_of script) (At script records)) (IsSaidBy p letter.from)) is (l.is.sent letter i)).0
 
 -- incarnations count from 1, and a server's is the one on its device
 pub first_incs : (script : Script) (records : List Record) → IsSound script → IsLegal script records → (n : ℕ)
@@ -137,7 +167,10 @@ latter setting w (own ∷ front) back h = latter setting (stepped setting w own)
 
 -- nothing need be remembered
 abbrev nothing_minded : Minded
-nothing_minded holder inc front id = ⊤
+nothing_minded server inc front mind = ⊤
+
+nothing_remembered : (n : ℕ) (before later : Server) → Remembers nothing_minded n before later
+nothing_remembered n before later = record { waits = λ runs. tt; catches = λ id minded. tt }
 
 pub history_grows : (script : Script) (records : List Record) → IsSound script → IsLegal script records → Grows script records
 history_grows script records sound legal front back is =
@@ -145,9 +178,9 @@ history_grows script records sound legal front back is =
     let fair = sound_fair script sound in
     let whole : IsLegalFrom setting (start setting) (front ++ back) = subst (IsLegalFrom setting (start setting)) is legal in
     let earlier = history_goes {Was = nothing_minded} setting fair front (start setting) (start_logged setting)
-    (former setting (start setting) front back whole) (λ before later split n id minded. tt) in
+    (former setting (start setting) front back whole) (λ before own later split n. nothing_remembered n _ _) in
     let rest = history_goes {Was = nothing_minded} setting fair back (At script front) earlier.logged
-    (latter setting (start setting) front back whole) (λ before later split n id minded. tt) in
+    (latter setting (start setting) front back whole) (λ before own later split n. nothing_remembered n _ _) in
     let grown = grown_log setting (At script front) (world_after setting (At script front) back) fair rest.logged rest.grown in
     let same : world_after setting (At script front) back ≡ At script records =
     sym (ap (world_after setting (start setting)) is ∙ world_joins setting (start setting) front back) in

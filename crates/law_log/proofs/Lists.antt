@@ -25,6 +25,13 @@ at_among x [] h = absurd h
 at_among x (y ∷ ys) (inl e) = (0, ap Some (sym e))
 at_among x (y ∷ ys) (inr h) = let rest = at_among x ys h in (suc rest.0, rest.1)
 
+-- what stands before it, and behind it
+pub parted : {X : Type 0} (x : X) (xs : List X) → Among x xs → (front : List X) × (back : List X) × (xs ≡ front ++ x ∷ back)
+unfolding Among
+parted x [] h = absurd h
+parted x (y ∷ ys) (inl e) = ([], ys, ap (λ z. z ∷ ys) (sym e))
+parted x (y ∷ ys) (inr h) = let rest = parted x ys h in (y ∷ rest.0, rest.1, ap (λ zs. y ∷ zs) rest.2)
+
 -- a place within the list has a member
 pub got : {X : Type 0} (xs : List X) (i : ℕ) → i < length xs → (x : X) × (slice_get xs i ≡ Some x)
 got [] i h = absurd (omega arith)

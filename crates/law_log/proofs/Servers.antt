@@ -24,7 +24,7 @@ use Rattle.petal_paxos.specs.Kept.{inc_of}
 use Rattle.petal_paxos.proofs.Committed.{inc_committed}
 use Rattle.petal_paxos.specs.declared.record.StateRecord.TheVariants.{Inc}
 use Rattle.petal_rules.specs.Ballots.{ballot_posts, ask_posts, first_wanted, start_jobs, starts, wanted}
-use Rattle.petal_rules.specs.Boots.{awake, boots, raised, stays, wakes}
+use Rattle.petal_rules.specs.Boots.{awake, blanked, boots, raised, stays, wakes}
 use Rattle.petal_rules.specs.Copies.{mend_jobs, waits_for_job}
 use Rattle.petal_rules.specs.Returns.{caught_links, own_join, proposed, returning}
 use Rattle.petal_state.specs.Command.{after, may_join}
@@ -44,13 +44,12 @@ use Rattle.petal_rules.specs.declared.job.Job.TheVariants as job
 use Rattle.petal_rules.specs.declared.step.CommitEnd.{CommitEnd}
 use Rattle.petal_rules.specs.declared.step.CommitEnd.TheVariants.{Before, After}
 use Rattle.petal_rules.specs.declared.step.Step.{Step}
-use Rattle.petal_rules.specs.declared.step.Step.TheVariants.{Call, Deliver, Tick, Work, Stop, Boot, Glance}
+use Rattle.petal_rules.specs.declared.step.Step.TheVariants.{Call, Deliver, Tick, Work, Stop, Blank, Boot, Glance}
 use Rattle.petal_rules.specs.declared.step.WorkEnd.{WorkEnd}
 use Rattle.petal_rules.specs.declared.step.WorkEnd.TheVariants as work_end
 use Rattle.petal_rules.proofs.ListLemmas.{in-append, put_apart, put_same}
 use Rattle.petal_rules.proofs.Tests.{number_itself, only, by_test, same_or_apart}
-use Rattle.law_log.specs.Logged.{IsBacked, IsSaidBy, IsReached, IsSeenAt, IsBusyAs, Logged, MayWant, Minded, WasMinded}
-use Rattle.law_log.specs.Requested.{CatchesUp, IsCalledFor}
+use Rattle.law_log.specs.Logged.{Catches, IsBacked, IsCalledAnywhere, IsSaidBy, IsReached, IsSeenAt, IsBusyAs, IsToldBefore, Logged, MayWant, Minded, Returns, WasMinded}
 use Rattle.law_state.specs.Started.{HasFlag, is_flagged}
 use Rattle.global_tables.specs.declared.fence.Member.TheVariants as member
 use Rattle.law_state.specs.Tables.{IsPlainState}
@@ -61,7 +60,6 @@ use Rattle.law_log.proofs.Boots.{fail_turn, no_proposer, wake_turn}
 use Rattle.law_log.proofs.Catching.{caught_among, caught_may, caught_minded, kept_proposed}
 use Rattle.law_log.proofs.Copying.{IsCalm, IsKept, kept_itself}
 use Rattle.law_log.proofs.Handling.{calm_job, other_copies_anew}
-use Rattle.law_log.proofs.Stores.{fresh_crossed}
 use Rattle.law_log.proofs.Jobs.{Outcome, applied_next, fine_wanted, one_longer, start_wants, started}
 use Rattle.law_log.proofs.Jobs.{job_done as log_job_done}
 use Rattle.law_log.proofs.Lists.{got}
@@ -146,15 +144,16 @@ minds before to inc kept (inr more) = minds_on before to inc more
 minds_stopped : (server : Server) (rev : ℕ) (id : LinkId) → HasFlag server rev id → HasFlag (stopped server) rev id
 minds_stopped server rev id h = record { reached = h.reached; flagged = h.flagged }
 
-minds_entry : (state : State) (server : Server) (queue : List Job) (entry : Option Command)
-    → KeepsStarted server (record server { log = (applies_known server.log entry).log; own = crossed_by state entry server.own; queue = queue })
-minds_entry state server queue None = inr (refl, λ rev id h. record { reached = h.reached; flagged = h.flagged })
-minds_entry state server queue (Some entry) = minds_on server _ refl (one_longer server.log.applied entry)
+minds_entry : (here : Here) (server : Server) (queue : List Job) (entry : Option Command)
+    → KeepsStarted server (record server { log = (applies_known server.log entry).log; own = crossed_by here entry server.own; queue = queue })
+minds_entry here server queue None = inr (refl, λ rev id h. record { reached = h.reached; flagged = h.flagged })
+minds_entry here server queue (Some entry) = minds_on server _ refl (one_longer server.log.applied entry)
 
-minds_crossed : (state : State) (server : Server) (queue : List Job)
-    → KeepsStarted server (record server { log = (applies server.log).log; own = crossed_by state (known server.log (next_place server.log)) server.own; queue = queue })
+minds_crossed : (here : Here) (server : Server) (queue : List Job)
+    → KeepsStarted server
+    (record server { log = (applies server.log).log; own = crossed_by here (known server.log (next_place server.log)) server.own; queue = queue })
 unfolding applies
-minds_crossed state server queue = minds_entry state server queue (known server.log (next_place server.log))
+minds_crossed here server queue = minds_entry here server queue (known server.log (next_place server.log))
 
 -- a ballot that starts applies nothing
 start_applied : (voter : Voter) (log : Log) (wants : List Command) → (starts voter log wants).log.applied ≡ log.applied
@@ -229,7 +228,7 @@ module _ {Was : Minded} (setting : Setting) (fair : IsFair setting) (w : World) 
 
   -- the world after the step
   abbrev GoesBy : Acted → Type 0
-  GoesBy acted = Goes Was setting w (acts w n what stamp acted).world
+  GoesBy acted = Goes Was setting w (acts setting w n what stamp acted).world
 
   -- what may be wanted goes on to be, where the server keeps in mind what it has started
   good_more : (to later : Server) → KeepsStarted to later → (place : ℕ) (c : Command) → Good to place c → Good later place c
@@ -255,7 +254,6 @@ module _ {Was : Minded} (setting : Setting) (fair : IsFair setting) (w : World) 
       → Acts Was setting w P n to posts
   idle to posts life records kept applied phase wants leaves queued posted = record {
     incs = ap inc_of records ∙ l.is.incs n ∙ sym (ap (λ (x : Life). x.inc) life);
-    fresh = kept.fresh ∙ l.is.fresh n;
     life = subst (IsLaterLife (w.servers n).life) (sym life) (same_life (w.servers n).life);
     started = minds (w.servers n) to (sym (ap (λ (x : Life). x.inc) life)) kept (inl applied);
     wants = λ c i. l.is.wants n c (subst (Among c) wants i);
@@ -287,13 +285,14 @@ module _ {Was : Minded} (setting : Setting) (fair : IsFair setting) (w : World) 
 
   down_backed : (to : Server) → IsOver to.life → (letters : List Letter) (q : schedule.World) (post : Post)
       → Among post (down_posts n here.inc (servers_of here.state))
-      → IsBacked q (IsCalledFor setting (acts w n what stamp (record { server = to; letters = letters })).world) (λ said. In (sent n said) q.letters) post.body
+      → IsBacked q (IsCalledAnywhere setting (acts setting w n what stamp (record { server = to; letters = letters })).world)
+      (λ said. In (sent n said) q.letters) post.body
   down_backed to over letters q post i =
-      let after = (acts w n what stamp (record { server = to; letters = letters })).world in
+      let after = (acts setting w n what stamp (record { server = to; letters = letters })).world in
       let is : after.servers n ≡ to = put_same w.servers n to in
-      subst (IsBacked q (IsCalledFor setting after) (λ said. In (sent n said) q.letters))
+      subst (IsBacked q (IsCalledAnywhere setting after) (λ said. In (sent n said) q.letters))
       (sym (said_to_all (body.Down n here.inc) (filter (λ k. not (k == n)) (range_with_len 0 (servers_of here.state))) post i))
-      (inr (subst (λ (x : Server). IsOver x.life) (sym is) over))
+      (inr (subst (λ (x : Server). IsOver x.life) (sym is) over), refl)
 
   -- what the server did stands, and nothing of it is sent
   stops_after : (to : Server) (posts : List Post) → to.life.running ≡ true → Acts Was setting w P n to posts → GoesBy (stops here to)
@@ -301,7 +300,6 @@ module _ {Was : Minded} (setting : Setting) (fair : IsFair setting) (w : World) 
       let over : Acts Was setting w P n (stopped to) [] = record {
         life = record { inc = did.life.inc; over = λ e. inl refl };
         incs = did.incs;
-        fresh = did.fresh;
         wants = did.wants;
         leaves = did.leaves;
         queued = λ letter h. no_jobs letter h;
@@ -316,6 +314,15 @@ module _ {Was : Minded} (setting : Setting) (fair : IsFair setting) (w : World) 
 
   stops_now : Runs → GoesBy (stops here (w.servers n))
   stops_now runs = stops_after (w.servers n) [] runs unchanged
+
+  -- the server's log is as before, and it has nothing else in mind
+  blanks_on : GoesBy (stays (blanked (w.servers n)))
+  blanks_on = did_goes _ (record {
+    posts = [];
+    letters = refl;
+    by = idle (blanked (w.servers n)) [] refl refl (record { flags = λ id h. h }) refl refl refl refl
+        (λ other h. l.is.queued n other h) (λ post h. no_posts post h);
+  })
 
   -- ### Delivery, tick and glance
 
@@ -381,14 +388,13 @@ module _ {Was : Minded} (setting : Setting) (fair : IsFair setting) (w : World) 
     left done own queue = record (w.servers n) { log = done.log; own = own; queue = queue }
 
     abbrev AnyOutcome : Server → LogDone → Type 0
-    AnyOutcome to = Outcome setting.servers n (w.servers n).log first P (Good to) (IsCalledFor setting w)
+    AnyOutcome to = Outcome setting.servers n (w.servers n).log first P (Good to) (IsCalledAnywhere setting w)
 
-    logs : (done : LogDone) (own : Own) (queue : List Job) → own.store.fresh ≡ (w.servers n).own.store.fresh
+    logs : (done : LogDone) (own : Own) (queue : List Job)
         → KeepsStarted (w.servers n) (left done own queue) → AnyOutcome (left done own queue) done → ((letter : Letter) → Among (job.Letter letter) queue → Among (job.Letter letter) (rest ++ done.jobs))
         → Acts Was setting w P n (left done own queue) done.posts
-    logs done own queue fresh started out follows = record {
+    logs done own queue started out follows = record {
       incs = out.incs ∙ l.is.incs n;
-      fresh = fresh ∙ l.is.fresh n;
       life = same_life (w.servers n).life;
       wants = out.wants;
       leaves = out.leaves;
@@ -413,26 +419,26 @@ module _ {Was : Minded} (setting : Setting) (fair : IsFair setting) (w : World) 
           (λ post h. other_backed P (λ c. ⊥) (λ said. In (sent n said) P.letters) post.body (calm.quiet.posts post h));
     }
 
-    backed_job : (letter : Letter) → first ≡ job.Letter letter → IsBacked P (IsCalledFor setting w) (IsSaidBy P letter.from) letter.body
+    backed_job : (letter : Letter) → first ≡ job.Letter letter → IsBacked P (IsCalledAnywhere setting w) (IsSaidBy P letter.from) letter.body
     backed_job letter e =
         l.is.sent letter (l.is.queued n letter (subst (λ x. Among x (w.servers n).queue) e (subst (Among first) (sym is) (job_here first rest))))
 
     busy_now : IsBusyAs setting.servers n true (w.servers n).log.phase P
     busy_now = subst (λ b. IsBusyAs setting.servers n b (w.servers n).log.phase P) runs (l.is.busy n member)
 
-    called_good : (to : Server) (c : Command) → IsCalledFor setting w c → Good to (next_place (w.servers n).log) c
+    called_good : (to : Server) (c : Command) → IsCalledAnywhere setting w c → Good to (next_place (w.servers n).log) c
     called_good to c s = (inl s, reached_next setting w l n)
 
     log_outcome : (to : Server) → AnyOutcome to (log_does (voter_of here) (w.servers n).log first)
     log_outcome to =
         subst (λ k. AnyOutcome to (log_does (record { me = n; inc = here.inc; servers = k }) (w.servers n).log first)) (sym (as_many setting w fair l n))
         (log_job_done setting.servers n here.inc fair.small member (w.servers n).log P l.is.low (l.is.servers n) busy_now (told_once setting w fair.small l)
-        (Good to) (IsCalledFor setting w) (l.is.wants n) (l.is.leaves n) (λ earlier lt. inr (inr lt)) (called_good to) first backed_job)
+        (Good to) (IsCalledAnywhere setting w) (l.is.wants n) (l.is.leaves n) (λ earlier lt. (inr (inr lt), refl)) (called_good to) first backed_job)
 
     apply_outcome : (to : Server) → AnyOutcome to (applies (w.servers n).log)
     apply_outcome to =
         applied_next setting.servers n here.inc fair.small member (w.servers n).log P l.is.low (l.is.servers n) busy_now (told_once setting w fair.small l)
-        (Good to) (IsCalledFor setting w) (l.is.wants n) (l.is.leaves n) (λ earlier lt. inr (inr lt)) (called_good to) first
+        (Good to) (IsCalledAnywhere setting w) (l.is.wants n) (l.is.leaves n) (λ earlier lt. (inr (inr lt), refl)) (called_good to) first
 
     crosses : Did (crossing here (w.servers n) rest (known (w.servers n).log (next_place (w.servers n).log)) (applies (w.servers n).log))
     crosses =
@@ -441,9 +447,9 @@ module _ {Was : Minded} (setting : Setting) (fair : IsFair setting) (w : World) 
         let queue = rest ++ done.jobs ++ jobs_by here.state n entry (w.servers n).own in record {
           posts = done.posts;
           letters = refl;
-          by = logs done (crossed_by here.state entry (w.servers n).own) queue
-              (fresh_crossed here.state entry (w.servers n).own) (minds_crossed here.state (w.servers n) queue)
-              (apply_outcome (left done (crossed_by here.state entry (w.servers n).own) queue))
+          by = logs done (crossed_by here entry (w.servers n).own) queue
+              (minds_crossed here (w.servers n) queue)
+              (apply_outcome (left done (crossed_by here entry (w.servers n).own) queue))
               (λ letter h. elim (in-append (job.Letter letter) (rest ++ done.jobs) (jobs_by here.state n entry (w.servers n).own) h) [
                 | inl old ↦ old
                 | inr new ↦ stages_only here.state n entry (w.servers n).own letter new
@@ -458,7 +464,7 @@ module _ {Was : Minded} (setting : Setting) (fair : IsFair setting) (w : World) 
         let out = log_outcome to in record {
           posts = done.posts;
           letters = refl;
-          by = logs done (w.servers n).own (rest ++ done.jobs) refl (minds (w.servers n) to refl (kept_itself (w.servers n).own) out.applied) out (λ letter h. h);
+          by = logs done (w.servers n).own (rest ++ done.jobs) (minds (w.servers n) to refl (kept_itself (w.servers n).own) out.applied) out (λ letter h. h);
         })
         (λ e. pairs_do (does here (w.servers n).own first) (calm_job here (w.servers n).own first))
 
@@ -482,8 +488,11 @@ module _ {Was : Minded} (setting : Setting) (fair : IsFair setting) (w : World) 
     own_plain : IsPlainState setting.servers here.state
     own_plain = log_plain setting.servers _ (applied_plain setting w fair l n)
 
+    applied_told : IsToldBefore P (next_place (w.servers n).log) (w.servers n).log.applied
+    applied_told = record { many = refl; told = λ i d e. (l.is.servers n).told (i + 1) d ((l.is.servers n).applied i d e) }
+
     -- a Caught is behind the entries that it has applied, and it has it in mind
-    good_caught : Remembers Was n starts_to → seated here.state n here.inc ≡ true → (c : Command) → started_for ≡ Some c
+    good_caught : Remembers Was n (w.servers n) starts_to → seated here.state n here.inc ≡ true → (c : Command) → started_for ≡ Some c
         → Among c (caught_links here (w.servers n).own) → Good starts_to (next_place (w.servers n).log) c
     good_caught remembers seat c first_is h =
         let caught = caught_among here (w.servers n).own c h in
@@ -492,11 +501,8 @@ module _ {Was : Minded} (setting : Setting) (fair : IsFair setting) (w : World) 
         ap (λ o. is_flagged (proposed here.state (w.servers n).own o) (id_of caught.row)) first_is ∙ caught_minded here (w.servers n).own c caught found in (
           inr (record {
             front = (w.servers n).log.applied;
-            told = record {
-              many = refl;
-              told = λ i d e. (l.is.servers n).told (i + 1) d ((l.is.servers n).applied i d e);
-            };
-            is = subst (CatchesUp setting.servers (put_at w.servers n starts_to) (w.servers n).log.applied) (sym caught.is) (record {
+            told = applied_told;
+            is = subst (Returns setting.servers (put_at w.servers n starts_to) (w.servers n).log.applied) (sym caught.is) (record {
               may = caught_may here (w.servers n).own c caught found;
               holds = seat;
               joins = ap (λ o. option_map_or (λ present. present == caught.inc) o false) caught.joins ∙ number_itself caught.inc;
@@ -504,51 +510,66 @@ module _ {Was : Minded} (setting : Setting) (fair : IsFair setting) (w : World) 
                   (inr (refl, record { reached = (let e = ap length (start_applied (voter_of here) (w.servers n).log (wanted_by here (w.servers n))) in omega arith); flagged = λ e. flagged }));
             });
             was = subst (WasMinded Was (w.servers n).log.applied) (sym caught.is)
-                (subst (λ (front : List Command). Was n here.inc front (id_of caught.row))
-                (start_applied (voter_of here) (w.servers n).log (wanted_by here (w.servers n))) (remembers (id_of caught.row) flagged));
+                (subst (λ (front : List Command). Was n here.inc front (Catches (id_of caught.row)))
+                (start_applied (voter_of here) (w.servers n).log (wanted_by here (w.servers n))) (remembers.catches (id_of caught.row) flagged));
           }),
           reached_next setting w l n,
         )
 
+    -- a Join acts behind the entries that it has applied
+    good_join : Remembers Was n (w.servers n) starts_to → (c : Command) → may_join (slice_get here.state.view.members n) here.inc ≡ true
+        → c ≡ Join n here.inc (w.servers n).own.store.fresh → Good starts_to (next_place (w.servers n).log) c
+    good_join remembers c may is = (
+      inr (record {
+        front = (w.servers n).log.applied;
+        told = applied_told;
+        is = subst (Returns setting.servers (put_at w.servers n starts_to) (w.servers n).log.applied) (sym is) (record {
+          may = may;
+          later = join_later setting.servers here.state own_plain n here.inc may;
+          begun = subst (λ (x : Server). here.inc ≤ x.life.inc) (sym (put_same w.servers n starts_to)) (omega arith);
+        });
+        was = subst (WasMinded Was (w.servers n).log.applied) (sym is) (remembers.waits runs);
+      }),
+      reached_next setting w l n,
+    )
+
     -- what it wants so that it, or its links, return
-    good_return : Remembers Was n starts_to → (c : Command) → started_for ≡ Some c → Among c (returning here (w.servers n).own)
+    good_return : Remembers Was n (w.servers n) starts_to → (c : Command) → started_for ≡ Some c → Among c (returning here (w.servers n).own)
         → Good starts_to (next_place (w.servers n).log) c
     good_return remembers c first_is h =
         by_test (λ (xs : List Command). Among c xs → Good starts_to (next_place (w.servers n).log) c) (seated here.state here.me here.inc)
         (caught_links here (w.servers n).own) (own_join here.state here.me here.inc (w.servers n).own.store.fresh)
         (λ seat. good_caught remembers seat c first_is)
-        (λ out i. join_only here.state n here.inc (w.servers n).own.store.fresh c
-        (λ may is. called_good starts_to c (subst (IsCalledFor setting w) (sym is)
-        (inr (join_later setting.servers here.state own_plain n here.inc may, omega arith, l.is.fresh n)))) i) h
+        (λ out i. join_only here.state n here.inc (w.servers n).own.store.fresh c (λ may is. good_join remembers c may is) i) h
 
-    start_outcome : Remembers Was n starts_to
+    start_outcome : Remembers Was n (w.servers n) starts_to
         → AnyOutcome starts_to (starts (voter_of here) (w.servers n).log (wanted_by here (w.servers n)))
     start_outcome remembers =
         subst (λ k. AnyOutcome starts_to (With k)) (sym (as_many setting w fair l n))
         (started setting.servers n here.inc fair.small member (w.servers n).log P l.is.low (l.is.servers n) busy_now (told_once setting w fair.small l)
-        (Good starts_to) (IsCalledFor setting w) (l.is.wants n) (l.is.leaves n) (λ earlier lt. inr (inr lt)) (called_good starts_to) first
+        (Good starts_to) (IsCalledAnywhere setting w) (l.is.wants n) (l.is.leaves n) (λ earlier lt. (inr (inr lt), refl)) (called_good starts_to) first
         (wants_of setting.servers)
         (λ c e. elim (fine_wanted setting.servers n here.inc fair.small member (w.servers n).log P l.is.low (l.is.servers n) busy_now (told_once setting w fair.small l)
-        (Good starts_to) (IsCalledFor setting w) (l.is.wants n) (l.is.leaves n) (λ earlier lt. inr (inr lt)) (called_good starts_to)
+        (Good starts_to) (IsCalledAnywhere setting w) (l.is.wants n) (l.is.leaves n) (λ earlier lt. (inr (inr lt), refl)) (called_good starts_to)
         (returning here (w.servers n).own) c (first_among (w.servers n).log.phase (rev_of (w.servers n).log) (wants_of setting.servers) c e)) [
           | inl called ↦ called_good starts_to c called
           | inr returns ↦ good_return remembers c
               (ap (λ k. first_wanted (w.servers n).log.phase (rev_of (w.servers n).log) (wants_of k)) (as_many setting w fair l n) ∙ e) returns
         ]))
 
-    starts_one : Remembers Was n starts_to → Did (starting here (w.servers n) rest (wanted_by here (w.servers n)))
+    starts_one : Remembers Was n (w.servers n) starts_to → Did (starting here (w.servers n) rest (wanted_by here (w.servers n)))
     starts_one remembers =
         let done = starts (voter_of here) (w.servers n).log (wanted_by here (w.servers n)) in
         let kept = kept_proposed here.state (w.servers n).own started_for in
         let out = start_outcome remembers in record {
           posts = done.posts;
           letters = refl;
-          by = logs done (proposed here.state (w.servers n).own started_for) (rest ++ done.jobs) kept.fresh
+          by = logs done (proposed here.state (w.servers n).own started_for) (rest ++ done.jobs)
               (minds (w.servers n) starts_to refl kept out.applied) out (λ letter h. h);
         }
 
   does_job : Runs → (first : Job) (rest : List Job) → (w.servers n).queue ≡ first ∷ rest
-      → Remembers Was n (job_done here (w.servers n) first rest).server → Did (job_done here (w.servers n) first rest)
+      → Remembers Was n (w.servers n) (job_done here (w.servers n) first rest).server → Did (job_done here (w.servers n) first rest)
   does_job runs job.Apply rest is remembers = crosses runs job.Apply rest is
   does_job runs (job.Letter letter) rest is remembers = either runs (job.Letter letter) rest is
   does_job runs (job.Stage cell) rest is remembers = either runs (job.Stage cell) rest is
@@ -562,23 +583,23 @@ module _ {Was : Minded} (setting : Setting) (fair : IsFair setting) (w : World) 
   life_kept runs (job.Mend link) rest = runs
   life_kept runs job.Start rest = runs
 
-  works_on : Runs → (jobs : List Job) → (w.servers n).queue ≡ jobs → Remembers Was n (works here (w.servers n) jobs).server
+  works_on : Runs → (jobs : List Job) → (w.servers n).queue ≡ jobs → Remembers Was n (w.servers n) (works here (w.servers n) jobs).server
       → GoesBy (works here (w.servers n) jobs)
   works_on runs [] is remembers = did_goes _ (record { posts = []; letters = refl; by = unchanged })
   works_on runs (first ∷ rest) is remembers =
-      by_test (λ (acted : Acted). Remembers Was n acted.server → GoesBy acted) (is_overfull (job_done here (w.servers n) first rest).server) _ _
+      by_test (λ (acted : Acted). Remembers Was n (w.servers n) acted.server → GoesBy acted) (is_overfull (job_done here (w.servers n) first rest).server) _ _
       (λ full kept. stops_now runs) (λ room kept. did_goes (job_done here (w.servers n) first rest) (does_job runs first rest is kept)) remembers
 
   -- a fault behind the commit leaves what the job commits, and one before it nothing
   faults_on : Runs → (end : CommitEnd) (jobs : List Job) → (w.servers n).queue ≡ jobs
-      → Remembers Was n (faults here (w.servers n) jobs end).server → GoesBy (faults here (w.servers n) jobs end)
+      → Remembers Was n (w.servers n) (faults here (w.servers n) jobs end).server → GoesBy (faults here (w.servers n) jobs end)
   faults_on runs Before jobs is remembers = stops_now runs
   faults_on runs After [] is remembers = stops_now runs
   faults_on runs After (first ∷ rest) is remembers =
-      by_test (λ (acted : Acted). Remembers Was n acted.server → GoesBy (stops here acted.server))
+      by_test (λ (acted : Acted). Remembers Was n (w.servers n) (stopped acted.server) → GoesBy (stops here acted.server))
       (is_overfull (job_done here (w.servers n) first rest).server) _ _
       (λ full kept. stops_now runs)
-      (λ room kept. let did = does_job runs first rest is kept in
+      (λ room kept. let did = does_job runs first rest is (record { waits = kept.waits; catches = kept.catches }) in
       stops_after (job_done here (w.servers n) first rest).server did.posts (life_kept runs first rest) did.by) remembers
 
   -- ### A boot
@@ -597,7 +618,6 @@ module _ {Was : Minded} (setting : Setting) (fair : IsFair setting) (w : World) 
         let did : Acts Was setting w P n to [] = record {
           life = record { inc = omega arith; over = λ e. inr (omega arith) };
           incs = raised_inc;
-          fresh = l.is.fresh n;
           wants = λ c i. no_command c i;
           leaves = λ c i. no_command c i;
           queued = λ letter h. no_jobs letter h;
@@ -618,7 +638,6 @@ module _ {Was : Minded} (setting : Setting) (fair : IsFair setting) (w : World) 
       by = record {
         life = record { inc = omega arith; over = λ e. inl e };
         incs = raised_inc;
-        fresh = l.is.fresh n;
         wants = l.is.wants n;
         leaves = l.is.leaves n;
         queued = l.is.queued n;
@@ -637,8 +656,8 @@ module _ {Was : Minded} (setting : Setting) (fair : IsFair setting) (w : World) 
 
 pub server_steps : {Was : Minded} (setting : Setting) (fair : IsFair setting) (w : World) (l : Logged Was setting w) (n stamp : ℕ)
     (member : n < setting.servers) (what : Step)
-    → MayServer what w n → Remembers Was n (server_step what (server_state setting w n) n (w.servers n)).server
-    → Goes Was setting w (acts w n what stamp (server_step what (server_state setting w n) n (w.servers n))).world
+    → MayServer what w n → Remembers Was n (w.servers n) (server_step what (server_state setting w n) n (w.servers n)).server
+    → Goes Was setting w (acts setting w n what stamp (server_step what (server_state setting w n) n (w.servers n))).world
 server_steps setting fair w l n stamp member (Call line) may remembers = absurd may
 server_steps setting fair w l n stamp member (Deliver letter) may remembers =
     delivers setting fair w l n stamp (Deliver letter) member letter may.comes.sent
@@ -648,6 +667,7 @@ server_steps setting fair w l n stamp member (Work work_end.Done) may remembers 
 server_steps setting fair w l n stamp member (Work (work_end.Fault end)) may remembers =
     faults_on setting fair w l n stamp (Work (work_end.Fault end)) member may.acts.runs end (w.servers n).queue refl remembers
 server_steps setting fair w l n stamp member Stop may remembers = stops_now setting fair w l n stamp Stop member may.runs
+server_steps setting fair w l n stamp member Blank may remembers = blanks_on setting fair w l n stamp Blank member
 server_steps setting fair w l n stamp member (Boot end) may remembers = boots_on setting fair w l n stamp (Boot end) member may.rests end
 server_steps setting fair w l n stamp member (Glance line round) may remembers =
     glances_on setting fair w l n stamp (Glance line round) member line round

@@ -21,15 +21,15 @@ use Rattle.petal_rules.specs.Lists.{In as Among}
 use Rattle.petal_rules.specs.Server.{letters_of}
 use Rattle.petal_rules.specs.World.{Setting, World, start, stamped, reacts, step, MayActor, MayClient, client_step, client_state, calls, next_line, server_state, server_step}
 use Rattle.petal_rules.specs.declared.step.Step.{Step}
-use Rattle.petal_rules.specs.declared.step.Step.TheVariants.{Call, Deliver, Tick, Work, Stop, Boot, Glance}
+use Rattle.petal_rules.specs.declared.step.Step.TheVariants.{Call, Deliver, Tick, Work, Stop, Blank, Boot, Glance}
 use Rattle.petal_rules.proofs.ListLemmas.{in-append, in_later, put_same}
 use Rattle.petal_rules.proofs.Tests.{all_put_apart, none_some}
 use Rattle.petal_history.specs.Legal.{IsLegalFrom, stepped, world_after}
 use Rattle.petal_history.specs.declared.record.Record.{Record}
-use Rattle.law_log.specs.Logged.{IsBacked, IsSaidBy, IsOpen, Logged, Minded}
-use Rattle.law_log.specs.Requested.{IsCalledFor, IsRequested, calls_in}
+use Rattle.law_log.specs.Logged.{IsBacked, IsCalledAnywhere, IsSaidBy, IsOpen, Logged, Minded}
+use Rattle.law_log.specs.Requested.{IsRequested, calls_in}
 use Rattle.law_log.proofs.Clients.{IsFine, Reacts, IsOf, IsClients, calls_so, hears_so, ticks_so}
-use Rattle.law_log.proofs.Facts.{IsFair}
+use Rattle.law_log.proofs.Facts.{IsFair, scripted_anywhere}
 use Rattle.law_log.proofs.Servers.{server_steps}
 use Rattle.law_log.proofs.Turns.{backed_more}
 use Rattle.law_log.proofs.Worlds.{AllRemember, Goes, Remembers, called_more, may_more, posted_by, same_life, started_same}
@@ -68,7 +68,7 @@ module _ {Was : Minded} (setting : Setting) (w : World) (l : Logged Was setting 
   client_goes reacted r =
       let called : (d : ℕ) → calls_in w d ≤ calls_in (After reacted) d =
       all_put_apart w.clients c reacted.client (λ d (x : Client). (w.clients d).seq ≤ x.seq) (λ d ne. omega arith) r.later in
-      let more : (command : Command) → IsCalledFor setting w command → IsCalledFor setting (After reacted) command =
+      let more : (command : Command) → IsCalledAnywhere setting w command → IsCalledAnywhere setting (After reacted) command =
       called_more setting w (After reacted) (requested_more setting.lines (calls_in w) (calls_in (After reacted)) called)
       (λ s. same_life (w.servers s).life) in
       let now : calls_in (After reacted) c ≡ reacted.client.seq = ap (λ (x : Client). x.seq) (put_same w.clients c reacted.client) in
@@ -81,14 +81,13 @@ module _ {Was : Minded} (setting : Setting) (w : World) (l : Logged Was setting 
             known = l.is.known;
             incs = l.is.incs;
             first = l.is.first;
-            fresh = l.is.fresh;
             busy = l.is.busy;
             low = l.is.low;
             sent = λ letter i. elim (in-append letter (stamped stamp (letters_of (client_sender c reacted.client) 0 reacted.posts)) w.sent i) [
               | inl new ↦ (
                   let post = posted_by (client_sender c reacted.client) stamp 0 reacted.posts letter new in
-                  let backed = clients_backed P (IsOf setting.lines c reacted.client.seq) (IsCalledFor setting (After reacted)) (IsSaidBy P letter.from)
-                  (λ command o. inl (record {
+                  let backed = clients_backed P (IsOf setting.lines c reacted.client.seq) (IsCalledAnywhere setting (After reacted)) (IsSaidBy P letter.from)
+                  (λ command o. scripted_anywhere setting (After reacted) command (record {
                     client = c;
                     before = o.before;
                     line = o.line;
@@ -98,7 +97,7 @@ module _ {Was : Minded} (setting : Setting) (w : World) (l : Logged Was setting 
                         subst (λ k. o.before < k) (sym now) o.past;
                   }))
                   post.0.body (r.posts post.0 post.1) in
-                  subst (IsBacked P (IsCalledFor setting (After reacted)) (IsSaidBy P letter.from)) (sym post.2) backed)
+                  subst (IsBacked P (IsCalledAnywhere setting (After reacted)) (IsSaidBy P letter.from)) (sym post.2) backed)
               | inr old ↦ backed_more P P _ _ (IsSaidBy P letter.from) (IsSaidBy P letter.from) (λ x i. i) more (λ said h. h) letter.body (l.is.sent letter old)
             ];
             wanted = λ place command h. may_more setting w (After reacted) w.servers w.servers P P more (λ s. started_same (w.servers s)) (λ x i. i) place command
@@ -120,7 +119,7 @@ module _ {Was : Minded} (setting : Setting) (w : World) (l : Logged Was setting 
 
   news_told : (letter : Letter) → Among letter w.sent → (after : ℕ) (commands : List Command) → letter.body ≡ body.News after commands
       → (i : ℕ) (command : Command) → slice_get commands i ≡ Some command → Told (after + i + 1) command
-  news_told letter i after commands e = subst (IsBacked P (IsCalledFor setting w) (IsSaidBy P letter.from)) e (l.is.sent letter i)
+  news_told letter i after commands e = subst (IsBacked P (IsCalledAnywhere setting w) (IsSaidBy P letter.from)) e (l.is.sent letter i)
 
   client_steps : (what : Step) → MayClient what setting w c
       → Goes Was setting w (After (client_step what (client_state setting w c) c (w.clients c) (next_line setting.lines c (w.clients c))))
@@ -133,28 +132,29 @@ module _ {Was : Minded} (setting : Setting) (w : World) (l : Logged Was setting 
   client_steps Tick may = client_goes _ (ticks_so Told setting.lines c (client_state setting w c) (w.clients c) fine_now)
   client_steps (Work end) may = absurd may
   client_steps Stop may = absurd may
+  client_steps Blank may = absurd may
   client_steps (Boot end) may = absurd may
   client_steps (Glance line round) may = absurd may
 
 -- ### A step, and a history
 
 pub step_goes : {Was : Minded} (setting : Setting) → IsFair setting → (w : World) → Logged Was setting w → (who : Actor) (what : Step) (stamp : ℕ)
-    → MayActor who what setting w → AllRemember Was (step who what setting w stamp).world → Goes Was setting w (step who what setting w stamp).world
+    → MayActor who what setting w → AllRemember Was w (step who what setting w stamp).world → Goes Was setting w (step who what setting w stamp).world
 unfolding step
 step_goes {Was} setting fair w l (actor.Server n) what stamp may remember =
     server_steps setting fair w l n stamp may.0 what may.1
-    (subst (Remembers Was n) (put_same w.servers n (server_step what (server_state setting w n) n (w.servers n)).server) (remember n))
+    (subst (Remembers Was n (w.servers n)) (put_same w.servers n (server_step what (server_state setting w n) n (w.servers n)).server) (remember n))
 step_goes setting fair w l (actor.Client c) what stamp may remember = client_steps setting w l c stamp what may.1
 
--- each world behind a front of the records remembers
+-- each step remembers
 pub history_goes : {Was : Minded} (setting : Setting) → IsFair setting → (records : List Record) (w : World) → Logged Was setting w
-    → IsLegalFrom setting w records → ((before later : List Record) → records ≡ before ++ later → AllRemember Was (world_after setting w before))
-    → Goes Was setting w (world_after setting w records)
+    → IsLegalFrom setting w records → ((before : List Record) (own : Record) (later : List Record) → records ≡ before ++ own ∷ later
+    → AllRemember Was (world_after setting w before) (world_after setting w (before ++ own ∷ []))) → Goes Was setting w (world_after setting w records)
 history_goes setting fair [] w l legal remember = record { logged = l; grown = λ s place ballot command i. i }
 history_goes setting fair (own ∷ later) w l legal remember =
-    let first = step_goes setting fair w l own.actor own.step own.stamp legal.0.may.may (remember (own ∷ []) later refl) in
+    let first = step_goes setting fair w l own.actor own.step own.stamp legal.0.may.may (remember [] own later refl) in
     let rest = history_goes setting fair later (stepped setting w own).world first.logged legal.1
-    (λ before end is. remember (own ∷ before) end (ap (λ xs. own ∷ xs) is)) in
+    (λ before last end is. remember (own ∷ before) last end (ap (λ xs. own ∷ xs) is)) in
     record { logged = rest.logged; grown = λ s place ballot command i. rest.grown s place ballot command (first.grown s place ballot command i) }
 
 -- ### The start
@@ -186,7 +186,6 @@ start_logged setting = record {
     known = λ s e. within s setting.servers e;
     incs = λ s. refl;
     first = λ s. omega arith;
-    fresh = λ s. refl;
     busy = λ s lt. record { proposer = (below s setting.servers lt, tt); asked = tt };
     low = record { acceptors = λ s place ballot e. none_some refl e; letters = λ from said h. absurd h };
     sent = λ letter h. absurd h;

@@ -1,29 +1,27 @@
--- No operation of the pairs, and no entry, makes a store fresh or takes that away; and operations leave all copies as they are.
+-- Operations of the pairs leave all copies as they are.
 use Rattle.std.proofs.Common.{◌≡◌, ℕ, Bool, true, false, ◌==◌, ◌&&◌, not, List, Option, Some, None, refl}
 use Rattle.std.specs.Prelude.{nat_lt}
 use Rattle.petal_base.specs.declared.cell.Cell.{Cell}
 use Rattle.petal_base.specs.declared.cell.Key.{Key}
 use Rattle.petal_base.specs.Cells.{cell_of}
-use Rattle.petal_command.specs.declared.command.Command.{Command}
 use Rattle.petal_msg.specs.declared.operation.Action.{Action}
 use Rattle.petal_msg.specs.declared.operation.Action.TheVariants as action
 use Rattle.petal_msg.specs.declared.operation.Far.{Far}
 use Rattle.petal_msg.specs.declared.operation.Far.TheVariants as far
 use Rattle.petal_msg.specs.declared.operation.LastOp.{LastOp}
 use Rattle.petal_msg.specs.declared.operation.Pending.{Pending}
-use Rattle.petal_rules.specs.Crossing.{crossed_by}
 use Rattle.petal_rules.specs.Reads.{on_read}
 use Rattle.petal_rules.specs.Server.{Own, Copies, Here, Done}
-use Rattle.petal_rules.specs.State.{State, is_lead, is_second, readable}
+use Rattle.petal_rules.specs.State.{is_lead, is_second, readable}
 use Rattle.petal_rules.specs.Writes.{Wanted, Standing, Older, Again, Newer, acts, goes_on_with, goes_on, gives_up, pending_on, opens, opened, takes_newer, takes, is_pending_for, is_kept_back, is_under_way, on_write, is_reserving, is_replicating, hears_reserved, on_reserved, hears_pair_full, on_pair_full, hears_replicated, on_replicated, tells, reserves, hears_reserve, on_reserve, follows_once, hears_replicate, on_replicate, last_on}
 use Rattle.petal_rules.proofs.Tests.{by_test}
 
--- whether the store is fresh, and the copies
-abbrev pub kept : Own → Bool × Copies
-kept own = (own.store.fresh, own.copies)
+-- the copies
+abbrev pub kept : Own → Copies
+kept own = own.copies
 
 -- what a job leaves of them
-abbrev pub Keeps : Bool × Copies → Done → Type 0
+abbrev pub Keeps : Copies → Done → Type 0
 Keeps is done = kept done.own ≡ is
 
 keeps_up : (own : Own) (op : Pending) → kept (gives_up own op) ≡ kept own
@@ -133,7 +131,3 @@ unfolding on_replicate
 keeps_replicate here own number key bytes =
     by_test (Keeps (kept own)) (is_second here.state here.me (cell_of key)) _ _
     (λ e. keeps_hears_replicate here own number key bytes (last_on own (cell_of key))) (λ e. refl)
-
-pub fresh_crossed : (state : State) (entry : Option Command) (own : Own) → (crossed_by state entry own).store.fresh ≡ own.store.fresh
-fresh_crossed state None own = refl
-fresh_crossed state (Some entry) own = refl

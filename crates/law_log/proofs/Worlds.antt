@@ -21,8 +21,8 @@ use Rattle.petal_rules.specs.World.{Setting, World, devices, stamped, acts}
 use Rattle.petal_rules.specs.declared.job.Job.TheVariants as job
 use Rattle.petal_rules.proofs.ListLemmas.{in-append, in_later}
 use Rattle.petal_rules.proofs.Tests.{all_put_apart}
-use Rattle.law_log.specs.Logged.{IsSeenAt, IsBusyAs, IsBacked, IsSaidBy, IsLogged, Logged, MayWant, Minded}
-use Rattle.law_log.specs.Requested.{CatchesUp, HasStopped, IsCalledFor, IsOfLives, IsScripted}
+use Rattle.law_log.specs.Logged.{Catches, IsCalledAnywhere, IsSeenAt, IsBusyAs, IsBacked, IsSaidBy, IsLogged, Logged, MayWant, Minded, Returns, Waits}
+use Rattle.law_log.specs.Requested.{HasStopped, IsCalledFor, IsOfLives, IsScripted}
 use Rattle.law_state.specs.Started.{HasFlag, is_flagged}
 use Rattle.law_log.proofs.Turns.{Turns, HasTurn, seen_apart, busy_same, told_more, reached_more, backed_more, run_on, wanted_on}
 
@@ -64,13 +64,17 @@ stopped_more w v server inc later (inr lt) = inr (let e = later.inc in omega ari
 
 lives_more : (w v : World) → ((s : ℕ) → IsLaterLife (w.servers s).life (v.servers s).life) → (c : Command) → IsOfLives w c → IsOfLives v c
 lives_more w v later (Leave server inc) h = stopped_more w v server inc (later server) h
-lives_more w v later (Join server inc blank) h = (h.0, (let e = (later server).inc in let le = h.1 in omega arith), h.2)
+lives_more w v later (Join server inc blank) h = (h.0, (let e = (later server).inc in let le = h.1 in omega arith))
 lives_more w v later _ h = absurd h
 
-pub called_more : (setting : Setting) (w v : World) → ((c : Command) → IsScripted setting w c → IsScripted setting v c)
+called_for_more : (setting : Setting) (w v : World) → ((c : Command) → IsScripted setting w c → IsScripted setting v c)
     → ((s : ℕ) → IsLaterLife (w.servers s).life (v.servers s).life) → (c : Command) → IsCalledFor setting w c → IsCalledFor setting v c
-called_more setting w v more later c (inl h) = inl (more c h)
-called_more setting w v more later c (inr h) = inr (lives_more w v later c h)
+called_for_more setting w v more later c (inl h) = inl (more c h)
+called_for_more setting w v more later c (inr h) = inr (lives_more w v later c h)
+
+pub called_more : (setting : Setting) (w v : World) → ((c : Command) → IsScripted setting w c → IsScripted setting v c)
+    → ((s : ℕ) → IsLaterLife (w.servers s).life (v.servers s).life) → (c : Command) → IsCalledAnywhere setting w c → IsCalledAnywhere setting v c
+called_more setting w v more later c h = (called_for_more setting w v more later c h.0, h.1)
 
 -- a ballot that a server has started for a Caught it has in mind, or its incarnation is over
 abbrev pub KeepsStarted : (before later : Server) → Type 0
@@ -87,39 +91,47 @@ started_by before later (inl lt) inc rev id (inr h) = let e = h.0 in inl (omega 
 started_by before later (inr kept) inc rev id (inl h) = let e = kept.0 in inl (omega arith)
 started_by before later (inr kept) inc rev id (inr h) = inr (h.0 ∙ kept.0, kept.1 rev id h.1)
 
-caught_more : (servers : ℕ) (actors later : ℕ → Server) → ((s : ℕ) → KeepsStarted (actors s) (later s)) → (front : List Command) (c : Command)
-    → CatchesUp servers actors front c → CatchesUp servers later front c
-caught_more servers actors later keeps front (Caught of link holder inc other other_inc) h = record {
+begun_by : (before later : Server) → KeepsStarted before later → (inc : ℕ) → inc ≤ before.life.inc → inc ≤ later.life.inc
+begun_by before later (inl lt) inc le = omega arith
+begun_by before later (inr kept) inc le = let e = kept.0 in omega arith
+
+returns_more : (servers : ℕ) (actors later : ℕ → Server) → ((s : ℕ) → KeepsStarted (actors s) (later s)) → (front : List Command) (c : Command)
+    → Returns servers actors front c → Returns servers later front c
+returns_more servers actors later keeps front (Join server inc blank) h =
+    record { may = h.may; later = h.later; begun = begun_by (actors server) (later server) (keeps server) inc h.begun }
+returns_more servers actors later keeps front (Caught of link holder inc other other_inc) h = record {
   may = h.may;
   holds = h.holds;
   joins = h.joins;
   started = started_by (actors holder) (later holder) (keeps holder) inc (length front) (record { map = of; link = link }) h.started;
 }
-caught_more servers actors later keeps front _ h = absurd h
+returns_more servers actors later keeps front _ h = absurd h
 
 pub may_more : {Was : Minded} (setting : Setting) (w v : World) (actors later : ℕ → Server) (p q : schedule.World)
-    → ((c : Command) → IsCalledFor setting w c → IsCalledFor setting v c)
+    → ((c : Command) → IsCalledAnywhere setting w c → IsCalledAnywhere setting v c)
     → ((s : ℕ) → KeepsStarted (actors s) (later s)) → ((x : Sent) → In x p.letters → In x q.letters) → (place : ℕ) (c : Command)
     → MayWant Was setting w actors p place c → MayWant Was setting v later q place c
 may_more setting w v actors later p q more keeps letters place c h = (
   elim h.0 [
     | inl called ↦ inl (more c called)
-    | inr caught ↦ inr (record {
-      front = caught.front;
-      told = record { many = caught.told.many; told = λ i d e. told_more p q letters (i + 1) d (caught.told.told i d e) };
-      is = caught_more setting.servers actors later keeps caught.front c caught.is;
-      was = caught.was;
+    | inr returns ↦ inr (record {
+      front = returns.front;
+      told = record { many = returns.told.many; told = λ i d e. told_more p q letters (i + 1) d (returns.told.told i d e) };
+      is = returns_more setting.servers actors later keeps returns.front c returns.is;
+      was = returns.was;
     })
   ],
   reached_more p q letters place h.1,
 )
 
--- each ballot for a Caught that the server has in mind is remembered
-abbrev pub Remembers : Minded → ℕ → Server → Type 0
-Remembers Was n server = (id : LinkId) → is_flagged server.own id ≡ true → Was n server.life.inc server.log.applied id
+-- of a step of the server it is remembered whether its store waited to be filled before, and each ballot for a Caught that it has in mind
+-- after
+pub record Remembers (Was : Minded) (n : ℕ) (before later : Server) : Type 0 where
+  pub waits : before.life.running ≡ true → Was n before.life.inc before.log.applied (Waits before.own.store.fresh)
+  pub catches : (id : LinkId) → is_flagged later.own id ≡ true → Was n later.life.inc later.log.applied (Catches id)
 
-abbrev pub AllRemember : Minded → World → Type 0
-AllRemember Was w = (n : ℕ) → Remembers Was n (w.servers n)
+abbrev pub AllRemember : Minded → (before later : World) → Type 0
+AllRemember Was w v = (n : ℕ) → Remembers Was n (w.servers n) (v.servers n)
 
 pub same_life : (life : Life) → IsLaterLife life life
 same_life life = record { inc = omega arith; over = λ e. inl e }
@@ -128,16 +140,17 @@ module _ {Was : Minded} (setting : Setting) (w : World) (events : List Event) (p
     (n stamp : ℕ) (what : Step) (who : Sender)
     (member : n < setting.servers) (posts others : List Post) (to : Server)
     (own : who.from ≡ actor.Server n) (life : IsLaterLife (w.servers n).life to.life)
-    (incs : inc_of to.log.records ≡ to.life.inc) (fresh : to.own.store.fresh ≡ false)
-    (wants : (c : Command) → Among c to.log.wants → IsCalledFor setting w c) (leaves : (c : Command) → Among c to.log.leaves → IsCalledFor setting w c)
+    (incs : inc_of to.log.records ≡ to.life.inc)
+    (wants : (c : Command) → Among c to.log.wants → IsCalledAnywhere setting w c)
+    (leaves : (c : Command) → Among c to.log.leaves → IsCalledAnywhere setting w c)
     (queued : (letter : Letter) → Among (job.Letter letter) to.queue → Among letter w.sent) (started : KeepsStarted (w.servers n) to) where
   abbrev After : World
-  After = (acts w n what stamp (record { server = to; letters = letters_of who 0 posts })).world
+  After = (acts setting w n what stamp (record { server = to; letters = letters_of who 0 posts })).world
 
   lives : (s : ℕ) → IsLaterLife (w.servers s).life (After.servers s).life
   lives = all_put_apart w.servers n to (λ s (x : Server). IsLaterLife (w.servers s).life x.life) (λ s ne. same_life (w.servers s).life) life
 
-  pub more : (c : Command) → IsCalledFor setting w c → IsCalledFor setting After c
+  pub more : (c : Command) → IsCalledAnywhere setting w c → IsCalledAnywhere setting After c
   more = called_more setting w After (λ c h. h) lives
 
   keeps_started : (s : ℕ) → KeepsStarted (w.servers s) (After.servers s)
@@ -146,7 +159,7 @@ module _ {Was : Minded} (setting : Setting) (w : World) (events : List Event) (p
   pub kept_by : (new : List Event) (q : schedule.World)
       → ((place : ℕ) (c : Command) → IsWanted new place c → MayWant Was setting w (put_at w.servers n to) p place c)
       → Turns setting.servers n to.life.running to.log others p q
-      → ((post : Post) → Among post posts → IsBacked q (IsCalledFor setting After) (λ said. In (sent n said) q.letters) post.body)
+      → ((post : Post) → Among post posts → IsBacked q (IsCalledAnywhere setting After) (λ said. In (sent n said) q.letters) post.body)
       → IsLogged Was setting After (events ++ new) q
   kept_by new q wanted t posted = record {
     servers = all_put_apart w.servers n to (λ s (x : Server). IsSeenAt s x.log.records x.log.applied q)
@@ -155,7 +168,6 @@ module _ {Was : Minded} (setting : Setting) (w : World) (events : List Event) (p
     incs = all_put_apart w.servers n to (λ s (x : Server). inc_of x.log.records ≡ x.life.inc) (λ s ne. l.incs s) incs;
     first = all_put_apart w.servers n to (λ s (x : Server). 1 ≤ x.life.inc) (λ s ne. l.first s)
         (let old = l.first n in let more = life.inc in omega arith);
-    fresh = all_put_apart w.servers n to (λ s (x : Server). x.own.store.fresh ≡ false) (λ s ne. l.fresh s) fresh;
     busy = all_put_apart w.servers n to (λ s (x : Server). s < setting.servers → IsBusyAs setting.servers s x.life.running x.log.phase q)
         (λ s ne lt. busy_same setting.servers s (w.servers s).life.running (w.servers s).log.phase p q t.apart.letters (t.apart.proposers s ne) (l.busy s lt))
         (λ lt. t.busy);
@@ -163,10 +175,11 @@ module _ {Was : Minded} (setting : Setting) (w : World) (events : List Event) (p
     sent = λ letter i. elim (in-append letter (stamped stamp (letters_of who 0 posts)) w.sent i) [
       | inl new ↦ (
           let post = posted_by who stamp 0 posts letter new in
-          let backed = backed_more q q (IsCalledFor setting After) (IsCalledFor setting After) (λ said. In (sent n said) q.letters) (IsSaidBy q letter.from)
+          let backed = backed_more q q (IsCalledAnywhere setting After) (IsCalledAnywhere setting After) (λ said. In (sent n said) q.letters)
+          (IsSaidBy q letter.from)
           (λ x i. i) (λ c h. h)
           (λ said i. subst (λ who. IsSaidBy q who said) (sym (post.3 ∙ own)) i) post.0.body (posted post.0 post.1) in
-          subst (IsBacked q (IsCalledFor setting After) (IsSaidBy q letter.from)) (sym post.2) backed)
+          subst (IsBacked q (IsCalledAnywhere setting After) (IsSaidBy q letter.from)) (sym post.2) backed)
       | inr old ↦ backed_more p q _ _ (IsSaidBy p letter.from) (IsSaidBy q letter.from) t.apart.letters more
           (said_more p q t.apart.letters letter.from) letter.body (l.sent letter old)
     ];
@@ -174,9 +187,9 @@ module _ {Was : Minded} (setting : Setting) (w : World) (events : List Event) (p
       | inl old ↦ may_more setting w After w.servers After.servers p q more keeps_started t.apart.letters place c (l.wanted place c old)
       | inr now ↦ may_more setting w After After.servers After.servers p q more (λ s. started_same (After.servers s)) t.apart.letters place c (wanted place c now)
     ];
-    wants = all_put_apart w.servers n to (λ s (x : Server). (c : Command) → Among c x.log.wants → IsCalledFor setting After c)
+    wants = all_put_apart w.servers n to (λ s (x : Server). (c : Command) → Among c x.log.wants → IsCalledAnywhere setting After c)
         (λ s ne c i. more c (l.wants s c i)) (λ c i. more c (wants c i));
-    leaves = all_put_apart w.servers n to (λ s (x : Server). (c : Command) → Among c x.log.leaves → IsCalledFor setting After c)
+    leaves = all_put_apart w.servers n to (λ s (x : Server). (c : Command) → Among c x.log.leaves → IsCalledAnywhere setting After c)
         (λ s ne c i. more c (l.leaves s c i)) (λ c i. more c (leaves c i));
     queued = all_put_apart w.servers n to (λ s (x : Server). (letter : Letter) → Among (job.Letter letter) x.queue → Among letter After.sent)
         (λ s ne letter i. in_later letter _ w.sent (l.queued s letter i)) (λ letter i. in_later letter _ w.sent (queued letter i));
@@ -188,9 +201,8 @@ module _ {Was : Minded} (setting : Setting) (w : World) (events : List Event) (p
 pub record Acts (Was : Minded) (setting : Setting) (w : World) (p : schedule.World) (n : ℕ) (to : Server) (posts : List Post) : Type 0 where
   pub life : IsLaterLife (w.servers n).life to.life
   pub incs : inc_of to.log.records ≡ to.life.inc
-  pub fresh : to.own.store.fresh ≡ false
-  pub wants : (c : Command) → Among c to.log.wants → IsCalledFor setting w c
-  pub leaves : (c : Command) → Among c to.log.leaves → IsCalledFor setting w c
+  pub wants : (c : Command) → Among c to.log.wants → IsCalledAnywhere setting w c
+  pub leaves : (c : Command) → Among c to.log.leaves → IsCalledAnywhere setting w c
   pub queued : (letter : Letter) → Among (job.Letter letter) to.queue → Among letter w.sent
   pub started : KeepsStarted (w.servers n) to
   pub turn : HasTurn setting.servers n to.life.running to.log posts p (MayWant Was setting w (put_at w.servers n to) p)
@@ -203,18 +215,19 @@ module _ {Was : Minded} (setting : Setting) (w : World) (l : Logged Was setting 
   -- what it sends is backed by the world after the step
   pub server_sends : (to : Server) (posts others : List Post) → (acted : Acts Was setting w P n to others)
       → ((post : Post) → Among post posts → IsBacked (run setting.servers acted.turn.events P)
-      (IsCalledFor setting (acts w n what stamp (record { server = to; letters = letters_of who 0 posts })).world)
+      (IsCalledAnywhere setting (acts setting w n what stamp (record { server = to; letters = letters_of who 0 posts })).world)
       (λ said. In (sent n said) (run setting.servers acted.turn.events P).letters) post.body)
-      → Goes Was setting w (acts w n what stamp (record { server = to; letters = letters_of who 0 posts })).world
+      → Goes Was setting w (acts setting w n what stamp (record { server = to; letters = letters_of who 0 posts })).world
   server_sends to posts others acted posted =
       let q = run setting.servers acted.turn.events P in
-      let kept = kept_by setting w l.events P l.is n stamp what who member posts others to own acted.life acted.incs acted.fresh acted.wants acted.leaves acted.queued
+      let kept = kept_by setting w l.events P l.is n stamp what who member posts others to own acted.life acted.incs acted.wants acted.leaves acted.queued
       acted.started
       acted.turn.events q acted.turn.wanted acted.turn.turns posted in
       record {
         logged = record {
           events = l.events ++ acted.turn.events;
-          is = subst (IsLogged Was setting (acts w n what stamp (record { server = to; letters = letters_of who 0 posts })).world (l.events ++ acted.turn.events))
+          is = subst (IsLogged Was setting (acts setting w n what stamp (record { server = to; letters = letters_of who 0 posts })).world
+              (l.events ++ acted.turn.events))
               (sym (run_on setting.servers l.events acted.turn.events begin)) kept;
         };
         grown = λ s place ballot command i.
@@ -222,10 +235,10 @@ module _ {Was : Minded} (setting : Setting) (w : World) (l : Logged Was setting 
       }
 
   pub server_goes : (to : Server) (posts : List Post) → Acts Was setting w P n to posts
-      → Goes Was setting w (acts w n what stamp (record { server = to; letters = letters_of who 0 posts })).world
+      → Goes Was setting w (acts setting w n what stamp (record { server = to; letters = letters_of who 0 posts })).world
   server_goes to posts acted =
       let q = run setting.servers acted.turn.events P in
       server_sends to posts posts acted (λ post i.
-      backed_more q q (λ c. ⊥) (IsCalledFor setting (acts w n what stamp (record { server = to; letters = letters_of who 0 posts })).world)
+      backed_more q q (λ c. ⊥) (IsCalledAnywhere setting (acts setting w n what stamp (record { server = to; letters = letters_of who 0 posts })).world)
       (λ said. In (sent n said) q.letters) (λ said. In (sent n said) q.letters) (λ x j. j) (λ c h. absurd h) (λ said h. h) post.body
       (acted.turn.turns.posted post i))

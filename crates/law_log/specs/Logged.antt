@@ -2,7 +2,7 @@
 use Rattle.std.specs.Prelude.{ℕ, ◌+◌, ◌≡◌, ◌↔◌, ◌⊎◌, ◌<◌, ◌≤◌, ⊤, Bool, true, false, List, length, slice_get, Some}
 use Rattle.petal_command.specs.declared.ballot.Ballot.{Ballot}
 use Rattle.petal_command.specs.declared.command.Command.{Command}
-use Rattle.petal_command.specs.declared.command.Command.TheVariants.{Caught, Leave}
+use Rattle.petal_command.specs.declared.command.Command.TheVariants.{Caught, Join, Leave}
 use Rattle.petal_command.specs.declared.pax.Pax.{Pax}
 use Rattle.petal_command.specs.declared.pax.Pax.TheVariants.{Prepare, Accept}
 use Rattle.petal_msg.specs.declared.body.Body.{Body}
@@ -24,7 +24,8 @@ use Rattle.petal_rules.specs.Lists.{In as Among}
 use Rattle.petal_rules.specs.Server.{Server}
 use Rattle.petal_rules.specs.World.{Setting, World, lines_of}
 use Rattle.petal_rules.specs.declared.job.Job.TheVariants as job
-use Rattle.law_log.specs.Requested.{CatchesUp, IsCalledFor}
+use Rattle.petal_state.specs.Command.{may_join, state_after}
+use Rattle.law_log.specs.Requested.{IsCaughtAt, IsCalledFor}
 
 -- ### A schedule
 
@@ -38,27 +39,53 @@ pub record IsToldBefore (p : schedule.World) (place : ℕ) (front : List Command
   pub many : length front + 1 ≡ place
   pub told : (i : ℕ) (command : Command) → slice_get front i ≡ Some command → IsTold p (i + 1) command
 
--- what is remembered of a holder, as this incarnation and with these entries applied: that it had in mind to have started a ballot for
--- the link's Caught
-abbrev pub Minded : Type 1
-Minded = (holder inc : ℕ) (front : List Command) → LinkId → Type 0
+-- what is remembered of a server that started a ballot: that it had the Caught of this link in mind then, or whether its store waited to be
+-- filled before
+pub data Mind : Type 0 where
+  Catches : LinkId → Mind
+  Waits : Bool → Mind
 
--- it is so of the Caught's holder behind these entries
+-- it was so of the server as this incarnation and with these entries applied
+abbrev pub Minded : Type 1
+Minded = (server inc : ℕ) (front : List Command) → Mind → Type 0
+
+-- it was so behind these entries of the Caught's holder, or of the Join's server
 abbrev pub WasMinded : Minded → (front : List Command) → Command → Type 0
-WasMinded Was front (Caught of link holder inc other other_inc) = Was holder inc front (record { map = of; link = link })
+WasMinded Was front (Caught of link holder inc other other_inc) = Was holder inc front (Catches (record { map = of; link = link }))
+WasMinded Was front (Join server inc blank) = Was server inc front (Waits blank)
 WasMinded Was front _ = ⊤
 
--- the command is a Caught behind what was told for the places before this one
-pub record IsCaughtFor (Was : Minded) (servers : ℕ) (actors : ℕ → Server) (p : schedule.World) (place : ℕ) (command : Command) : Type 0 where
+-- behind these entries the Join acts, of an incarnation behind the first that has begun
+pub record IsJoinAt (servers : ℕ) (actors : ℕ → Server) (front : List Command) (server inc : ℕ) : Type 0 where
+  pub may : may_join (slice_get (state_after servers front).view.members server) inc ≡ true
+  pub later : 1 < inc
+  pub begun : inc ≤ (actors server).life.inc
+
+-- the command acts behind these entries, as a Caught or a Join
+abbrev pub Returns : (servers : ℕ) → (actors : ℕ → Server) → (front : List Command) → Command → Type 0
+Returns servers actors front (Caught of link holder inc other other_inc) = IsCaughtAt servers actors front of link holder inc other other_inc
+Returns servers actors front (Join server inc blank) = IsJoinAt servers actors front server inc
+Returns servers actors front _ = ⊥
+
+-- it does so behind what was told for the places before this one
+pub record IsReturnFor (Was : Minded) (servers : ℕ) (actors : ℕ → Server) (p : schedule.World) (place : ℕ) (command : Command) : Type 0 where
   pub front : List Command
   pub told : IsToldBefore p place front
-  pub is : CatchesUp servers actors front command
+  pub is : Returns servers actors front command
   pub was : WasMinded Was front command
 
--- what may be wanted for a place: what is called for, or a Caught
+abbrev pub is_join : Command → Bool
+is_join (Join server inc blank) = true
+is_join _ = false
+
+-- what may be proposed for any place: what is called for, but no Join
+abbrev pub IsCalledAnywhere : Setting → World → Command → Type 0
+IsCalledAnywhere setting w command = IsCalledFor setting w command × (is_join command ≡ false)
+
+-- what may be wanted for a place: what is called for anywhere, or a Caught or a Join that acts there
 abbrev pub MayWant : Minded → Setting → World → (actors : ℕ → Server) → schedule.World → ℕ → Command → Type 0
 MayWant Was setting w actors p place command =
-    (IsCalledFor setting w command ⊎ IsCaughtFor Was setting.servers actors p place command) × IsReached p place
+    (IsCalledAnywhere setting w command ⊎ IsReturnFor Was setting.servers actors p place command) × IsReached p place
 
 -- a ballot that is asked for is of a server whose number is a byte
 abbrev pub IsLow : Pax → Type 0
@@ -121,13 +148,12 @@ pub record IsLogged (Was : Minded) (setting : Setting) (w : World) (events : Lis
   pub known : (s : ℕ) → (w.servers s).life.running ≡ true → s < setting.servers
   pub incs : (s : ℕ) → inc_of (w.servers s).log.records ≡ (w.servers s).life.inc
   pub first : (s : ℕ) → 1 ≤ (w.servers s).life.inc
-  pub fresh : (s : ℕ) → (w.servers s).own.store.fresh ≡ false
   pub busy : (s : ℕ) → s < setting.servers → IsBusyAs setting.servers s (w.servers s).life.running (w.servers s).log.phase p
   pub low : AreLow p
-  pub sent : (letter : Letter) → Among letter w.sent → IsBacked p (IsCalledFor setting w) (IsSaidBy p letter.from) letter.body
+  pub sent : (letter : Letter) → Among letter w.sent → IsBacked p (IsCalledAnywhere setting w) (IsSaidBy p letter.from) letter.body
   pub wanted : (place : ℕ) (command : Command) → schedule.IsWanted events place command → MayWant Was setting w w.servers p place command
-  pub wants : (s : ℕ) (command : Command) → Among command (w.servers s).log.wants → IsCalledFor setting w command
-  pub leaves : (s : ℕ) (command : Command) → Among command (w.servers s).log.leaves → IsCalledFor setting w command
+  pub wants : (s : ℕ) (command : Command) → Among command (w.servers s).log.wants → IsCalledAnywhere setting w command
+  pub leaves : (s : ℕ) (command : Command) → Among command (w.servers s).log.leaves → IsCalledAnywhere setting w command
   pub queued : (s : ℕ) (letter : Letter) → Among (job.Letter letter) (w.servers s).queue → Among letter w.sent
   pub applied : (c i : ℕ) (command : Command) → slice_get (w.clients c).applied i ≡ Some command → IsTold p (i + 1) command
   pub asked : (c : ℕ) (asked : Asked) → (w.clients c).asked ≡ Some asked → IsOpen setting.lines c (w.clients c).seq asked

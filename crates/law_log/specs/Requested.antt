@@ -1,6 +1,6 @@
 -- Which commands a run proposes: those of requests that clients have called, Leaves of incarnations that have stopped, Joins of
 -- incarnations that have begun, and each Caught at its place, of the holder that found nothing left to copy.
-use Rattle.std.specs.Prelude.{◌≡◌, ◌≢◌, ◌⊎◌, ◌+◌, ◌<◌, ◌≤◌, ◌++◌, ℕ, List, [], ◌∷◌, true, false, length, slice_get, Some}
+use Rattle.std.specs.Prelude.{◌≡◌, ◌≢◌, ◌⊎◌, ◌+◌, ◌<◌, ◌≤◌, ◌++◌, ℕ, Bool, List, [], ◌∷◌, true, false, length, slice_get, Some}
 use Rattle.global_tables.specs.Link.{link_at}
 use Rattle.petal_command.specs.declared.command.Command.{Command}
 use Rattle.petal_command.specs.declared.command.Command.TheVariants.{Join, Leave, Caught, Witness}
@@ -45,11 +45,10 @@ HasStopped w server inc = (((w.servers server).life.running ≡ false) × (inc �
 abbrev pub HasBegun : World → (server inc : ℕ) → Type 0
 HasBegun w server inc = inc ≤ (w.servers server).life.inc
 
--- the command is the Leave of an incarnation that has stopped, or the Join of one that has begun behind the
--- first and has kept its blocks
+-- the command is the Leave of an incarnation that has stopped, or the Join of one that has begun behind the first
 abbrev pub IsOfLives : World → Command → Type 0
 IsOfLives w (Leave server inc) = HasStopped w server inc
-IsOfLives w (Join server inc blank) = (1 < inc) × HasBegun w server inc × (blank ≡ false)
+IsOfLives w (Join server inc blank) = (1 < inc) × HasBegun w server inc
 IsOfLives w _ = ⊥
 
 -- what may be proposed: what a script asks for, or such a Leave or Join
@@ -85,6 +84,16 @@ pub record WasStarted (setting : Setting) (records : List Record) (holder inc : 
   pub lives : ((world_after setting (start setting) before).servers holder).life.inc ≡ inc
   pub at : ((world_after setting (start setting) before).servers holder).log.applied ≡ front
   pub minded : is_flagged ((world_after setting (start setting) before).servers holder).own id ≡ true
+
+-- on the way the server ran as this incarnation, its store waited to be filled or not, and then it took one step more
+pub record WasReturning (setting : Setting) (records : List Record) (server inc : ℕ) (blank : Bool) : Type 0 where
+  pub before : List Record
+  pub own : Record
+  pub later : List Record
+  pub is : records ≡ before ++ own ∷ later
+  pub lives : ((world_after setting (start setting) before).servers server).life.inc ≡ inc
+  pub runs : ((world_after setting (start setting) before).servers server).life.running ≡ true
+  pub waits : ((world_after setting (start setting) before).servers server).own.store.fresh ≡ blank
 
 -- no record tells of a boot
 abbrev pub NoneBoots : List Record → Type 0

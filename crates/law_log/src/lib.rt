@@ -7,14 +7,14 @@
 //! not prove again, and knows nothing of what a command does.
 #![tactic(auto)]
 
-ghost use Rattle.std.specs.Prelude.{◌≡◌, ◌<◌, ◌≤◌, ◌⊎◌, ◌++◌, ◌∷◌, [], ℕ, List, true, false};
+ghost use Rattle.std.specs.Prelude.{◌≡◌, ◌<◌, ◌≤◌, ◌⊎◌, ◌++◌, ◌∷◌, [], ℕ, Bool, List, slice_get, true, false};
 ghost use Rattle.petal_command.specs.declared.command.Command.{Command};
-ghost use Rattle.petal_command.specs.declared.command.Command.TheVariants.{Leave, Caught};
+ghost use Rattle.petal_command.specs.declared.command.Command.TheVariants.{Join, Leave, Caught};
 ghost use Rattle.petal_msg.specs.declared.body.Body.TheVariants as body;
 ghost use Rattle.petal_msg.specs.declared.letter.Letter.{Letter};
 ghost use Rattle.script_lines.specs.declared.script.Script.{Script};
 ghost use Rattle.petal_paxos.specs.Kept.{inc_of};
-ghost use Rattle.petal_state.specs.Command.{state_after};
+ghost use Rattle.petal_state.specs.Command.{may_join, state_after};
 ghost use Rattle.petal_rules.specs.Agreement.{HasSchedule};
 ghost use Rattle.petal_rules.specs.Lists.{In};
 ghost use Rattle.petal_rules.specs.State.{is_in};
@@ -24,7 +24,7 @@ ghost use Rattle.petal_history.specs.Legal.{IsLegal, world_after};
 ghost use Rattle.petal_history.specs.Sound.{IsSound};
 ghost use Rattle.petal_history.specs.declared.record.Record.{Record};
 ghost use Rattle.law_state.specs.Firm.{Firm};
-ghost use Rattle.law_log.specs.Requested.{HasBegun, HasCaughtUp, HasStopped, IsCalledFor, IsCaughtAt, NoneBoots, WasStarted};
+ghost use Rattle.law_log.specs.Requested.{HasBegun, HasCaughtUp, HasStopped, IsCalledFor, IsCaughtAt, NoneBoots, WasReturning, WasStarted};
 
 /// What a state device knows to be chosen stands in the chosen log at its place, and what is applied stands at its front.
 pub fn every_history_agrees()
@@ -49,6 +49,13 @@ pub fn chosen_commands_are_the_scripts()
 /// Caught names, and with no entries applied but those before it.
 pub fn a_chosen_caught_was_started()
     ensures { (script : Script) (records : List Record) → IsSound script → IsLegal script records → (front : List Command) (of link holder inc other other_inc : ℕ) → IsPrefix (front ++ Caught of link holder inc other other_inc ∷ []) (chosen_log (setting_of script) (world_after (setting_of script) (start (setting_of script)) records)) → WasStarted (setting_of script) records holder inc front (record { map = of; link = link }) }
+{}
+
+/// A server whose Join is chosen ran on the way as the incarnation that the Join names, and its store waited to be filled or not, as the Join
+/// says. And each Join that is chosen acts: behind the entries before it its server is Out, and was In as earlier incarnations alone.
+pub fn a_chosen_join_was_wanted()
+    ensures wanted { (script : Script) (records : List Record) → IsSound script → IsLegal script records → (server inc : ℕ) (blank : Bool) → In (Join server inc blank) (chosen_log (setting_of script) (world_after (setting_of script) (start (setting_of script)) records)) → WasReturning (setting_of script) records server inc blank }
+    ensures acts { (script : Script) (records : List Record) → IsSound script → IsLegal script records → (front : List Command) (server inc : ℕ) (blank : Bool) → IsPrefix (front ++ Join server inc blank ∷ []) (chosen_log (setting_of script) (world_after (setting_of script) (start (setting_of script)) records)) → may_join (slice_get (state_after script.servers front).view.members server) inc ≡ true }
 {}
 
 /// An incarnation that was In by a front of the chosen log, and is not by all of it, has stopped: so a server that runs, and was In as

@@ -114,9 +114,9 @@ still_declined R S setting w v more grows on letter number cell d =
 module _ (R S : ℕ → ℕ → Type 0) (setting : Setting) (w : World) (more : (c seq : ℕ) → R c seq → S c seq) (refusals : Refusals R setting w) (n stamp : ℕ)
     (what : Step) (acted : Acted) (step : StepRefuses S setting w n stamp acted)
     (chosen : IsPrefix (w.servers n).log.applied (chosen_log setting w))
-    (grows : IsPrefix (chosen_log setting w) (chosen_log setting (acts w n what stamp acted).world)) where
+    (grows : IsPrefix (chosen_log setting w) (chosen_log setting (acts setting w n what stamp acted).world)) where
   abbrev later : World
-  later = (acts w n what stamp acted).world
+  later = (acts setting w n what stamp acted).world
 
   server_now : later.servers n ≡ acted.server
   server_now = put_same w.servers n acted.server

@@ -4,9 +4,7 @@ use Rattle.std.proofs.lemmas.List.{append-nil}
 use Rattle.std.specs.Prelude.{if◌then◌else◌, is_some, length, ◌==◌, map}
 use Rattle.std.specs.Ordering.{nat_cmp}
 use Rattle.petal_base.specs.declared.cell.Cell.{Cell}
-use Rattle.global_tables.specs.declared.link.LinkRow.{LinkRow}
 use Rattle.petal_command.specs.declared.command.Command.{Command}
-use Rattle.petal_command.specs.declared.command.Command.TheVariants.{Caught}
 use Rattle.petal_table.specs.Table.{at}
 use Rattle.petal_table.proofs.Rows.{at-empty}
 use Rattle.global_tables.specs.declared.disk.Latest.{Latest}
@@ -29,22 +27,23 @@ use Rattle.petal_state.specs.Command.{state_after}
 use Rattle.petal_state.specs.State.{latest}
 use Rattle.petal_state.specs.declared.answer.DiskView.{DiskView}
 use Rattle.petal_rules.specs.Ballots.{post_of}
-use Rattle.petal_rules.specs.Boots.{awake, raised, stays, wakes}
+use Rattle.petal_rules.specs.Boots.{awake, blanked, raised, stays, wakes}
 use Rattle.petal_rules.specs.Clients.{Asked, Reaction, Sight, client_sender, cell_on, epoch_for, readers, refusal, read_refusal, read_refusal_at, write_refusal, verdict_answer, verdict_for}
-use Rattle.petal_rules.specs.Crossing.{crossed}
+use Rattle.petal_rules.specs.Crossing.{crossed, settled_by}
 use Rattle.petal_rules.specs.Jobs.{Acted, down_posts}
 use Rattle.petal_rules.specs.Lists.{In}
 use Rattle.petal_rules.specs.Log.{Log}
-use Rattle.petal_rules.specs.Returns.{holds_link, proposed}
+use Rattle.petal_rules.specs.Returns.{proposed}
 use Rattle.petal_rules.specs.Server.{Own, Server, Pairs, Done, Post, Sender, silent, sender, letters_of, no_pairs, stopped}
-use Rattle.petal_rules.specs.State.{State, find, lead, link_named, servers_of}
+use Rattle.petal_rules.specs.State.{State, find, lead, servers_of}
 use Rattle.petal_rules.specs.Store.{cell_cmp}
 use Rattle.petal_rules.specs.World.{Setting, World, reacts, step, stamped, start, setting_of, client_step, client_state, server_state, chosen_log, next_line, MayActor}
 use Rattle.petal_rules.specs.declared.job.Job.{Job}
 use Rattle.petal_rules.specs.declared.step.Step.{Step}
-use Rattle.petal_rules.specs.declared.step.Step.TheVariants.{Work}
+use Rattle.petal_rules.specs.declared.step.Step.TheVariants.{Blank, Work}
 use Rattle.petal_rules.specs.declared.step.WorkEnd.TheVariants as work_end
 use Rattle.petal_rules.proofs.ListLemmas.{in-append}
+use Rattle.petal_rules.proofs.Settled.{by_settled}
 use Rattle.petal_rules.proofs.Tests.{same_some, none_some, true_false, by_test}
 use Rattle.petal_history.specs.Claims.{IsPrefix}
 use Rattle.petal_history.specs.Legal.{Follows, IsLegal, IsLegalFrom, stepped, world_after}
@@ -54,8 +53,8 @@ use Rattle.law_state.specs.Firm.{Firm}
 use Rattle.law_state.proofs.Steady.{log_rev}
 use Rattle.law_steps.specs.Happens.{Heard, Handled, IsIdle, Worked, By_job, By_ballot, By_entry, Serving, Goes as Serves_on, Ends as Stops_so, Stays, Wakes, Fails, own_place, without_rev, served, served_so, stopped_so, shown_so}
 use Rattle.law_steps.specs.Ready.{AreFirm, Rests}
-use Rattle.law_steps.specs.Turned.{Turned, Goes_on, Begins, Reads, Ends, Shown, Judges, IsReason, By_verdict, By_witness, IsSeenAs, Stops_it, Starts_it, Has_no_space, Is_settled}
-use Rattle.law_steps.proofs.Histories.{own_steady, rests_next, firm_now, front_legal, front_firm, world_more, start_rests}
+use Rattle.law_steps.specs.Turned.{Turned, Goes_on, Begins, Reads, Ends, Shown, Judges, IsReason, By_verdict, By_witness, IsSeenAs, Stops_it, Starts_it, Blanks_it, Has_no_space, Is_settled}
+use Rattle.law_steps.proofs.Histories.{firm_now, front_firm, front_legal, own_steady, proposed_pairs, rests_next, start_rests, world_more}
 use Rattle.law_steps.proofs.Letters.{said}
 use Rattle.law_steps.proofs.Restages.{was_same}
 use Rattle.law_steps.proofs.Sending.{is_ask, turned_asks}
@@ -109,17 +108,6 @@ glanced_not_full (body.Full seq) e = absurd (let f : Answered ≡ Glanced = e in
 glanced_not_full (body.PairFull number cell) e = absurd (let f : Paired ≡ Glanced = e in cc)
 glanced_not_full (body.Reserve number cell) e = absurd (let f : Paired ≡ Glanced = e in cc)
 glanced_not_full _ e = refl
-
-link_pairs : (own : Own) (o : Option LinkRow) → (holds_link own o).pairs ≡ own.pairs
-link_pairs own None = refl
-link_pairs own (Some row) = refl
-
--- a ballot leaves what is pending and finished
-proposed_pairs : (state : State) (own : Own) (o : Option Command) → (proposed state own o).pairs ≡ own.pairs
-proposed_pairs state own (Some (Caught of link holder inc other other_inc)) = link_pairs own
-    (link_named state (record { map = of; link = link }))
-proposed_pairs state own (Some _) = refl
-proposed_pairs state own None = refl
 
 module _ (R S : ℕ → ℕ → Type 0) (setting : Setting) (w : World) (firm : Firm setting w) (rests : Rests setting w)
     (more : (c seq : ℕ) → R c seq → S c seq) (refusals : Refusals R setting w) (n stamp : ℕ) where
@@ -241,6 +229,16 @@ module _ (R S : ℕ → ℕ → Type 0) (setting : Setting) (w : World) (firm : 
     numbered = refusals.numbered n;
   }
 
+  -- one whose device is made blank
+  blanked_refuses : here.life.running ≡ false → StepRefuses S setting w n stamp (stays (blanked here))
+  unfolding In
+  blanked_refuses asleep = of_end (stays (blanked here)) (sender (own_place setting w n)) [] refl (λ post i. absurd i) asleep (record {
+    life = omega arith;
+    next = λ same. omega arith;
+    pending = λ cell op same is. inl (was_same here.own cell op is);
+    numbered = refusals.numbered n;
+  })
+
   abbrev downs : List Post
   downs = down_posts n (w.servers n).life.inc (servers_of (server_state setting w n))
 
@@ -257,10 +255,12 @@ module _ (R S : ℕ → ℕ → Type 0) (setting : Setting) (w : World) (firm : 
       (ap (λ (p : Pairs). p.next) same) (ap (λ (p : Pairs). p.pending) same) says
 
   entry_refuses : (runs : (w.servers n).life.running ≡ true) (entry : Command)
-      → JobRefuses S setting w n (crossed (server_state setting w n) entry here.own) []
+      → JobRefuses S setting w n (settled_by (own_place setting w n) entry (crossed (server_state setting w n) entry here.own)) []
   unfolding In
-  entry_refuses runs entry = kept_refuses R S (scene runs) (crossed (server_state setting w n) entry here.own) [] refl refl refl
-      (λ post i. absurd i)
+  entry_refuses runs entry =
+      let own = crossed (server_state setting w n) entry here.own in
+      by_settled (λ (now : Own). JobRefuses S setting w n now []) (own_place setting w n) entry own
+      (λ store. kept_refuses R S (scene runs) (record own { store = store }) [] refl refl refl (λ post i. absurd i))
 
   idle_refuses : (runs : (w.servers n).life.running ≡ true) (done : Done) → IsIdle (own_place setting w n) here.own done
       → JobRefuses S setting w n done.own done.posts
@@ -304,7 +304,8 @@ module _ (R S : ℕ → ℕ → Type 0) (setting : Setting) (w : World) (firm : 
         of_job log (record { own = proposed (server_state setting w n) here.own started; posts = posts; jobs = [] }) queue runs
         (ballot_refuses runs started posts says)
     goes_refuse _ _ queue runs (By_entry log entry plus front) works =
-        of_job log (silent (crossed (server_state setting w n) entry here.own)) queue runs (entry_refuses runs entry)
+        of_job log (silent (settled_by (own_place setting w n) entry (crossed (server_state setting w n) entry here.own))) queue runs
+        (entry_refuses runs entry)
 
     serves_refuse : (acted : Acted) → Serving setting w n what acted → StepRefuses S setting w n stamp acted
     unfolding In
@@ -326,10 +327,13 @@ module _ (setting : Setting) where
       → ((c seq : ℕ) → R c seq → S c seq) → ((c seq : ℕ) → HadNoSlot setting w who what c seq → S c seq)
       → Refusals R setting w → Refusals S setting (step who what setting w stamp).world
   unfolding step
+  step_kept R S w firm rests (actor.Server n) Blank stamp may later grows more now refusals =
+      step_refusals R S setting w more refusals n stamp Blank _ (blanked_refuses R S setting w firm rests more refusals n stamp may.1.rests)
+      (firm.servers n) grows
   step_kept R S w firm rests (actor.Server n) what stamp may later grows more now refusals =
       step_refusals R S setting w more refusals n stamp what _
       (serves_refuse R S setting w firm rests more refusals n stamp what now _
-      (server_serves setting w rests firm n (own_steady setting w firm n) stamp what may.1 later)) (firm.servers n) grows
+      (server_serves setting w rests firm n (own_steady setting w firm n) stamp what refl may.1 later)) (firm.servers n) grows
   step_kept R S w firm rests (actor.Client c) what stamp may later grows more now refusals =
       turn_refusals R S setting w c stamp (is_call what)
       (client_step what (client_state setting w c) c (w.clients c) (next_line setting.lines c (w.clients c))) more refusals
@@ -456,13 +460,16 @@ module _ (setting : Setting) where
   reason_spaced c asked state entry (By_verdict command own so) = verdict_spaced (latest state c) asked.seq so
   reason_spaced c asked state entry (By_witness none is so) = refusal_spaced state asked.request so
 
+  runs_spaced : (running : Bool) → answer.NoSpace ≡ (if running then answer.Ok else answer.Failed) → ⊥
+  runs_spaced true e = let g : answer.NoSpace ≡ answer.Ok = e in cc
+  runs_spaced false e = let g : answer.NoSpace ≡ answer.Failed = e in cc
+
   -- a glance tells a settle alone of a want of slots
   sight_spaced : (state : State) (asked : Asked) (sight : Sight) → IsSeenAs state asked sight answer.NoSpace
       → (asked.request ≡ request.Settle) × (sight.full ≡ true)
   sight_spaced state asked sight (Stops_it server is e) = absurd (let g : answer.NoSpace ≡ answer.Ok = e in cc)
-  sight_spaced state asked sight (Starts_it server is e) =
-      by_test (λ a. answer.NoSpace ≡ a → (asked.request ≡ request.Settle) × (sight.full ≡ true)) sight.running answer.Ok answer.Failed
-      (λ on f. absurd (let g : answer.NoSpace ≡ answer.Ok = f in cc)) (λ off f. absurd (let g : answer.NoSpace ≡ answer.Failed = f in cc)) e
+  sight_spaced state asked sight (Starts_it server is e) = absurd (runs_spaced sight.running e)
+  sight_spaced state asked sight (Blanks_it server is e) = absurd (runs_spaced sight.running e)
   sight_spaced state asked sight (Has_no_space is full e) = (is, full)
   sight_spaced state asked sight (Is_settled is round seen all e) = absurd (let g : answer.NoSpace ≡ answer.Ok = e in cc)
 
@@ -580,10 +587,11 @@ module _ (setting : Setting) where
   busy_step : (w : World) → Firm setting w → Rests setting w → (who : Actor) (what : Step) (stamp : ℕ) → MayActor who what setting w
       → Firm setting (step who what setting w stamp).world
       → (letter : Letter) (seq : ℕ) → In letter (step who what setting w stamp).letters → letter.body ≡ body.BlockBusy seq → FoundBusy setting w who seq
-  unfolding step
+  unfolding step In
+  busy_step w firm rests (actor.Server n) Blank stamp may later letter seq h says = absurd h
   busy_step w firm rests (actor.Server n) what stamp may later letter seq h says =
       serves_busy w n stamp what _
-      (server_serves setting w rests firm n (own_steady setting w firm n) stamp what may.1 later) letter seq h says
+      (server_serves setting w rests firm n (own_steady setting w firm n) stamp what refl may.1 later) letter seq h says
   busy_step w firm rests (actor.Client c) what stamp may later letter seq h says =
       let reacted = client_step what (client_state setting w c) c (w.clients c) (next_line setting.lines c (w.clients c)) in
       let s = said (client_sender c reacted.client) stamp 0 reacted.posts letter h in

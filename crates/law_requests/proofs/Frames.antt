@@ -128,7 +128,7 @@ module _ (scene : Scene) (n stamp : ℕ) (what : Step) (acted : Acted) (step : I
   asking = scene.asking
 
   abbrev later : World
-  later = (acts w n what stamp acted).world
+  later = (acts setting w n what stamp acted).world
 
   abbrev after : Lives
   after = lives_after lives later

@@ -1,10 +1,10 @@
 -- Who leads a cell at an earlier and at a later place of the log.
-use Rattle.std.proofs.Common.{◌≡◌, ◌==◌, ℕ, List, Bool, true, false, Some, None, if◌then◌else◌, sym, ap, ◌∙◌, subst, inl, inr}
+use Rattle.std.proofs.Common.{◌≡◌, ◌==◌, ℕ, List, Bool, true, false, Some, None, if◌then◌else◌, sym, ap, ◌∙◌, subst, ◌⊎◌, inl, inr}
 use Rattle.std.specs.Option.{option_map_or}
 use Rattle.petal_base.specs.declared.cell.Cell.{Cell}
 use Rattle.global_tables.specs.Link.{has_server, other_of}
 use Rattle.global_tables.specs.declared.link.LinkRow.{LinkRow}
-use Rattle.global_tables.specs.declared.link.LinkState.TheVariants.{Only}
+use Rattle.global_tables.specs.declared.link.LinkState.TheVariants.{Lost, Only}
 use Rattle.petal_command.specs.declared.command.Command.{Command}
 use Rattle.petal_history.specs.Claims.{IsPrefix}
 use Rattle.petal_state.specs.CellState.{cell_link}
@@ -16,13 +16,13 @@ use Rattle.petal_rules.proofs.Tests.{by_bool, is_the_one, is_the_so, none_some, 
 use Rattle.law_state.specs.Below.{IsBelow}
 use Rattle.law_state.specs.Places.{IsCaughtBy, StaysSo}
 use Rattle.law_state.specs.Plain.{IsPlainLog}
-use Rattle.law_state.specs.Rows.{IsServed, ByBoth, ByOne}
+use Rattle.law_state.specs.Rows.{IsServed, ByBoth, ByNone, ByOne}
 use Rattle.law_state.specs.Steady.{IsSteady}
 use Rattle.law_state.proofs.Again.{log_alone}
 use Rattle.law_state.proofs.Ages.{in_up}
 use Rattle.law_state.proofs.Alone.{alone_row, alone_not_both, lead_alone, so_alone}
-use Rattle.law_state.proofs.Cells.{alone_lead, both_lead, led_by}
-use Rattle.law_state.proofs.Grown.{alone_not_both as alone_row_not_both}
+use Rattle.law_state.proofs.Cells.{alone_lead, both_lead, led_by, lost_lead}
+use Rattle.law_state.proofs.Grown.{alone_not_both as alone_row_not_both, lost_not_alone}
 use Rattle.law_state.proofs.Leaves.{both_up, either_true}
 use Rattle.law_state.proofs.Roles.{primary_is_one, secondary_is_one}
 use Rattle.law_state.proofs.Steady.{front_plain, log_below, log_steady}
@@ -30,7 +30,7 @@ use Rattle.law_state.proofs.Touching.{same_place}
 use Rattle.law_steps.proofs.Fronts.{front_more, front_on}
 use Rattle.law_requests.specs.Known.{LedBy}
 
-pub same_only : {n m : ℕ} → Only n false ≡ Only m false → n ≡ m
+pub same_only : {n m : ℕ} {one other : Bool} → Only n one ≡ Only m other → n ≡ m
 same_only e = cc
 
 -- ### One state
@@ -40,10 +40,11 @@ pub one_lead : (state : State) (n m : ℕ) (cell : Cell) → is_lead state n cel
 one_lead state n m cell one other = same_some (sym (is_the_one (lead state cell) n one) ∙ is_the_one (lead state cell) m other)
 
 -- who holds a link alone is one of its two servers
-pub holder_of_row : (state : State) (row : LinkRow) (n : ℕ) → row.state ≡ Only n false → IsServed state row → has_server n row ≡ true
-holder_of_row state row n only (ByBoth both one other) = alone_row_not_both row n only both
-holder_of_row state row n only (ByOne holder other so (inl pair) out) = primary_is_one row n (pair.0 ∙ same_only (sym so ∙ only))
-holder_of_row state row n only (ByOne holder other so (inr pair) out) = secondary_is_one row n (pair.1 ∙ same_only (sym so ∙ only))
+pub holder_of_row : (state : State) (row : LinkRow) (n : ℕ) (whole : Bool) → row.state ≡ Only n whole → IsServed state row → has_server n row ≡ true
+holder_of_row state row n whole only (ByBoth both one other) = alone_row_not_both row n only both
+holder_of_row state row n whole only (ByOne holder other w so (inl pair) out) = primary_is_one row n (pair.0 ∙ same_only (sym so ∙ only))
+holder_of_row state row n whole only (ByOne holder other w so (inr pair) out) = secondary_is_one row n (pair.1 ∙ same_only (sym so ∙ only))
+holder_of_row state row n whole only (ByNone one other lost pair out) = lost_not_alone row n lost only
 
 -- the link of a cell that this server leads: it is one of the link's two
 pub record HasOwnLink (state : State) (n : ℕ) (cell : Cell) : Type 0 where
@@ -54,27 +55,36 @@ pub record HasOwnLink (state : State) (n : ℕ) (cell : Cell) : Type 0 where
 pub own_link : (state : State) → IsSteady state → (n : ℕ) (cell : Cell) → is_lead state n cell ≡ true → HasOwnLink state n cell
 own_link state steady n cell leads = elim (led_by state steady cell n (is_the_one (lead state cell) n leads)) [
   | inl b ↦ record { row = b.0.row; is = b.0.is; has = primary_is_one b.0.row n b.1 }
-  | inr held ↦ record { row = held.row; is = held.is; has = holder_of_row state held.row n held.so held.linked.served }
+  | inr held ↦ record { row = held.row; is = held.is; has = holder_of_row state held.row n held.whole held.so held.linked.served }
 ]
 
--- of a link whose cell has no lead, a server that is Out holds it alone
+-- a link whose cell has no lead is Lost, or a server that is Out holds it alone
 pub record IsHeldOut (state : State) (row : LinkRow) : Type 0 where
   pub holder : ℕ
-  pub alone : row.state ≡ Only holder false
+  pub whole : Bool
+  pub alone : row.state ≡ Only holder whole
   pub out : is_up state holder ≡ false
 
 pub held_out : (state : State) → IsSteady state → (cell : Cell) (row : LinkRow) → cell_link state cell ≡ Some row → lead state cell ≡ None
-    → IsHeldOut state row
+    → IsHeldOut state row ⊎ (row.state ≡ Lost)
 held_out state steady cell row is none =
     let linked = steady.linked cell row is in
     elim linked.served [
       | ByBoth both one two ↦ none_some none (both_lead state cell row is linked both)
-      | ByOne holder other only pair out ↦ record {
+      | ByOne holder other whole only pair out ↦ inl (record {
         holder = holder;
+        whole = whole;
         alone = only;
-        out = by_bool (is_up state holder) (λ up. none_some none (alone_lead state cell row is linked holder false only up)) (λ no. no);
-      }
+        out = by_bool (is_up state holder) (λ up. none_some none (alone_lead state cell row is linked holder whole only up)) (λ no. no);
+      })
+      | ByNone one other lost pair out ↦ inr lost
     ]
+
+-- the cell's link is Lost
+pub record HasLost (state : State) (cell : Cell) : Type 0 where
+  pub row : LinkRow
+  pub is : cell_link state cell ≡ Some row
+  pub lost : row.state ≡ Lost
 
 -- no other server leads a link that one holds alone
 pub leader_alone : (state : State) → IsSteady state → (n m : ℕ) (cell : Cell) → is_lead state n cell ≡ true
@@ -82,10 +92,7 @@ pub leader_alone : (state : State) → IsSteady state → (n m : ℕ) (cell : Ce
 leader_alone state steady n m cell leads alone =
     let a = alone_row state n cell (lead_alone state steady n cell leads (alone_not_both state m cell alone)) in
     let b = alone_row state m cell alone in
-    same_held (sym a.alone ∙ ap (λ (r : LinkRow). r.state) (same_some (sym a.is ∙ b.is)) ∙ b.alone)
-  where
-    same_held : {i j : ℕ} {one other : Bool} → Only i one ≡ Only j other → i ≡ j
-    same_held e = cc
+    same_only (sym a.alone ∙ ap (λ (r : LinkRow). r.state) (same_some (sym a.is ∙ b.is)) ∙ b.alone)
 
 -- and who does so leads it, while it is In
 pub alone_leads : (state : State) → IsSteady state → (n : ℕ) (cell : Cell) → is_alone_on state n cell ≡ true → is_up state n ≡ true
@@ -107,7 +114,7 @@ caught_up state row entry c served n has =
     (ap (λ b. is_up state (if b then row.secondary else row.primary)) (sym t) ∙ other) has)
     (λ f.
     let mine = same_numbers row.secondary c.holder
-    (either_true (row.primary == c.holder) (row.secondary == c.holder) (holder_of_row state row c.holder c.alone served) f) in
+    (either_true (row.primary == c.holder) (row.secondary == c.holder) (holder_of_row state row c.holder c.whole c.alone served) f) in
     both_up (is_up state) row n (ap (λ b. is_up state (if b then row.secondary else row.primary)) (sym f) ∙ other)
     (ap (is_up state) mine ∙ holder) has)
 
@@ -142,12 +149,12 @@ led_while s t was now cell row is stays n inc led =
           })
       | inr held ↦ (
           let same : held.row ≡ row = same_some (sym held.is ∙ is) in
-          let only : row.state ≡ Only n false = ap (λ (r : LinkRow). r.state) (sym same) ∙ held.so in
-          let has = holder_of_row t row n only linked.served in
+          let only : row.state ≡ Only n held.whole = ap (λ (r : LinkRow). r.state) (sym same) ∙ held.so in
+          let has = holder_of_row t row n held.whole only linked.served in
           let seated = seat_stays s t cell row stays n inc has led.seated in
           record {
             seated = seated;
-            leads = is_the_so (lead t cell) n (alone_lead t cell row stays.same linked n false only (in_up t n inc seated));
+            leads = is_the_so (lead t cell) n (alone_lead t cell row stays.same linked n held.whole only (in_up t n inc seated));
           })
     ]
 
@@ -184,18 +191,26 @@ module _ (servers : ℕ) (front whole : List Command) (plain : IsPlainLog server
   led_at_place n inc cell row is place led =
       led_while earlier later was_steady now_steady cell row is (same_place servers front whole cell row plain prefix is place) n inc led
 
-  -- a link that one server holds alone stays so while one of its two is Out
+  -- a link that is Lost has no lead from there on
+  pub no_lead_on : (cell : Cell) (row : LinkRow) → cell_link earlier cell ≡ Some row → row.state ≡ Lost → lead later cell ≡ None
+  no_lead_on cell row is lost =
+      let h = below.rows cell row is in lost_lead later cell h.now h.is (now_steady.linked cell h.now h.is) (h.lost lost)
+
+  -- one that a server holds alone stays so while one of its two is Out, or it is Lost
   pub held_while : (n : ℕ) → ((log : List Command) → IsPrefix front log → IsPrefix log whole → is_up (state_after servers log) n ≡ false)
-      → (cell : Cell) (row : LinkRow) (holder : ℕ) → cell_link earlier cell ≡ Some row → has_server n row ≡ true
-      → row.state ≡ Only holder false
-      → is_alone_on later holder cell ≡ true
-  held_while n out cell row holder is has only =
+      → (cell : Cell) (row : LinkRow) (holder : ℕ) (copied : Bool) → cell_link earlier cell ≡ Some row → has_server n row ≡ true
+      → row.state ≡ Only holder copied
+      → (is_alone_on later holder cell ≡ true) ⊎ HasLost later cell
+  held_while n out cell row holder copied is has only =
       let h = below.rows cell row is in
-      elim (log_alone servers front whole plain prefix cell row h.now holder is only h.is) [
-        | inl same ↦ so_alone later holder cell h.now false h.is same
-        | inr c ↦ (
-            let until_whole = front_on c.until _ whole (front_more c.until c.entry) c.stands in
-            let steady = log_steady servers c.until (front_plain servers c.until whole plain until_whole) in
-            true_false (caught_up (state_after servers c.until) row c.entry c.acts (steady.linked cell row c.was).served n has)
-            (out c.until c.behind until_whole))
+      elim (log_alone servers front whole plain prefix cell row h.now holder copied is only h.is) [
+        | inl same ↦ inl (so_alone later holder cell h.now same.0 h.is same.1)
+        | inr (inl lost) ↦ inr (record { row = h.now; is = h.is; lost = lost.0 })
+        | inr (inr c) ↦ (
+            let found = c.found in
+            let until_whole = front_on found.until _ whole (front_more found.until found.entry) found.stands in
+            let steady = log_steady servers found.until (front_plain servers found.until whole plain until_whole) in
+            true_false (caught_up (state_after servers found.until) (record row { state = Only holder c.later }) found.entry found.acts
+            (steady.linked cell (record row { state = Only holder c.later }) found.was).served n has)
+            (out found.until found.behind until_whole))
       ]

@@ -1,6 +1,7 @@
 pub mod Leads
 pub mod Later
 pub mod Lives
+pub mod Minds
 pub mod Running
 pub mod Stopped
 pub mod Beside

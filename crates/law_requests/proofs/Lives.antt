@@ -1,16 +1,34 @@
 -- What is known of incarnations goes on with each step of a server.
-use Rattle.std.proofs.Common.{◌≡◌, ◌≢◌, ◌≤◌, ◌<◌, ◌==◌, ℕ, true, if◌then◌else◌, ap, ◌∙◌, sym, inl, inr, arith}
+use Rattle.std.proofs.Common.{◌≡◌, ◌≢◌, ◌≤◌, ◌<◌, ◌==◌, ℕ, true, if◌then◌else◌, ap, ◌∙◌, subst, sym, inl, inr, arith}
+use Rattle.global_tables.specs.declared.link.LinkRow.{LinkRow}
+use Rattle.petal_history.specs.Claims.{IsPrefix}
 use Rattle.petal_rules.specs.Server.{Server}
+use Rattle.petal_rules.specs.State.{id_of}
 use Rattle.petal_rules.specs.World.{World}
 use Rattle.petal_rules.proofs.Tests.{by_bool, number_itself, same_numbers, same_or_apart}
+use Rattle.law_state.specs.Started.{is_flagged}
+use Rattle.law_steps.proofs.Fronts.{front_on}
 use Rattle.law_requests.specs.Known.{Lives, AreLives, done_by, lives_after}
+use Rattle.law_requests.proofs.Later.{one_log}
+
+-- with no entries more, the server has each Caught in mind for which it had started a ballot
+abbrev pub KeepsFlags : (old new : Server) → Type 0
+KeepsFlags old new =
+    old.log.applied ≡ new.log.applied → (row : LinkRow) → is_flagged old.own (id_of row) ≡ true → is_flagged new.own (id_of row) ≡ true
 
 -- what a step does to a server: it goes on as the incarnation that it ran as last, if it runs, and forgets nothing; or it runs
 -- as a later one, which has finished nothing
 pub data Lived (lives : Lives) (n : ℕ) (old new : Server) : Type 0 where
   Goes_on : (new.life.running ≡ true → new.life.inc ≡ lives.ran n) → old.life.inc ≤ new.life.inc → ((c : ℕ) → done_by old.own c ≤ done_by new.own c)
-      → Lived lives n old new
+      → KeepsFlags old new → Lived lives n old new
   Begins : new.life.running ≡ true → old.life.inc < new.life.inc → ((c : ℕ) → done_by new.own c ≡ 0) → Lived lives n old new
+
+-- a server as it was and as it is, which ran as this incarnation last
+pub record IsSince (before now : Server) (last : ℕ) : Type 0 where
+  pub ran : before.life.running ≡ true → before.life.inc ≤ last
+  pub incs : before.life.inc ≤ now.life.inc
+  pub grows : IsPrefix before.log.applied now.log.applied
+  pub flags : before.life.inc ≡ last → KeepsFlags before now
 
 module _ (lives : Lives) (w v : World) (known : AreLives w lives) (steps : (n : ℕ) → Lived lives n (w.servers n) (v.servers n)) where
   abbrev pub after : Lives
@@ -38,7 +56,7 @@ module _ (lives : Lives) (w v : World) (known : AreLives w lives) (steps : (n : 
   no_earlier n = by (steps n)
     where
       by : Lived lives n (w.servers n) (v.servers n) → lives.ran n ≤ after.ran n
-      by (Goes_on same rises more) = let e = ran_same n same in omega arith
+      by (Goes_on same rises more keeps) = let e = ran_same n same in omega arith
       by (Begins on later none) = let e = ran_now n on in let b = known.begun n in omega arith
 
   pub lived_on : AreLives v after
@@ -53,7 +71,7 @@ module _ (lives : Lives) (w v : World) (known : AreLives w lives) (steps : (n : 
   }
     where
       begun_by : (n : ℕ) → Lived lives n (w.servers n) (v.servers n) → after.ran n ≤ (v.servers n).life.inc
-      begun_by n (Goes_on same rises more) = let e = ran_same n same in let b = known.begun n in omega arith
+      begun_by n (Goes_on same rises more keeps) = let e = ran_same n same in let b = known.begun n in omega arith
       begun_by n (Begins on later none) = let e = ran_now n on in omega arith
 
   -- nothing that was finished is forgotten
@@ -67,7 +85,7 @@ module _ (lives : Lives) (w v : World) (known : AreLives w lives) (steps : (n : 
     where
       by : inc ≡ after.ran n → after.done n inc c ≡ done_by (v.servers n).own c → Lived lives n (w.servers n) (v.servers n)
           → lives.done n inc c ≤ after.done n inc c
-      by e now (Goes_on same rises more) =
+      by e now (Goes_on same rises more keeps) =
           let was : lives.done n inc c ≡ done_by (w.servers n).own c = ap (λ i. lives.done n i c) (e ∙ ran_same n same) ∙ known.tied n c in
           let up = more c in
           omega arith
@@ -77,6 +95,38 @@ module _ (lives : Lives) (w v : World) (known : AreLives w lives) (steps : (n : 
           let was : lives.done n inc c ≡ 0 = known.unborn n inc c (omega arith) in
           omega arith
 
+  -- what was so of a server on the way is so later
+  pub since_on : (n : ℕ) (before : Server) → IsSince before (w.servers n) (lives.ran n) → IsPrefix (w.servers n).log.applied (v.servers n).log.applied
+      → IsSince before (v.servers n) (after.ran n)
+  since_on n before since on = by (steps n)
+    where
+      grown : IsPrefix before.log.applied (v.servers n).log.applied
+      grown = front_on before.log.applied _ _ since.grows on
+
+      by : Lived lives n (w.servers n) (v.servers n) → IsSince before (v.servers n) (after.ran n)
+      by (Goes_on same rises more keeps) =
+          let e = ran_same n same in
+          let low = since.incs in
+          record {
+            ran = λ runs. let le = since.ran runs in omega arith;
+            incs = omega arith;
+            grows = grown;
+            flags = λ last all row flag.
+                let there : before.log.applied ≡ (w.servers n).log.applied =
+                one_log _ _ since.grows (subst (IsPrefix (w.servers n).log.applied) (sym all) on) in
+                keeps (sym there ∙ all) row (since.flags (last ∙ e) there row flag);
+          }
+      by (Begins runs later none) =
+          let e = ran_now n runs in
+          let low = since.incs in
+          let b = known.begun n in
+          record {
+            ran = λ ran. let le = since.ran ran in omega arith;
+            incs = omega arith;
+            grows = grown;
+            flags = λ last all row flag. absurd (omega arith);
+          }
+
 -- a server that does nothing goes on
 pub lives_still : (lives : Lives) (w : World) → AreLives w lives → (n : ℕ) → Lived lives n (w.servers n) (w.servers n)
-lives_still lives w known n = Goes_on (λ on. sym (known.ran n on)) (omega arith) (λ c. omega arith)
+lives_still lives w known n = Goes_on (λ on. sym (known.ran n on)) (omega arith) (λ c. omega arith) (λ same row flag. flag)

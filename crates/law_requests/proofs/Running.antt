@@ -4,6 +4,7 @@ use Rattle.petal_base.specs.declared.cell.Cell.{Cell}
 use Rattle.global_tables.specs.Link.{other_of}
 use Rattle.global_tables.specs.declared.link.LinkRow.{LinkRow}
 use Rattle.petal_command.specs.declared.command.Command.{Command}
+use Rattle.petal_command.specs.declared.command.Command.TheVariants.{Caught}
 use Rattle.petal_msg.specs.declared.operation.Pending.{Pending}
 use Rattle.petal_table.specs.Table.{at}
 use Rattle.petal_history.specs.Claims.{IsPrefix}
@@ -20,11 +21,11 @@ use Rattle.petal_rules.proofs.Tests.{is_the_one, none_some, true_false}
 use Rattle.law_state.specs.Below.{HasComeSecond}
 use Rattle.law_state.specs.Firm.{Firm}
 use Rattle.law_state.specs.Plain.{IsPlainLog}
-use Rattle.law_state.specs.Started.{HasStarted}
+use Rattle.law_state.specs.Started.{is_flagged}
 use Rattle.law_state.proofs.Again.{log_alone}
 use Rattle.law_state.proofs.Ages.{between, in_once}
 use Rattle.law_state.proofs.Cells.{second_by}
-use Rattle.law_state.proofs.Grown.{alone_not_both}
+use Rattle.law_state.proofs.Grown.{alone_not_both, lost_not_both}
 use Rattle.law_state.proofs.Roles.{log_roles}
 use Rattle.law_state.proofs.Steady.{front_plain, log_below, log_steady}
 use Rattle.law_state.proofs.Touching.{places_grow}
@@ -42,6 +43,12 @@ pub record PendingHere (setting : Setting) (state : State) (w : World) (lives : 
   pub known : PendingFor setting state (seen lives w) n (lives.ran n) want rev
   pub here : known.upto ≡ (w.servers n).log.applied
   pub unheld : has_proposed (server_state setting w n) (w.servers n).own want.cell ≡ false
+
+-- the server has in mind that it has started a ballot for each Caught of this incarnation that is chosen behind its own entries
+abbrev pub RemembersCaughts : Setting → World → (n inc : ℕ) → Type 0
+RemembersCaughts setting w n inc = (front : List Command) (row : LinkRow) (other other_inc : ℕ) → IsPrefix (w.servers n).log.applied front
+    → IsPrefix (front ++ Caught row.map row.link n inc other other_inc ∷ []) (chosen_log setting w)
+    → is_flagged (w.servers n).own (id_of row) ≡ true
 
 module _ (setting : Setting) (w : World) (firm : Firm setting w) where
   pub client_plain : (c : ℕ) → IsPlainLog setting.servers (w.clients c).applied
@@ -68,9 +75,20 @@ module _ (setting : Setting) (w : World) (firm : Firm setting w) where
 
   -- ### From a server's own entries on
 
-  module _ (n : ℕ) (seat : is_in (server_state setting w n) n (w.servers n).life.inc ≡ true) (cell : Cell) (log : List Command)
-      (more : IsPrefix (w.servers n).log.applied log) (all : IsPrefix log (chosen_log setting w))
-      (still : is_in (state_after setting.servers log) n (w.servers n).life.inc ≡ true) where
+  -- of the incarnation that the server has, the server remembers each
+  pub remembers_now : (n : ℕ) → RemembersCaughts setting w n (w.servers n).life.inc
+  remembers_now n front row other other_inc more stands =
+      elim (firm.started front row.map row.link n (w.servers n).life.inc other other_inc stands) [
+        | inl past ↦ absurd (omega arith)
+        | inr flag ↦ (
+            let reached = flag.1.reached in
+            let long = front_long (w.servers n).log.applied front more in
+            flag.1.flagged (omega arith))
+      ]
+
+  module _ (n inc : ℕ) (seat : is_in (server_state setting w n) n inc ≡ true) (remembers : RemembersCaughts setting w n inc) (cell : Cell)
+      (log : List Command) (more : IsPrefix (w.servers n).log.applied log) (all : IsPrefix log (chosen_log setting w))
+      (still : is_in (state_after setting.servers log) n inc ≡ true) where
     -- it came second by a Caught that it has started a ballot for
     came_second : HasComeSecond (server_state setting w n) (state_after setting.servers log) n cell
         → has_proposed (server_state setting w n) (w.servers n).own cell ≡ true
@@ -80,27 +98,25 @@ module _ (setting : Setting) (w : World) (firm : Firm setting w) where
         let plain = front_plain setting.servers log _ firm.plain all in
         let later = second_by (state_after setting.servers log) (log_steady setting.servers log plain) cell n
         (is_the_one _ n second.second) in
-        elim (log_alone setting.servers own log plain more cell row later.0.row n second.alone.is second.alone.alone later.0.is) [
-          | inl same ↦ alone_not_both later.0.row n same later.0.so
-          | inr c ↦ (
-              let acts = c.acts in
-              let stands = front_on (c.until ++ c.entry ∷ []) log _ c.stands all in
-              let until_log = front_on c.until _ log (front_more c.until c.entry) c.stands in
-              let until_chosen = front_on c.until log _ until_log all in
-              let holder : acts.holder ≡ n = same_only (sym acts.alone ∙ second.alone.alone) in
-              let seated = in_between own c.until log c.behind until_log all n (w.servers n).life.inc seat still in
-              let inc_is : acts.inc ≡ (w.servers n).life.inc =
-              in_once (state_after setting.servers c.until) n acts.inc (w.servers n).life.inc
-              (subst (λ k. is_in (state_after setting.servers c.until) k acts.inc ≡ true) holder acts.holds) seated in
-              let told = firm.started c.until row.map row.link acts.holder acts.inc (other_of acts.holder row) acts.other_inc
-              (subst (λ (x : Command). IsPrefix (c.until ++ x ∷ []) (chosen_log setting w)) acts.is stands) in
-              elim (subst (λ k. HasStarted w.servers k acts.inc (length c.until) (id_of row)) holder told) [
-                | inl past ↦ absurd (omega (arith, inc_is))
-                | inr flag ↦ (
-                    let reached = flag.1.reached in
-                    let long = front_long own c.until c.behind in
-                    held_as_flag (server_state setting w n) (w.servers n).own cell row second.alone.is ∙ flag.1.flagged (omega arith))
-              ])
+        elim (log_alone setting.servers own log plain more cell row later.0.row n second.alone.whole second.alone.is second.alone.alone later.0.is) [
+          | inl same ↦ alone_not_both later.0.row n same.1 later.0.so
+          | inr (inl lost) ↦ lost_not_both later.0.row lost.0 later.0.so
+          | inr (inr c) ↦ (
+              let found = c.found in
+              let acts = found.acts in
+              let until_log = front_on found.until _ log (front_more found.until found.entry) found.stands in
+              let holder : acts.holder ≡ n = same_only (sym acts.alone) in
+              let seated = in_between own found.until log found.behind until_log all n inc seat still in
+              let inc_is : acts.inc ≡ inc = in_once (state_after setting.servers found.until) n acts.inc inc
+              (subst (λ k. is_in (state_after setting.servers found.until) k acts.inc ≡ true) holder acts.holds) seated in
+              let other = other_of acts.holder row in
+              let stands : IsPrefix (found.until ++ Caught row.map row.link n inc other acts.other_inc ∷ []) (chosen_log setting w) =
+              subst (λ i. IsPrefix (found.until ++ Caught row.map row.link n i other acts.other_inc ∷ []) (chosen_log setting w)) inc_is
+              (subst (λ k. IsPrefix (found.until ++ Caught row.map row.link k acts.inc other acts.other_inc ∷ []) (chosen_log setting w)) holder
+              (subst (λ (x : Command). IsPrefix (found.until ++ x ∷ []) (chosen_log setting w)) acts.is
+              (front_on (found.until ++ found.entry ∷ []) log _ found.stands all))) in
+              held_as_flag (server_state setting w n) (w.servers n).own cell row second.alone.is
+              ∙ remembers found.until row other acts.other_inc found.behind stands)
         ]
 
     -- it leads what it led, or it has started the ballot for the Caught of the cell's link
@@ -108,8 +124,8 @@ module _ (setting : Setting) (w : World) (firm : Firm setting w) where
         → (is_lead (state_after setting.servers log) n cell ≡ true)
         ⊎ (has_proposed (server_state setting w n) (w.servers n).own cell ≡ true)
     leads_on leads =
-        elim ((log_roles setting.servers (w.servers n).log.applied log (front_plain setting.servers log _ firm.plain all) more).leads n
-        (w.servers n).life.inc cell seat still leads) [
+        let plain = front_plain setting.servers log _ firm.plain all in
+        elim ((log_roles setting.servers (w.servers n).log.applied log plain more).leads n inc cell seat still leads) [
           | inl so ↦ inl so
           | inr second ↦ inr (came_second second)
         ]
@@ -127,7 +143,7 @@ module _ (setting : Setting) (w : World) (firm : Firm setting w) where
         let on = front_on _ front log own more in
         let still = in_between _ log (chosen_log setting w) on all (front_itself (chosen_log setting w)) n (w.servers n).life.inc led.seated
         (runs_now setting w firm n runs led.seated) in
-        elim (leads_on n led.seated cell log on all still led.leads) [
+        elim (leads_on n (w.servers n).life.inc led.seated (remembers_now n) cell log on all still led.leads) [
           | inl so ↦ inl (record { seated = still; leads = so })
           | inr kept ↦ inr kept
         ]
@@ -204,34 +220,37 @@ module _ (setting : Setting) (w : World) (firm : Firm setting w) where
 
   -- by each front of what is chosen by which it is In still, it leads the cell
   pub here_along : (lives : Lives) (state : State) (n : ℕ) (want : Wanted) (rev : ℕ) → PendingHere setting state w lives n want rev
-      → lives.ran n ≡ (w.servers n).life.inc
+      → RemembersCaughts setting w n (lives.ran n)
       → (log : List Command) → IsPrefix (w.servers n).log.applied log → IsPrefix log (chosen_log setting w)
       → is_in (state_after setting.servers log) n (lives.ran n) ≡ true → LedBy (state_after setting.servers log) n (lives.ran n) want.cell
-  here_along lives state n want rev p ran log more all still =
+  here_along lives state n want rev p remembers log more all still =
       let led = here_led lives state n want rev p in
-      elim (leads_on n (subst (λ i. is_in (server_state setting w n) n i ≡ true) ran led.seated) want.cell log more all
-      (subst (λ i. is_in (state_after setting.servers log) n i ≡ true) ran still) led.leads) [
+      elim (leads_on n (lives.ran n) led.seated remembers want.cell log more all still led.leads) [
         | inl so ↦ record { seated = still; leads = so }
         | inr kept ↦ true_false kept p.unheld
       ]
 
   -- so where it is In by what is chosen
   pub open_still : (lives : Lives) (state : State) (n : ℕ) (want : Wanted) (rev : ℕ) → PendingHere setting state w lives n want rev
-      → lives.ran n ≡ (w.servers n).life.inc
+      → RemembersCaughts setting w n (lives.ran n)
       → is_in (chosen_state setting w) n (lives.ran n) ≡ true → IsOpen (w.clients want.client) want.seq
-  open_still lives state n want rev p ran still =
+  open_still lives state n want rev p remembers still =
       open_along lives state n (lives.ran n) want rev p.known (λ log more all.
       let on = subst (λ own. IsPrefix own log) p.here more in
-      here_along lives state n want rev p ran log on all
+      here_along lives state n want rev p remembers log on all
       (in_between _ log (chosen_log setting w) on all (front_itself (chosen_log setting w)) n (lives.ran n)
       (here_led lives state n want rev p).seated still))
+
+  -- who runs has the incarnation that ran last
+  pub remembers_running : (lives : Lives) (n : ℕ) → lives.ran n ≡ (w.servers n).life.inc → RemembersCaughts setting w n (lives.ran n)
+  remembers_running lives n ran = subst (RemembersCaughts setting w n) (sym ran) (remembers_now n)
 
   pub open_running : (lives : Lives) (state : State) (n : ℕ) (want : Wanted) (rev : ℕ) → PendingHere setting state w lives n want rev
       → lives.ran n ≡ (w.servers n).life.inc
       → (w.servers n).life.running ≡ true → IsOpen (w.clients want.client) want.seq
   open_running lives state n want rev p ran runs =
       let seat = subst (λ i. is_in (server_state setting w n) n i ≡ true) ran (here_led lives state n want rev p).seated in
-      open_still lives state n want rev p ran
+      open_still lives state n want rev p (remembers_running lives n ran)
       (subst (λ i. is_in (chosen_state setting w) n i ≡ true) (sym ran) (runs_now setting w firm n runs seat))
 
   -- what is pending is found so

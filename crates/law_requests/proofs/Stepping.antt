@@ -1,46 +1,49 @@
 -- What is known of requests is kept by each step.
-use Rattle.std.proofs.Common.{◌≡◌, ◌≢◌, ◌≤◌, ◌<◌, ◌+◌, ◌==◌, ℕ, List, [], ◌∷◌, true, false, Option, Some, None, length, refl, ap, sym, ◌∙◌, subst, inl, inr, arith}
+use Rattle.std.proofs.Common.{◌≡◌, ◌≢◌, ◌≤◌, ◌<◌, ◌+◌, ◌==◌, ℕ, List, [], ◌∷◌, true, false, Some, length, refl, ap, sym, ◌∙◌, subst, inl, inr, arith}
 use Rattle.std.specs.Prelude.{filter, not}
+use Rattle.std.specs.Option.{option_map_or}
 use Rattle.std.specs.List.{range_with_len}
 use Rattle.std.specs.Ordering.{nat_cmp}
 use Rattle.petal_base.specs.declared.cell.Cell.{Cell}
 use Rattle.petal_table.specs.Table.{at}
 use Rattle.petal_table.proofs.Rows.{at-empty}
-use Rattle.global_tables.specs.declared.link.LinkRow.{LinkRow}
 use Rattle.petal_command.specs.declared.command.Command.{Command}
-use Rattle.petal_command.specs.declared.command.Command.TheVariants.{Caught}
 use Rattle.petal_msg.specs.Kinds.{subject_of}
 use Rattle.petal_msg.specs.declared.body.Body.{Body}
 use Rattle.petal_msg.specs.declared.body.Body.TheVariants as body
+use Rattle.petal_msg.specs.declared.copying.Progress.{Progress}
 use Rattle.petal_msg.specs.declared.letter.Actor.{Actor}
 use Rattle.petal_msg.specs.declared.letter.Actor.TheVariants as actor
 use Rattle.petal_msg.specs.declared.letter.Letter.{Letter}
 use Rattle.petal_msg.specs.declared.operation.Pending.{Pending}
 use Rattle.petal_state.specs.Command.{state_after}
 use Rattle.petal_history.specs.Claims.{IsPrefix}
-use Rattle.petal_rules.specs.Boots.{awake, raised, stays, wakes}
-use Rattle.petal_rules.specs.Crossing.{crossed}
+use Rattle.petal_rules.specs.Boots.{awake, blanked, raised, stays, wakes}
+use Rattle.petal_rules.specs.Crossing.{crossed, settled_by}
 use Rattle.petal_rules.specs.Jobs.{Acted, down_posts}
 use Rattle.petal_rules.specs.Lists.{In}
 use Rattle.petal_rules.specs.Log.{Log, rev_of, state_in}
-use Rattle.petal_rules.specs.Server.{Own, Pairs, Post, Sender, Server, Done, no_pairs, sender, letters_of}
-use Rattle.petal_rules.specs.Returns.{holds_link, proposed}
-use Rattle.petal_rules.specs.State.{State, is_in, link_named, servers_of}
+use Rattle.petal_rules.specs.Server.{Own, Copies, Pairs, Post, Sender, Server, Done, no_pairs, sender, letters_of}
+use Rattle.petal_rules.specs.State.{State, id_of, is_in, link_cmp, servers_of}
 use Rattle.petal_rules.specs.Store.{cell_cmp}
 use Rattle.petal_rules.specs.Writes.{Wanted}
 use Rattle.petal_rules.specs.World.{Setting, World, acts, chosen_log, server_state, stamped}
 use Rattle.petal_rules.specs.declared.step.Step.{Step}
+use Rattle.petal_rules.specs.declared.step.Step.TheVariants.{Blank}
+use Rattle.petal_rules.proofs.Settled.{settling}
 use Rattle.petal_rules.proofs.Tests.{none_some, true_false}
 use Rattle.law_log.proofs.Proposing.{said_to_all}
 use Rattle.law_state.specs.Plain.{IsPlainLog}
+use Rattle.law_state.specs.Started.{is_flagged}
 use Rattle.law_state.specs.Steady.{IsSteady}
 use Rattle.law_state.proofs.Steady.{log_rev, front_plain}
-use Rattle.law_steps.specs.Happens.{Happens, Serves, Turns, Serving, Goes, Ends, Stays, Wakes, Fails, Worked, By_job, By_ballot, By_entry, served_so, stopped_so, shown_so, without_rev, own_place}
+use Rattle.law_steps.specs.Happens.{Happens, Serves, Blanks, Turns, Serving, Goes, Ends, Stays, Wakes, Fails, Worked, By_job, By_ballot, By_entry, served_so, stopped_so, shown_so, without_rev, own_place}
 use Rattle.law_steps.specs.Operations.{done_to}
 use Rattle.law_steps.specs.Ready.{Ready}
 use Rattle.law_steps.specs.Waking.{AllMayWake}
 use Rattle.law_steps.proofs.Fronts.{front_itself, front_on, front_same}
 use Rattle.law_steps.proofs.Histories.{own_plain, runs_at}
+pub use Rattle.law_steps.proofs.Histories.{proposed_pairs}
 use Rattle.law_steps.proofs.Letters.{said}
 use Rattle.law_requests.specs.Known.{Seen, Lives, AreLives, LedBy, lives_after, seen, done_by, Known, KnownLetter, IsLedAlong, PendingFor, asked_for, IsUsed, Has_pending, Has_finished, AskingBy}
 use Rattle.law_requests.proofs.Ended.{bound_now, pending_new, rises}
@@ -48,7 +51,8 @@ use Rattle.law_requests.proofs.Frames.{Scene, IsSettled, IsStepped, goes_on, say
 use Rattle.law_requests.proofs.Jobs.{Shows, job_tells, kept_tells}
 use Rattle.law_requests.proofs.Later.{Later, one_log, pending_later, tells_request, untold}
 use Rattle.law_requests.proofs.Lives.{Lived, Goes_on, Begins, done_beside, lives_still}
-use Rattle.law_requests.proofs.Running.{PendingHere, here_along, here_led, pending_here}
+use Rattle.law_requests.proofs.Minds.{worked_flags}
+use Rattle.law_requests.proofs.Running.{PendingHere, here_along, here_led, pending_here, remembers_running}
 use Rattle.law_requests.proofs.Turning.{turn_ok}
 use Rattle.law_requests.proofs.Turns.{turn_asking, turn_later}
 
@@ -66,17 +70,6 @@ ended_later setting state w v lives known on n inc want rev lt p =
     let same = done_beside lives w v known on.steps n inc want.client apart in
     let un = p.unfinished in
     pending_later setting state (seen lives w) (seen (lives_after lives v) v) on.later n inc want rev p (omega arith)
-
--- a ballot leaves what is pending and finished
-link_pairs : (own : Own) (o : Option LinkRow) → (holds_link own o).pairs ≡ own.pairs
-link_pairs own None = refl
-link_pairs own (Some row) = refl
-
-pub proposed_pairs : (state : State) (own : Own) (o : Option Command) → (proposed state own o).pairs ≡ own.pairs
-proposed_pairs state own (Some (Caught of link holder inc other other_inc)) = link_pairs own
-    (link_named state (record { map = of; link = link }))
-proposed_pairs state own (Some _) = refl
-proposed_pairs state own None = refl
 
 -- letters that tell of no request
 all_untold : (setting : Setting) (state : State) (v : Seen) (who : Sender) (stamp : ℕ) (posts : List Post)
@@ -108,7 +101,14 @@ module _ (scene : Scene) (ready : Ready scene.setting scene.state scene.w) (n st
   asking = scene.asking
 
   abbrev after : Acted → World
-  after acted = (acts w n what stamp acted).world
+  after acted = (acts setting w n what stamp acted).world
+
+  -- what an entry leaves of the server's own part
+  abbrev entered : Command → Own
+  entered entry = settled_by (own_place setting w n) entry (crossed (server_state setting w n) entry (w.servers n).own)
+
+  entry_pairs : (entry : Command) → (entered entry).pairs ≡ (crossed (server_state setting w n) entry (w.servers n).own).pairs
+  entry_pairs entry = (settling (own_place setting w n) entry (crossed (server_state setting w n) entry (w.servers n).own)).pairs
 
   worked_shows : (w.servers n).life.running ≡ true → (log : Log) (done : Done) → Worked setting w n log done
       → Shows setting state w lives n done.own done.posts
@@ -119,7 +119,9 @@ module _ (scene : Scene) (ready : Ready scene.setting scene.state scene.w) (n st
       (ap (λ (p : Pairs). p.pending) (proposed_pairs (server_state setting w n) (w.servers n).own started))
       (ap (λ (p : Pairs). p.finished) (proposed_pairs (server_state setting w n) (w.servers n).own started)) says
   worked_shows runs _ _ (By_entry log entry more front) =
-      kept_tells setting state w lives scene.firm asking n runs ready.rests _ [] refl refl (λ post i. absurd i)
+      let pairs = entry_pairs entry in
+      kept_tells setting state w lives scene.firm asking n runs ready.rests _ [] (ap (λ (p : Pairs). p.pending) pairs)
+      (ap (λ (p : Pairs). p.finished) pairs) (λ post i. absurd i)
 
   own_grows : (log : Log) → log.applied ≡ (w.servers n).log.applied
       → IsPrefix (w.servers n).log.applied log.applied × IsPrefix log.applied (chosen_log setting w)
@@ -139,14 +141,18 @@ module _ (scene : Scene) (ready : Ready scene.setting scene.state scene.w) (n st
   worked_plain log chosen = front_plain setting.servers log.applied _ scene.firm.plain chosen
 
   -- what is used stands where the server is In as itself
-  crossed_used : (entry : Command) → IsUsed (crossed (server_state setting w n) entry (w.servers n).own) → IsUsed (w.servers n).own
-  crossed_used entry (Has_pending cell op is) = Has_pending cell op is
-  crossed_used entry (Has_finished c le) = Has_finished c le
+  used_by : (new old : Own) → new.pairs.pending ≡ old.pairs.pending → new.pairs.finished ≡ old.pairs.finished → IsUsed new → IsUsed old
+  used_by new old pending finished (Has_pending cell op is) = Has_pending cell op (sym (ap (λ t. at cell_cmp t cell) pending) ∙ is)
+  used_by new old pending finished (Has_finished c le) =
+      let e : done_by new c ≡ done_by old c = ap (λ t. done_to (at nat_cmp t c)) finished in Has_finished c (omega arith)
 
-  used_by : (new old : Own) → new.pairs ≡ old.pairs → IsUsed new → IsUsed old
-  used_by new old same (Has_pending cell op is) = Has_pending cell op (sym (ap (λ (p : Pairs). at cell_cmp p.pending cell) same) ∙ is)
-  used_by new old same (Has_finished c le) =
-      let e : done_by new c ≡ done_by old c = ap (λ (p : Pairs). done_to (at nat_cmp p.finished c)) same in Has_finished c (omega arith)
+  used_same : (new old : Own) → new.pairs ≡ old.pairs → IsUsed new → IsUsed old
+  used_same new old same = used_by new old (ap (λ (p : Pairs). p.pending) same) (ap (λ (p : Pairs). p.finished) same)
+
+  entered_used : (entry : Command) → IsUsed (entered entry) → IsUsed (w.servers n).own
+  entered_used entry =
+      let pairs = entry_pairs entry in
+      used_by (entered entry) (w.servers n).own (ap (λ (p : Pairs). p.pending) pairs) (ap (λ (p : Pairs). p.finished) pairs)
 
   worked_used : (w.servers n).life.running ≡ true → (log : Log) (done : Done) → Worked setting w n log done → IsUsed done.own
       → is_in (state_in setting.servers log) n (lives.ran n) ≡ true
@@ -159,11 +165,11 @@ module _ (scene : Scene) (ready : Ready scene.setting scene.state scene.w) (n st
   worked_used runs _ _ (By_ballot log started posts same starts says) u =
       let own = (w.servers n).own in
       subst (λ applied. is_in (state_after setting.servers applied) n (lives.ran n) ≡ true) (sym same)
-      (asking.used n (used_by _ own (proposed_pairs (server_state setting w n) own started) u))
+      (asking.used n (used_same _ own (proposed_pairs (server_state setting w n) own started) u))
   worked_used runs _ _ (By_entry log entry more front) u =
       let ran = asking.lived.ran n runs in
       let was : is_in (server_state setting w n) n (w.servers n).life.inc ≡ true =
-      subst (λ i. is_in (server_state setting w n) n i ≡ true) ran (asking.used n (crossed_used entry u)) in
+      subst (λ i. is_in (server_state setting w n) n i ≡ true) ran (asking.used n (entered_used entry u)) in
       subst (λ i. is_in (state_in setting.servers log) n i ≡ true) (sym ran)
       (runs_at setting w scene.firm (w.servers n).log.applied log.applied (record { later = entry ∷ []; is = more }) front n runs was)
 
@@ -173,7 +179,7 @@ module _ (scene : Scene) (ready : Ready scene.setting scene.state scene.w) (n st
   worked_along runs want rev p log more all =
       let ran = asking.lived.ran n runs in
       let led = here_led setting w scene.firm lives state n want rev p in
-      here_along setting w scene.firm lives state n want rev p ran log more all
+      here_along setting w scene.firm lives state n want rev p (remembers_running setting w scene.firm lives n ran) log more all
       (subst (λ i. is_in (state_after setting.servers log) n i ≡ true) (sym ran)
       (runs_at setting w scene.firm (w.servers n).log.applied log more all n runs
       (subst (λ i. is_in (server_state setting w n) n i ≡ true) ran led.seated)))
@@ -187,7 +193,10 @@ module _ (scene : Scene) (ready : Ready scene.setting scene.state scene.w) (n st
       let ran = incs ∙ sym (asking.lived.ran n runs) in
       record {
         life = Goes_on (λ on. ran) (omega arith)
-            (λ c. subst (λ (o : Own). done_by (w.servers n).own c ≤ done_by o c) (sym owns) (rises scene n done.own shows.tells c));
+            (λ c. subst (λ (o : Own). done_by (w.servers n).own c ≤ done_by o c) (sym owns) (rises scene n done.own shows.tells c))
+            (λ same row flag.
+            subst (λ (o : Own). is_flagged o (id_of row) ≡ true) (sym owns)
+            (worked_flags setting w n log done worked (same ∙ ap (λ (l : Log). l.applied) logs) row flag));
         more = subst (λ (l : Log). IsPrefix (w.servers n).log.applied l.applied) (sym logs) grows.0;
         plain = subst (λ (l : Log). IsPlainLog setting.servers l.applied) (sym logs) (worked_plain log grows.1);
         bound = λ c. subst (λ (o : Own). done_by o c ≤ (w.clients c).seq + 1) (sym owns) (bound_now scene n done.own shows.tells c);
@@ -207,32 +216,38 @@ module _ (scene : Scene) (ready : Ready scene.setting scene.state scene.w) (n st
             };
       }
 
-  -- a server whose own part and entries stay as they are
-  still_stepped : (new : Server) → new.log.applied ≡ (w.servers n).log.applied → new.own ≡ (w.servers n).own
+  -- a server whose entries, and what it has in memory, stay as they are
+  still_stepped : (new : Server) → new.log.applied ≡ (w.servers n).log.applied → new.own.pairs ≡ (w.servers n).own.pairs
+      → new.own.copies ≡ (w.servers n).own.copies
       → (new.life.running ≡ true → new.life.inc ≡ lives.ran n) → (w.servers n).life.inc ≤ new.life.inc → IsStepped scene n new
-  still_stepped new logs owns same later = record {
-    life = Goes_on same later (λ c. subst (λ (o : Own). done_by (w.servers n).own c ≤ done_by o c) (sym owns) (omega arith));
-    more = subst (IsPrefix (w.servers n).log.applied) (sym logs) (front_itself (w.servers n).log.applied);
-    plain = subst (IsPlainLog setting.servers) (sym logs) (own_plain setting w scene.firm n);
-    bound = λ c. subst (λ (o : Own). done_by o c ≤ (w.clients c).seq + 1) (sym owns) (asking.finished n c);
-    used = λ u. record {
-      same = same;
-      seated = subst (λ applied. is_in (state_after setting.servers applied) n (lives.ran n) ≡ true) (sym logs) (asking.used n (subst IsUsed owns u));
-    };
-    pending = λ cell op is.
-        let p = pending_here setting w scene.firm lives state ready.rests asking n cell op
-        (sym (ap (λ (o : Own). at cell_cmp o.pairs.pending cell) owns) ∙ is) in
-        let tied = asking.lived.tied n op.client in
-        let un = p.known.unfinished in
-        record {
-          was = p;
-          along = λ log more lies.
-              let same = one_log log (w.servers n).log.applied (subst (IsPrefix log) logs lies) more in
-              subst (λ l. LedBy (state_after setting.servers l) n (lives.ran n) cell) (sym same)
-              (here_led setting w scene.firm lives state n (asked_for cell op) op.rev p);
-          unfinished = subst (λ (o : Own). done_by o op.client ≤ op.seq) (sym owns) (omega arith);
+  still_stepped new logs pairs copies same later =
+      let done : (c : ℕ) → done_by new.own c ≡ done_by (w.servers n).own c = λ c. ap (λ (p : Pairs). done_to (at nat_cmp p.finished c)) pairs in
+      record {
+        life = Goes_on same later (λ c. let e = done c in omega arith)
+            (λ all row flag. ap (λ (c : Copies). option_map_or (λ (p : Progress). p.caught) (at link_cmp c.progress (id_of row)) false) copies ∙ flag);
+        more = subst (IsPrefix (w.servers n).log.applied) (sym logs) (front_itself (w.servers n).log.applied);
+        plain = subst (IsPlainLog setting.servers) (sym logs) (own_plain setting w scene.firm n);
+        bound = λ c. let e = done c in let le = asking.finished n c in omega arith;
+        used = λ u. record {
+          same = same;
+          seated = subst (λ applied. is_in (state_after setting.servers applied) n (lives.ran n) ≡ true) (sym logs)
+              (asking.used n (used_same new.own (w.servers n).own pairs u));
         };
-  }
+        pending = λ cell op is.
+            let p = pending_here setting w scene.firm lives state ready.rests asking n cell op
+            (sym (ap (λ (p : Pairs). at cell_cmp p.pending cell) pairs) ∙ is) in
+            let tied = asking.lived.tied n op.client in
+            let un = p.known.unfinished in
+            let e = done op.client in
+            record {
+              was = p;
+              along = λ log more lies.
+                  let same = one_log log (w.servers n).log.applied (subst (IsPrefix log) logs lies) more in
+                  subst (λ l. LedBy (state_after setting.servers l) n (lives.ran n) cell) (sym same)
+                  (here_led setting w scene.firm lives state n (asked_for cell op) op.rev p);
+              unfinished = omega arith;
+            };
+      }
 
   -- a server that boots has nothing pending, and has finished nothing
   none_done : (new : Server) → new.own.pairs ≡ no_pairs → (c : ℕ) → done_by new.own c ≡ 0
@@ -261,11 +276,15 @@ module _ (scene : Scene) (ready : Ready scene.setting scene.state scene.w) (n st
   serves_step wake _ (Goes log done queue runs worked queued works) =
       worked_stepped runs log done worked (served_so setting w n log done queue).server refl refl refl
   serves_step wake _ (Ends log done runs worked) = worked_stepped runs log done worked (stopped_so setting w n log done).server refl refl refl
-  serves_step wake _ (Stays who posts from shown) = still_stepped (w.servers n) refl refl (λ on. sym (asking.lived.ran n on)) (omega arith)
+  serves_step wake _ (Stays who posts from shown) = still_stepped (w.servers n) refl refl refl (λ on. sym (asking.lived.ran n on)) (omega arith)
   serves_step wake _ (Wakes booted asleep) =
       boot_stepped (awake (raised (w.servers n))) refl refl (omega arith) (wake n).onward
       (front_plain setting.servers _ _ scene.firm.plain (wake n).chosen)
-  serves_step wake _ (Fails booted asleep) = still_stepped (raised (w.servers n)) refl refl (λ on. true_false on asleep) (omega arith)
+  serves_step wake _ (Fails booted asleep) = still_stepped (raised (w.servers n)) refl refl refl (λ on. true_false on asleep) (omega arith)
+
+  -- a stopped server keeps what it had in memory, whatever becomes of its data device
+  pub blanks_step : (w.servers n).life.running ≡ false → IsStepped scene n (blanked (w.servers n))
+  blanks_step asleep = still_stepped (blanked (w.servers n)) refl refl refl (λ on. true_false on asleep) (omega arith)
 
   pub serves_asking : AllMayWake setting w → (acted : Acted) → Serving setting w n what acted
       → AskingBy setting state (after acted) (lives_after lives (after acted))
@@ -311,57 +330,38 @@ module _ (scene : Scene) (ready : Ready scene.setting scene.state scene.w) (n st
       let step = serves_step wake acted serving in
       record { later = goes_on scene n stamp what acted step; steps = steps scene n stamp what acted step }
 
+  pub blanks_asking : (w.servers n).life.running ≡ false
+      → AskingBy setting state (after (stays (blanked (w.servers n)))) (lives_after lives (after (stays (blanked (w.servers n)))))
+  unfolding In
+  blanks_asking asleep = step_asking scene n stamp what (stays (blanked (w.servers n))) (blanks_step asleep) (λ letter i. absurd i)
+
+  pub blanks_later : (w.servers n).life.running ≡ false → GoesOn setting state w (after (stays (blanked (w.servers n)))) lives
+  blanks_later asleep =
+      let acted = stays (blanked (w.servers n)) in
+      record { later = goes_on scene n stamp what acted (blanks_step asleep); steps = steps scene n stamp what acted (blanks_step asleep) }
+
+abbrev scene_at : (setting : Setting) (state : State) (w : World) (lives : Lives) → Ready setting state w → AskingBy setting state w lives → Scene
+scene_at setting state w lives ready asking =
+    record { setting = setting; state = state; w = w; lives = lives; firm = ready.firm; rests = ready.rests; asking = asking }
+
 pub happens_asking : (setting : Setting) (state : State) → IsSteady state → (w v : World) (lives : Lives) → Ready setting state w → AllMayWake setting w
     → AskingBy setting state w lives → Happens setting state w v → AskingBy setting state v (lives_after lives v)
-happens_asking setting state steady w _ lives ready wake asking (Serves n stamp what acted lt member serving) =
-    serves_asking (record {
-      setting = setting;
-      state = state;
-      w = w;
-      lives = lives;
-      firm = ready.firm;
-      rests = ready.rests;
-      asking =
-          asking;
-    }) ready n stamp what wake acted serving
+happens_asking setting state steady w _ lives ready wake asking (Serves n stamp what acted lt member unblanked serving) =
+    serves_asking (scene_at setting state w lives ready asking) ready n stamp what wake acted serving
+happens_asking setting state steady w _ lives ready wake asking (Blanks n stamp lt member asleep) =
+    blanks_asking (scene_at setting state w lives ready asking) ready n stamp Blank asleep
 happens_asking setting state steady w _ lives ready wake asking (Turns c stamp in_call reacted lt within turned onward) =
-    let scene : Scene = record {
-      setting = setting;
-      state = state;
-      w = w;
-      lives = lives;
-      firm = ready.firm;
-      rests = ready.rests;
-      asking =
-          asking;
-    } in
-    turn_asking scene c stamp reacted (turn_ok setting state w lives ready.firm asking c within in_call reacted onward turned) onward
+    turn_asking (scene_at setting state w lives ready asking) c stamp reacted
+    (turn_ok setting state w lives ready.firm asking c within in_call reacted onward turned) onward
 
 pub happens_later : (setting : Setting) (state : State) → IsSteady state → (w v : World) (lives : Lives) → Ready setting state w → AllMayWake setting w
     → AskingBy setting state w lives → Happens setting state w v → GoesOn setting state w v lives
-happens_later setting state steady w _ lives ready wake asking (Serves n stamp what acted lt member serving) =
-    serves_later (record {
-      setting = setting;
-      state = state;
-      w = w;
-      lives = lives;
-      firm = ready.firm;
-      rests = ready.rests;
-      asking =
-          asking;
-    }) ready n stamp what wake acted serving
-happens_later setting state steady w _ lives ready wake asking (Turns c stamp in_call reacted lt within turned onward) =
-    let scene : Scene = record {
-      setting = setting;
-      state = state;
-      w = w;
-      lives = lives;
-      firm = ready.firm;
-      rests = ready.rests;
-      asking =
-          asking;
-    } in
-    record {
-      later = turn_later scene c stamp reacted (turn_ok setting state w lives ready.firm asking c within in_call reacted onward turned) onward;
-      steps = lives_still lives w asking.lived;
-    }
+happens_later setting state steady w _ lives ready wake asking (Serves n stamp what acted lt member unblanked serving) =
+    serves_later (scene_at setting state w lives ready asking) ready n stamp what wake acted serving
+happens_later setting state steady w _ lives ready wake asking (Blanks n stamp lt member asleep) =
+    blanks_later (scene_at setting state w lives ready asking) ready n stamp Blank asleep
+happens_later setting state steady w _ lives ready wake asking (Turns c stamp in_call reacted lt within turned onward) = record {
+  later = turn_later (scene_at setting state w lives ready asking) c stamp reacted
+      (turn_ok setting state w lives ready.firm asking c within in_call reacted onward turned) onward;
+  steps = lives_still lives w asking.lived;
+}

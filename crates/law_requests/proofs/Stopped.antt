@@ -1,11 +1,11 @@
--- Where the request of a pending operation is open still, also after its server has stopped: while the server is the incarnation that
--- it was, nobody puts the cell's link in Both again without it.
-use Rattle.std.proofs.Common.{◌≡◌, ◌≤◌, ℕ, List, true, false, Some, None, sym, ap, ◌∙◌, subst, inl, inr, arith}
+-- Where the request of a pending operation is open still, also after its server has stopped: until the server runs again, nobody puts the
+-- cell's link in Both again without it.
+use Rattle.std.proofs.Common.{◌≡◌, ◌≤◌, ℕ, Bool, List, true, false, Some, None, sym, ap, ◌∙◌, subst, inl, inr, arith}
 use Rattle.std.specs.Prelude.{option_map}
 use Rattle.petal_base.specs.declared.cell.Cell.{Cell}
 use Rattle.global_tables.specs.declared.link.LinkRow.{LinkRow}
 use Rattle.global_tables.specs.Link.{has_server}
-use Rattle.global_tables.specs.declared.link.LinkState.TheVariants.{Both, Only}
+use Rattle.global_tables.specs.declared.link.LinkState.TheVariants.{Both, Lost, Only}
 use Rattle.petal_command.specs.declared.command.Command.{Command}
 use Rattle.petal_history.specs.Claims.{IsPrefix}
 use Rattle.petal_state.specs.CellState.{cell_link}
@@ -16,12 +16,12 @@ use Rattle.petal_rules.specs.Writes.{Wanted}
 use Rattle.petal_rules.specs.World.{Setting, World, server_state, chosen_log, chosen_state}
 use Rattle.petal_rules.proofs.Tests.{by_bool, is_the_one, is_the_so, none_some, same_or_apart, same_some, true_false}
 use Rattle.law_state.specs.Firm.{Firm}
-use Rattle.law_state.specs.Rows.{IsServed, ByBoth, ByOne}
+use Rattle.law_state.specs.Rows.{IsServed, ByBoth, ByNone, ByOne}
 use Rattle.law_state.specs.Steady.{IsSteady}
 use Rattle.law_state.proofs.Ages.{age_in, in_age, in_up, up_some}
 use Rattle.law_state.proofs.Alone.{alone_left, alone_row, both_row}
 use Rattle.law_state.proofs.Cells.{led_by}
-use Rattle.law_state.proofs.Grown.{alone_not_both}
+use Rattle.law_state.proofs.Grown.{alone_not_both, lost_not_both}
 use Rattle.law_state.proofs.Leaves.{both_up}
 use Rattle.law_state.proofs.Steady.{front_plain, log_below, log_steady}
 use Rattle.law_steps.proofs.Fronts.{front_itself, front_on}
@@ -30,14 +30,14 @@ use Rattle.law_requests.specs.Asked.{IsOpen}
 use Rattle.law_requests.specs.Known.{Lives, seen, LedBy, IsLate, Is_past, Had_no_lead, Had_another}
 use Rattle.law_requests.specs.Still.{NoOtherHolds, IsStill}
 use Rattle.law_requests.proofs.Later.{either_front}
-use Rattle.law_requests.proofs.Leads.{HasOwnLink, held_out, held_while, leader_alone, one_lead, own_link, own_link_on}
-use Rattle.law_requests.proofs.Running.{PendingHere, here_along, here_led, in_between, open_or, open_still}
+use Rattle.law_requests.proofs.Leads.{HasOwnLink, held_out, held_while, leader_alone, no_lead_on, one_lead, own_link, own_link_on}
+use Rattle.law_requests.proofs.Running.{PendingHere, RemembersCaughts, here_along, here_led, in_between, open_or, open_still}
 
--- whoever is In by a front of what is chosen is so with an incarnation that has begun
-abbrev pub AreBegun : Setting → World → Type 0
-AreBegun setting w = (front : List Command) (n inc : ℕ) → IsPrefix front (chosen_log setting w)
+-- whoever is In by a front of what is chosen is so with an incarnation that ran
+abbrev pub HaveRun : Setting → World → Lives → Type 0
+HaveRun setting w lives = (front : List Command) (n inc : ℕ) → IsPrefix front (chosen_log setting w)
     → is_in (state_after setting.servers front) n inc ≡ true
-    → inc ≤ (w.servers n).life.inc
+    → inc ≤ lives.ran n
 
 -- of two servers beside one of a cell's two, the other one alone may hold it
 no_other_holds : (setting : Setting) (w : World) → Firm setting w → (n m : ℕ) (cell : Cell) → primary (chosen_state setting w) cell ≡ Some n
@@ -59,9 +59,9 @@ no_other_holds setting w firm n m cell one two apart other ne = by_bool (is_alon
     ])
     (λ no. no)
 
-module _ (setting : Setting) (w : World) (firm : Firm setting w) (begun : AreBegun setting w) (lives : Lives) (state : State) (n : ℕ)
+module _ (setting : Setting) (w : World) (firm : Firm setting w) (lives : Lives) (run : HaveRun setting w lives) (state : State) (n : ℕ)
     (want : Wanted)
-    (rev : ℕ) (p : PendingHere setting state w lives n want rev) (ran : lives.ran n ≡ (w.servers n).life.inc) where
+    (rev : ℕ) (p : PendingHere setting state w lives n want rev) (remembers : RemembersCaughts setting w n (lives.ran n)) where
   abbrev inc : ℕ
   inc = lives.ran n
 
@@ -87,7 +87,7 @@ module _ (setting : Setting) (w : World) (firm : Firm setting w) (begun : AreBeg
   led_at : (log : List Command) → IsPrefix front log → IsPrefix log chosen → is_in (At log) n inc ≡ true → LedBy (At log) n inc want.cell
   led_at log more all still = elim (either_front log own chosen all (firm.servers n)) [
     | inl before ↦ p.known.along log more (subst (IsPrefix log) (sym p.here) before)
-    | inr behind ↦ here_along setting w firm lives state n want rev p ran log behind all still
+    | inr behind ↦ here_along setting w firm lives state n want rev p remembers log behind all still
   ]
 
   -- ### Once it is Out
@@ -98,74 +98,85 @@ module _ (setting : Setting) (w : World) (firm : Firm setting w) (begun : AreBeg
     out_from later on lies = by_bool (is_up (At later) n)
         (λ up.
         let s = up_some (At later) n up in
-        let low = begun later n s.0 lies s.1 in
+        let low = run later n s.0 lies s.1 in
         let first = in_age (At front) n inc first_led.seated in
         let last = in_age (At later) n s.0 s.1 in
         let one = (log_below setting.servers front log (front_plain setting.servers log _ firm.plain all) more).ages n in
         let two = (log_below setting.servers log later (front_plain setting.servers later _ firm.plain lies) on).ages n in
-        true_false (age_in (At log) n inc (omega (arith, ran))) gone)
+        true_false (age_in (At log) n inc (omega arith)) gone)
         (λ no. no)
 
     link : HasOwnLink (At log) n want.cell
     link = own_link_on setting.servers front log (front_plain setting.servers log _ firm.plain all) more n want.cell
         (own_link (At front) (steady_at front (front_on front log chosen more all)) n want.cell first_led.leads)
 
-    -- who holds the cell's link alone then does so by all from there on
-    held_by : (later : List Command) → IsPrefix log later → IsPrefix later chosen → (row : LinkRow) (holder : ℕ)
-        → cell_link (At log) want.cell ≡ Some row
-        → has_server n row ≡ true → row.state ≡ Only holder false → is_alone_on (At later) holder want.cell ≡ true
-    held_by later on lies row holder is has only =
-        held_while setting.servers log later (front_plain setting.servers later _ firm.plain lies) on n
-        (λ between from upto. out_from between from (front_on between later chosen upto lies)) want.cell row holder is has only
+    module _ (leader : ℕ) (led : lead (chosen_state setting w) want.cell ≡ Some leader) where
+      -- a link that is Lost has no lead from there on
+      not_lost : {A : Type 0} (later : List Command) → IsPrefix later chosen → (row : LinkRow) → cell_link (At later) want.cell ≡ Some row
+          → row.state ≡ Lost → A
+      not_lost later lies row is lost = none_some (no_lead_on setting.servers later chosen firm.plain lies want.cell row is lost) led
 
-    module _ (no_other : NoOtherHolds setting w n want.cell) where
-      -- no other server has led the cell by its own entries
-      no_another : (other : ℕ) → IsPrefix log (w.servers other).log.applied → is_lead (At log) other want.cell ≡ true → ⊥
-      no_another other lies leads = elim (same_or_apart other n) [
-        | inl e ↦ true_false
-            (in_between setting w firm front log own more (subst (λ k. IsPrefix log (w.servers k).log.applied) e lies)
-            (firm.servers n) n inc first_led.seated
-            (here_led setting w firm lives state n want rev p).seated) gone
-        | inr ne ↦ elim (led_by (At log) (steady_at log all) want.cell other (is_the_one (lead (At log) want.cell) other leads)) [
-          | inl b ↦ (
-              let same : link.row ≡ b.0.row = same_some (sym link.is ∙ b.0.is) in
-              n_in b.0.row b.0.so b.0.linked.served (ap (has_server n) (sym same) ∙ link.has))
-          | inr held ↦ (
-              let same : link.row ≡ held.row = same_some (sym link.is ∙ held.is) in
-              true_false
-              (held_by (w.servers other).log.applied lies (firm.servers other) held.row other held.is
-              (ap (has_server n) (sym same) ∙ link.has) held.so)
-              (no_other other ne))
-        ]
-      ]
-        where
-          n_in : (row : LinkRow) → row.state ≡ Both → IsServed (At log) row → has_server n row ≡ true → ⊥
-          n_in row both (ByBoth so one two) has = true_false (both_up (is_up (At log)) row n one two has)
-              (out_from log (front_itself log) all)
-          n_in row both (ByOne holder beside only pair out) has = alone_not_both row holder only both
-
-      -- nor has the cell been without a lead
-      no_unled : (leader : ℕ) → lead (chosen_state setting w) want.cell ≡ Some leader → IsStill setting w leader
-          → lead (At log) want.cell ≡ None → ⊥
-      no_unled leader led still none =
-          let held = held_out (At log) (steady_at log all) want.cell link.row link.is none in
-          let h = held.holder in
-          let now = held_by chosen all (front_itself chosen) link.row h link.is link.has held.alone in
-          let same : leader ≡ h = leader_alone (chosen_state setting w) (chosen_steady setting w firm) leader h want.cell
-          (is_the_so (lead (chosen_state setting w) want.cell) leader led) now in
-          let stays = subst (IsStill setting w) same still in
-          elim (either_front (w.servers h).log.applied log chosen (firm.servers h) all) [
-            | inl before ↦ true_false
-                (in_up (At log) h stays.inc
-                (in_between setting w firm _ log chosen before all (front_itself chosen) h stays.inc stays.own stays.now)) held.out
-            | inr knows ↦ elim (same_or_apart h n) [
-              | inl e ↦ true_false (in_up (chosen_state setting w) n stays.inc
-                  (subst (λ k. is_in (chosen_state setting w) k stays.inc ≡ true) e stays.now))
-                  (out_from chosen all (front_itself chosen))
-              | inr ne ↦ true_false (held_by (w.servers h).log.applied knows (firm.servers h) link.row h link.is link.has held.alone)
-                  (no_other h ne)
-            ]
+      -- who holds the cell's link alone then does so by all from there on
+      held_by : (later : List Command) → IsPrefix log later → IsPrefix later chosen → (row : LinkRow) (holder : ℕ) (copied : Bool)
+          → cell_link (At log) want.cell ≡ Some row
+          → has_server n row ≡ true → row.state ≡ Only holder copied → is_alone_on (At later) holder want.cell ≡ true
+      held_by later on lies row holder copied is has only =
+          elim (held_while setting.servers log later (front_plain setting.servers later _ firm.plain lies) on n
+          (λ between from upto. out_from between from (front_on between later chosen upto lies)) want.cell row holder copied is has only) [
+            | inl alone ↦ alone
+            | inr gone ↦ not_lost later lies gone.row gone.is gone.lost
           ]
+
+      module _ (no_other : NoOtherHolds setting w n want.cell) where
+        -- no other server has led the cell by its own entries
+        no_another : (other : ℕ) → IsPrefix log (w.servers other).log.applied → is_lead (At log) other want.cell ≡ true → ⊥
+        no_another other lies leads = elim (same_or_apart other n) [
+          | inl e ↦ true_false
+              (in_between setting w firm front log own more (subst (λ k. IsPrefix log (w.servers k).log.applied) e lies)
+              (firm.servers n) n inc first_led.seated
+              (here_led setting w firm lives state n want rev p).seated) gone
+          | inr ne ↦ elim (led_by (At log) (steady_at log all) want.cell other (is_the_one (lead (At log) want.cell) other leads)) [
+            | inl b ↦ (
+                let same : link.row ≡ b.0.row = same_some (sym link.is ∙ b.0.is) in
+                n_in b.0.row b.0.so b.0.linked.served (ap (has_server n) (sym same) ∙ link.has))
+            | inr held ↦ (
+                let same : link.row ≡ held.row = same_some (sym link.is ∙ held.is) in
+                true_false
+                (held_by (w.servers other).log.applied lies (firm.servers other) held.row other held.whole held.is
+                (ap (has_server n) (sym same) ∙ link.has) held.so)
+                (no_other other ne))
+          ]
+        ]
+          where
+            n_in : (row : LinkRow) → row.state ≡ Both → IsServed (At log) row → has_server n row ≡ true → ⊥
+            n_in row both (ByBoth so one two) has = true_false (both_up (is_up (At log)) row n one two has)
+                (out_from log (front_itself log) all)
+            n_in row both (ByOne holder beside whole only pair out) has = alone_not_both row holder only both
+            n_in row both (ByNone one beside lost pair out) has = lost_not_both row lost both
+
+        -- nor has the cell been without a lead
+        no_unled : IsStill setting w leader → lead (At log) want.cell ≡ None → ⊥
+        no_unled still none = elim (held_out (At log) (steady_at log all) want.cell link.row link.is none) [
+          | inr lost ↦ not_lost log all link.row link.is lost
+          | inl held ↦ (
+              let h = held.holder in
+              let now = held_by chosen all (front_itself chosen) link.row h held.whole link.is link.has held.alone in
+              let same : leader ≡ h = leader_alone (chosen_state setting w) (chosen_steady setting w firm) leader h want.cell
+              (is_the_so (lead (chosen_state setting w) want.cell) leader led) now in
+              let stays = subst (IsStill setting w) same still in
+              elim (either_front (w.servers h).log.applied log chosen (firm.servers h) all) [
+                | inl before ↦ true_false
+                    (in_up (At log) h stays.inc
+                    (in_between setting w firm _ log chosen before all (front_itself chosen) h stays.inc stays.own stays.now)) held.out
+                | inr knows ↦ elim (same_or_apart h n) [
+                  | inl e ↦ true_false (in_up (chosen_state setting w) n stays.inc
+                      (subst (λ k. is_in (chosen_state setting w) k stays.inc ≡ true) e stays.now))
+                      (out_from chosen all (front_itself chosen))
+                  | inr ne ↦ true_false (held_by (w.servers h).log.applied knows (firm.servers h) link.row h held.whole link.is link.has held.alone)
+                      (no_other h ne)
+                ]
+              ])
+        ]
 
   -- ### The request is open
 
@@ -177,12 +188,12 @@ module _ (setting : Setting) (w : World) (firm : Firm setting w) (begun : AreBeg
         let all = front_on log _ chosen lies (firm.clients want.client) in
         by_bool (is_in (At log) n inc)
         (λ here. none_some none (is_the_one _ n (led_at log more all here).leads))
-        (λ gone. no_unled log more all gone no_other leader led still none)
+        (λ gone. no_unled log more all gone leader led no_other still none)
     not_late (Had_another log other more lies leads apart) =
         let all = front_on log _ chosen lies (firm.servers other) in
         by_bool (is_in (At log) n inc)
         (λ here. true_false here (apart (one_lead (At log) other n want.cell leads (led_at log more all here).leads)))
-        (λ gone. no_another log more all gone no_other other lies leads)
+        (λ gone. no_another log more all gone leader led no_other other lies leads)
 
     pub open_led : IsOpen (w.clients want.client) want.seq
     open_led = open_or setting w firm lives state n inc want rev p.known not_late
@@ -206,13 +217,14 @@ module _ (setting : Setting) (w : World) (firm : Firm setting w) (begun : AreBeg
     where
       by : (row : LinkRow) → row.state ≡ Both → IsServed (chosen_state setting w) row → has_server n row ≡ true
           → IsOpen (w.clients want.client) want.seq
-      by row both (ByOne holder beside only pair out) has = alone_not_both row holder only both
+      by row both (ByOne holder beside whole only pair out) has = alone_not_both row holder only both
+      by row both (ByNone one beside lost pair out) has = lost_not_both row lost both
       by row both (ByBoth so one two) has =
           let led = here_led setting w firm lives state n want rev p in
           let s = up_some (chosen_state setting w) n (both_up (is_up (chosen_state setting w)) row n one two has) in
-          let low = begun chosen n s.0 (front_itself chosen) s.1 in
+          let low = run chosen n s.0 (front_itself chosen) s.1 in
           let first = in_age (server_state setting w n) n inc led.seated in
           let last = in_age (chosen_state setting w) n s.0 s.1 in
           let on = (log_below setting.servers own chosen firm.plain (firm.servers n)).ages n in
-          let same : s.0 ≡ inc = omega (arith, ran) in
-          open_still setting w firm lives state n want rev p ran (subst (λ i. is_in (chosen_state setting w) n i ≡ true) same s.1)
+          let same : s.0 ≡ inc = omega arith in
+          open_still setting w firm lives state n want rev p remembers (subst (λ i. is_in (chosen_state setting w) n i ≡ true) same s.1)

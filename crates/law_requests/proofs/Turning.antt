@@ -31,7 +31,7 @@ use Rattle.law_state.specs.Steady.{IsSteady}
 use Rattle.law_state.proofs.Ages.{in_once}
 use Rattle.law_state.proofs.Steady.{log_below, log_rev, log_steady, front_plain}
 use Rattle.law_steps.specs.Happens.{Heard, IsOnward}
-use Rattle.law_steps.specs.Turned.{Turned, Says, Of_the_log, A_write, A_read, OnlySays, IsSame, StaysOpen, IsCalled, IsReason, By_verdict, By_witness, IsJudged, IsSeenAs, Stops_it, Starts_it, Has_no_space, Is_settled, Goes_on, Begins, Reads, Shown, Judges, line_by}
+use Rattle.law_steps.specs.Turned.{Turned, Says, Of_the_log, A_write, A_read, OnlySays, IsSame, StaysOpen, IsCalled, IsReason, By_verdict, By_witness, IsJudged, IsSeenAs, Stops_it, Starts_it, Blanks_it, Has_no_space, Is_settled, Goes_on, Begins, Reads, Shown, Judges, line_by}
 use Rattle.law_steps.specs.Turned as turns
 use Rattle.law_steps.proofs.Fronts.{front_itself, front_long, front_more, front_on, front_within}
 use Rattle.law_requests.specs.Asked.{IsWrite, IsAsked, IsOpenFrom}
@@ -236,6 +236,7 @@ module _ (setting : Setting) (state : State) (w : World) (lives : Lives) (firm :
       no_write : IsSeenAs own_state asked sight given → is_write asked.request ≡ false
       no_write (Stops_it server so e) = ap is_write so
       no_write (Starts_it server so e) = ap is_write so
+      no_write (Blanks_it server so e) = ap is_write so
       no_write (Has_no_space so full e) = ap is_write so
       no_write (Is_settled so round seen all e) = ap is_write so
 

@@ -19,22 +19,17 @@ pub record IsStill (setting : Setting) (w : World) (n : ℕ) : Type 0 where
   pub own : is_in (server_state setting w n) n inc ≡ true
   pub now : is_in (chosen_state setting w) n inc ≡ true
 
--- the server has not raised its incarnation since it applied its last entry: its own state has it In as the one that it is
-abbrev pub IsItself : Setting → World → ℕ → Type 0
-IsItself setting w n = is_in (server_state setting w n) n (w.servers n).life.inc ≡ true
-
--- where the server runs; and, also after it stopped, while it is the incarnation that it was: where the cell has a lead by what is
--- chosen, which has not joined again since its own state, and no other server yet knows that it holds the link alone. So where the cell
--- is in Both by what is chosen, and where the operation is of the primary and the secondary doesn't know yet that it is alone
+-- where the server runs; and, also after it stopped, where the cell has a lead by what is chosen, which has not joined again since
+-- its own state, and no other server yet knows that it holds the link alone. So where the cell is in Both by what is chosen, and
+-- where the operation is of the primary and the secondary doesn't know yet that it is alone
 pub record AreOpen (setting : Setting) (w : World) : Type 0 where
   pub running : (n : ℕ) (cell : Cell) (op : Pending) → at cell_cmp (w.servers n).own.pairs.pending cell ≡ Some op
       → (w.servers n).life.running ≡ true → IsOpen (w.clients op.client) op.seq
-  pub led : (n leader : ℕ) (cell : Cell) (op : Pending) → at cell_cmp (w.servers n).own.pairs.pending cell ≡ Some op → IsItself setting w n
+  pub led : (n leader : ℕ) (cell : Cell) (op : Pending) → at cell_cmp (w.servers n).own.pairs.pending cell ≡ Some op
       → lead (chosen_state setting w) cell ≡ Some leader → IsStill setting w leader → NoOtherHolds setting w n cell → IsOpen (w.clients op.client) op.seq
-  pub in_both : (n : ℕ) (cell : Cell) (op : Pending) → at cell_cmp (w.servers n).own.pairs.pending cell ≡ Some op → IsItself setting w n
+  pub in_both : (n : ℕ) (cell : Cell) (op : Pending) → at cell_cmp (w.servers n).own.pairs.pending cell ≡ Some op
       → state.in_both (chosen_state setting w) cell ≡ true → IsOpen (w.clients op.client) op.seq
   pub beside : (n m leader : ℕ) (cell : Cell) (op : Pending) → at cell_cmp (w.servers n).own.pairs.pending cell ≡ Some op
-      → IsItself setting w n
       → state.primary (chosen_state setting w) cell ≡ Some n → state.secondary (chosen_state setting w) cell ≡ Some m
       → lead (chosen_state setting w) cell ≡ Some leader → IsStill setting w leader → is_alone_on (server_state setting w m) m cell ≡ false
       → IsOpen (w.clients op.client) op.seq

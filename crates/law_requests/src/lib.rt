@@ -29,9 +29,8 @@ pub fn letters_of_clients_and_replies()
     ensures { (script : Script) (records : List Record) → IsSound script → IsLegal script records → Asking (setting_of script) (chosen_state (setting_of script) (world_after (setting_of script) (start (setting_of script)) records)) (world_after (setting_of script) (start (setting_of script)) records) }
 {}
 
-/// The request of a pending operation is open while its server runs; and, also after it stopped and until its incarnation is raised,
-/// while the cell has a lead by what is chosen, which has not joined again since its own state, and no other server knows that it
-/// holds the cell alone.
+/// The request of a pending operation is open while its server runs; and, also after it stopped, while the cell has a lead by
+/// what is chosen, which has not joined again since its own state, and no other server knows that it holds the cell alone.
 pub fn pending_writes_are_open()
     ensures { (script : Script) (records : List Record) → IsSound script → IsLegal script records → AreOpen (setting_of script) (world_after (setting_of script) (start (setting_of script)) records) }
 {}

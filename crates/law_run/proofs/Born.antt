@@ -9,6 +9,8 @@ use Rattle.petal_rules.specs.State.{State}
 use Rattle.petal_rules.specs.Store.{Chain, Store, cell_cmp, chain_in}
 use Rattle.petal_rules.specs.Server.{Own, Done}
 use Rattle.petal_rules.specs.World.{Setting, World, server_state}
+use Rattle.petal_rules.specs.Crossing.{crossed}
+use Rattle.petal_rules.proofs.Settled.{settling}
 use Rattle.petal_rules.proofs.Tests.{is_the_one, none_some}
 use Rattle.global_tables.specs.declared.link.LinkRow.{LinkRow}
 use Rattle.law_state.specs.Firm.{Firm}
@@ -66,7 +68,8 @@ module _ (setting : Setting) (w : World) (firm : Firm setting w) (rests : Rests 
       (did_stores (Handled w n) (own_place setting w n) own done seat did) cell none
   worked_born _ _ (By_ballot log started posts same starts says) cell none =
       ap (λ (s : Store). chain_in s.chains cell) (proposed_store state own started)
-  worked_born _ _ (By_entry log entry more front) cell none = refl
+  worked_born _ _ (By_entry log entry more front) cell none =
+      ap (λ c. chain_in c cell) (settling (own_place setting w n) entry (crossed state entry own)).chains
 
   -- the chain of a cell that is of no disk that the server knows stays
   pub serves_born : (what : Step) (acted : Acted) → Serving setting w n what acted → (cell : Cell) → cell_link state cell ≡ None

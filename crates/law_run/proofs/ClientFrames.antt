@@ -1,8 +1,8 @@
 -- What a client's step has to show so that servers and clients stay tied to the plain machine.
-use Rattle.std.proofs.Common.{◌≡◌, ◌≢◌, ◌≤◌, ◌<◌, ◌+◌, ℕ, List, [], ◌∷◌, Bool, true, false, Some, refl, sym, ap, ◌∙◌, subst, ◌⊎◌, inl, inr, arith}
+use Rattle.std.proofs.Common.{◌≡◌, ◌≢◌, ◌≤◌, ◌<◌, ◌+◌, ℕ, List, [], Bool, true, false, Some, refl, sym, ap, ◌∙◌, subst, ◌⊎◌, inl, inr, arith}
 use Rattle.std.specs.Ordering.{nat_cmp}
 use Rattle.petal_base.specs.declared.cell.Cell.{Cell}
-use Rattle.std.specs.Prelude.{drop, length, map}
+use Rattle.std.specs.Prelude.{map}
 use Rattle.petal_table.specs.Table.{at}
 use Rattle.global_tables.specs.declared.disk.DiskRow.{DiskRow}
 use Rattle.petal_machine.specs.Machine.{Plain, disk_of, open_of}
@@ -20,7 +20,7 @@ use Rattle.petal_rules.specs.State.{State}
 use Rattle.petal_rules.specs.Store.{Chain, cell_cmp, chain_in}
 use Rattle.petal_rules.specs.Server.{Post, letters_of}
 use Rattle.petal_rules.specs.Clients.{Client, Reaction, client_sender}
-use Rattle.petal_rules.specs.World.{Setting, World, reacts, stamped, chosen_state}
+use Rattle.petal_rules.specs.World.{Setting, World, reacts, stamped, chosen_state, counted, kept}
 use Rattle.petal_rules.proofs.ListLemmas.{in-append}
 use Rattle.petal_history.specs.Contents.{content_where}
 use Rattle.petal_history.specs.Events.{open_write, write_asked, change_by, takes, makes, make_of, looks, look_of}
@@ -38,6 +38,7 @@ use Rattle.law_run.specs.Onward.{IsMindful, held_in, is_held, Seat}
 use Rattle.law_run.specs.Follow.{Ground, HasCounted, Is_told, Is_followed, Is_counted, Follow}
 use Rattle.law_run.proofs.Along.{Along, rows_in, disks_now}
 use Rattle.law_run.proofs.Looks.{is_data, no_look}
+use Rattle.law_run.proofs.Makes.{drop_all}
 use Rattle.law_run.proofs.Members.{all_empty}
 use Rattle.law_run.proofs.Takes.{no_takes}
 
@@ -72,10 +73,6 @@ pub record ClientStep : Type 0 where
   pub c : ℕ
   pub stamp : ℕ
   pub later : List Record
-
-drop_all : {A : Type 0} (xs : List A) → drop (length xs) xs ≡ []
-drop_all [] = refl
-drop_all (x ∷ xs) = drop_all xs
 
 module _ (this : ClientStep) where
   abbrev setting : Setting
@@ -112,7 +109,7 @@ module _ (this : ClientStep) where
   -- no content changes, and nothing is chosen
   pub nothing_taken : (reacted : Reaction) → takes (change_by this.setting this.w (after_turn reacted)) ≡ Some []
   nothing_taken reacted = no_takes (change_by this.setting this.w (after_turn reacted)) (λ row h b.
-      sym (ap (λ o. content_where (chosen_state this.setting this.w) this.w o row.epoch b)
+      sym (ap (λ o. content_where (chosen_state this.setting this.w) (counted this.setting this.w) o row.epoch b)
       ((disks_now this.setting this.w this.along.firm).at row h)))
 
   pub nothing_made : (reacted : Reaction) → makes (change_by this.setting this.w (after_turn reacted)) ≡ []
@@ -159,7 +156,7 @@ module _ (this : ClientStep) where
         (λ is still. held_still last.seq (finished_old n last is) still (this.follow.finished n this.c last on is how)) j is
 
     pending : (n : ℕ) (cell : Cell) (op : Pending) → (this.w.servers n).life.running ≡ true → at cell_cmp (owns_of this.w n).pairs.pending cell ≡ Some op
-        → HasCounted this.setting this.w n cell op (chain_in (owns_of this.w n).store.chains cell)
+        → HasCounted this.setting this.w n cell op (chain_in (kept this.setting this.w n).chains cell)
         → IsOpen ((after_turn reacted).clients op.client) op.seq → is_held k op.client ≡ true
     pending n cell op on is counted still =
         all_put_apart this.w.clients this.c reacted.client
@@ -176,7 +173,7 @@ module _ (this : ClientStep) where
     counted_back : (n : ℕ) (cell : Cell) (op : Pending) (chain : Chain) → HasCounted this.setting (after_turn reacted) n cell op chain
         → HasCounted this.setting this.w n cell op chain
     counted_back n cell op chain (Is_told off paired) = Is_told off paired
-    counted_back n cell op chain (Is_followed row linked both put same) = Is_followed row linked both put same
+    counted_back n cell op chain (Is_followed row linked both shared put same) = Is_followed row linked both shared put same
     counted_back n cell op chain (Is_counted put here) = Is_counted put here
 
     pub turn_follow : ((post : Post) → In post reacted.posts → (seq : ℕ) → post.body ≢ body.Written seq)

@@ -1,5 +1,5 @@
 -- Where each content that changes in a server's step is that of a write under way, the machine takes those writes.
-use Rattle.std.proofs.Common.{◌≡◌, ◌<◌, ℕ, List, true, Some, sym, ap, ◌∙◌, subst, ◌⊎◌, inl, inr}
+use Rattle.std.proofs.Common.{◌≡◌, ◌<◌, ℕ, Bool, List, true, Some, sym, ap, ◌∙◌, subst, ◌⊎◌, inl, inr}
 use Rattle.global_tables.specs.Disk.{named}
 use Rattle.global_tables.specs.declared.disk.DiskRow.{DiskRow}
 use Rattle.petal_machine.specs.declared.event.Event.{Event}
@@ -7,16 +7,18 @@ use Rattle.petal_machine.specs.declared.event.Write.{Write}
 use Rattle.petal_machine.specs.Machine.{Plain, content, disk_of, open_of}
 use Rattle.petal_machine.specs.Run.{IsOpen as IsUnderWay, Obeys, replay}
 use Rattle.petal_rules.specs.Lists.{In}
-use Rattle.petal_rules.specs.World.{World, chosen_state}
+use Rattle.petal_rules.specs.World.{World, chosen_state, counted}
 use Rattle.petal_rules.proofs.Tests.{none_some, same_some}
+use Rattle.petal_history.specs.Contents.{has_content}
 use Rattle.petal_history.specs.Events.{Change, change_by, before_step, after_step, blocks_in, open_write, takes}
+use Rattle.law_state.proofs.Steady.{log_below}
 use Rattle.law_run.specs.Onward.{held_in, Onward, Seat}
 use Rattle.law_run.specs.Follow.{Stores, kept_at}
-use Rattle.law_run.proofs.Along.{rows_in, disks_now, before_is, after_is}
+use Rattle.law_run.proofs.Along.{rows_in, disks_now, before_is, after_is, had_content, has_is}
 use Rattle.law_run.proofs.Frames.{OwnFollow, SaysOk, CountsOk, own_follow}
 use Rattle.law_run.proofs.Machine.{IsTake, Nearly, AllTaken, all_taken, seat_onward, stands_held}
 use Rattle.law_run.proofs.Steps.{ServerStep, TakesTold, new, later_world}
-use Rattle.law_run.proofs.Takes.{Gives, AreTold, takes_told}
+use Rattle.law_run.proofs.Takes.{Gives, AreTold, has_then, takes_told}
 
 module _ (this : ServerStep) where
   abbrev v : World
@@ -30,10 +32,14 @@ module _ (this : ServerStep) where
 
   -- what counts before the step, and after it
   abbrev pub was_kept : DiskRow → ℕ → List ℕ
-  was_kept = kept_at (chosen_state this.setting this.w) this.w
+  was_kept = kept_at (chosen_state this.setting this.w) (counted this.setting this.w)
 
   abbrev pub now_kept : DiskRow → ℕ → List ℕ
-  now_kept = kept_at (chosen_state this.setting v) v
+  now_kept = kept_at (chosen_state this.setting v) (counted this.setting v)
+
+  -- the block has a content after the step
+  abbrev pub now_has : DiskRow → ℕ → Bool
+  now_has = has_content (chosen_state this.setting v)
 
   -- a write under way gives a block its new content, and a server has an entry of the block
   pub record IsGiven (row : DiskRow) (block : ℕ) : Type 0 where
@@ -43,10 +49,10 @@ module _ (this : ServerStep) where
     pub disk_is : write.disk ≡ row.name
     pub block_is : write.block ≡ block
     pub bytes_is : write.bytes ≡ now_kept row block
-    pub looked : In block (blocks_in this.setting v)
+    pub looked : In block (blocks_in this.setting (counted this.setting v))
 
   abbrev pub AreGiven : Type 0
-  AreGiven = (row : DiskRow) → In row rows → (b : ℕ) → (was_kept row b ≡ now_kept row b) ⊎ IsGiven row b
+  AreGiven = (row : DiskRow) → In row rows → (b : ℕ) → now_has row b ≡ true → (was_kept row b ≡ now_kept row b) ⊎ IsGiven row b
 
   -- the machine after the takes
   pub record Taken : Type 0 where
@@ -54,7 +60,7 @@ module _ (this : ServerStep) where
     pub is : takes change ≡ Some es
     pub may : Obeys this.m es
     pub onward : Onward this.m (replay this.m es)
-    pub stores : Stores (chosen_state this.setting v) rows v (replay this.m es)
+    pub stores : Stores (chosen_state this.setting v) rows (counted this.setting v) (replay this.m es)
 
   is_named : (row : DiskRow) → In row rows → named rows row.name ≡ Some row
   is_named row h = (disks_now this.setting this.w this.along.firm).named row h
@@ -69,9 +75,12 @@ module _ (this : ServerStep) where
     after : (row : DiskRow) → In row rows → (b : ℕ) → after_step change row b ≡ now_kept row b
     after = after_is this.setting this.w v this.along.firm this.next.firm this.grown
 
-    gives : (row : DiskRow) → In row rows → (b : ℕ)
+    has : (row : DiskRow) → In row rows → (b : ℕ) → has_then change row b ≡ now_has row b
+    has = has_is this.setting this.w v this.along.firm this.next.firm this.grown
+
+    gives : (row : DiskRow) → In row rows → (b : ℕ) → has_then change row b ≡ true
         → (before_step change row b ≡ after_step change row b) ⊎ Gives change row b
-    gives row h b = elim (given row h b) [
+    gives row h b there = elim (given row h b (sym (has row h b) ∙ there)) [
       | inl same ↦ inl (before row h b ∙ same ∙ sym (after row h b))
       | inr g ↦ inr (record {
         write = g.write;
@@ -93,7 +102,7 @@ module _ (this : ServerStep) where
         subst (λ o. Seat o (open_of this.m.opened write.client)) is (this.follow.seats write.client) in
         record { held = seat.0; is = seat.1 }
 
-    each : (e : Event) → In e told.es → IsTake rows apart now_kept this.m e
+    each : (e : Event) → In e told.es → IsTake rows apart now_has now_kept this.m e
     each e h =
         let t = told.each e h in
         record {
@@ -108,14 +117,18 @@ module _ (this : ServerStep) where
           bytes_is = t.it.bytes_is ∙ after t.row t.there t.block;
         }
 
-    near : (row : DiskRow) → In row rows → Nearly rows apart now_kept this.m told.es row
+    had : (row : DiskRow) → In row rows → (b : ℕ) → now_has row b ≡ true → has_content (chosen_state this.setting this.w) row b ≡ true
+    had = had_content this.setting this.w v this.along.firm this.next.firm
+        (log_below this.setting.servers _ _ this.next.firm.plain this.grows)
+
+    near : (row : DiskRow) → In row rows → Nearly rows apart now_has now_kept this.m told.es row
     near row h =
         let k = this.follow.stores.known row h in
         record {
           disk = k.disk;
           is = k.is;
-          same = λ b. elim (told.all row h b) [
-            | inl same ↦ inl (k.same b ∙ sym (before row h b) ∙ same ∙ after row h b)
+          same = λ b there. elim (told.all row h b (has row h b ∙ there)) [
+            | inl same ↦ inl (k.same b (had row h b there) ∙ sym (before row h b) ∙ same ∙ after row h b)
             | inr come ↦ inr (record {
               write = come.2.write;
               there = subst (λ e. In e told.es) come.2.is come.1;
@@ -127,7 +140,8 @@ module _ (this : ServerStep) where
 
     pub all_given : Taken
     all_given =
-        let t : AllTaken rows apart now_kept this.m told.es = all_taken rows apart now_kept told.es this.m this.follow.stores.mindful each near in
+        let t : AllTaken rows apart now_has now_kept this.m told.es =
+        all_taken rows apart now_has now_kept told.es this.m this.follow.stores.mindful each near in
         record {
           es = told.es;
           is = told.told;
@@ -141,14 +155,15 @@ module _ (this : ServerStep) where
         }
 
   -- a write of what its block then has has had its bytes
-  pub given_held : (k : Plain) → Onward this.m k → Stores (chosen_state this.setting v) rows v k → (row : DiskRow) → In row rows → (block c : ℕ) (write : Write)
+  pub given_held : (k : Plain) → Onward this.m k → Stores (chosen_state this.setting v) rows (counted this.setting v) k → (row : DiskRow)
+      → In row rows → (block c : ℕ) (write : Write) → now_has row block ≡ true
       → open_write this.w c ≡ Some write → write.disk ≡ row.name → write.block ≡ block → write.bytes ≡ now_kept row block
       → held_in (open_of k.opened c) ≡ true
-  given_held k onward stores row h block c write is disk_is block_is bytes_is =
+  given_held k onward stores row h block c write has is disk_is block_is bytes_is =
       let known = stores.known row h in
       let seat : Seat (Some write) (open_of this.m.opened c) = subst (λ o. Seat o (open_of this.m.opened c)) is (this.follow.seats c) in
       stands_held k known.disk c write (ap (disk_of k.disks) disk_is ∙ known.is) stores.mindful (seat_onward this.m k c (Some write) onward seat)
-      (ap (content known.disk.now) block_is ∙ known.same block ∙ sym bytes_is)
+      (ap (content known.disk.now) block_is ∙ known.same block has ∙ sym bytes_is)
 
   -- the step, as contents see it: what is told, and that servers and clients stay tied to the machine
   pub takes_of : (taken : Taken) → OwnFollow this (replay this.m taken.es) (new this) → CountsOk this (replay this.m taken.es)

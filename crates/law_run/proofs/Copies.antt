@@ -1,73 +1,69 @@
 -- A copy changes the chain of a cell only at a server whose copy doesn't count: the other server of the link holds it alone, and has the
--- block marked.
-use Rattle.std.proofs.Common.{◌≡◌, ◌≢◌, ◌≤◌, ◌<◌, ◌==◌, ◌||◌, ℕ, List, [], ◌∷◌, true, false, Option, Some, None, refl, sym, ap, ◌∙◌, subst, inl, inr, arith}
+-- block left to copy.
+use Rattle.std.proofs.Common.{◌≡◌, ◌≢◌, ◌==◌, ◌||◌, ℕ, Bool, List, [], ◌∷◌, true, Option, Some, refl, sym, ap, ◌∙◌, subst, ◌⊎◌, inl, inr, arith}
 use Rattle.global_tables.specs.Link.{has_server, other_of}
 use Rattle.global_tables.specs.declared.link.LinkRow.{LinkRow}
-use Rattle.global_tables.specs.declared.link.LinkState.TheVariants.{Both, Only}
+use Rattle.global_tables.specs.declared.link.LinkState.TheVariants.{Both, Only, Lost}
 use Rattle.petal_base.specs.declared.cell.Cell.{Cell}
-use Rattle.petal_base.specs.declared.cell.Key.{Key}
-use Rattle.petal_base.specs.Cells.{cell_of}
 use Rattle.petal_command.specs.declared.command.Command.{Command}
 use Rattle.petal_table.specs.Table.{Table}
 use Rattle.petal_msg.specs.Kinds.{about}
 use Rattle.petal_msg.specs.declared.body.Body.{Body}
 use Rattle.petal_msg.specs.declared.body.Body.TheVariants as body
 use Rattle.petal_msg.specs.declared.copying.LastCopy.{LastCopy}
-use Rattle.petal_history.specs.Claims.{IsPrefix, IsMarked}
+use Rattle.petal_history.specs.Claims.{IsPrefix}
 use Rattle.petal_rules.specs.Copies.{epochs_beyond}
-use Rattle.petal_rules.specs.Progress.{last_copy}
-use Rattle.petal_rules.specs.Server.{Own, Here}
+use Rattle.petal_rules.specs.Server.{Own}
 use Rattle.petal_rules.specs.State.{State, authority, id_of}
 use Rattle.petal_rules.specs.Store.{Chain}
-use Rattle.petal_rules.specs.World.{Setting, World, chosen_log, chosen_state, server_state}
-use Rattle.petal_rules.proofs.Tests.{by_bool, none_some, number_itself, same_numbers, same_some, some_or_none, true_false}
-use Rattle.petal_state.specs.CellState.{cell_link}
+use Rattle.petal_rules.specs.World.{Setting, World, chosen_log, chosen_state, kept, server_state}
+use Rattle.petal_rules.proofs.Tests.{by_bool, none_some, same_numbers, same_some}
 use Rattle.law_state.specs.Firm.{Firm}
-use Rattle.law_state.specs.Rows.{ByBoth, ByOne, IsLater}
+use Rattle.law_state.specs.Rows.{IsLater}
 use Rattle.law_state.specs.Started.{is_flagged}
-use Rattle.law_state.proofs.Cells.{alone_authority}
+use Rattle.law_state.proofs.Caughts.{alone_by}
+use Rattle.law_state.proofs.Cells.{alone_authority, lost_authority}
 use Rattle.law_steps.specs.Happens.{Handled, own_place}
 use Rattle.law_steps.proofs.Fronts.{front_itself}
 use Rattle.law_steps.proofs.Histories.{chosen_steady, own_steady}
-use Rattle.law_copies.specs.Copied.{AreCopying, IsLastCopy, IsTold, IsTrimming, HasSent}
+use Rattle.law_copies.specs.Copied.{AreCopying, IsCaught, IsLastCopy, IsLeft, IsTold, IsTrimming, HasSent, links_of}
 use Rattle.law_copies.specs.Pair.{owns_of}
-use Rattle.law_copies.specs.Steps.{IsMarkedBy}
+use Rattle.law_copies.specs.Steps.{IsLeftBy}
 use Rattle.law_copies.specs.Visits.{IsLinked, place_by}
 use Rattle.law_copies.proofs.Lasts.{of_last, past_last, past_of}
 use Rattle.law_copies.proofs.Later.{alone_or_flagged, been_below, holder_is_one, other_than, unseen_beyond}
 use Rattle.law_copies.proofs.Others.{IsOther, held_by, other_apart}
 use Rattle.law_copies.proofs.Places.{fronts_meet, linked_on, one_row, places_up, rows_later}
-use Rattle.law_copies.proofs.Standing.{alone_both, not_both, only_alone}
 use Rattle.law_run.specs.Follow.{Ground}
 use Rattle.law_run.proofs.Chains.{CopiesSo, Is_put, Is_dropped, Is_dropped_first, PutsCopy}
-use Rattle.law_run.proofs.Seats.{IsSharing, place_of, sharing_last, visit_here}
+use Rattle.law_run.proofs.Seats.{IsSharing, visit_here}
 
--- ### The holder has the block marked
+-- ### The block is left to copy at the holder
 
 module _ (heard : Body → Type 0) (own : Own) (row : LinkRow) (cell : Cell) (holder : Option Own)
-    (old : AreCopying row cell holder (Some own))
-    (told : (said : Body) → heard said → (about said).cell ≡ Some cell → IsTold holder (Some own) said) where
+    (links : ℕ) (old : AreCopying links row cell holder (Some own))
+    (told : (said : Body) → heard said → (about said).cell ≡ Some cell → IsTold row holder (Some own) said) where
   -- while it waits for this server to trim
-  waiting : (by : Own) (number : ℕ) → holder ≡ Some by → IsTrimming by cell number → IsMarkedBy holder cell
+  waiting : (by : Own) (number : ℕ) → holder ≡ Some by → IsTrimming by cell number → IsLeftBy row holder cell
   waiting by number met t =
       let c = old.copying by t.copy met t.is in
-      record { by = by; met = met; marked = c.marked (inl t.waits) }
+      record { by = by; met = met; left = c.left (inl t.waits) }
 
   dropped : (last : LastCopy) (epoch : ℕ) (epochs : List ℕ) → IsLastCopy holder own cell last
-      → epochs_beyond own cell last.epochs ≡ epoch ∷ epochs → IsMarkedBy holder cell
+      → epochs_beyond own cell last.epochs ≡ epoch ∷ epochs → IsLeftBy row holder cell
   dropped last epoch epochs l beyond = elim l.trimmed [
     | inl none ↦ (let f : [] ≡ epoch ∷ epochs = sym none ∙ beyond in absurd cc)
     | inr waits ↦ waiting l.by last.op l.met waits
   ]
 
-  pub copy_marked : (chains : Table Cell Chain) → CopiesSo heard own cell chains → IsMarkedBy holder cell
-  copy_marked chains (Is_put entry last e h is number at _) =
-      let sent : HasSent holder (Some own) cell entry.op entry.index (entry.key.epoch, entry.stored) =
-      subst (λ (c : Cell). HasSent holder (Some own) c entry.op entry.index (entry.key.epoch, entry.stored)) e
+  pub copy_left : (chains : Table Cell Chain) → CopiesSo heard own cell chains → IsLeftBy row holder cell
+  copy_left chains (Is_put entry last e h is number at _) =
+      let sent : HasSent row holder (Some own) cell entry.op entry.index (entry.key.epoch, entry.stored) =
+      subst (λ (c : Cell). HasSent row holder (Some own) c entry.op entry.index (entry.key.epoch, entry.stored)) e
       (told (body.Sync entry.op entry.key entry.stored.version entry.index entry.stored.bytes) h (ap Some e)) in
-      let of = of_last own cell last is holder entry.op entry.index (entry.key.epoch, entry.stored) sent number in
-      record { by = of.own; met = of.met; marked = of.marked at }
-  copy_marked chains (Is_dropped_first number epochs epoch h newer _) = elim (told (body.Trim number cell epochs) h refl) [
+      let of = of_last own cell last is row holder entry.op entry.index (entry.key.epoch, entry.stored) sent number in
+      record { by = of.own; met = of.met; left = of.left at }
+  copy_left chains (Is_dropped_first number epochs epoch h newer _) = elim (told (body.Trim number cell epochs) h refl) [
     | inl past ↦
         let last = past_last own cell number past in
         let lt = newer last.0 last.1 in
@@ -75,9 +71,15 @@ module _ (heard : Body → Type 0) (own : Own) (row : LinkRow) (cell : Cell) (ho
         absurd (omega arith)
     | inr asked ↦ waiting asked.own number asked.met asked.trimming
   ]
-  copy_marked chains (Is_dropped last epoch epochs is beyond _) = dropped last epoch epochs (old.lasts own last refl is) beyond
+  copy_left chains (Is_dropped last epoch epochs is beyond _) = dropped last epoch epochs (old.lasts own last refl is) beyond
 
-module _ (setting : Setting) (state : State) (w : World) (firm : Firm setting w) (ground : Ground setting state w) (n : ℕ) (new : Own)
+-- nothing is, once the holder has started a ballot for the link's Caught
+nothing_left : {row : LinkRow} {cell : Cell} (own : Own) → IsCaught own row cell → IsLeft own row cell → ⊥
+nothing_left own caught (inl marked) = caught.unmarked marked
+nothing_left own caught (inr whole) = caught.copied whole.0 whole.1
+
+module _ (setting : Setting) (state : State) (w : World) (firm : Firm setting w) (ground : Ground setting state w) (n : ℕ)
+    (runs : (w.servers n).life.running ≡ true) (new : Own)
     (puts : PutsCopy (Handled w n) (own_place setting w n) (owns_of w n) new) where
   abbrev chosen : List Command
   chosen = chosen_log setting w
@@ -93,11 +95,12 @@ module _ (setting : Setting) (state : State) (w : World) (firm : Firm setting w)
     pub row : LinkRow
     pub linked : IsLinked setting (own_front n) cell row
     pub holder : ℕ
-    pub alone : row.state ≡ Only holder false
+    pub whole : Bool
+    pub alone : row.state ≡ Only holder whole
     pub other : other_of holder row ≡ n
     pub apart : holder ≢ n
     pub holds : has_server holder row ≡ true
-    pub marked : IsMarkedBy (ground.good.visits holder (place_by setting (own_front n) row) cell) cell
+    pub left : IsLeftBy row (ground.good.visits holder (place_by setting (own_front n) row) cell) cell
     -- so it has started no ballot for the link's Caught
     pub unflagged : (own : Own) → ground.good.visits holder (place_by setting (own_front n) row) cell ≡ Some own
         → is_flagged own (id_of row) ≡ true → ⊥
@@ -118,15 +121,11 @@ module _ (setting : Setting) (state : State) (w : World) (firm : Firm setting w)
   abbrev visit : Option Own
   visit = ground.good.visits h place cell
 
-  alone : link.state ≡ Only h false
-  alone = elim ((own_steady setting w firm n).linked cell link there.1.is).served [
-    | ByBoth so one two ↦ not_both h link there.1.alone so
-    | ByOne holder other so pair out ↦
-        so ∙ ap (λ k. Only k false) (alone_both holder h link.state (only_alone holder link false so) there.1.alone)
-  ]
+  alone : (whole : Bool) × (link.state ≡ Only h whole)
+  alone = alone_by h link.state there.1.alone
 
   holds : has_server h link ≡ true
-  holds = holder_is_one (server_state setting w n) (own_steady setting w firm n) h cell link there.1.is alone
+  holds = holder_is_one (server_state setting w n) (own_steady setting w firm n) h cell link there.1.is alone.1
 
   apart : h ≢ n
   apart = other_apart link n ((own_steady setting w firm n).linked cell link there.1.is).apart
@@ -135,67 +134,80 @@ module _ (setting : Setting) (state : State) (w : World) (firm : Firm setting w)
   other = other_than h n link holds there.1.one_of (by_bool (h == n) (λ t. absurd (apart (same_numbers h n t))) (λ f. f))
 
   own_visit : ground.good.visits (other_of h link) place cell ≡ Some (owns_of w n)
-  own_visit = ap (λ k. ground.good.visits k place cell) other ∙ visit_here setting state w firm ground n cell link puts.seat there.1.is
+  own_visit = ap (λ k. ground.good.visits k place cell) other ∙ visit_here setting state w firm ground n cell link runs puts.seat there.1.is
 
-  copying : AreCopying link cell visit (Some (owns_of w n))
-  copying = subst (AreCopying link cell visit) own_visit
-      (ground.good.alone (own_front n) cell link h (firm.servers n) there.1.is alone).copying
+  abbrev links : ℕ
+  links = links_of (server_state setting w n) cell.map
 
-  told : (said : Body) → Handled w n said → (about said).cell ≡ Some cell → IsTold visit (Some (owns_of w n)) said
+  copying : AreCopying links link cell visit (Some (owns_of w n))
+  copying = subst (AreCopying links link cell visit) own_visit
+      (ground.good.alone (own_front n) cell link h alone.0 (firm.servers n) there.1.is alone.1).copying
+
+  told : (said : Body) → Handled w n said → (about said).cell ≡ Some cell → IsTold link visit (Some (owns_of w n)) said
   told said heard of =
       let front = own_front n in
-      let letter = (ground.good.letters heard.letter heard.sent front cell link (firm.servers n) (sym heard.at) there.1.is).alone h alone in
-      let both : Body → Type 0 = λ b. IsTold visit (ground.good.visits (other_of h link) place cell) b in
-      subst (λ o. IsTold visit o said) own_visit (subst (λ (b : Body). (about b).cell ≡ Some cell → both b) heard.is letter of)
+      let letter = (ground.good.letters heard.letter heard.sent front cell link (firm.servers n) (sym heard.at) there.1.is).alone h alone.0 alone.1 in
+      let both : Body → Type 0 = λ b. IsTold link visit (ground.good.visits (other_of h link) place cell) b in
+      subst (λ o. IsTold link visit o said) own_visit (subst (λ (b : Body). (about b).cell ≡ Some cell → both b) heard.is letter of)
 
-  marked : IsMarkedBy visit cell
-  marked = copy_marked (Handled w n) (owns_of w n) link cell visit copying told new.store.chains puts.how
+  left : IsLeftBy link visit cell
+  left = copy_left (Handled w n) (owns_of w n) link cell visit links copying told new.store.chains puts.how
 
   pub copied_to : IsCopiedTo
   copied_to = record {
     row = link;
     linked = there.1.is;
     holder = h;
-    alone = alone;
+    whole = alone.0;
+    alone = alone.1;
     other = other;
     apart = apart;
     holds = holds;
-    marked = marked;
+    left = left;
     unflagged = λ own e flagged.
-        (copying.caught own e flagged).unmarked
-        (subst (λ (o : Own). IsMarked o.store cell) (same_some (sym marked.met ∙ e)) marked.marked);
+        nothing_left own (copying.caught own e flagged) (subst (λ (o : Own). IsLeft o link cell) (same_some (sym left.met ∙ e)) left.left);
   }
 
-  -- at each later front the other one holds the link alone still
+  -- at each later front the other one holds the link alone still, or it is Lost
   pub holds_still : (c : IsCopiedTo) (more : List Command) (now : LinkRow) → IsPrefix (own_front n) more → IsPrefix more chosen
-      → IsLinked setting more cell now → now.state ≡ Only c.holder false
+      → IsLinked setting more cell now → ((later : Bool) × (now.state ≡ Only c.holder later)) ⊎ (now.state ≡ Lost)
   holds_still c more now one two end =
-      elim (alone_or_flagged setting ground.records w firm ground.good ground.started
-      (own_front n) more cell c.row now c.holder one two c.linked c.alone end
+      elim (alone_or_flagged setting ground.records w (λ k. kept setting w k) firm ground.good ground.started
+      (own_front n) more cell c.row now c.holder c.whole one two c.linked c.alone end
       (λ place lt. ap (λ k. ground.good.visits k place cell) c.other
-      ∙ unseen_beyond setting ground.records w firm ground.good n cell c.row c.linked place lt)) [
-        | inl only ↦ only
-        | inr flagged ↦ absurd (c.unflagged flagged.0 flagged.1 flagged.2)
+      ∙ unseen_beyond setting ground.records w (λ k. kept setting w k) firm ground.good n cell c.row c.linked place lt)) [
+        | inl still ↦ inl (still.0, still.1)
+        | inr (inl lost) ↦ inr lost
+        | inr (inr flagged) ↦ absurd (c.unflagged flagged.0 flagged.1 flagged.2)
       ]
+
+  -- so it is not in Both
+  not_in_both : {B : Type 0} (c : IsCopiedTo) (more : List Command) (now : LinkRow) → IsPrefix (own_front n) more → IsPrefix more chosen
+      → IsLinked setting more cell now → now.state ≡ Both → B
+  not_in_both c more now one two end both = elim (holds_still c more now one two end) [
+    | inl only ↦ (let f : Only c.holder only.0 ≡ Both = sym only.1 ∙ both in absurd cc)
+    | inr lost ↦ (let f : Lost ≡ Both = sym lost ∙ both in absurd cc)
+  ]
 
   -- the server's copy doesn't count
   pub copied_uncounted : authority (chosen_state setting w) cell ≡ Some n → ⊥
   copied_uncounted counts =
       let c = copied_to in
       let now = linked_on setting chosen firm.plain (own_front n) chosen cell c.row (firm.servers n) (front_itself chosen) c.linked in
-      let only = holds_still c chosen now.0 (firm.servers n) (front_itself chosen) now.1 in
-      let holder = alone_authority (chosen_state setting w) cell now.0 now.1
-      ((chosen_steady setting w firm).linked cell now.0 now.1) c.holder false only in
-      c.apart (same_some (sym holder ∙ counts))
+      let steady = chosen_steady setting w firm in
+      elim (holds_still c chosen now.0 (firm.servers n) (front_itself chosen) now.1) [
+        | inl only ↦
+            let holder = alone_authority (chosen_state setting w) cell now.0 now.1 (steady.linked cell now.0 now.1) c.holder only.0 only.1 in
+            c.apart (same_some (sym holder ∙ counts))
+        | inr lost ↦ none_some (lost_authority (chosen_state setting w) cell now.0 now.1 (steady.linked cell now.0 now.1) lost) counts
+      ]
 
   -- and it is not the second one of a server that has the link in Both by its own state
   pub copied_unfollowed : (p : ℕ) (row : LinkRow) → IsSharing setting state w firm ground p cell row → p ≢ n → ⊥
   copied_unfollowed p row s apart =
       let c = copied_to in
       elim (fronts_meet (own_front n) (own_front p) chosen (firm.servers n) (firm.servers p)) [
-        | inl before ↦
-            let only = holds_still c (own_front p) row before (firm.servers p) s.linked in
-            (let f : Only c.holder false ≡ Both = sym only ∙ s.both in absurd cc)
+        | inl before ↦ not_in_both c (own_front p) row before (firm.servers p) s.linked s.both
         | inr behind ↦ absurd (further c behind)
       ]
     where
@@ -214,9 +226,9 @@ module _ (setting : Setting) (state : State) (w : World) (firm : Firm setting w)
           let has : has_server p c.row ≡ true = later_has c.row
           (rows_later setting chosen firm.plain (own_front p) (own_front n) cell row c.row behind (firm.servers n) s.linked c.linked) in
           let holder = holder_is c has in
-          let been = been_below setting ground.records w firm ground.good p (place_by setting (own_front n) c.row) cell c.marked.by row
-          (subst (λ k. ground.good.visits k (place_by setting (own_front n) c.row) cell ≡ Some c.marked.by) holder c.marked.met) s.linked in
+          let been = been_below setting ground.records w (λ k. kept setting w k) firm ground.good p (place_by setting (own_front n) c.row) cell c.left.by row
+          (subst (λ k. ground.good.visits k (place_by setting (own_front n) c.row) cell ≡ Some c.left.by) holder c.left.met) s.linked in
           let same : place_by setting (own_front p) row ≡ place_by setting (own_front n) c.row = omega arith in
           let one = one_row setting chosen firm.plain (own_front p) (own_front n) cell row c.row (firm.servers p)
           (firm.servers n) s.linked c.linked same in
-          (let f : Only c.holder false ≡ Both = sym c.alone ∙ ap (λ (r : LinkRow). r.state) one ∙ s.both in absurd cc)
+          (let f : Only c.holder c.whole ≡ Both = sym c.alone ∙ ap (λ (r : LinkRow). r.state) one ∙ s.both in absurd cc)

@@ -1,5 +1,5 @@
 -- What a server's step has to show so that servers and clients stay tied to the plain machine.
-use Rattle.std.proofs.Common.{◌≡◌, ◌≢◌, ℕ, true, Some, refl, sym, ap, ◌∙◌, subst, ◌⊎◌, inl, inr}
+use Rattle.std.proofs.Common.{◌≡◌, ◌≢◌, ℕ, true, Some, refl, sym, ap, ◌∙◌, subst, ◌⊎◌, inl, inr, arith}
 use Rattle.std.specs.Ordering.{nat_cmp}
 use Rattle.global_tables.specs.declared.link.LinkRow.{LinkRow}
 use Rattle.global_tables.specs.declared.link.LinkState.TheVariants.{Both}
@@ -13,29 +13,34 @@ use Rattle.petal_msg.specs.declared.letter.Letter.{Letter}
 use Rattle.petal_msg.specs.declared.operation.Ending.TheVariants as ending
 use Rattle.petal_msg.specs.declared.operation.Finished.{Finished}
 use Rattle.petal_msg.specs.declared.operation.Pending.{Pending}
+use Rattle.petal_state.specs.CellState.{serves}
 use Rattle.petal_rules.specs.Lists.{In}
 use Rattle.petal_rules.specs.Log.{state_in}
 use Rattle.petal_rules.specs.State.{authority, in_both}
-use Rattle.petal_rules.specs.Store.{Chain, cell_cmp, chain_in}
+use Rattle.petal_rules.specs.Store.{Chain, Store, cell_cmp, chain_in}
 use Rattle.petal_rules.specs.Server.{Own, Pairs, Server, no_pairs}
-use Rattle.petal_rules.specs.World.{World, chosen_log, chosen_state, server_state}
+use Rattle.petal_rules.specs.World.{World, chosen_log, chosen_state, counted, kept, server_state}
 use Rattle.petal_rules.proofs.ListLemmas.{in-append, put_same, put_apart}
 use Rattle.petal_rules.proofs.Tests.{none_some, same_or_apart, same_some}
 use Rattle.petal_history.specs.Claims.{IsPrefix}
 use Rattle.petal_history.specs.Events.{open_write}
 use Rattle.law_state.proofs.Alone.{both_row, so_both}
+use Rattle.law_state.proofs.Roles.{secondary_is_one}
+use Rattle.law_steps.proofs.Fronts.{front_itself}
 use Rattle.law_steps.proofs.Histories.{own_steady}
+use Rattle.law_stores.specs.Waiting.{IsOwn}
 use Rattle.law_copies.specs.Pair.{owns_of}
-use Rattle.law_copies.specs.Visits.{IsLinked}
-use Rattle.law_copies.proofs.Places.{rows_later}
+use Rattle.law_copies.specs.Visits.{IsLinked, place_by}
+use Rattle.law_copies.proofs.Places.{linked_on, one_row, places_up, rows_later}
 use Rattle.law_requests.specs.Asked.{IsOpen}
 use Rattle.law_run.specs.Onward.{is_held, Onward}
 use Rattle.law_run.specs.Follow.{HasCounted, Is_told, Is_followed, Is_counted, Follow, Stores}
 use Rattle.law_run.proofs.Leaving.{Leaves, As_it_was, In_place, Goes_further, Boots, serves_leaves}
-use Rattle.law_run.proofs.Seats.{IsSharing, op_shared, shared_before}
+use Rattle.law_run.proofs.Seats.{IsSharing, op_seat, op_shared, shared_before}
+use Rattle.law_run.proofs.Filled.{serving_same}
 use Rattle.law_run.proofs.Along.{rows_in}
 use Rattle.law_run.proofs.Machine.{seat_onward, held_onward}
-use Rattle.law_run.proofs.Steps.{ServerStep, new, later_world, letters, logs_grow, logs_within, own_now, own_other}
+use Rattle.law_run.proofs.Steps.{ServerStep, new, later_world, letters, joined_now, joined_then, kept_here, kept_other, logs_grow, logs_within, own_now, own_other}
 
 -- the server runs after the step
 abbrev pub Runs : ServerStep → Type 0
@@ -61,11 +66,13 @@ module _ (this : ServerStep) (k : Plain) where
     pub as_lead : (cell : Cell) (op : Pending) → Runs this → at cell_cmp after.pairs.pending cell ≡ Some op
         → HasCounted this.setting this.w this.n cell op (chain_in after.store.chains cell) → IsOpen (this.w.clients op.client) op.seq
         → is_held k op.client ≡ true
-    pub as_second : (cell : Cell) (p : ℕ) (op : Pending) (row : LinkRow)
+    pub as_second : joined_now this this.n ≡ joined_then this this.n → (cell : Cell) (p : ℕ) (op : Pending) (row : LinkRow)
         → IsSharing this.setting this.state this.w this.along.firm this.ground p cell row
         → row.primary ≡ p → row.secondary ≡ this.n → at cell_cmp (owns_of this.w p).pairs.pending cell ≡ Some op → op.stage.put ≡ true
-        → IsOpen (this.w.clients op.client) op.seq → chain_in (owns_of this.w p).store.chains cell ≡ chain_in after.store.chains cell
-        → (chain_in (owns_of this.w p).store.chains cell ≡ chain_in own.store.chains cell) ⊎ (is_held k op.client ≡ true)
+        → IsOpen (this.w.clients op.client) op.seq
+        → chain_in (kept this.setting this.w p).chains cell ≡ chain_in (kept this.setting v this.n).chains cell
+        → (chain_in (kept this.setting this.w p).chains cell ≡ chain_in (kept this.setting this.w this.n).chains cell)
+        ⊎ (is_held k op.client ≡ true)
 
   -- what it sends ends a write as written only where that has had its bytes
   abbrev pub SaysOk : Type 0
@@ -141,16 +148,65 @@ module _ (this : ServerStep) (k : Plain) where
     leaves = serves_leaves this.setting this.state this.w this.n this.what this.acted this.serving
 
     abbrev chain_now : ℕ → Cell → Chain
-    chain_now i cell = chain_in (owns_of v i).store.chains cell
+    chain_now i cell = chain_in (kept this.setting v i).chains cell
 
     abbrev chain_then : ℕ → Cell → Chain
-    chain_then i cell = chain_in (owns_of this.w i).store.chains cell
+    chain_then i cell = chain_in (kept this.setting this.w i).chains cell
 
-    same_chain : (i : ℕ) (cell : Cell) → i ≢ this.n → chain_now i cell ≡ chain_then i cell
-    same_chain i cell ne = ap (λ (h : Own). chain_in h.store.chains cell) (own_other this i ne)
+    same_chain : (i : ℕ) (cell : Cell) → i ≢ this.n → joined_now this i ≡ joined_then this i → chain_now i cell ≡ chain_then i cell
+    same_chain i cell ne same = ap (λ (s : Store). chain_in s.chains cell) (kept_other this i ne same)
 
-    new_chain : (cell : Cell) → chain_now this.n cell ≡ chain_in (new this).store.chains cell
-    new_chain cell = ap (λ (h : Own). chain_in h.store.chains cell) (own_now this)
+    -- the store of a server that runs with an operation counts: it is In as itself
+    counts_now : (i : ℕ) (cell : Cell) (op : Pending) → (v.servers i).life.running ≡ true → at cell_cmp (owns_of v i).pairs.pending cell ≡ Some op
+        → IsOwn this.setting v i
+    counts_now i cell op on is =
+        this.onward.own i on (op_seat this.setting this.state v this.next.firm this.onward i cell op on is)
+
+    counts_then : (i : ℕ) (cell : Cell) (op : Pending) → (this.w.servers i).life.running ≡ true
+        → at cell_cmp (owns_of this.w i).pairs.pending cell ≡ Some op → IsOwn this.setting this.w i
+    counts_then i cell op runs is =
+        this.ground.own i runs (op_seat this.setting this.state this.w this.along.firm this.ground i cell op runs is)
+
+    new_chain : (cell : Cell) (op : Pending) → (v.servers this.n).life.running ≡ true → at cell_cmp (owns_of v this.n).pairs.pending cell ≡ Some op
+        → chain_now this.n cell ≡ chain_in (new this).store.chains cell
+    new_chain cell op on is =
+        ap (λ (s : Store). chain_in s.chains cell) (counts_now this.n cell op on is (owns_of v this.n).store)
+        ∙ ap (λ (h : Own). chain_in h.store.chains cell) (own_now this)
+
+    -- a link in Both by what is chosen was so before the step, where a server has it so by its own state; and its second server's store
+    -- counts as before
+    shared_then : (i : ℕ) (cell : Cell) (op : Pending) (row : LinkRow) → (v.servers i).life.running ≡ true
+        → at cell_cmp (owns_of v i).pairs.pending cell ≡ Some op → IsLinked this.setting (v.servers i).log.applied cell row → row.state ≡ Both
+        → in_both (chosen_state this.setting v) cell ≡ true → in_both (chosen_state this.setting this.w) cell ≡ true
+    shared_then i cell op row on is linked both shared =
+        let end = chosen_log this.setting v in
+        let top = chosen_log this.setting this.w in
+        let firm = this.next.firm in
+        let b = both_row (chosen_state this.setting v) cell shared in
+        let applied = (v.servers i).log.applied in
+        let s = shared_before this.setting this.state v firm this.onward i cell op on is end b.row (firm.servers i) (front_itself end) b.is b.both in
+        let mid = linked_on this.setting end firm.plain applied top cell s.first.row (logs_within this i) this.grows s.first.shares.linked in
+        let one = places_up this.setting end firm.plain applied top cell s.first.row mid.0 (logs_within this i) this.grows
+        s.first.shares.linked mid.1 in
+        let two = places_up this.setting end firm.plain top end cell mid.0 b.row this.grows (front_itself end) mid.1 b.is in
+        let at = s.at in
+        let same : place_by this.setting top mid.0 ≡ place_by this.setting end b.row = omega arith in
+        let row_is = one_row this.setting end firm.plain top end cell mid.0 b.row this.grows (front_itself end) mid.1 b.is same in
+        so_both (chosen_state this.setting this.w) cell mid.0 mid.1 (ap (λ (r : LinkRow). r.state) (sym row_is) ∙ b.both)
+
+    second_same : (i : ℕ) (cell : Cell) (row : LinkRow) → IsLinked this.setting (v.servers i).log.applied cell row
+        → in_both (chosen_state this.setting v) cell ≡ true → joined_now this row.secondary ≡ joined_then this row.secondary
+    second_same i cell row linked shared =
+        let end = chosen_log this.setting v in
+        let top = chosen_log this.setting this.w in
+        let firm = this.next.firm in
+        let b = both_row (chosen_state this.setting v) cell shared in
+        let applied = (v.servers i).log.applied in
+        let mid = linked_on this.setting end firm.plain applied top cell row (logs_within this i) this.grows linked in
+        let one = rows_later this.setting end firm.plain applied top cell row mid.0 (logs_within this i) this.grows linked mid.1 in
+        let two = rows_later this.setting end firm.plain top end cell mid.0 b.row this.grows (front_itself end) mid.1 b.is in
+        serving_same this cell mid.0 b.row row.secondary mid.1 b.is (secondary_is_one mid.0 row.secondary one.secondary)
+        (ap (serves row.secondary b.row) b.both ∙ secondary_is_one b.row row.secondary (two.secondary ∙ one.secondary))
 
     -- a server that leads a cell in Both is not its second one
     not_second : {B : Type 0} (cell : Cell) (op : Pending) → (v.servers this.n).life.running ≡ true
@@ -186,12 +242,15 @@ module _ (this : ServerStep) (k : Plain) where
             let was = was_shared cell op b.row leaves is (to_here b.row b.is) b.both in
             job.as_lead cell op runs is (Is_told (so_both
             (server_state this.setting this.w this.n) cell was.old was.linked was.both) paired) still
-        by (Is_followed row linked both put same) =
+        by (Is_followed row linked both shared put same) =
             let was = was_shared cell op row leaves is (to_here row linked) both in
+            let as_before = second_same this.n cell row linked shared in
             elim (same_or_apart row.secondary this.n) [
               | inl mine ↦ not_second cell op on there row linked both mine
-              | inr ne ↦ job.as_lead cell op runs is (Is_followed was.old was.linked was.both put
-                  (sym (new_chain cell) ∙ same ∙ same_chain row.secondary cell ne ∙ ap (λ q. chain_then q cell) was.second)) still
+              | inr ne ↦ job.as_lead cell op runs is (Is_followed was.old was.linked was.both
+                  (shared_then this.n cell op row on there linked both shared) put
+                  (sym (new_chain cell op on there) ∙ same ∙ same_chain row.secondary cell ne as_before
+                  ∙ ap (λ q. chain_then q cell) was.second)) still
             ]
         by (Is_counted put here) = elim (counts this.n cell op on there put here still) [
           | inl before ↦ job.as_lead cell op runs is (Is_counted put before) still
@@ -216,25 +275,38 @@ module _ (this : ServerStep) (k : Plain) where
         same_server : v.servers i ≡ this.w.servers i
         same_server = put_apart this.w.servers this.n this.acted.server i ne
 
+        -- and so is its store, which counts
+        own_chain : at cell_cmp (owns_of v i).pairs.pending cell ≡ Some op → chain_now i cell ≡ chain_then i cell
+        own_chain there_now =
+            ap (λ (s : Store). chain_in s.chains cell) (counts_now i cell op on there_now (owns_of v i).store)
+            ∙ ap (λ (h : Own). chain_in h.store.chains cell) (own_other this i ne)
+            ∙ ap (λ (s : Store). chain_in s.chains cell) (sym (counts_then i cell op runs is (owns_of this.w i).store))
+
         by : HasCounted this.setting v i cell op (chain_now i cell) → is_held k op.client ≡ true
         by (Is_told both paired) =
             was (Is_told (subst (λ (x : Server). in_both (state_in this.setting.servers x.log) cell ≡ true) same_server both) paired)
-        by (Is_followed row linked both put same) =
+        by (Is_followed row linked both shared put same) =
+            let there_now = there in
             let there : IsLinked this.setting (this.w.servers i).log.applied cell row =
             subst (λ (x : Server). IsLinked this.setting x.log.applied cell row) same_server linked in
+            let shared_was = shared_then i cell op row on there_now linked both shared in
+            let as_before = second_same i cell row linked shared in
             elim (same_or_apart row.secondary this.n) [
               | inl e ↦
                   let own_state = server_state this.setting this.w i in
                   let f = op_shared this.setting this.state this.w this.along.firm this.ground i cell op runs is
                   (so_both own_state cell row there both) in
                   let one : f.row ≡ row = same_some (sym f.shares.linked ∙ there) in
-                  let same' : chain_then i cell ≡ chain_in (new this).store.chains cell =
-                  sym (same_chain i cell ne) ∙ same ∙ ap (λ j. chain_now j cell) e ∙ new_chain cell in
-                  elim (job.as_second cell i op f.row f.shares f.first (ap (λ (r : LinkRow). r.secondary) one ∙ e) is put still same') [
-                    | inl before ↦ was (Is_followed row there both put (before ∙ ap (λ j. chain_then j cell) (sym e)))
+                  let same' : chain_then i cell ≡ chain_now this.n cell =
+                  sym (own_chain there_now) ∙ same ∙ ap (λ j. chain_now j cell) e in
+                  let as_before' : joined_now this this.n ≡ joined_then this this.n =
+                  subst (λ j. joined_now this j ≡ joined_then this j) e as_before in
+                  elim (job.as_second as_before' cell i op f.row f.shares f.first (ap (λ (r : LinkRow). r.secondary) one ∙ e) is put still same') [
+                    | inl before ↦ was (Is_followed row there both shared_was put (before ∙ ap (λ j. chain_then j cell) (sym e)))
                     | inr held ↦ held
                   ]
-              | inr ne' ↦ was (Is_followed row there both put (sym (same_chain i cell ne) ∙ same ∙ same_chain row.secondary cell ne'))
+              | inr ne' ↦ was (Is_followed row there both shared_was put
+                  (sym (own_chain there_now) ∙ same ∙ same_chain row.secondary cell ne' as_before))
             ]
         by (Is_counted put here) = elim (counts i cell op on there put here still) [
           | inl before ↦ was (Is_counted put before)
@@ -250,7 +322,7 @@ module _ (this : ServerStep) (k : Plain) where
       | inr ne ↦ theirs i ne cell op on is counted still
     ]
 
-    pub own_follow : SaysOk → Stores (chosen_state this.setting v) (rows_in this.setting this.w) v k
+    pub own_follow : SaysOk → Stores (chosen_state this.setting v) (rows_in this.setting this.w) (counted this.setting v) k
         → Follow this.setting (rows_in this.setting this.w) v k
     own_follow says stores = record {
       stores = stores;
@@ -262,6 +334,13 @@ module _ (this : ServerStep) (k : Plain) where
       pending = pending;
       finished = finished;
     }
+
+  -- the store of a server that runs with an operation counts
+  pub own_counted : (this.w.servers this.n).life.running ≡ true → (cell : Cell) (op : Pending) → at cell_cmp own.pairs.pending cell ≡ Some op
+      → chain_in (kept this.setting this.w this.n).chains cell ≡ chain_in own.store.chains cell
+  own_counted runs cell op is =
+      let seat = op_seat this.setting this.state this.w this.along.firm this.ground this.n cell op runs is in
+      ap (λ (s : Store). chain_in s.chains cell) (this.ground.own this.n runs seat own.store)
 
   module _ (onward : Onward this.m k) where
     pub kept_finished : (this.w.servers this.n).life.running ≡ true → (after : Own) → after.pairs.finished ≡ own.pairs.finished
@@ -275,14 +354,16 @@ module _ (this : ServerStep) (k : Plain) where
         → at cell_cmp after.pairs.pending cell ≡ Some op → HasCounted this.setting this.w this.n cell op (chain_in after.store.chains cell)
         → IsOpen (this.w.clients op.client) op.seq → is_held k op.client ≡ true
     kept_pending runs after pending cell chain op is counted still =
-        held_onward this.m k op.client onward (this.follow.pending this.n cell op runs (ap (λ t. at cell_cmp t cell) (sym pending) ∙ is)
-        (subst (HasCounted this.setting this.w this.n cell op) chain counted) still)
+        let was : at cell_cmp own.pairs.pending cell ≡ Some op = ap (λ t. at cell_cmp t cell) (sym pending) ∙ is in
+        held_onward this.m k op.client onward (this.follow.pending this.n cell op runs was
+        (subst (HasCounted this.setting this.w this.n cell op) (chain ∙ sym (own_counted runs cell op was)) counted) still)
 
     pub kept_own : (new this).store.chains ≡ own.store.chains → (Runs this → AreKept this) → OwnFollow (new this)
     kept_own chains kept = record {
       finished = λ c last on is how still. fin c last is how still (kept on);
       as_lead = λ cell op on is counted still. lead cell op is counted still (kept on);
-      as_second = λ cell p op row shares first second is put still same. inl (same ∙ ap (λ c. chain_in c cell) chains);
+      as_second = λ as_before cell p op row shares first second is put still same.
+          inl (same ∙ ap (λ c. chain_in c cell) (kept_here this chains as_before));
     }
       where
         fin : (c : ℕ) (last : Finished) → at nat_cmp (new this).pairs.finished c ≡ Some last → last.ending ≡ ending.Written

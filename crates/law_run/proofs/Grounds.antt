@@ -1,5 +1,5 @@
 -- Every step keeps the ground on which the run stands.
-use Rattle.std.proofs.Common.{◌≡◌, ◌+◌, ℕ, List, [], true, false, Some, refl, sym, ap, ◌∙◌, subst, inl, inr, arith, ◌≢◌, ◌<◌, Bool, ◌∷◌, Option, None}
+use Rattle.std.proofs.Common.{◌≡◌, ◌+◌, ℕ, List, [], true, Some, refl, sym, ap, ◌∙◌, subst, inl, inr, arith, Bool, ◌∷◌, Option, None}
 use Rattle.std.specs.BTreeMap.{is_at}
 use Rattle.std.specs.Prelude.{max, unwrap_or, filter, not}
 use Rattle.std.specs.Ordering.{nat_cmp}
@@ -13,33 +13,37 @@ use Rattle.petal_table.specs.Table.{Table, at, put, without}
 use Rattle.petal_table.proofs.Rows.{at-empty}
 use Rattle.petal_msg.specs.declared.body.Body.{Body}
 use Rattle.petal_msg.specs.declared.body.Body.TheVariants as body
-use Rattle.petal_msg.specs.declared.copying.LinkId.{LinkId}
 use Rattle.petal_msg.specs.declared.operation.Far.TheVariants as far
 use Rattle.petal_msg.specs.declared.operation.Pending.{Pending}
 use Rattle.script_lines.specs.declared.request.Line.{Line}
+use Rattle.petal_rules.specs.Blanked.{BeforeBlank}
+use Rattle.petal_rules.specs.Boots.{blanked}
+use Rattle.petal_rules.specs.Crossing.{crossed}
 use Rattle.petal_rules.specs.Returns.{holds_link, proposed}
 use Rattle.petal_rules.specs.State.{State, link_named}
 use Rattle.petal_rules.specs.Store.{Chain, Store, Stored, cell_cmp, chain_in, chains_at, entry_at, version_of, without_entry}
-use Rattle.petal_rules.specs.Server.{Own, Here, Done}
+use Rattle.petal_rules.specs.Server.{Own, Server, Here, Done}
 use Rattle.petal_rules.specs.Jobs.{Acted}
 use Rattle.petal_rules.specs.Log.{Log}
-use Rattle.petal_rules.specs.World.{Setting, World}
+use Rattle.petal_rules.specs.World.{Setting, World, before_blanks, kept}
 use Rattle.petal_rules.specs.declared.step.Step.{Step}
+use Rattle.petal_rules.specs.declared.step.Step.TheVariants.{Blank}
+use Rattle.petal_rules.proofs.Settled.{settling}
 use Rattle.petal_rules.proofs.Tests.{all_put, by_test, none_some, same_some}
 use Rattle.law_state.specs.Firm.{Firm}
 use Rattle.law_state.specs.Steady.{IsSteady}
-use Rattle.law_steps.specs.Happens.{Handled, Happens, Serves, Turns, Worked, By_job, By_ballot, By_entry, Serving, Goes, Ends, Stays, Wakes, Fails, own_place}
+use Rattle.law_steps.specs.Happens.{Handled, Happens, Serves, Blanks, Turns, Worked, By_job, By_ballot, By_entry, Serving, Goes, Ends, Stays, Wakes, Fails, own_place}
 use Rattle.law_steps.specs.Operations.{progress}
 use Rattle.law_steps.proofs.Staged.{same_cell_or_apart}
-use Rattle.law_copies.specs.Good.{store_of}
 use Rattle.law_copies.specs.Pair.{IsPutting, owns_of}
 use Rattle.law_copies.specs.Visits.{IsLinked, half, place_by}
 use Rattle.law_copies.proofs.Chains.{chain_apart, chain_put, gone_apart, gone_chain}
 use Rattle.law_requests.specs.Asked.{IsWrite}
 use Rattle.law_requests.specs.Known.{AskingBy, Lives, PendingFor, asked_for, seen}
-use Rattle.law_run.specs.Follow.{Ground, IsRemembered, IsShort, IsShortSync, Is_pending, Was_pending}
+use Rattle.law_run.specs.Follow.{Ground, HasShortChains, IsRemembered, IsShort, IsShortSync, Is_pending, OfStores, Was_pending}
 use Rattle.law_run.proofs.Chains.{CopiesSo, Is_put, Is_dropped, Is_dropped_first, PutsAsked, StoresSo, Nothing_new, An_own, An_asked, A_copy, did_stores}
-use Rattle.law_run.proofs.Seats.{IsSharing, heard_shared, second_shares, sharing_last, visit_here}
+use Rattle.law_run.proofs.Counted.{of_stores}
+use Rattle.law_run.proofs.Seats.{IsSharing, heard_shared, second_shares, sharing_last, store_there, visit_here}
 
 short_put : (chain : Chain) (epoch : ℕ) (entry : Stored) → epoch ≡ 0 → IsShort chain → IsShort (put nat_cmp chain epoch entry)
 unfolding put
@@ -157,12 +161,14 @@ module _ (setting : Setting) (state : State) (steady : IsSteady state) (w : Worl
       let cell = cell_of a.key in
       let s = second_shares setting state w firm ground n cell runs a.seat a.seconds in
       let place = place_by setting (w.servers n).log.applied s.row in
-      let last : at cell_cmp (half (ground.good.visits s.row.secondary place cell) (store_of w s.row.secondary)).pairs.last cell
+      let last : at cell_cmp (half (ground.good.visits s.row.secondary place cell)
+      (store_there setting state w firm ground n s.row.secondary)).pairs.last cell
       ≡ Some (record { op = a.number; far = far.Reserved }) =
-      ap (λ k. at cell_cmp (half (ground.good.visits k place cell) (store_of w k)).pairs.last cell) s.second
-      ∙ ap (λ o. at cell_cmp (half o (store_of w n)).pairs.last cell)
-      (visit_here setting state w firm ground n cell s.row a.seat s.shares.linked) ∙ a.last in
-      let there = putting_there (ground.good.visits s.row.primary place cell) (store_of w s.row.primary) cell a.number a.key a.bytes
+      ap (λ k. at cell_cmp (half (ground.good.visits k place cell) (store_there setting state w firm ground n k)).pairs.last cell) s.second
+      ∙ ap (λ o. at cell_cmp (half o (store_there setting state w firm ground n n)).pairs.last cell)
+      (visit_here setting state w firm ground n cell s.row runs a.seat s.shares.linked) ∙ a.last in
+      let there = putting_there (ground.good.visits s.row.primary place cell) (store_there setting state w firm ground n s.row.primary) cell
+      a.number a.key a.bytes
       (elim (heard_shared setting state w firm ground n cell s.row s.shares
       (body.Replicate a.number a.key a.version a.bytes) a.asked refl) [
         | inl putting ↦ putting
@@ -210,7 +216,7 @@ module _ (setting : Setting) (state : State) (steady : IsSteady state) (w : Worl
 
   short_drop : (cell q : Cell) (epoch : ℕ) → IsShort (chain_in (without_entry own.store (key_at cell epoch)).chains q)
   short_drop cell q epoch =
-      short_set own.store.chains cell q _ (short_without (chain_in own.store.chains cell) epoch (ground.short n cell)) (ground.short n q)
+      short_set own.store.chains cell q _ (short_without (chain_in own.store.chains cell) epoch (ground.short.now n cell)) (ground.short.now n q)
 
   copied_short : (cell : Cell) (chains : Table Cell Chain) → CopiesSo hears own cell chains → (q : Cell) → IsShort (chain_in chains q)
   copied_short cell chains (Is_put entry last e h is number at_index same) q =
@@ -218,46 +224,64 @@ module _ (setting : Setting) (state : State) (steady : IsSteady state) (w : Worl
       subst (λ c. IsShort (chain_in c q)) (sym same)
       (short_at own.store.chains (cell_of entry.key) q _
       (short_put (chain_in own.store.chains (cell_of entry.key)) entry.key.epoch entry.stored epoch
-      (ground.short n (cell_of entry.key))) (ground.short n q))
+      (ground.short.now n (cell_of entry.key))) (ground.short.now n q))
   copied_short cell chains (Is_dropped_first number epochs epoch h newer same) q = subst (λ c. IsShort (chain_in c q)) (sym same)
       (short_drop cell q epoch)
   copied_short cell chains (Is_dropped last epoch epochs is beyond same) q = subst (λ c. IsShort (chain_in c q)) (sym same)
       (short_drop cell q epoch)
 
   stored_short : (w.servers n).life.running ≡ true → (new : Own) → StoresSo hears here own new → (cell : Cell) → IsShort (chain_in new.store.chains cell)
-  stored_short runs new (Nothing_new same) cell = subst (λ c. IsShort (chain_in c cell)) (sym same) (ground.short n cell)
+  stored_short runs new (Nothing_new same) cell = subst (λ c. IsShort (chain_in c cell)) (sym same) (ground.short.now n cell)
   stored_short runs new (An_own p) cell =
       subst (λ c. IsShort (chain_in c cell)) (sym p.chains)
       (short_at own.store.chains (cell_of p.op.key) cell _
       (short_put (chain_in own.store.chains (cell_of p.op.key)) p.op.key.epoch p.entry (pending_epoch n p.op.cell p.op p.is)
-      (ground.short n (cell_of p.op.key)))
-      (ground.short n cell))
+      (ground.short.now n (cell_of p.op.key)))
+      (ground.short.now n cell))
   stored_short runs new (An_asked p) cell =
       subst (λ c. IsShort (chain_in c cell)) (sym p.chains)
       (short_at own.store.chains (cell_of p.key) cell _
       (short_put (chain_in own.store.chains (cell_of p.key)) p.key.epoch p.entry
-      (followed_epoch p.number p.key p.bytes (followed runs new p)) (ground.short n (cell_of p.key)))
-      (ground.short n cell))
+      (followed_epoch p.number p.key p.bytes (followed runs new p)) (ground.short.now n (cell_of p.key)))
+      (ground.short.now n cell))
   stored_short runs new (A_copy p) cell = copied_short p.cell new.store.chains p.how cell
 
   worked_short : (w.servers n).life.running ≡ true → (log : Log) (done : Done) → Worked setting w n log done → (cell : Cell)
       → IsShort (chain_in done.own.store.chains cell)
   worked_short runs _ _ (By_job log done same did seat) cell = stored_short runs done.own (did_stores hears here own done seat did) cell
   worked_short runs _ _ (By_ballot log started posts same starts says) cell =
-      subst (λ (s : Store). IsShort (chain_in s.chains cell)) (sym (proposed_store here.state own started)) (ground.short n cell)
-  worked_short runs _ _ (By_entry log entry more front) cell = ground.short n cell
+      subst (λ (s : Store). IsShort (chain_in s.chains cell)) (sym (proposed_store here.state own started)) (ground.short.now n cell)
+  worked_short runs _ _ (By_entry log entry more front) cell =
+      subst (λ c. IsShort (chain_in c cell)) (sym (settling here entry (crossed here.state entry own)).chains) (ground.short.now n cell)
 
   pub serves_short : (what : Step) (acted : Acted) → Serving setting w n what acted → (cell : Cell) → IsShort (chain_in acted.server.own.store.chains cell)
   serves_short what _ (Goes log done queue runs worked queued works) cell = worked_short runs log done worked cell
   serves_short what _ (Ends log done runs worked) cell = worked_short runs log done worked cell
-  serves_short what _ (Stays who posts from shown) cell = ground.short n cell
-  serves_short what _ (Wakes booted asleep) cell = ground.short n cell
-  serves_short what _ (Fails booted asleep) cell = ground.short n cell
+  serves_short what _ (Stays who posts from shown) cell = ground.short.now n cell
+  serves_short what _ (Wakes booted asleep) cell = ground.short.now n cell
+  serves_short what _ (Fails booted asleep) cell = ground.short.now n cell
+
+-- a blank store has no entries
+pub blank_short : (server : Server) (cell : Cell) → IsShort (chain_in (blanked server).own.store.chains cell)
+blank_short server cell = inl (ap (λ o. unwrap_or {T = Chain} o []) (at-empty cell_cmp cell))
+
+-- the store from before a blank is the one that counted
+pub before_after : (setting : Setting) (w : World) (So : ℕ → Store → Type 0) (n : ℕ)
+    → ((i : ℕ) (b : BeforeBlank) → w.before_blank i ≡ Some b → So i b.store) → So n (kept setting w n)
+    → (i : ℕ) (b : BeforeBlank) → before_blanks Blank setting w n i ≡ Some b → So i b.store
+before_after setting w So n each counted = all_put w.before_blank n _ (λ i o. (b : BeforeBlank) → o ≡ Some b → So i b.store) each
+    (λ b is. subst (λ (x : BeforeBlank). So n x.store) (same_some is) counted)
 
 pub short_later : (setting : Setting) (state : State) → IsSteady state → (w v : World) → Firm setting w → Ground setting state w
-    → Happens setting state w v
-    → (n : ℕ) (cell : Cell) → IsShort (chain_in (owns_of v n).store.chains cell)
-short_later setting state steady w _ firm ground (Serves n stamp what acted lt within serving) =
-    all_put w.servers n acted.server (λ k server. (cell : Cell) → IsShort (chain_in server.own.store.chains cell)) ground.short
-    (serves_short setting state steady w firm ground n what acted serving)
-short_later setting state steady w _ firm ground (Turns c stamp in_call reacted lt within turned onward) = ground.short
+    → Happens setting state w v → OfStores v HasShortChains
+short_later setting state steady w _ firm ground (Serves n stamp what acted lt within unblanked serving) = record {
+  now = all_put w.servers n acted.server (λ k server. HasShortChains k server.own.store) ground.short.now
+      (serves_short setting state steady w firm ground n what acted serving);
+  before = λ i b is. ground.short.before i b (ap (λ f. f i) (sym unblanked) ∙ is);
+}
+short_later setting state steady w _ firm ground (Blanks n stamp lt within asleep) = record {
+  now = all_put w.servers n (blanked (w.servers n)) (λ k server. HasShortChains k server.own.store) ground.short.now (blank_short (w.servers n));
+  before = before_after setting w HasShortChains n ground.short.before (of_stores setting w HasShortChains ground.short n);
+}
+short_later setting state steady w _ firm ground (Turns c stamp in_call reacted lt within turned onward) =
+    record { now = ground.short.now; before = ground.short.before }

@@ -1,14 +1,17 @@
 -- What a step leaves of a server: its operations, its entries, or both.
 use Rattle.std.proofs.Common.{◌≡◌, ◌<◌, ℕ, [], true, refl, sym, ap, ◌∙◌, subst, inl, inr, arith}
 use Rattle.petal_state.specs.Command.{state_after}
+use Rattle.petal_rules.specs.Boots.{blanked}
+use Rattle.petal_rules.specs.Crossing.{crossed}
 use Rattle.petal_rules.specs.Jobs.{Acted}
 use Rattle.petal_rules.specs.Log.{Log, state_in}
 use Rattle.petal_rules.specs.Server.{Own, Pairs, Server, Done, no_pairs, stopped}
 use Rattle.petal_rules.specs.State.{State, is_in}
 use Rattle.petal_rules.specs.World.{Setting, World, server_state}
 use Rattle.petal_rules.specs.declared.step.Step.{Step}
+use Rattle.petal_rules.proofs.Settled.{settling}
 use Rattle.petal_rules.proofs.Tests.{all_put_apart}
-use Rattle.law_steps.specs.Happens.{served, Happens, Serves, Turns, Serving, Goes, Ends, Stays, Wakes, Fails, Worked, By_job, By_ballot, By_entry}
+use Rattle.law_steps.specs.Happens.{served, Happens, Serves, Blanks, Turns, Serving, Goes, Ends, Stays, Wakes, Fails, Worked, By_job, By_ballot, By_entry, own_place}
 use Rattle.law_requests.proofs.Stepping.{proposed_pairs}
 
 -- its operations and its entries; its entries, where it is In as itself; its operations; or nothing, where it boots
@@ -36,7 +39,9 @@ module _ (setting : Setting) (state : State) (w : World) where
       (proposed_pairs (server_state setting w n) (w.servers n).own started))
       (ap (λ (l : Log). l.applied) logs ∙ same)
   worked_leaves n _ _ runs (By_entry log entry more front) new logs owns inc = Goes_further runs inc
-      (ap (λ (o : Own). o.pairs.pending) owns)
+      (ap (λ (o : Own). o.pairs.pending) owns
+      ∙ ap (λ (p : Pairs). p.pending)
+      (settling (own_place setting w n) entry (crossed (server_state setting w n) entry (w.servers n).own)).pairs)
 
   pub serves_leaves : (n : ℕ) (what : Step) (acted : Acted) → Serving setting w n what acted → Leaves setting n (w.servers n) acted.server
   serves_leaves n what _ (Goes log done queue runs worked queued works) = worked_leaves n log done runs worked
@@ -48,7 +53,10 @@ module _ (setting : Setting) (state : State) (w : World) where
   serves_leaves n what _ (Fails booted asleep) = As_it_was refl refl
 
   pub happens_leaves : (v : World) → Happens setting state w v → (n : ℕ) → Leaves setting n (w.servers n) (v.servers n)
-  happens_leaves _ (Serves k stamp what acted lt within serving) =
+  happens_leaves _ (Serves k stamp what acted lt within unblanked serving) =
       all_put_apart w.servers k acted.server (λ n server. Leaves setting n (w.servers n) server) (λ n ne. As_it_was refl refl)
       (serves_leaves k what acted serving)
+  happens_leaves _ (Blanks k stamp lt within asleep) =
+      all_put_apart w.servers k (blanked (w.servers k)) (λ n server. Leaves setting n (w.servers n) server) (λ n ne. As_it_was refl refl)
+      (As_it_was refl refl)
   happens_leaves _ (Turns c stamp in_call reacted lt within turned onward) = λ n. As_it_was refl refl

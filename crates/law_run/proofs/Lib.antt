@@ -13,8 +13,11 @@ pub mod Born
 pub mod Synced
 pub mod Looks
 pub mod Along
+pub mod Counted
+pub mod Joined
 pub mod Makes
 pub mod Steps
+pub mod Filled
 pub mod Frames
 pub mod ServerJobs
 pub mod Says
@@ -28,4 +31,5 @@ pub mod ServerSteps
 pub mod ClientFrames
 pub mod ClientSteps
 pub mod Recalled
+pub mod Blanks
 pub mod Running

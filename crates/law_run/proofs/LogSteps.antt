@@ -18,7 +18,7 @@ use Rattle.petal_rules.specs.declared.job.Job.{Job}
 use Rattle.petal_rules.specs.declared.job.Job.TheVariants as job
 use Rattle.petal_rules.specs.declared.step.CommitEnd.TheVariants.{Before, After}
 use Rattle.petal_rules.specs.declared.step.Step.{Step}
-use Rattle.petal_rules.specs.declared.step.Step.TheVariants.{Call, Deliver, Tick, Work, Stop, Boot, Glance}
+use Rattle.petal_rules.specs.declared.step.Step.TheVariants.{Call, Deliver, Tick, Work, Stop, Blank, Boot, Glance}
 use Rattle.petal_rules.specs.declared.step.WorkEnd.{WorkEnd}
 use Rattle.petal_rules.specs.declared.step.WorkEnd.TheVariants as work_end
 use Rattle.petal_rules.proofs.Tests.{by_test}
@@ -107,5 +107,6 @@ module _ (state : State) (me : ℕ) (server : Server) where
   step_kind (Work (work_end.Fault Before)) = Of_the_rest refl
   step_kind (Work (work_end.Fault After)) = stopped_kind (works here server server.queue) (works_kind server.queue)
   step_kind Stop = Of_the_rest refl
+  step_kind Blank = Of_the_rest refl
   step_kind (Boot end) = boots_kind end
   step_kind (Glance line round) = Of_the_rest refl

@@ -270,9 +270,9 @@ take_others m w name ne =
 take_onward : (m : Plain) (w : Write) → Onward m (after m (Take w))
 take_onward m w = onward_by m (after m (Take w)) (changed m (Take w)).disks (opened_after m (Take w))
 
--- takes that give blocks of these disks the contents that they are to have
+-- takes that give blocks of these disks the contents that they are to have, where they are to have one
 module _ (rows : List DiskRow) (apart : (one other : DiskRow) → In one rows → In other rows → one.name ≡ other.name → one ≡ other)
-    (to : DiskRow → ℕ → List ℕ) where
+    (has : DiskRow → ℕ → Bool) (to : DiskRow → ℕ → List ℕ) where
   -- the event takes a write under way of what the block is to have
   pub record IsTake (m : Plain) (e : Event) : Type 0 where
     pub row : DiskRow
@@ -296,12 +296,12 @@ module _ (rows : List DiskRow) (apart : (one other : DiskRow) → In one rows �
   pub record Nearly (m : Plain) (es : List Event) (row : DiskRow) : Type 0 where
     pub disk : Disk
     pub is : disk_of m.disks row.name ≡ Some disk
-    pub same : (b : ℕ) → (content disk.now b ≡ to row b) ⊎ IsToCome es row b
+    pub same : (b : ℕ) → has row b ≡ true → (content disk.now b ≡ to row b) ⊎ IsToCome es row b
 
   -- the machine after the takes
   pub record AllTaken (m : Plain) (es : List Event) : Type 0 where
     pub may : Obeys m es
-    pub known : (row : DiskRow) → In row rows → Holds (replay m es).disks row.name (to row)
+    pub known : (row : DiskRow) → In row rows → Holds (replay m es).disks row.name (has row) (to row)
     pub others : (name : List ℕ) → ((row : DiskRow) → In row rows → name ≢ row.name) → disk_of (replay m es).disks name ≡ disk_of m.disks name
     pub mindful : IsMindful (replay m es)
     pub onward : Onward m (replay m es)
@@ -332,11 +332,11 @@ module _ (rows : List DiskRow) (apart : (one other : DiskRow) → In one rows �
         record {
           disk = written t.write.block t.write.bytes old.disk;
           is = ap (disk_of k.disks) e' ∙ take_same m old.disk t.write (ap (disk_of m.disks) (sym e') ∙ old.is);
-          same = λ b. elim (same_or_apart b t.write.block) [
+          same = λ b there. elim (same_or_apart b t.write.block) [
             | inl here ↦ inl (ap (content (put nat_cmp old.disk.now t.write.block t.write.bytes)) here
                 ∙ content_same old.disk.now t.write.block t.write.bytes ∙ t.bytes_is ∙ (λ i. to (sym one i) ((sym t.block_is ∙ sym here) i)))
-            | inr ne ↦ elim (old.same b) [
-              | inl has ↦ inl (content_apart old.disk.now t.write.block t.write.bytes b ne ∙ has)
+            | inr ne ↦ elim (old.same b there) [
+              | inl so ↦ inl (content_apart old.disk.now t.write.block t.write.bytes b ne ∙ so)
               | inr come ↦ inr (left es row b e t.write t.is (λ d f. ne (sym f)) come)
             ]
           ];
@@ -348,8 +348,8 @@ module _ (rows : List DiskRow) (apart : (one other : DiskRow) → In one rows �
         record {
           disk = old.disk;
           is = take_others m t.write row.name ne ∙ old.is;
-          same = λ b. elim (old.same b) [
-            | inl has ↦ inl has
+          same = λ b there. elim (old.same b there) [
+            | inl so ↦ inl so
             | inr come ↦ inr (left es row b e t.write t.is (λ d f. ne (sym d)) come)
           ];
         }
@@ -386,7 +386,7 @@ module _ (rows : List DiskRow) (apart : (one other : DiskRow) → In one rows �
     may = tt;
     known = λ row h.
         let n = near row h in
-        record { disk = n.disk; is = n.is; same = λ b. elim (n.same b) [ inl has ↦ has | inr come ↦ absurd (none_left row b come) ] };
+        record { disk = n.disk; is = n.is; same = λ b there. elim (n.same b there) [ inl so ↦ so | inr come ↦ absurd (none_left row b come) ] };
     others = λ name ne. refl;
     mindful = mindful;
     onward = onward_itself m;

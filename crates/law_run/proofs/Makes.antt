@@ -17,6 +17,7 @@ use Rattle.petal_rules.specs.World.{World}
 use Rattle.petal_rules.proofs.ListLemmas.{in-append}
 use Rattle.petal_rules.proofs.Tests.{none_some, some_or_none, true_false}
 use Rattle.petal_history.specs.Claims.{Holds}
+use Rattle.petal_history.specs.Contents.{has_content}
 use Rattle.petal_history.specs.Events.{make_of}
 use Rattle.law_state.proofs.Rows.{AreFresh}
 use Rattle.law_state.proofs.Places.{find_front, find_behind, get_in, none_find, text_itself}
@@ -27,6 +28,10 @@ use Rattle.law_run.proofs.Machine.{after_mindful, make_same, make_others, make_o
 pub drop_front : {A : Type 0} (xs ys : List A) → drop (length xs) (xs ++ ys) ≡ ys
 drop_front [] ys = refl
 drop_front (x ∷ xs) ys = drop_front xs ys
+
+pub drop_all : {A : Type 0} (xs : List A) → drop (length xs) xs ≡ []
+drop_all [] = refl
+drop_all (x ∷ xs) = drop_all xs
 
 empty_content : (b : ℕ) → content [] b ≡ zero_block
 unfolding content
@@ -53,10 +58,10 @@ module _ (chosen : State) (v : World) where
           let k = stores.known other old in
           record { disk = k.disk; is = make_others m row.name other.name (unlike_named rows row.name other fresh old) ∙ k.is; same = k.same }
       | inr new ↦ elim new [
-        | inl e ↦ subst (λ (r : DiskRow). Holds (after m (Make row.name)).disks r.name (kept_at chosen v r)) (sym e) (record {
+        | inl e ↦ subst (λ (r : DiskRow). Holds (after m (Make row.name)).disks r.name (has_content chosen r) (kept_at chosen v r)) (sym e) (record {
           disk = new_disk row.name;
           is = make_same m row.name (stores.unknown row.name fresh);
-          same = λ b. empty_content b ∙ sym (zeros b);
+          same = λ b has. empty_content b ∙ sym (zeros b);
         })
         | inr none ↦ absurd none
       ]

@@ -4,7 +4,7 @@ use Rattle.petal_msg.specs.declared.letter.Actor.{Actor}
 use Rattle.petal_msg.specs.declared.letter.Actor.TheVariants as actor
 use Rattle.petal_msg.specs.declared.letter.Letter.{Letter}
 use Rattle.script_lines.specs.declared.script.Script.{Script}
-use Rattle.petal_rules.specs.Boots.{awake, raised, stays, wakes}
+use Rattle.petal_rules.specs.Boots.{awake, blanked, raised, stays, wakes}
 use Rattle.petal_rules.specs.Log.{rev_of}
 use Rattle.petal_rules.specs.Lists.{In}
 use Rattle.petal_rules.specs.State.{State}
@@ -13,9 +13,10 @@ use Rattle.petal_rules.specs.Clients.{client_sender}
 use Rattle.petal_rules.specs.Jobs.{Acted}
 use Rattle.petal_rules.specs.World.{Setting, World, stamped, clock_of, start, setting_of, acts, reacts}
 use Rattle.petal_rules.specs.declared.step.Step.{Step}
+use Rattle.petal_rules.specs.declared.step.Step.TheVariants.{Blank}
 use Rattle.petal_rules.proofs.ListLemmas.{in-append, put_same}
 use Rattle.petal_history.specs.Events.{same_actor, same_name}
-use Rattle.law_steps.specs.Happens.{Happens, Serves, Turns, Serving, Goes, Ends, Stays, Wakes, Fails, served_so, stopped_so, shown_so, without_rev, own_place}
+use Rattle.law_steps.specs.Happens.{Happens, Serves, Blanks, Turns, Serving, Goes, Ends, Stays, Wakes, Fails, served_so, stopped_so, shown_so, without_rev, own_place}
 use Rattle.law_steps.proofs.Letters.{said}
 use Rattle.petal_rules.proofs.Tests.{both_true, same_numbers, all_put}
 use Rattle.law_run.specs.Follow.{Named}
@@ -91,20 +92,20 @@ named_more w v who stamp posts named joined before now rises = record {
 module _ (setting : Setting) (state : State) (w : World) (named : Named w) where
   -- a server's step sends letters of the server
   server_named : (n stamp : ℕ) (what : Step) (acted : Acted) (who : Sender) (posts : List Post) → w.server_clocks n < stamp → who.from ≡ actor.Server n
-      → acted.letters ≡ letters_of who 0 posts → Named (acts w n what stamp acted).world
+      → acted.letters ≡ letters_of who 0 posts → Named (acts setting w n what stamp acted).world
   server_named n stamp what acted who posts lt from letters =
-      let v = (acts w n what stamp acted).world in
+      let v = (acts setting w n what stamp acted).world in
       named_more w v who stamp posts named (ap (λ ls. stamped stamp ls ++ w.sent) letters)
       (subst (λ (a : Actor). clock_of w a < stamp) (sym from) lt)
       (subst (λ (a : Actor). stamp ≤ clock_of v a) (sym from)
       (subst (λ k. stamp ≤ k) (sym (put_same w.server_clocks n stamp)) (omega arith))) rises
     where
-      rises : (a : Actor) → clock_of w a ≤ clock_of (acts w n what stamp acted).world a
+      rises : (a : Actor) → clock_of w a ≤ clock_of (acts setting w n what stamp acted).world a
       rises (actor.Server k) = all_put w.server_clocks n stamp (λ j t. w.server_clocks j ≤ t) (λ j. omega arith) (omega arith) k
       rises (actor.Client c) = omega arith
 
   serves_named : (n stamp : ℕ) (what : Step) (acted : Acted) → w.server_clocks n < stamp → Serving setting w n what acted
-      → Named (acts w n what stamp acted).world
+      → Named (acts setting w n what stamp acted).world
   serves_named n stamp what _ lt (Goes log done queue runs worked queued works) =
       server_named n stamp what (served_so setting w n log done queue) (sender (own_place setting w n)) done.posts lt refl refl
   serves_named n stamp what _ lt (Ends log done runs worked) =
@@ -118,7 +119,9 @@ module _ (setting : Setting) (state : State) (w : World) (named : Named w) where
       server_named n stamp what (stays (raised (w.servers n))) (without_rev (own_place setting w n)) [] lt refl refl
 
   pub happens_named : (v : World) → Happens setting state w v → Named v
-  happens_named _ (Serves n stamp what acted lt within serving) = serves_named n stamp what acted lt serving
+  happens_named _ (Serves n stamp what acted lt within unblanked serving) = serves_named n stamp what acted lt serving
+  happens_named _ (Blanks n stamp lt within asleep) =
+      server_named n stamp Blank (stays (blanked (w.servers n))) (without_rev (own_place setting w n)) [] lt refl refl
   happens_named _ (Turns c stamp in_call reacted lt within turned onward) =
       let v = (reacts w c stamp reacted).world in
       named_more w v (client_sender c reacted.client) stamp reacted.posts named refl lt

@@ -2,7 +2,7 @@
 use Rattle.std.proofs.Common.{List}
 use Rattle.global_tables.specs.declared.disk.DiskRow.{DiskRow}
 use Rattle.petal_machine.specs.Machine.{Plain}
-use Rattle.petal_rules.specs.World.{Setting, World, chosen_state}
+use Rattle.petal_rules.specs.World.{Setting, World, chosen_state, counted}
 use Rattle.petal_history.specs.Events.{open_write}
 use Rattle.law_run.specs.Onward.{Onward}
 use Rattle.law_run.specs.Follow.{Follow, Stores}
@@ -10,7 +10,7 @@ use Rattle.law_run.proofs.Machine.{seat_onward, held_onward}
 
 -- other disks, or the same with other events
 pub follow_onward : (setting : Setting) (old new : List DiskRow) (v : World) (from to : Plain) → Follow setting old v from
-    → Onward from to → Stores (chosen_state setting v) new v to → Follow setting new v to
+    → Onward from to → Stores (chosen_state setting v) new (counted setting v) to → Follow setting new v to
 follow_onward setting old new v from to follows goes_on stores = record {
   stores = stores;
   seats = λ c. seat_onward from to c (open_write v c) goes_on (follows.seats c);

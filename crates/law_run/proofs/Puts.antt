@@ -1,5 +1,5 @@
 -- A server's put of the copy that counts gives a block the bytes of a write under way; one of another copy changes no content.
-use Rattle.std.proofs.Common.{◌≡◌, ◌≢◌, ◌<◌, ℕ, true, false, Some, sym, ap, ◌∙◌, subst, ◌⊎◌, inl, inr}
+use Rattle.std.proofs.Common.{◌≡◌, ◌≢◌, ◌<◌, ℕ, true, Some, is_some, sym, ap, ◌∙◌, subst, ◌⊎◌, inl, inr}
 use Rattle.std.specs.Ordering.{nat_cmp}
 use Rattle.petal_base.specs.declared.cell.Cell.{Cell}
 use Rattle.petal_base.specs.declared.cell.Key.{Key}
@@ -14,26 +14,27 @@ use Rattle.petal_msg.specs.declared.operation.Pending.{Pending}
 use Rattle.petal_state.specs.CellState.{cell_link}
 use Rattle.petal_state.specs.Command.{state_after}
 use Rattle.petal_rules.specs.State.{State, authority, is_second}
-use Rattle.petal_rules.specs.Store.{Chain, Stored, cell_cmp, chain_in, chains_with, entry_at, bytes_of}
+use Rattle.petal_rules.specs.Store.{Chain, Store, Stored, cell_cmp, chain_in, chains_with, entry_at, bytes_of}
 use Rattle.petal_rules.specs.Server.{Own, Here}
-use Rattle.petal_rules.specs.World.{World, chosen_log, chosen_state}
+use Rattle.petal_rules.specs.World.{World, blank_joins_in, chosen_log, chosen_state, counted, kept}
 use Rattle.petal_rules.proofs.CellTables.{cell_same}
 use Rattle.petal_rules.proofs.Tests.{same_or_apart, same_some, some_or_none, none_some, is_the_one}
 use Rattle.petal_history.specs.Contents.{cell_of_block, content_by}
 use Rattle.petal_history.specs.Events.{change_by, open_write}
 use Rattle.law_state.specs.Below.{HoldsAlone}
-use Rattle.law_state.proofs.Alone.{led_row, second_both, so_alone}
+use Rattle.law_state.proofs.Alone.{led_row}
 use Rattle.law_state.proofs.Cells.{both_authority, alone_authority, second_by}
 use Rattle.law_state.proofs.Roles.{log_roles}
 use Rattle.law_steps.specs.Happens.{Handled, own_place}
 use Rattle.law_steps.proofs.Fronts.{front_on}
 use Rattle.law_steps.proofs.Histories.{chosen_steady, own_steady, runs_now}
+use Rattle.law_stores.specs.Waiting.{IsOwn}
 use Rattle.law_copies.specs.Pair.{owns_of}
 use Rattle.law_copies.specs.Visits.{IsLinked, place_by}
 use Rattle.law_copies.proofs.Chains.{chain_apart, chain_put}
 use Rattle.law_copies.proofs.Places.{one_row}
 use Rattle.law_requests.specs.Asked.{IsOpen}
-use Rattle.law_requests.specs.Known.{PendingFor, asked_for, seen}
+use Rattle.law_requests.specs.Known.{asked_for}
 use Rattle.law_requests.proofs.Beside.{open_beside}
 use Rattle.law_requests.proofs.Running.{open_running, pending_here}
 use Rattle.law_run.specs.Onward.{is_held, Onward}
@@ -41,12 +42,13 @@ use Rattle.law_run.specs.Follow.{kept_at}
 use Rattle.law_run.proofs.Along.{own_link, same_row}
 use Rattle.law_run.proofs.Chains.{StoresSo, Nothing_new, An_own, An_asked, A_copy, PutsAsked, PutsCopy, copied_apart}
 use Rattle.law_run.proofs.Copies.{copied_uncounted}
-use Rattle.law_run.proofs.Contents.{IsGiven, AreGiven, Taken, all_given, given_held, takes_of, was_kept, now_kept}
+use Rattle.law_run.proofs.Contents.{IsGiven, AreGiven, Taken, all_given, given_held, takes_of, was_kept, now_has, now_kept}
 use Rattle.law_run.proofs.Frames.{OwnFollow, SaysOk, CountsOk}
 use Rattle.law_run.proofs.Grounds.{Followed, followed, followed_epoch, followed_recalled, pending_epoch, put_first, remembered, write_of}
 use Rattle.law_run.proofs.Placed.{Placed, placed}
 use Rattle.law_run.proofs.ServerJobs.{PutHeld}
-use Rattle.law_run.proofs.Steps.{ServerStep, TakesTold, new, later_world, own_now, same_content}
+use Rattle.law_run.proofs.Seats.{op_seat}
+use Rattle.law_run.proofs.Steps.{ServerStep, TakesTold, new, later_world, joined_now, joined_then, kept_here, own_after, same_content}
 use Rattle.law_run.proofs.Takes.{block_there}
 
 module _ (this : ServerStep) (same : chosen_log this.setting (later_world this) ≡ chosen_log this.setting this.w) where
@@ -68,12 +70,27 @@ module _ (this : ServerStep) (same : chosen_log this.setting (later_world this) 
   chosen_is : chosen_state this.setting v ≡ chosen
   chosen_is = ap (state_after this.setting.servers) same
 
+  -- as many Joins with an empty store count as before
+  pub joined_same : (i : ℕ) → joined_now this i ≡ joined_then this i
+  joined_same i = ap (λ log. blank_joins_in this.setting log i) same
+
   -- what counts is another's copy, or this server's, which has the same chain
   pub unchanged : (row : DiskRow) (b : ℕ)
       → (authority chosen (cell_of_block row b) ≡ Some this.n
-      → chain_in (new this).store.chains (cell_of_block row b) ≡ chain_in own.store.chains (cell_of_block row b)) → was_kept this row b ≡ now_kept this row b
+      → chain_in (kept this.setting v this.n).chains (cell_of_block row b) ≡ chain_in (kept this.setting this.w this.n).chains (cell_of_block row b))
+      → was_kept this row b ≡ now_kept this row b
   unchanged row b h =
-      same_content this (cell_of_block row b) (authority chosen (cell_of_block row b)) h ∙ ap (λ s. kept_at s v row b) (sym chosen_is)
+      same_content this same (cell_of_block row b) (authority chosen (cell_of_block row b)) h
+      ∙ ap (λ s. kept_at s (counted this.setting v) row b) (sym chosen_is)
+
+  -- by the server's own store, where that counts
+  own_unchanged : IsOwn this.setting this.w this.n → (row : DiskRow) (b : ℕ)
+      → (authority chosen (cell_of_block row b) ≡ Some this.n
+      → chain_in (new this).store.chains (cell_of_block row b) ≡ chain_in own.store.chains (cell_of_block row b))
+      → was_kept this row b ≡ now_kept this row b
+  own_unchanged counts row b h = unchanged row b (λ mine.
+      ap (λ (s : Store). chain_in s.chains (cell_of_block row b)) (own_after this counts (joined_same this.n))
+      ∙ h mine ∙ ap (λ (s : Store). chain_in s.chains (cell_of_block row b)) (sym (counts own.store)))
 
   -- nothing counts elsewhere than before
   counts : (k : Plain) → CountsOk this k
@@ -81,41 +98,43 @@ module _ (this : ServerStep) (same : chosen_log this.setting (later_world this) 
 
   -- no content changes
   calm_given : ((row : DiskRow) (b : ℕ) → was_kept this row b ≡ now_kept this row b) → AreGiven this
-  calm_given h row there b = inl (h row b)
+  calm_given h row there b has = inl (h row b)
 
   -- a step that changes no chain
   pub calm_told : (new this).store.chains ≡ own.store.chains → ((k : Plain) → Onward this.m k → OwnFollow this k (new this))
       → ((k : Plain) → Onward this.m k → SaysOk this k) → TakesTold this
   calm_told chains job says =
-      let taken = all_given this (calm_given (λ row b. unchanged row b (λ mine. ap (λ c. chain_in c (cell_of_block row b)) chains))) in
+      let taken = all_given this (calm_given (λ row b. unchanged row b (λ mine.
+      ap (λ c. chain_in c (cell_of_block row b)) (kept_here this chains (joined_same this.n))))) in
       let k = replay this.m taken.es in
       takes_of this taken (job k taken.onward) (counts k) (says k taken.onward)
 
   -- ### A put of the copy that counts
 
   module _ (key : Key) (entry : Stored) (epoch : key.epoch ≡ 0) (chains : (new this).store.chains ≡ chains_with own.store.chains key entry)
-      (mine : authority chosen (cell_of key) ≡ Some this.n) (op : Pending) (bytes : entry.bytes ≡ op.bytes) (place : Placed this op (cell_of key)) where
+      (own_counts : IsOwn this.setting this.w this.n) (mine : authority chosen (cell_of key) ≡ Some this.n) (op : Pending)
+      (bytes : entry.bytes ≡ op.bytes) (place : Placed this op (cell_of key)) where
     abbrev chain : Chain
     chain = put nat_cmp (chain_in own.store.chains (cell_of key)) key.epoch entry
 
     put_here : now_kept this place.row place.block ≡ op.bytes
     put_here =
-        ap (λ (c : Cell). content_by v c 0 (authority (chosen_state this.setting v) c)) (sym place.at_block)
-        ∙ ap (content_by v (cell_of key) 0) (ap (λ s. authority s (cell_of key)) chosen_is ∙ mine)
-        ∙ ap (λ (o : Own). bytes_of (entry_at (chain_in o.store.chains (cell_of key)) 0)) (own_now this)
+        ap (λ (c : Cell). content_by (counted this.setting v) c 0 (authority (chosen_state this.setting v) c)) (sym place.at_block)
+        ∙ ap (content_by (counted this.setting v) (cell_of key) 0) (ap (λ s. authority s (cell_of key)) chosen_is ∙ mine)
+        ∙ ap (λ (s : Store). bytes_of (entry_at (chain_in s.chains (cell_of key)) 0)) (own_after this own_counts (joined_same this.n))
         ∙ ap (λ c. bytes_of (entry_at (chain_in c (cell_of key)) 0)) chains
         ∙ ap (λ c. bytes_of (entry_at c 0)) (chain_put own.store.chains (cell_of key) chain)
-        ∙ ap bytes_of (put_first (chain_in own.store.chains (cell_of key)) key.epoch entry epoch (this.ground.short this.n (cell_of key)))
+        ∙ ap bytes_of (put_first (chain_in own.store.chains (cell_of key)) key.epoch entry epoch (this.ground.short.now this.n (cell_of key)))
         ∙ bytes
 
     beside : (row : DiskRow) (b : ℕ) → cell_of_block row b ≢ cell_of key → was_kept this row b ≡ now_kept this row b
-    beside row b ne = unchanged row b (λ mine. ap (λ c. chain_in c (cell_of_block row b)) chains
+    beside row b ne = own_unchanged own_counts row b (λ mine. ap (λ c. chain_in c (cell_of_block row b)) chains
         ∙ chain_apart own.store.chains (cell_of key) chain (cell_of_block row b) ne)
 
     given_here : IsGiven this place.row place.block
     given_here =
-        let stored : at cell_cmp (v.servers this.n).own.store.chains (cell_of_block place.row place.block) ≡ Some chain =
-        ap (λ (o : Own). at cell_cmp o.store.chains (cell_of_block place.row place.block)) (own_now this)
+        let stored : at cell_cmp (kept this.setting v this.n).chains (cell_of_block place.row place.block) ≡ Some chain =
+        ap (λ (s : Store). at cell_cmp s.chains (cell_of_block place.row place.block)) (own_after this own_counts (joined_same this.n))
         ∙ ap (λ c. at cell_cmp c (cell_of_block place.row place.block)) chains
         ∙ ap (at cell_cmp (chains_with own.store.chains key entry)) (sym place.at_block) ∙ cell_same own.store.chains (cell_of key) chain in
         record {
@@ -129,7 +148,7 @@ module _ (this : ServerStep) (same : chosen_log this.setting (later_world this) 
         }
 
     given_put : AreGiven this
-    given_put row h b = elim (same_or_apart b place.block) [
+    given_put row h b has = elim (same_or_apart b place.block) [
       | inr ne ↦ inl (beside row b (λ e. ne (ap (λ (c : Cell). c.block) (e ∙ place.at_block))))
       | inl e ↦ elim (same_or_apart row.map place.row.map) [
         | inr ne ↦ inl (beside row b (λ f. ne (ap (λ (c : Cell). c.map) (f ∙ place.at_block))))
@@ -139,10 +158,15 @@ module _ (this : ServerStep) (same : chosen_log this.setting (later_world this) 
       ]
     ]
 
+    -- the block has a content, since the server's copy counts
+    has_put : now_has this place.row place.block ≡ true
+    has_put = ap (λ (c : Cell). is_some (authority (chosen_state this.setting v) c)) (sym place.at_block)
+        ∙ ap is_some (ap (λ s. authority s (cell_of key)) chosen_is ∙ mine)
+
     put_held : (taken : Taken this) → is_held (replay this.m taken.es) op.client ≡ true
     put_held taken =
-        given_held this (replay this.m taken.es) taken.onward taken.stores place.row place.there place.block op.client place.write place.under_way
-        place.disk_is place.block_is (place.bytes_is ∙ sym put_here)
+        given_held this (replay this.m taken.es) taken.onward taken.stores place.row place.there place.block op.client place.write has_put
+        place.under_way place.disk_is place.block_is (place.bytes_is ∙ sym put_here)
 
   -- ### The second server that runs
 
@@ -173,7 +197,7 @@ module _ (this : ServerStep) (same : chosen_log this.setting (later_world this) 
               linked = b.0.is;
             }
         | inr alone ↦ record {
-          counts = alone_authority chosen cell alone.row alone.is (steady.linked cell alone.row alone.is) this.n false alone.alone;
+          counts = alone_authority chosen cell alone.row alone.is (steady.linked cell alone.row alone.is) this.n alone.whole alone.alone;
           link = alone.row;
           linked = alone.is;
         }
@@ -228,9 +252,12 @@ module _ (this : ServerStep) (same : chosen_log this.setting (later_world this) 
         keyed : cell_of op.key ≡ op.cell
         keyed = ((this.ground.ready.rests.pending this.n).staged op.cell op is).keyed
 
+        own_counts : IsOwn this.setting this.w this.n
+        own_counts = this.ground.own this.n runs (op_seat this.setting this.state this.w this.along.firm this.ground this.n op.cell op runs is)
+
         other : ((authority chosen op.cell ≡ Some this.n) → ⊥) → TakesTold this
         other never =
-            let taken = all_given this (calm_given (λ row b. unchanged row b (λ mine. ap (λ c. chain_in c (cell_of_block row b)) chains
+            let taken = all_given this (calm_given (λ row b. own_unchanged own_counts row b (λ mine. ap (λ c. chain_in c (cell_of_block row b)) chains
             ∙ chain_apart own.store.chains (cell_of op.key) _ (cell_of_block row b)
             (λ e. never (ap (authority chosen) (sym keyed ∙ sym e) ∙ mine))))) in
             told_of taken (An_own (record { op = op; is = is; entry = entry; bytes = bytes; chains = chains })) job (λ e. absurd (never e))
@@ -250,9 +277,9 @@ module _ (this : ServerStep) (same : chosen_log this.setting (later_world this) 
             let place : Placed this op (cell_of op.key) =
             subst (Placed this op) (sym keyed) (placed this op.cell op link.0 link.1 known.known.sent.write still) in
             let here_mine : authority chosen (cell_of op.key) ≡ Some this.n = ap (authority chosen) keyed ∙ counted in
-            let taken = all_given this (given_put op.key entry epoch chains here_mine op bytes place) in
+            let taken = all_given this (given_put op.key entry epoch chains own_counts here_mine op bytes place) in
             told_of taken (An_own (record { op = op; is = is; entry = entry; bytes = bytes; chains = chains })) job
-            (λ e. put_held op.key entry epoch chains here_mine op bytes place taken)
+            (λ e. put_held op.key entry epoch chains own_counts here_mine op bytes place taken)
 
     asked_told : (a : PutsAsked hears here own (new this)) → Jobs (An_asked a) → TakesTold this
     asked_told a job =
@@ -267,10 +294,11 @@ module _ (this : ServerStep) (same : chosen_log this.setting (later_world this) 
         let place = placed this (cell_of a.key) f.putting.op serves.link serves.linked
         (write_of this.setting this.state this.along.steady this.w firm this.ground this.n f.row.primary (spot a f)
         (cell_of a.key) f.putting.op recalled) still in
-        let taken = all_given this (given_put a.key a.entry epoch a.chains serves.counts f.putting.op bytes place) in
+        let own_counts = this.ground.own this.n runs a.seat in
+        let taken = all_given this (given_put a.key a.entry epoch a.chains own_counts serves.counts f.putting.op bytes place) in
         told_of taken (An_asked a) job (λ g.
         ap (λ (o : Pending). is_held (replay this.m taken.es) o.client) (sym (same_op a f g))
-        ∙ put_held a.key a.entry epoch a.chains serves.counts f.putting.op bytes place taken)
+        ∙ put_held a.key a.entry epoch a.chains own_counts serves.counts f.putting.op bytes place taken)
       where
         same_op : (a : PutsAsked hears here own (new this)) (f g : FollowedHere a) → f.putting.op ≡ g.putting.op
         same_op a f g =
@@ -283,9 +311,9 @@ module _ (this : ServerStep) (same : chosen_log this.setting (later_world this) 
     -- a copy is to a server whose copy doesn't count
     copy_told : (c : PutsCopy hears here own (new this)) → Jobs (A_copy c) → TakesTold this
     copy_told c job =
-        let taken = all_given this (calm_given (λ row b. unchanged row b
+        let taken = all_given this (calm_given (λ row b. own_unchanged (this.ground.own this.n runs c.seat) row b
         (λ mine. copied_apart hears own c.cell (new this).store.chains c.how (cell_of_block row b)
-        (λ e. copied_uncounted this.setting this.state this.w this.along.firm this.ground this.n (new this) c
+        (λ e. copied_uncounted this.setting this.state this.w this.along.firm this.ground this.n runs (new this) c
         (ap (authority chosen) (sym e) ∙ mine))))) in
         told_of taken (A_copy c) job tt
 

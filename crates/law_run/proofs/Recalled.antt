@@ -1,6 +1,6 @@
 -- Of what a server has had at the places that count, each operation that was pending is so still, or was known of at an incarnation
 -- that has ended.
-use Rattle.std.proofs.Common.{◌≡◌, ◌≢◌, ◌<◌, ◌+◌, ℕ, true, false, Some, refl, sym, ap, ◌∙◌, subst, inl, inr, arith, ◌≤◌, List, ◌∷◌, [], Option, None, ◌⊎◌}
+use Rattle.std.proofs.Common.{◌≡◌, ◌<◌, ℕ, true, Some, refl, sym, ap, ◌∙◌, subst, inl, inr, arith, ◌≤◌, List, ◌⊎◌}
 use Rattle.global_tables.specs.declared.link.LinkRow.{LinkRow}
 use Rattle.global_tables.specs.declared.link.LinkState.TheVariants.{Both}
 use Rattle.petal_base.specs.declared.cell.Cell.{Cell}
@@ -8,18 +8,13 @@ use Rattle.petal_command.specs.declared.command.Command.{Command}
 use Rattle.petal_table.specs.Table.{at}
 use Rattle.petal_msg.specs.declared.operation.Pending.{Pending}
 use Rattle.petal_state.specs.CellState.{cell_link, lead, serves}
-use Rattle.petal_state.specs.Command.{state_after}
 use Rattle.petal_history.specs.Claims.{IsPrefix}
 use Rattle.petal_history.specs.declared.record.Record.{Record}
-use Rattle.petal_rules.specs.Jobs.{Acted}
-use Rattle.petal_rules.specs.Log.{Log, state_in}
-use Rattle.petal_rules.specs.Server.{Own, Pairs, Server, Done, stopped}
+use Rattle.petal_rules.specs.Server.{Own, Pairs}
 use Rattle.petal_rules.specs.State.{State, is_in, is_lead}
 use Rattle.petal_rules.specs.Store.{cell_cmp}
-use Rattle.petal_rules.specs.World.{Setting, World, acts, chosen_log, server_state}
-use Rattle.petal_rules.specs.declared.step.Step.{Step}
-use Rattle.petal_rules.proofs.ListLemmas.{put_same, put_apart}
-use Rattle.petal_rules.proofs.Tests.{all_put_apart, by_test, is_the_one, number_itself, same_some}
+use Rattle.petal_rules.specs.World.{Setting, World, chosen_log, counted, server_state}
+use Rattle.petal_rules.proofs.Tests.{by_test, is_the_one, number_itself, same_some}
 use Rattle.law_state.specs.Firm.{Firm}
 use Rattle.law_state.specs.Steady.{IsSteady}
 use Rattle.law_state.proofs.Cells.{led_by}
@@ -30,9 +25,8 @@ use Rattle.law_steps.proofs.Histories.{own_steady}
 use Rattle.law_copies.specs.Good.{Good}
 use Rattle.law_copies.specs.Pair.{owns_of}
 use Rattle.law_copies.specs.Visits.{IsLast, IsLinked, place_by}
-use Rattle.law_copies.proofs.Later.{been_below}
 use Rattle.law_copies.proofs.Places.{fronts_meet, linked_on, one_row, places_up}
-use Rattle.law_requests.specs.Known.{AskingBy, Has_pending, Lives, PendingFor, asked_for, lives_after, seen}
+use Rattle.law_requests.specs.Known.{AskingBy, Has_pending, PendingFor, asked_for, lives_after, seen}
 use Rattle.law_requests.proofs.Later.{pending_further}
 use Rattle.law_requests.proofs.Lives.{no_earlier, ran_now}
 use Rattle.law_requests.proofs.Stepping.{GoesOn, ended_later}
@@ -41,14 +35,14 @@ use Rattle.law_run.specs.Follow.{AreRemembered, IsRemembered, Is_pending, Was_pe
 
 -- the visit of a step's server is what it is now at its own place
 pub record IsVisit (setting : Setting) (v : World) (n place : ℕ) (cell : Cell) (own : Own) : Type 0 where
-  pub same : own ≡ owns_of v n
+  pub same : own.pairs ≡ (owns_of v n).pairs
   pub row : LinkRow
   pub linked : IsLinked setting (v.servers n).log.applied cell row
   pub at : place ≡ place_by setting (v.servers n).log.applied row
 
 -- what a step keeps of where servers have been
-pub record GoesOnFrom (setting : Setting) (records more : List Record) (w v : World) (good : Good setting records (chosen_log setting w) w)
-    (next : Good setting more (chosen_log setting v) v) : Type 0 where
+pub record GoesOnFrom (setting : Setting) (records more : List Record) (w v : World) (good : Good setting records (chosen_log setting w) (counted setting w))
+    (next : Good setting more (chosen_log setting v) (counted setting v)) : Type 0 where
   pub visits : (n place : ℕ) (cell : Cell) (own : Own) → next.visits n place cell ≡ Some own
       → (good.visits n place cell ≡ Some own) ⊎ IsVisit setting v n place cell own
   pub reached : (cell : Cell) → good.reached cell ≤ next.reached cell
@@ -67,7 +61,7 @@ lead_serves state steady n cell leads row is = elim (led_by state steady cell n 
 module _ (setting : Setting) (state : State) (w : World) (firm : Firm setting w) (ground : Ground setting state w) (v : World)
     (then : Firm setting v)
     (grows : IsPrefix (chosen_log setting w) (chosen_log setting v)) (more : List Record)
-    (next : Good setting more (chosen_log setting v) v)
+    (next : Good setting more (chosen_log setting v) (counted setting v))
     (from : GoesOnFrom setting ground.records more w v ground.good next) (on : GoesOn setting state w v ground.lives)
     (rests : Rests setting v) (asking : AskingBy setting state v (lives_after ground.lives v)) where
   logs : (n : ℕ) → IsPrefix (w.servers n).log.applied (v.servers n).log.applied
@@ -175,8 +169,9 @@ module _ (setting : Setting) (state : State) (w : World) (firm : Firm setting w)
       let at' : place_by setting (v.servers n).log.applied old ≡ place_by setting front row = ap
       (λ log. place_by setting log old) applied ∙ spot in
       let here = next.here n cell old linked' seat in
-      let same : own ≡ owns_of v n = same_some (sym visit ∙ ap (λ p. next.visits n p cell) (sym at') ∙ here.is) ∙ here.same in
-      Is_pending (ap (λ (o : Own). at cell_cmp o.pairs.pending cell) (sym same) ∙ there) old linked' at'
+      let same : own.pairs ≡ (owns_of v n).pairs =
+      ap (λ (o : Own). o.pairs) (same_some (sym visit ∙ ap (λ p. next.visits n p cell) (sym at') ∙ here.is) ∙ here.same) in
+      Is_pending (ap (λ (p : Pairs). at cell_cmp p.pending cell) (sym same) ∙ there) old linked' at'
   still front cell row n own op last visit there (Goes_further runs inc pending) was old linked spot =
       let is : at cell_cmp (owns_of v n).pairs.pending cell ≡ Some op = ap (λ t. at cell_cmp t cell) pending ∙ was in
       pending_still front cell row n op last is
@@ -201,5 +196,5 @@ module _ (setting : Setting) (state : State) (w : World) (firm : Firm setting w)
             let up = from.reached cell in
             ended n (place_by setting front row) cell op (was_there front cell row n own prefix is both (omega arith) old op there)
             (λ was row' linked at. still front cell row n own op last visit there (leaves n) was row' linked at)
-        | inr now ↦ Is_pending (ap (λ (o : Own). at cell_cmp o.pairs.pending cell) (sym now.same) ∙ there) now.row now.linked (sym now.at)
+        | inr now ↦ Is_pending (ap (λ (p : Pairs). at cell_cmp p.pending cell) (sym now.same) ∙ there) now.row now.linked (sym now.at)
       ]

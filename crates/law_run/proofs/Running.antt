@@ -1,5 +1,5 @@
 -- Every legal history is a run of the plain machine.
-use Rattle.std.proofs.Common.{◌≡◌, ℕ, List, [], ◌∷◌, ◌++◌, Option, Some, None, refl, sym, ap, ◌∙◌, subst, true, false, ◌⊎◌, inl, inr, append_assoc}
+use Rattle.std.proofs.Common.{◌≡◌, ℕ, List, [], ◌∷◌, ◌++◌, Option, Some, refl, sym, ap, ◌∙◌, subst, true, ◌⊎◌, inl, inr, append_assoc}
 use Rattle.std.specs.Prelude.{max, fold, map, unwrap_or}
 use Rattle.std.specs.List.{flat_map, range_with_len}
 use Rattle.std.specs.Ordering.{nat_cmp}
@@ -15,16 +15,14 @@ use Rattle.petal_msg.specs.declared.letter.Actor.{Actor}
 use Rattle.petal_msg.specs.declared.letter.Actor.TheVariants as actor
 use Rattle.petal_paxos.specs.Chosen.{vote_place, chosen_from}
 use Rattle.petal_state.specs.Command.{state_after}
-use Rattle.script_lines.specs.declared.request.Line.{Line}
 use Rattle.script_lines.specs.declared.script.Script.{Script}
-use Rattle.petal_state.specs.CellState.{cell_link}
 use Rattle.petal_rules.specs.Lists.{In}
-use Rattle.petal_rules.specs.State.{State}
+use Rattle.petal_rules.specs.State.{State, is_in}
 use Rattle.petal_rules.specs.Server.{Own}
 use Rattle.petal_rules.specs.Store.{Chain, cell_cmp, chain_in}
-use Rattle.petal_rules.specs.World.{Setting, World, acts, reacts, step, start, setting_of, server_step, client_step, next_line, server_state, client_state, chosen_log, chosen_state, devices, MayActor}
+use Rattle.petal_rules.specs.World.{Setting, World, acts, blank_joins_in, counted, reacts, step, start, setting_of, server_step, client_step, next_line, server_state, client_state, chosen_log, chosen_state, devices, MayActor}
 use Rattle.petal_rules.specs.declared.step.Step.{Step}
-use Rattle.petal_rules.specs.declared.step.Step.TheVariants.{Call}
+use Rattle.petal_rules.specs.declared.step.Step.TheVariants.{Blank, Call}
 use Rattle.petal_rules.proofs.Tests.{by_test, none_some, same_some}
 use Rattle.petal_history.specs.Claims.{AreHeld, IsPrefix, Law, Requests, machine_after}
 use Rattle.petal_history.specs.Events.{begins, ended, ends, open_write, change_by, takes, makes, looks, told, told_from, told_with, joined, events_of, IsRunOf}
@@ -44,14 +42,14 @@ use Rattle.law_steps.proofs.Histories.{own_steady, rests_next, happens, firm_now
 use Rattle.law_steps.proofs.Serving.{server_serves}
 use Rattle.law_steps.proofs.Turning.{is_call, client_turns}
 use Rattle.law_steps.specs.Waking.{AllMayWake}
+use Rattle.law_stores.specs.Waiting.{IsOwn}
+use Rattle.law_stores.proofs.Histories.{always_empty, in_counts, in_own}
 use Rattle.law_copies.specs.Good.{Good}
-use Rattle.law_copies.specs.Pair.{owns_of}
 use Rattle.law_copies.specs.Visits.{is_at, place_by}
 use Rattle.law_copies.proofs.First.{marks_first}
-use Rattle.law_copies.proofs.Histories.{start_good, start_visits, step_goes}
+use Rattle.law_copies.proofs.Histories.{KeepsOn, start_good, start_visits, step_goes}
 use Rattle.law_copies.proofs.Later.{AllStarted}
 use Rattle.law_copies.proofs.Rules.{copies_after, covered_after}
-use Rattle.law_copies.proofs.Stepping.{GoesOn}
 use Rattle.law_copies.proofs.Visited.{at_by, seen}
 use Rattle.law_steps.specs.Waking.{WakeAlong}
 use Rattle.law_steps.proofs.Waking.{wake_along}
@@ -59,7 +57,7 @@ use Rattle.law_requests.specs.Known.{lives_after}
 use Rattle.law_requests.proofs.Histories.{first_lives, requests_after, start_asking}
 use Rattle.law_requests.proofs.Stepping.{happens_asking, happens_later}
 use Rattle.law_log.proofs.Histories.{chosen_caught_was, history_agrees, history_is_firm, history_grows}
-use Rattle.law_run.specs.Follow.{Ground, Follow}
+use Rattle.law_run.specs.Follow.{Follow, Ground, HasOnlyKnown, OfStores}
 use Rattle.law_run.proofs.Along.{Along, rows_in, content_number}
 use Rattle.law_run.proofs.ClientFrames.{ClientStep}
 use Rattle.law_run.proofs.ClientSteps.{begins_by, turn_told}
@@ -71,7 +69,8 @@ use Rattle.law_run.proofs.Machine.{Obeys-append, replay-append}
 use Rattle.law_run.proofs.Names.{happens_named, start_named}
 use Rattle.law_run.proofs.Recalled.{GoesOnFrom, IsVisit, remembered_next}
 use Rattle.law_run.proofs.ServerSteps.{ServesAt, step_told}
-use Rattle.law_run.proofs.Steps.{born_kept}
+use Rattle.law_run.proofs.Blanks.{blank_born, blank_follow, blank_told}
+use Rattle.law_run.proofs.Steps.{IsMiddle, born_kept}
 use Rattle.law_run.proofs.Synced.{happens_short}
 
 -- ### Steps, where the chosen logs are fronts of one
@@ -100,16 +99,16 @@ module _ (script : Script) (sound : IsSound script) (whole : List Command) (all 
 
   -- what a server stores is of disks that it knows
   born_at : (w : World) → Along setting state w → Ground setting state w → (who : Actor) (what : Step) (stamp : ℕ) → MayActor who what setting w
-      → Along setting state (step who what setting w stamp).world → IsGrown (chosen_state setting w) (chosen_state setting (step who what setting w stamp).world)
-      → (i : ℕ) (cell : Cell) → cell_link (server_state setting (step who what setting w stamp).world i) cell ≡ None
-      → chain_in (owns_of (step who what setting w stamp).world i).store.chains cell ≡ []
+      → Along setting state (step who what setting w stamp).world
+      → OfStores (step who what setting w stamp).world (HasOnlyKnown setting (step who what setting w stamp).world)
   unfolding step
-  born_at w along ground (actor.Server n) what stamp may next grown =
+  born_at w along ground (actor.Server n) Blank stamp may next = blank_born setting w n stamp ground.born
+  born_at w along ground (actor.Server n) what stamp may next =
       let acted = server_step what (server_state setting w n) n (w.servers n) in
       let serving = server_serves setting w ground.ready.rests along.firm n
-      (own_steady setting w along.firm n) stamp what may.1 next.firm in
-      born_kept setting w ground.wake along.firm ground.ready.rests ground.born n stamp what acted serving next.firm
-  born_at w along ground (actor.Client c) what stamp may next grown = ground.born
+      (own_steady setting w along.firm n) stamp what refl may.1 next.firm in
+      born_kept setting w ground.wake along.firm ground.ready.rests ground.born n stamp what acted refl serving next.firm
+  born_at w along ground (actor.Client c) what stamp may next = record { now = ground.born.now; before = ground.born.before }
 
   -- ### The ground is kept
 
@@ -123,13 +122,21 @@ module _ (script : Script) (sound : IsSound script) (whole : List Command) (all 
     then_is : world_after setting (start setting) records ≡ v
     then_is = world_more setting (start setting) ground.records own ∙ ap (λ u. (stepped setting u own).world) ground.come
 
+    -- the store of who runs and is In as itself counts, and its Joins stand before
+    abbrev OwnCounts : World → Type 0
+    OwnCounts u = (n : ℕ) → (u.servers n).life.running ≡ true → is_in (server_state setting u n) n (u.servers n).life.inc ≡ true → IsOwn setting u n
+
+    abbrev JoinsCount : World → Type 0
+    JoinsCount u = (n : ℕ) (front : List Command) → IsPrefix front (chosen_log setting u)
+        → is_in (state_after setting.servers front) n (u.servers n).life.inc ≡ true
+        → blank_joins_in setting front n ≡ blank_joins_in setting (chosen_log setting u) n
+
     -- two copies, one record on
-    goes_from : GoesOn setting ground.records (chosen_log setting w) (chosen_log setting v) w v ground.good own
+    goes_from : KeepsOn setting ground.records w v ground.good own
     goes_from =
-        subst (λ u. GoesOn setting ground.records (chosen_log setting w) (chosen_log setting u) w u ground.good own) then_is
-        (subst (λ x. (good : Good setting ground.records (chosen_log setting x) x)
-        → GoesOn setting ground.records (chosen_log setting x) (chosen_log setting (world_after setting (start setting) records)) x
-        (world_after setting (start setting) records) good own) ground.come
+        subst (λ u. KeepsOn setting ground.records w u ground.good own) then_is
+        (subst (λ x. (good : Good setting ground.records (chosen_log setting x) (counted setting x))
+        → KeepsOn setting ground.records x (world_after setting (start setting) records) good own) ground.come
         (λ good. step_goes script ground.records own sound legal good) ground.good)
 
     -- where servers have been is as before, or what they are now
@@ -139,16 +146,20 @@ module _ (script : Script) (sound : IsSound script) (whole : List Command) (all 
       reached = goes_from.reached;
     }
       where
-        now_or_then : (n place : ℕ) (cell : Cell) (visit : Own) → seen setting ground.good.visits v n place cell ≡ Some visit
+        now_or_then : (n place : ℕ) (cell : Cell) (visit : Own) → seen setting ground.good.visits (counted setting v) n place cell ≡ Some visit
             → (ground.good.visits n place cell ≡ Some visit) ⊎ IsVisit setting v n place cell visit
         now_or_then n place cell visit =
             by_test (λ (o : Option Own). o ≡ Some visit
             → (ground.good.visits n place cell ≡ Some visit) ⊎ IsVisit setting v n place cell visit)
-            (is_at setting n (v.servers n) place cell) (Some (v.servers n).own) (ground.good.visits n place cell)
+            (is_at setting n ((counted setting v).servers n) place cell) (Some ((counted setting v).servers n).own) (ground.good.visits n place cell)
             (λ t is.
-            let there = at_by setting n (v.servers n) place cell t in
-            inr (record { same = same_some (sym is); row = there.row; linked = there.linked; at = there.at }))
+            let there = at_by setting n ((counted setting v).servers n) place cell t in
+            inr (record { same = ap (λ (o : Own). o.pairs) (same_some (sym is)); row = there.row; linked = there.linked; at = there.at }))
             (λ f is. inl is)
+
+    -- and by what was chosen before
+    middle : IsMiddle setting w v records goes_from.good.visits
+    middle = record { good = goes_from.middle; visits_are = goes_from.middle_visits }
 
     module _ (along : Along setting state w) (next : Along setting state v) (grows : IsPrefix (chosen_log setting w) (chosen_log setting v))
         (wake : AllMayWake setting v) (follows : Follows setting w own) where
@@ -164,6 +175,8 @@ module _ (script : Script) (sound : IsSound script) (whole : List Command) (all 
             records = records;
             come = then_is;
             good = goes_from.good;
+            own = subst (λ u. OwnCounts u) then_is (λ n runs seat. in_own script records n sound legal runs seat);
+            joined = subst (λ u. JoinsCount u) then_is (λ n front prefix seat. in_counts script records n front sound legal prefix seat);
             started = subst (λ u. AllStarted setting records u) then_is (chosen_caught_was script records sound legal);
             lives = lives_after ground.lives v;
             asking = asking;
@@ -172,16 +185,17 @@ module _ (script : Script) (sound : IsSound script) (whole : List Command) (all 
             named = happens_named setting state w ground.named v h;
             short = short_later setting state steady w v along.firm ground h;
             copied = happens_short setting state w ground v h;
-            born = born_at w along ground own.actor own.step own.stamp follows.may.may next (grown_at w v next.firm grows);
+            born = born_at w along ground own.actor own.step own.stamp follows.may.may next;
           }
 
       pub record NextGround : Type 0 where
         pub now : Ground setting state v
         pub records_are : now.records ≡ records
+        pub middle : IsMiddle setting w v now.records now.good.visits
 
       pub next_ground : NextGround
       unfolding ground_next
-      next_ground = record { now = ground_next; records_are = refl }
+      next_ground = record { now = ground_next; records_are = refl; middle = middle }
 
   -- what is chosen on the way is at the front of what is chosen at the end
   reaches : (w : World) (records : List Record) → AreFirm setting w records → IsPrefix (chosen_log setting (world_after setting w records)) whole
@@ -223,11 +237,6 @@ module _ (script : Script) (sound : IsSound script) (whole : List Command) (all 
             (legal_on ground.records next.now.records later own next.records_are all_legal) legal.1,
       )
 
-  -- the ground at the first of these worlds
-  ground_at : (w : World) (records : List Record) → AreGrounded setting state w records → Ground setting state w
-  ground_at w [] ground = ground
-  ground_at w (own ∷ later) grounds = grounds.0
-
   -- what is told is allowed, and keeps the machine tied to the world
   pub record Tells (m : Plain) (next : World) (told_now : Option (List Event)) : Type 0 where
     pub es : List Event
@@ -247,10 +256,13 @@ module _ (script : Script) (sound : IsSound script) (whole : List Command) (all 
       (follow : Follow setting (rows_in setting w) w m)
       (stamp : ℕ) (later : List Record) where
     -- of the world after the step: what is chosen there, and that the ground holds from there on
-    abbrev Onwards : World → Type 0
-    Onwards v =
-        Along setting state v × IsPrefix (chosen_log setting w) (chosen_log setting v) × AreGrounded setting state v later
-        × IsLegalFrom setting v later
+    record Onwards (v : World) : Type 0 where
+      after : Along setting state v
+      grows : IsPrefix (chosen_log setting w) (chosen_log setting v)
+      now : Ground setting state v
+      middle : IsMiddle setting w v now.records now.good.visits
+      grounds : AreGrounded setting state v later
+      legal : IsLegalFrom setting v later
 
     -- a step of an actor, with the letters that it sent and the answer that it gave
     step_tells : (who : Actor) (what : Step) → MayActor who what setting w → Onwards (step who what setting w stamp).world
@@ -259,9 +271,15 @@ module _ (script : Script) (sound : IsSound script) (whole : List Command) (all 
         (makes (change_by setting w (step who what setting w stamp).world) ++ looks setting.lines later (step who what setting w stamp).letters
         ++ ends who w (step who what setting w stamp).answer))
     unfolding step
+    step_tells (actor.Server n) Blank may next = record {
+      es = [];
+      is = blank_told setting w n stamp along.firm;
+      may = tt;
+      follows = blank_follow setting w n stamp m may.1.rests follow;
+    }
     step_tells (actor.Server n) what may next =
         let acted = server_step what (server_state setting w n) n (w.servers n) in
-        let v = (acts w n what stamp acted).world in
+        let v = (acts setting w n what stamp acted).world in
         let at : ServesAt =
         record {
           setting = setting;
@@ -275,20 +293,23 @@ module _ (script : Script) (sound : IsSound script) (whole : List Command) (all 
           within = may.0;
           stamp = stamp;
           what = what;
+          unblanked = refl;
           later = later;
         } in
         let serving = server_serves setting w ground.ready.rests along.firm n
-        (own_steady setting w along.firm n) stamp what may.1 next.0.firm in
+        (own_steady setting w along.firm n) stamp what refl may.1 next.after.firm in
         let t = step_told at sound.numbered acted serving (record {
-          along = next.0;
-          onward = ground_at v later next.2;
-          grows = next.1;
-          grown = grown_at w v next.0.firm next.1;
+          along = next.after;
+          onward = next.now;
+          grows = next.grows;
+          grown = grown_at w v next.after.firm next.grows;
+          middle = next.middle;
         }) (step_kind (server_state setting w n) n (w.servers n) what)
-        (λ letter seq bytes number sent says e. who_accepts setting state v later next.2 next.3 letter seq bytes number sent says e) in
+        (λ letter seq bytes number sent says e. who_accepts setting state v later next.grounds next.legal letter seq bytes number sent says e) in
         record {
           es = t.es;
-          is = ap (λ b. told_with b (takes (change_by setting w v)) (makes (change_by setting w v) ++ looks setting.lines later (acts w n what stamp acted).letters ++ []))
+          is = ap (λ b. told_with b (takes (change_by setting w v))
+              (makes (change_by setting w v) ++ looks setting.lines later (acts setting w n what stamp acted).letters ++ []))
               (server_begins what n v) ∙ t.is;
           may = t.may;
           follows = t.follows;
@@ -312,11 +333,14 @@ module _ (script : Script) (sound : IsSound script) (whole : List Command) (all 
       → (own : Record)
       (later : List Record) → Follows setting w own → Along setting state (stepped setting w own).world
       → IsPrefix (chosen_log setting w) (chosen_log setting (stepped setting w own).world)
+      → (now : Ground setting state (stepped setting w own).world)
+      → IsMiddle setting w (stepped setting w own).world now.records now.good.visits
       → AreGrounded setting state (stepped setting w own).world later → IsLegalFrom setting (stepped setting w own).world later
       → Tells m (stepped setting w own).world (told setting w own later)
-  record_tells w m along ground follow own later follows then grows grounds legal =
+  record_tells w m along ground follow own later follows then grows now middle grounds legal =
       let v = (stepped setting w own).world in
-      let t = step_tells w m along ground follow own.stamp later own.actor own.step follows.may.may (then, grows, grounds, legal) in
+      let t = step_tells w m along ground follow own.stamp later own.actor own.step follows.may.may
+      (record { after = then; grows = grows; now = now; middle = middle; grounds = grounds; legal = legal }) in
       record {
         es = t.es;
         is = (λ i. told_with (begins own.step own.actor v) (takes (change_by setting w v))
@@ -340,7 +364,7 @@ module _ (script : Script) (sound : IsSound script) (whole : List Command) (all 
       (wake_now v later wakes.1) legal.0 in
       let on = legal_on ground.records next.now.records later own next.records_are all_legal in
       let now = record_tells w m along ground follow own later legal.0 (along_at v then front)
-      firm.1 (grounded v later firm.2 wakes.1 end next.now on legal.1) legal.1 in
+      firm.1 next.now next.middle (grounded v later firm.2 wakes.1 end next.now on legal.1) legal.1 in
       let rest = history_tells v (replay m now.es) later firm.2 wakes.1 end next.now on now.follows legal.1 in
       record {
         es = now.es ++ rest.es;
@@ -393,11 +417,22 @@ start_ground state script ready wake =
       recalled = λ front cell row n own op prefix is both last visit there.
           none_some (start_visits setting n (place_by setting front row) cell) visit;
       named = start_named script;
-      short = λ n cell. inl (ap (λ o. unwrap_or {T = Chain} o []) (at-empty cell_cmp cell));
+      own = λ n runs seat store. refl;
+      joined = λ n front prefix seat.
+          ap (λ log. blank_joins_in setting log n) (no_front front (subst (IsPrefix front) (none_chosen setting) prefix)
+          ∙ sym (none_chosen setting));
+      short = record { now = λ n cell. inl (none_stored cell); before = λ n before is. none_some refl is };
       copied = λ letter i. absurd i;
-      born = λ n cell none. ap (λ o. unwrap_or {T = Chain} o []) (at-empty cell_cmp cell);
+      born = record { now = λ n cell none. none_stored cell; before = λ n before is. none_some refl is };
     }
   where
+    none_stored : (cell : Cell) → chain_in [] cell ≡ []
+    none_stored cell = ap (λ o. unwrap_or {T = Chain} o []) (at-empty cell_cmp cell)
+
+    no_front : (front : List Command) → IsPrefix front [] → front ≡ []
+    no_front [] p = refl
+    no_front (x ∷ front) p = let f : [] ≡ x ∷ (front ++ p.later) = p.is in absurd cc
+
     no_prefix : {B : Type 0} (front : List Command) (entry : Command) → IsPrefix (front ++ entry ∷ []) [] → B
     no_prefix [] entry p = let f : [] ≡ entry ∷ p.later = p.is in absurd cc
     no_prefix (x ∷ front) entry p = let f : [] ≡ x ∷ ((front ++ entry ∷ []) ++ p.later) = p.is in absurd cc
@@ -464,7 +499,7 @@ module _ (script : Script) (records : List Record) (sound : IsSound script) (leg
             record {
               disk = k.disk;
               is = k.is;
-              same = λ b. k.same b ∙ sym (content_number of_script last_world last_firm row h b);
+              same = λ b has. k.same b has ∙ sym (content_number of_script last_world last_firm row h b);
             };
         unknown = stores.unknown;
       })
@@ -481,6 +516,7 @@ law_with requests script records sound legal = record {
     agrees = history_agrees script records sound legal;
     copies = copies_after script records sound legal;
     covered = covered_after script records sound legal;
+    empty = λ n fresh. let e = always_empty script records sound legal n fresh in (e.chains, e.marks);
     requests = requests script records sound legal;
   };
   grows = history_grows script records sound legal;

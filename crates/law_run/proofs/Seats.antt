@@ -1,42 +1,43 @@
 -- What a server that runs relies on at its own place of a cell's link: that no server that serves the link has been further, and what the
 -- other server has in memory of the place.
-use Rattle.std.proofs.Common.{◌≡◌, ◌≤◌, ◌+◌, ℕ, List, true, false, Option, Some, None, refl, sym, ap, ◌∙◌, subst, ◌⊎◌, inl, inr, arith}
+use Rattle.std.proofs.Common.{◌≡◌, ◌++◌, ◌&&◌, ℕ, List, [], ◌∷◌, true, Option, Some, None, refl, sym, ap, ◌∙◌, subst, ◌⊎◌, inl, inr, arith}
 use Rattle.global_tables.specs.Link.{has_server}
 use Rattle.global_tables.specs.declared.link.LinkRow.{LinkRow}
 use Rattle.global_tables.specs.declared.link.LinkState.TheVariants.{Both, Only}
 use Rattle.petal_base.specs.declared.cell.Cell.{Cell}
 use Rattle.petal_command.specs.declared.command.Command.{Command}
+use Rattle.petal_command.specs.declared.command.Command.TheVariants.{Join}
 use Rattle.petal_table.specs.Table.{at}
 use Rattle.petal_table.proofs.Rows.{at-empty}
 use Rattle.petal_msg.specs.Kinds.{about}
 use Rattle.petal_msg.specs.declared.body.Body.{Body}
 use Rattle.petal_msg.specs.declared.operation.Pending.{Pending}
-use Rattle.petal_state.specs.CellState.{cell_link, lead, serves}
-use Rattle.petal_state.specs.Command.{state_after}
+use Rattle.petal_state.specs.CellState.{lead, serves}
 use Rattle.petal_history.specs.Claims.{IsPrefix}
 use Rattle.petal_rules.specs.Server.{Own}
-use Rattle.petal_rules.specs.State.{State, authority, id_of, in_both, is_alone_on, is_in, is_lead, is_second, second}
+use Rattle.petal_rules.specs.State.{State, authority, in_both, is_alone_on, is_in, is_lead, is_second, second}
 use Rattle.petal_rules.specs.Progress.{has_proposed}
 use Rattle.petal_rules.specs.Store.{Store, cell_cmp, chain_in}
-use Rattle.petal_rules.specs.World.{Setting, World, chosen_log, chosen_state, server_state}
-use Rattle.petal_rules.proofs.Tests.{is_the_one, none_some, same_some, true_false}
+use Rattle.petal_rules.specs.World.{Setting, World, blank_joins_in, chosen_log, chosen_state, kept, server_state}
+use Rattle.petal_rules.proofs.Tests.{is_the_one, none_some, true_false}
 use Rattle.law_state.specs.Firm.{Firm}
-use Rattle.law_state.specs.Started.{is_flagged}
-use Rattle.law_state.specs.Steady.{IsSteady}
-use Rattle.law_state.proofs.Alone.{alone_not_both, alone_row, so_alone, so_both}
-use Rattle.law_state.proofs.Cells.{IsHeldBy, IsInBoth, alone_authority, led_by, second_by}
+use Rattle.law_state.specs.Plain.{IsPlainLog}
+use Rattle.law_state.proofs.Alone.{alone_not_both, both_row, so_alone, so_both}
+use Rattle.law_state.proofs.Cells.{IsHeldBy, alone_authority, led_by, second_by}
+use Rattle.law_state.proofs.Grown.{one_before}
 use Rattle.law_state.proofs.Roles.{primary_is_one, secondary_is_one}
 use Rattle.law_steps.specs.Happens.{Handled}
 use Rattle.law_steps.specs.Operations.{IsStaged}
-use Rattle.law_steps.proofs.Fronts.{front_itself}
+use Rattle.law_steps.proofs.Fronts.{front_itself, front_more, front_on}
 use Rattle.law_steps.proofs.Histories.{chosen_steady, own_steady, ready_chosen}
 use Rattle.law_steps.proofs.Minds.{held_as_flag}
-use Rattle.law_copies.specs.Good.{AreTwins, pair_at, store_of}
+use Rattle.law_copies.specs.Good.{AreTwins, pair_at}
 use Rattle.law_copies.specs.Pair.{AreCopies, Known, Pair, PairOk, far, owns_of, pair_of}
 use Rattle.law_copies.specs.Visits.{IsLast, IsLinked, half, place_by}
 use Rattle.law_copies.proofs.Later.{both_last, both_since, holds_since, reached_here}
-use Rattle.law_copies.proofs.Places.{linked_on, one_row, places_up}
+use Rattle.law_copies.proofs.Places.{linked_on, one_row, place_of_later, place_touched, places_up, rows_later}
 use Rattle.law_run.specs.Follow.{Ground}
+use Rattle.law_run.proofs.Joined.{more_joins}
 
 -- ### What is remembered of a place
 
@@ -66,6 +67,28 @@ equal_pair one other a b cell ok none =
     by pair None is same = same
     by pair (Some op) is copies = let t = op_there one a cell op is in none_some (none t.0 t.1) t.2
 
+-- at one place of a link none of its servers has joined with an empty store since
+place_joins : (setting : Setting) (whole : List Command) → IsPlainLog setting.servers whole → (front : List Command) (cell : Cell) (row now : LinkRow)
+    → IsPrefix front whole → IsLinked setting front cell row → IsLinked setting whole cell now
+    → place_by setting front row ≡ place_by setting whole now → (n : ℕ) → has_server n row ≡ true
+    → blank_joins_in setting whole n ≡ blank_joins_in setting front n
+place_joins setting whole all front cell row now prefix is end same n has = elim (more_joins setting.servers n front whole prefix) [
+  | inl joins ↦ joins
+  | inr j ↦
+      let until = j.1.until in
+      let behind = until ++ Join n j.0 true ∷ [] in
+      let until_whole = front_on until behind whole (front_more until (Join n j.0 true)) j.1.stands in
+      let mid = linked_on setting whole all front until cell row j.1.behind until_whole is in
+      let later = rows_later setting whole all front until cell row mid.0 j.1.behind until_whole is mid.1 in
+      let has_mid : has_server n mid.0 ≡ true = one_before row mid.0 n later ∙ has in
+      let next = linked_on setting whole all until behind cell mid.0 (front_more until (Join n j.0 true)) j.1.stands mid.1 in
+      let one = places_up setting whole all front until cell row mid.0 j.1.behind until_whole is mid.1 in
+      let two = place_touched setting until (Join n j.0 true) mid.0 (λ i. j.1.may i && has_mid i) in
+      let three = place_of_later setting whole all until behind behind cell mid.0 next.0 (front_more until (Join n j.0 true)) j.1.stands mid.1 next.1 in
+      let four = places_up setting whole all behind whole cell next.0 now j.1.stands (front_itself whole) next.1 end in
+      absurd (omega arith)
+]
+
 module _ (setting : Setting) (state : State) (w : World) (firm : Firm setting w) (ground : Ground setting state w) where
   abbrev chosen : List Command
   chosen = chosen_log setting w
@@ -73,13 +96,28 @@ module _ (setting : Setting) (state : State) (w : World) (firm : Firm setting w)
   abbrev own_front : ℕ → List Command
   own_front n = (w.servers n).log.applied
 
+  abbrev stores : ℕ → Store
+  stores n = kept setting w n
+
   abbrev pub place_of : ℕ → LinkRow → ℕ
   place_of n row = place_by setting (own_front n) row
 
   -- what it was at its own place it is now
-  pub visit_here : (n : ℕ) (cell : Cell) (row : LinkRow) → is_in (server_state setting w n) n (w.servers n).life.inc ≡ true
+  pub visit_here : (n : ℕ) (cell : Cell) (row : LinkRow) → (w.servers n).life.running ≡ true
+      → is_in (server_state setting w n) n (w.servers n).life.inc ≡ true
       → IsLinked setting (own_front n) cell row → ground.good.visits n (place_of n row) cell ≡ Some (owns_of w n)
-  visit_here n cell row seat is = let h = ground.good.here n cell row is seat in h.is ∙ ap Some h.same
+  visit_here n cell row runs seat is =
+      let h = ground.good.here n cell row is seat in
+      let own = owns_of w n in
+      h.is ∙ ap Some (h.same ∙ (λ i. record own { store = ground.own n runs seat own.store i }))
+
+  -- the stores by what is chosen are those that count
+  abbrev pub chosen_store : ℕ → Store
+  chosen_store n = ground.good.stores n (blank_joins_in setting chosen n)
+
+  -- the other server's store by the server's own entries
+  abbrev pub store_there : (n m : ℕ) → Store
+  store_there n m = ground.good.stores m (blank_joins_in setting (own_front n) m)
 
   -- ### By what is chosen
 
@@ -94,7 +132,7 @@ module _ (setting : Setting) (state : State) (w : World) (firm : Firm setting w)
   ]
 
   pub chosen_twins : (cell : Cell) (row : LinkRow) → IsLinked setting chosen cell row → row.state ≡ Both
-      → AreTwins w ground.good.visits (place_by setting chosen row) cell row.primary row.secondary
+      → AreTwins chosen_store ground.good.visits (place_by setting chosen row) cell row.primary row.secondary
   chosen_twins cell row is both = (ground.good.both chosen cell row (front_itself chosen) is both).twins (chosen_last cell row is)
 
   -- ### In Both by its own state
@@ -109,7 +147,7 @@ module _ (setting : Setting) (state : State) (w : World) (firm : Firm setting w)
 
   pub sharing_last : (n : ℕ) (cell : Cell) (row : LinkRow) → IsSharing n cell row
       → IsLast ground.good.reached setting (own_front n) cell row
-  sharing_last n cell row s = both_last setting ground.records w firm ground.good n s.runs s.seat cell row s.linked s.both s.has
+  sharing_last n cell row s = both_last setting ground.records w stores firm ground.good n s.runs s.seat cell row s.linked s.both s.has
 
   -- two such servers of one cell are at one place
   pub one_place_of : (n m : ℕ) (cell : Cell) (row other : LinkRow) → IsSharing n cell row → IsSharing m cell other
@@ -117,8 +155,8 @@ module _ (setting : Setting) (state : State) (w : World) (firm : Firm setting w)
   one_place_of n m cell row other s t =
       let one = sharing_last n cell row s in
       let two = sharing_last m cell other t in
-      let up = reached_here setting ground.records w firm ground.good n cell row s.seat s.linked (ap (serves n row) s.both ∙ s.has) in
-      let also = reached_here setting ground.records w firm ground.good m cell other t.seat t.linked (ap (serves m other) t.both ∙ t.has) in
+      let up = reached_here setting ground.records w stores firm ground.good n cell row s.seat s.linked (ap (serves n row) s.both ∙ s.has) in
+      let also = reached_here setting ground.records w stores firm ground.good m cell other t.seat t.linked (ap (serves m other) t.both ∙ t.has) in
       let same : place_of n row ≡ place_of m other = omega arith in (
         same,
         one_row setting chosen firm.plain (own_front n) (own_front m) cell row other (firm.servers n)
@@ -126,29 +164,66 @@ module _ (setting : Setting) (state : State) (w : World) (firm : Firm setting w)
       )
 
   pub shared_ok : (n : ℕ) (cell : Cell) (row : LinkRow) → IsSharing n cell row
-      → PairOk (pair_at w ground.good.visits (place_of n row) cell row.primary row.secondary)
+      → PairOk (pair_at (store_there n) ground.good.visits (place_of n row) cell row.primary row.secondary)
   shared_ok n cell row s =
       ((ground.good.both (own_front n) cell row (firm.servers n) s.linked s.both).twins (sharing_last n cell row s)).pair
 
   -- what the server's peer has in memory of the place
   abbrev pub peer : (n m : ℕ) → Cell → LinkRow → Own
-  peer n m cell row = half (ground.good.visits m (place_of n row) cell) (store_of w m)
+  peer n m cell row = half (ground.good.visits m (place_of n row) cell) (store_there n m)
+
+  -- the store of a server that runs and is In as itself is its own by its own entries, too
+  own_there : (n : ℕ) → (w.servers n).life.running ≡ true → is_in (server_state setting w n) n (w.servers n).life.inc ≡ true
+      → store_there n n ≡ (owns_of w n).store
+  own_there n runs seat =
+      ap (ground.good.stores n) (ground.joined n (own_front n) (firm.servers n) seat) ∙ ground.good.now n ∙ ground.own n runs seat (owns_of w n).store
 
   pub first_ok : (n : ℕ) (cell : Cell) (row : LinkRow) → IsSharing n cell row → row.primary ≡ n
       → PairOk (pair_of (owns_of w n) (peer n row.secondary cell row) cell)
   first_ok n cell row s first =
-      subst (λ o. PairOk (pair_of (half o (store_of w n)) (peer n row.secondary cell row) cell)) (visit_here n cell row s.seat s.linked)
-      (subst (λ k. PairOk (pair_of (half (ground.good.visits k (place_of n row) cell) (store_of w k))
+      let own = owns_of w n in
+      subst (λ (x : Store). PairOk (pair_of (record own { store = x }) (peer n row.secondary cell row) cell)) (own_there n s.runs s.seat)
+      (subst (λ o. PairOk (pair_of (half o (store_there n n)) (peer n row.secondary cell row) cell))
+      (visit_here n cell row s.runs s.seat s.linked)
+      (subst (λ k. PairOk (pair_of (half (ground.good.visits k (place_of n row) cell) (store_there n k))
       (peer n row.secondary cell row) cell)) first
-      (shared_ok n cell row s))
+      (shared_ok n cell row s)))
+
+  -- the link is in Both by what is chosen, or the server's copy counts
+  pub shared_or_alone : (n : ℕ) (cell : Cell) (row : LinkRow) → IsSharing n cell row
+      → (in_both (chosen_state setting w) cell ≡ true) ⊎ (authority (chosen_state setting w) cell ≡ Some n)
+  shared_or_alone n cell row s =
+      let now = linked_on setting chosen firm.plain (own_front n) chosen cell row (firm.servers n) (front_itself chosen) s.linked in
+      elim (both_since setting ground.records w stores firm ground.good n s.runs s.seat cell row s.linked s.both s.has chosen now.0
+      (firm.servers n) (front_itself chosen) now.1) [
+        | inl same ↦
+            let one = one_row setting chosen firm.plain (own_front n) chosen cell row now.0 (firm.servers n) (front_itself chosen)
+            s.linked now.1 (sym same) in
+            inl (so_both (chosen_state setting w) cell now.0 now.1 (ap (λ (r : LinkRow). r.state) one ∙ s.both))
+        | inr only ↦ inr (alone_authority (chosen_state setting w) cell now.0 now.1
+            ((chosen_steady setting w firm).linked cell now.0 now.1) n only.0 only.1)
+      ]
+
+  -- while it is so, the stores of the link's servers are those that count
+  pub shared_store : (n : ℕ) (cell : Cell) (row : LinkRow) → IsSharing n cell row → in_both (chosen_state setting w) cell ≡ true
+      → (m : ℕ) → has_server m row ≡ true → store_there n m ≡ kept setting w m
+  shared_store n cell row s shared m has =
+      let b = both_row (chosen_state setting w) cell shared in
+      let same : blank_joins_in setting chosen m ≡ blank_joins_in setting (own_front n) m =
+      elim (both_since setting ground.records w stores firm ground.good n s.runs s.seat cell row s.linked s.both s.has chosen b.row
+      (firm.servers n) (front_itself chosen) b.is) [
+        | inl place ↦ place_joins setting chosen firm.plain (own_front n) cell row b.row (firm.servers n) s.linked b.is (sym place) m has
+        | inr only ↦ (let f : Only n only.0 ≡ Both = sym only.1 ∙ b.both in absurd cc)
+      ] in
+      ap (ground.good.stores m) (sym same) ∙ ground.good.now m
 
   -- what is known of a letter that it handles
   pub heard_shared : (n : ℕ) (cell : Cell) (row : LinkRow) → IsSharing n cell row → (said : Body) → Handled w n said
       → (about said).cell ≡ Some cell
-      → Known (pair_at w ground.good.visits (place_of n row) cell row.primary row.secondary) said
+      → Known (pair_at (store_there n) ground.good.visits (place_of n row) cell row.primary row.secondary) said
   heard_shared n cell row s said h of =
       subst (λ (b : Body). (about b).cell ≡ Some cell
-      → Known (pair_at w ground.good.visits (place_of n row) cell row.primary row.secondary) b) h.is
+      → Known (pair_at (store_there n) ground.good.visits (place_of n row) cell row.primary row.secondary) b) h.is
       ((ground.good.letters h.letter h.sent (own_front n) cell row (firm.servers n) (sym h.at) s.linked).both s.both
       (sharing_last n cell row s)) of
 
@@ -201,7 +276,7 @@ module _ (setting : Setting) (state : State) (w : World) (firm : Firm setting w)
     op_shared both = elim op_place [
       | inl first ↦ first
       | inr held ↦ true_false both
-          (alone_not_both (server_state setting w n) n cell (so_alone (server_state setting w n) n cell held.row false held.is held.so))
+          (alone_not_both (server_state setting w n) n cell (so_alone (server_state setting w n) n cell held.row held.whole held.is held.so))
     ]
 
     -- the server leads the cell by what is chosen, too
@@ -215,11 +290,10 @@ module _ (setting : Setting) (state : State) (w : World) (firm : Firm setting w)
           (alone_not_both (server_state setting w n) n cell alone)
       | inr held ↦
           let now = linked_on setting chosen firm.plain (own_front n) chosen cell held.row (firm.servers n) (front_itself chosen) held.is in
-          elim (holds_since setting ground.records w firm ground.good n runs op_seat cell held.row held.is held.so chosen now.0
-          (firm.servers n)
-          (front_itself chosen) now.1) [
+          elim (holds_since setting ground.records w stores firm ground.good n runs op_seat cell held.row held.is ground.started
+          held.whole held.so chosen now.0 (firm.servers n) (front_itself chosen) now.1) [
             | inl only ↦ alone_authority (chosen_state setting w) cell now.0 now.1
-                ((chosen_steady setting w firm).linked cell now.0 now.1) n false only
+                ((chosen_steady setting w firm).linked cell now.0 now.1) n only.0 only.1
             | inr flagged ↦ true_false (held_as_flag (server_state setting w n) (owns_of w n) cell held.row held.is ∙ flagged) staged.unheld
           ]
     ]
@@ -232,15 +306,15 @@ module _ (setting : Setting) (state : State) (w : World) (firm : Firm setting w)
     pub shared_before : (front : List Command) (now : LinkRow) → IsPrefix (own_front n) front
         → IsPrefix front chosen → IsLinked setting front cell now → now.state ≡ Both → IsSharedAt front now
     shared_before front now one two there both = elim op_place [
-      | inl first ↦ elim (both_since setting ground.records w firm ground.good n runs op_seat cell first.row first.shares.linked
+      | inl first ↦ elim (both_since setting ground.records w stores firm ground.good n runs op_seat cell first.row first.shares.linked
           first.shares.both
           first.shares.has front now one two there) [
             | inl same ↦ record { first = first; at = same }
-            | inr only ↦ (let f : Only n false ≡ Both = sym only ∙ both in absurd cc)
+            | inr only ↦ (let f : Only n only.0 ≡ Both = sym only.1 ∙ both in absurd cc)
           ]
-      | inr held ↦ elim (holds_since setting ground.records w firm ground.good n runs op_seat cell held.row held.is held.so front now
-          one two there) [
-            | inl only ↦ (let f : Only n false ≡ Both = sym only ∙ both in absurd cc)
+      | inr held ↦ elim (holds_since setting ground.records w stores firm ground.good n runs op_seat cell held.row held.is ground.started
+          held.whole held.so front now one two there) [
+            | inl only ↦ (let f : Only n only.0 ≡ Both = sym only.1 ∙ both in absurd cc)
             | inr flagged ↦ true_false (held_as_flag (server_state setting w n) (owns_of w n) cell held.row held.is ∙ flagged) staged.unheld
           ]
     ]

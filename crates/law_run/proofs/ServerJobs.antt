@@ -17,16 +17,17 @@ use Rattle.petal_msg.specs.declared.operation.Ending.TheVariants as ending
 use Rattle.petal_msg.specs.declared.operation.Finished.{Finished}
 use Rattle.petal_msg.specs.declared.operation.Pending.{Pending}
 use Rattle.petal_msg.specs.declared.operation.Stage.{Stage}
-use Rattle.petal_rules.specs.State.{State, authority, in_both, is_lead, is_second, is_alone_on}
-use Rattle.petal_rules.specs.Store.{Chain, Stored, cell_cmp, chain_in, chains_with, version_of}
+use Rattle.petal_rules.specs.State.{authority, in_both, is_lead, is_second, is_alone_on}
+use Rattle.petal_rules.specs.Store.{Chain, Store, Stored, cell_cmp, chain_in, chains_with, version_of}
 use Rattle.petal_rules.specs.Server.{Own, Here, Done}
 use Rattle.petal_rules.specs.Writes.{operation, puts, with_reserved, with_paired, with_mark_at}
-use Rattle.petal_rules.specs.World.{chosen_state}
+use Rattle.petal_rules.specs.World.{chosen_state, kept}
 use Rattle.petal_rules.proofs.CellTables.{cell_same, cell_apart}
-use Rattle.petal_rules.proofs.Tests.{by_bool, is_the_one, same_or_apart, same_some, true_false}
+use Rattle.petal_rules.proofs.Tests.{is_the_one, same_or_apart, same_some, true_false}
 use Rattle.law_state.specs.Steady.{IsSteady}
 use Rattle.law_state.proofs.Alone.{alone_not_both, so_both}
 use Rattle.law_state.proofs.Cells.{led_by, second_by}
+use Rattle.law_state.proofs.Roles.{secondary_is_one}
 use Rattle.law_steps.specs.Operations.{answering, putting}
 use Rattle.law_steps.specs.DidLead.{DidLead, Taken, Asks_for, Repeats, Is_full, Gives_up, Opens, Marks, Puts, Unmarks, Closes, Opens_alone, Marks_alone, Puts_alone, Unmarks_alone, Closes_alone}
 use Rattle.law_steps.specs.DidSecond.{DidSecond, Sets_apart, Promises, Declines, Follows}
@@ -34,12 +35,12 @@ use Rattle.law_steps.specs.DidOther.{DidOther}
 use Rattle.law_steps.specs.Did.{Did, Ignores, Refuses, By_read, By_lead, By_second, By_holder, By_other}
 use Rattle.law_steps.specs.Happens.{Handled, IsSeated, own_place}
 use Rattle.law_steps.proofs.CopyFrames.{of_holder, of_other}
-use Rattle.law_steps.proofs.Histories.{chosen_steady, own_below, own_steady}
+use Rattle.law_steps.proofs.Histories.{own_steady}
 use Rattle.law_steps.proofs.Restages.{stood}
 use Rattle.law_steps.proofs.Staged.{same_cell_or_apart}
-use Rattle.law_steps.proofs.Subjects.{of_read, of_second, told_own}
+use Rattle.law_steps.proofs.Subjects.{of_read, of_second}
 use Rattle.law_steps.proofs.Taking.{taking}
-use Rattle.law_copies.specs.Good.{pair_at, store_of}
+use Rattle.law_stores.specs.Waiting.{IsOwn}
 use Rattle.law_copies.specs.Pair.{AreCopies, PairOk, Working, far, owns_of, pair_of}
 use Rattle.law_copies.specs.Visits.{IsLinked, half}
 use Rattle.law_copies.proofs.Chains.{chain_apart, chain_put}
@@ -50,11 +51,11 @@ use Rattle.law_run.specs.Onward.{is_held, Onward}
 use Rattle.law_run.specs.Follow.{HasCounted, Is_told, Is_followed, Is_counted}
 use Rattle.law_run.proofs.Chains.{StoresSo, Nothing_new, An_own, An_asked, A_copy, OtherStores, PutsAsked, PutsCopy, PutsOwn, copied_apart, did_stores, holder_chains, lead_stores, other_changes, second_stores}
 use Rattle.law_run.proofs.Copies.{copied_unfollowed}
-use Rattle.law_run.proofs.Frames.{OwnFollow, kept_finished}
+use Rattle.law_run.proofs.Frames.{OwnFollow, kept_finished, own_counted}
 use Rattle.law_run.proofs.Grounds.{Followed, followed, not_ahead, pending_epoch}
 use Rattle.law_run.proofs.Machine.{held_onward}
-use Rattle.law_run.proofs.Seats.{IsSharedFirst, IsSharing, first_ok, heard_shared, one_place_of, op_alone, op_leads, op_shared, peer, place_of, visit_here}
-use Rattle.law_run.proofs.Steps.{ServerStep}
+use Rattle.law_run.proofs.Seats.{IsSharing, first_ok, heard_shared, one_place_of, op_alone, op_leads, op_seat, op_shared, peer, place_of, shared_or_alone, shared_store, store_there, visit_here}
+use Rattle.law_run.proofs.Steps.{ServerStep, joined_now, joined_then, kept_here, later_world, new as own_left, own_after}
 
 module _ (this : ServerStep) (k : Plain) where
   abbrev here : Here
@@ -87,14 +88,16 @@ module _ (this : ServerStep) (k : Plain) where
   module _ (runs : (this.w.servers this.n).life.running ≡ true) (onward : Onward this.m k) where
     -- an operation that was pending
     was_held : (cell : Cell) (op : Pending) → at cell_cmp own.pairs.pending cell ≡ Some op → Counted cell op (mine cell) → Held op
-    was_held cell op is counted still = held_onward this.m k op.client onward (this.follow.pending this.n cell op runs is counted still)
+    was_held cell op is counted still =
+        held_onward this.m k op.client onward (this.follow.pending this.n cell op runs is
+        (subst (Counted cell op) (sym (own_counted this k runs cell op is)) counted) still)
 
     -- the same in another stage
     recounted : (cell : Cell) (old now : Pending) (chain : Chain)
         → (now.stage.paired ≡ true → old.stage.paired ≡ true)
         → (now.stage.put ≡ true → old.stage.put ≡ true) → Counted cell now chain → Counted cell old chain
     recounted cell old now chain paired put (Is_told both e) = Is_told both (paired e)
-    recounted cell old now chain paired put (Is_followed row linked both e same) = Is_followed row linked both (put e) same
+    recounted cell old now chain paired put (Is_followed row linked both shared e same) = Is_followed row linked both shared (put e) same
     recounted cell old now chain paired put (Is_counted e counts) = Is_counted (put e) counts
 
     -- one that is put in the table, beside which other chains stay
@@ -128,29 +131,37 @@ module _ (this : ServerStep) (k : Plain) where
     abbrev second_of : (op : Pending) → IsFirst op → Own
     second_of op f = peer this.setting this.state this.w this.along.firm this.ground this.n f.0.secondary op.cell f.0
 
+    -- the second server's store, by the entries at the place
+    abbrev two : (op : Pending) → IsFirst op → Chain
+    two op f = chain_in (store_there this.setting this.state this.w this.along.firm this.ground this.n f.0.secondary).chains op.cell
+
     copies_at : (op : Pending) → at cell_cmp own.pairs.pending op.cell ≡ Some op → (f : IsFirst op) → (put : Bool) → op.stage.put ≡ put
-        → Working (mine op.cell) (chain_in (owns_of this.w f.0.secondary).store.chains op.cell)
-        (far (pair_of own (second_of op f) op.cell)) op put
+        → Working (mine op.cell) (two op f) (far (pair_of own (second_of op f) op.cell)) op put
     copies_at op is f put e =
         let ok = first_ok this.setting this.state this.w this.along.firm this.ground this.n op.cell f.0 f.1 f.2 in
-        let two : Own → Chain = λ (o : Own). chain_in o.store.chains op.cell in
         of_half (this.ground.good.visits f.0.secondary (place_of this.setting this.state this.w this.along.firm this.ground this.n
         f.0) op.cell) ok put e
       where
-        of_half : (visit : Option Own) → PairOk (pair_of own (half visit (store_of this.w f.0.secondary)) op.cell) → (put : Bool)
+        store : Store
+        store = store_there this.setting this.state this.w this.along.firm this.ground this.n f.0.secondary
+
+        of_half : (visit : Option Own) → PairOk (pair_of own (half visit store) op.cell) → (put : Bool)
             → op.stage.put ≡ put
-            → Working (mine op.cell) (chain_in (owns_of this.w f.0.secondary).store.chains op.cell)
-            (far (pair_of own (half visit (store_of this.w f.0.secondary)) op.cell)) op put
+            → Working (mine op.cell) (two op f) (far (pair_of own (half visit store) op.cell)) op put
         of_half None ok put e =
-            subst (Working (mine op.cell) (chain_in (owns_of this.w f.0.secondary).store.chains op.cell)
-            (far (pair_of own (half None (store_of this.w f.0.secondary)) op.cell)) op) e
-            (subst (AreCopies (mine op.cell) (chain_in (owns_of this.w f.0.secondary).store.chains op.cell)
-            (far (pair_of own (half None (store_of this.w f.0.secondary)) op.cell))) is ok.copies)
+            subst (Working (mine op.cell) (two op f) (far (pair_of own (half None store) op.cell)) op) e
+            (subst (AreCopies (mine op.cell) (two op f) (far (pair_of own (half None store) op.cell))) is ok.copies)
         of_half (Some other) ok put e =
-            subst (Working (mine op.cell) (chain_in (owns_of this.w f.0.secondary).store.chains op.cell)
-            (far (pair_of own (half (Some other) (store_of this.w f.0.secondary)) op.cell)) op) e
-            (subst (AreCopies (mine op.cell) (chain_in (owns_of this.w f.0.secondary).store.chains op.cell)
-            (far (pair_of own (half (Some other) (store_of this.w f.0.secondary)) op.cell))) is ok.copies)
+            subst (Working (mine op.cell) (two op f) (far (pair_of own (half (Some other) store) op.cell)) op) e
+            (subst (AreCopies (mine op.cell) (two op f) (far (pair_of own (half (Some other) store) op.cell))) is ok.copies)
+
+    -- which counts, while the link is in Both by what is chosen
+    two_counts : (op : Pending) (f : IsFirst op) → in_both (chosen_state this.setting this.w) op.cell ≡ true
+        → two op f ≡ chain_in (kept this.setting this.w f.0.secondary).chains op.cell
+    two_counts op f shared =
+        ap (λ (s : Store). chain_in s.chains op.cell)
+        (shared_store this.setting this.state this.w this.along.firm this.ground this.n op.cell f.0 f.1 shared f.0.secondary
+        (secondary_is_one f.0 f.0.secondary refl))
 
     -- how far the second server is, by a letter of its own
     past_at : (op : Pending) → hears (body.Replicated op.op op.cell) → (f : IsFirst op)
@@ -163,23 +174,28 @@ module _ (this : ServerStep) (k : Plain) where
         → in_both here.state op.cell ≡ true → op.stage.put ≡ true → Held op
     paired_held op h is both put =
         let f = first_of op is both in
-        let ahead = copies_at op is f true put in
-        was_held op.cell op is (Is_followed f.0 f.1.linked f.1.both put (ahead.even (past_at op h f)))
+        elim (shared_or_alone this.setting this.state this.w this.along.firm this.ground this.n op.cell f.0 f.1) [
+          | inr counts ↦ was_held op.cell op is (Is_counted put counts)
+          | inl shared ↦
+              let ahead = copies_at op is f true put in
+              was_held op.cell op is (Is_followed f.0 f.1.linked f.1.both shared put (ahead.even (past_at op h f) ∙ two_counts op f shared))
+        ]
 
     -- an operation that is put now is ahead of the second server's copy
     put_now : (op : Pending) → at cell_cmp own.pairs.pending op.cell ≡ Some op → in_both here.state op.cell ≡ true → op.stage.put ≡ false
         → (row : LinkRow) → IsLinked this.setting (this.w.servers this.n).log.applied op.cell row
-        → mine op.cell ≡ chain_in (owns_of this.w row.secondary).store.chains op.cell
-    put_now op is both put row linked =
+        → in_both (chosen_state this.setting this.w) op.cell ≡ true
+        → mine op.cell ≡ chain_in (kept this.setting this.w row.secondary).chains op.cell
+    put_now op is both put row linked shared =
         let f = first_of op is both in
-        (copies_at op is f false put).even
-        ∙ ap (λ (r : LinkRow). chain_in (owns_of this.w r.secondary).store.chains op.cell) (same_some (sym f.1.linked ∙ linked))
+        (copies_at op is f false put).even ∙ two_counts op f shared
+        ∙ ap (λ (r : LinkRow). chain_in (kept this.setting this.w r.secondary).chains op.cell) (same_some (sym f.1.linked ∙ linked))
 
     -- a new operation
     fresh_held : (cell : Cell) (op : Pending) (chain : Chain) → op.stage.paired ≡ false → op.stage.put ≡ false → Counted cell op chain → Held op
     fresh_held cell op chain unpaired unput (Is_told both e) = true_false e unpaired
     fresh_held cell op chain unpaired unput (Is_counted e counts) = true_false e unput
-    fresh_held cell op chain unpaired unput (Is_followed row linked both e same) = true_false e unput
+    fresh_held cell op chain unpaired unput (Is_followed row linked both shared e same) = true_false e unput
 
     -- ### Alone
 
@@ -190,7 +206,7 @@ module _ (this : ServerStep) (k : Plain) where
     taken_held : (now : Own) (op new : Pending) → Taken own now op → is_alone_on here.state this.n op.cell ≡ true → new.client ≡ op.client → new.seq ≡ op.seq
         → (new.stage.put ≡ true → op.stage.put ≡ true) → (chain : Chain) → Counted op.cell new chain → Held new
     taken_held now op new taken alone client seq put chain (Is_told both e) still = not_both op.cell alone both
-    taken_held now op new taken alone client seq put chain (Is_followed row linked both e same) still =
+    taken_held now op new taken alone client seq put chain (Is_followed row linked both shared e same) still =
         not_both op.cell alone (so_both here.state op.cell row linked both)
     taken_held now op new taken alone client seq put chain (Is_counted e counts) still =
         let t = taking own now op taken in
@@ -232,18 +248,18 @@ module _ (this : ServerStep) (k : Plain) where
         → Held (record op { version = version_of (mine op.cell) + 1; stage = record op.stage { put = true } })
     puts_held op there both stage held (Is_told here_both e) still = was_held op.cell op there (Is_told here_both e) still
     puts_held op there both stage held (Is_counted e counts) still = held counts
-    puts_held op there both stage held (Is_followed row linked in_it e same) still =
+    puts_held op there both stage held (Is_followed row linked in_it shared e same) still =
         let keyed = ((this.ground.ready.rests.pending this.n).staged op.cell op there).keyed in
         let cell = cell_of op.key in
         let entry : Stored = record { version = version_of (mine op.cell) + 1; bytes = op.bytes } in
         let new : chain_in (puts own op).own.store.chains cell ≡ put nat_cmp (mine cell) op.key.epoch entry = chain_put own.store.chains cell _ in
         let equal : put nat_cmp (mine cell) op.key.epoch entry ≡ mine cell =
         sym new ∙ ap (chain_in (puts own op).own.store.chains) keyed ∙ same
-        ∙ sym (put_now op there both (ap (λ (s : Stage). s.put) stage) row linked) ∙ ap mine (sym keyed) in
+        ∙ sym (put_now op there both (ap (λ (s : Stage). s.put) stage) row linked shared) ∙ ap mine (sym keyed) in
         let next : entry.version ≡ version_of (mine cell) + 1 = ap (λ (c : Cell). version_of (mine c) + 1) (sym keyed) in
         absurd (not_ahead (mine cell) op.key.epoch entry
         (pending_epoch this.setting this.state this.along.steady this.w this.along.firm this.ground this.n this.n op.cell op there)
-        (this.ground.short this.n cell) next equal)
+        (this.ground.short.now this.n cell) next equal)
 
     lead_pending : (done : Done) (d : DidLead hears here own done) → PutHeld (lead_stores hears here own done d) → (cell : Cell) (o : Pending)
         → at cell_cmp done.own.pairs.pending cell ≡ Some o → Counted cell o (chain_in done.own.store.chains cell) → Held o
@@ -287,7 +303,7 @@ module _ (this : ServerStep) (k : Plain) where
         ∙ still_taken now op taken q ne)
         (λ counted still. elim counted [
           | Is_told both e ↦ not_both op.cell alone both
-          | Is_followed row linked both e same ↦ not_both op.cell alone (so_both here.state op.cell row linked both)
+          | Is_followed row linked both shared e same ↦ not_both op.cell alone (so_both here.state op.cell row linked both)
           | Is_counted e counts ↦
               subst (λ i. is_held k i ≡ true) (sym (ap (λ (o : Pending). o.client) t.is))
               (held (ap (λ (o : Pending). authority (chosen_state this.setting this.w) o.cell) (sym t.is) ∙ counts))
@@ -376,7 +392,7 @@ module _ (this : ServerStep) (k : Plain) where
         let b = second_by here.state steady_here cell this.n (is_the_one _ this.n second) in
         elim (led_by here.state steady_here cell this.n (is_the_one _ this.n lead)) [
           | inl f ↦ b.0.linked.apart (ap (λ (r : LinkRow). r.primary) (same_some (sym b.0.is ∙ f.0.is)) ∙ f.1 ∙ sym b.1)
-          | inr held ↦ (let f : Only this.n false ≡ Both = sym held.so
+          | inr held ↦ (let f : Only this.n held.whole ≡ Both = sym held.so
               ∙ ap (λ (r : LinkRow). r.state) (same_some (sym held.is ∙ b.0.is)) ∙ b.0.so in absurd cc)
         ]
 
@@ -417,9 +433,11 @@ module _ (this : ServerStep) (k : Plain) where
       not_itself : p ≢ this.n
       not_itself e = ((own_steady this.setting this.w this.along.firm p).linked cell row shares.linked).apart (first ∙ e ∙ sym second)
 
+      abbrev theirs : Chain
+      theirs = chain_in (kept this.setting this.w p).chains cell
+
       abbrev Followed_or_held : Own → Type 0
-      Followed_or_held new = chain_in (owns_of this.w p).store.chains cell ≡ chain_in new.store.chains cell
-          → (chain_in (owns_of this.w p).store.chains cell ≡ mine cell) ⊎ (is_held k op.client ≡ true)
+      Followed_or_held new = theirs ≡ chain_in new.store.chains cell → (theirs ≡ mine cell) ⊎ (is_held k op.client ≡ true)
 
       own_second : (new : Own) (o : PutsOwn own new) → Followed_or_held new
       own_second new o same =
@@ -445,7 +463,7 @@ module _ (this : ServerStep) (k : Plain) where
             let visit : this.ground.good.visits p (place_of this.setting this.state this.w this.along.firm this.ground p row)
             (cell_of a.key)
             ≡ Some (owns_of this.w p) = visit_here this.setting this.state this.w this.along.firm this.ground p
-            (cell_of a.key) row shares'.seat shares'.linked in
+            (cell_of a.key) row shares'.runs shares'.seat shares'.linked in
             let own_is : f.own ≡ owns_of this.w p =
             same_some (sym f.visited ∙ (λ i. this.ground.good.visits (who i) (at_one.0 i) (cell_of a.key)) ∙ visit) in
             let op_is : op ≡ f.putting.op =
@@ -455,14 +473,35 @@ module _ (this : ServerStep) (k : Plain) where
 
       copy_second : (new : Own) (c : PutsCopy hears here own new) → Followed_or_held new
       copy_second new c same = inl (same ∙ copied_apart hears own c.cell new.store.chains c.how cell
-          (λ e. copied_unfollowed this.setting this.state this.w this.along.firm this.ground this.n new c p row
+          (λ e. copied_unfollowed this.setting this.state this.w this.along.firm this.ground this.n runs new c p row
           (subst (λ (q : Cell). IsSharing this.setting this.state this.w this.along.firm this.ground p q row) e shares) not_itself))
 
-      did_second : (new : Own) (s : StoresSo hears here own new) → PutHeld s → Followed_or_held new
-      did_second new (Nothing_new kept) held same = inl (same ∙ ap (λ c. chain_in c cell) kept)
-      did_second new (An_own o) held same = own_second new o same
-      did_second new (An_asked a) held same = asked_second new a held same
-      did_second new (A_copy c) held same = copy_second new c same
+      -- by the stores that count
+      abbrev Followed_now : Type 0
+      Followed_now = theirs ≡ chain_in (kept this.setting (later_world this) this.n).chains cell
+          → (theirs ≡ chain_in (kept this.setting this.w this.n).chains cell) ⊎ (is_held k op.client ≡ true)
+
+      by_own : (new_own : Own) → own_left this ≡ new_own → joined_now this this.n ≡ joined_then this this.n → IsOwn this.setting this.w this.n
+          → Followed_or_held new_own → Followed_now
+      by_own new_own is_new as_before counts follows same =
+          elim (follows (same ∙ ap (λ (s : Store). chain_in s.chains cell) (own_after this counts as_before)
+          ∙ ap (λ (o : Own). chain_in o.store.chains cell) is_new)) [
+            | inl before ↦ inl (before ∙ ap (λ (s : Store). chain_in s.chains cell) (sym (counts own.store)))
+            | inr held ↦ inr held
+          ]
+
+      did_second : (new_own : Own) → own_left this ≡ new_own → joined_now this this.n ≡ joined_then this this.n
+          → (s : StoresSo hears here own new_own) → PutHeld s → Followed_now
+      did_second new_own is_new as_before (Nothing_new stays) held same =
+          inl (same ∙ ap (λ c. chain_in c cell) (kept_here this (ap (λ (o : Own). o.store.chains) is_new ∙ stays) as_before))
+      did_second new_own is_new as_before (An_own o) held same =
+          by_own new_own is_new as_before
+          (this.ground.own this.n runs (op_seat this.setting this.state this.w this.along.firm this.ground this.n o.op.cell o.op runs o.is))
+          (own_second new_own o) same
+      did_second new_own is_new as_before (An_asked a) held same =
+          by_own new_own is_new as_before (this.ground.own this.n runs a.seat) (asked_second new_own a held) same
+      did_second new_own is_new as_before (A_copy c) held same =
+          by_own new_own is_new as_before (this.ground.own this.n runs c.seat) (copy_second new_own c) same
 
     -- ### All of it
 
@@ -509,10 +548,10 @@ module _ (this : ServerStep) (k : Plain) where
 
     pub did_job : (done : Done) (seated : IsSeated here own done) (d : Did hears here own done)
         → PutHeld (did_stores hears here own done seated d)
-        → OwnFollow this k done.own
-    did_job done seated d held = record {
+        → own_left this ≡ done.own → OwnFollow this k done.own
+    did_job done seated d held is_new = record {
       finished = λ c last on. did_finished done d c last;
       as_lead = λ cell op on is counted still. did_pending done seated d held cell op is counted still;
-      as_second = λ cell p op row shares first second is put still same.
-          did_second cell p op row shares first second is done.own (did_stores hears here own done seated d) held same;
+      as_second = λ as_before cell p op row shares first second is put still same.
+          did_second cell p op row shares first second is done.own is_new as_before (did_stores hears here own done seated d) held same;
     }

@@ -11,19 +11,23 @@ use Rattle.petal_msg.specs.declared.letter.Letter.{Letter}
 use Rattle.petal_msg.specs.declared.operation.Pending.{Pending}
 use Rattle.script_lines.specs.declared.request.Line.{Line}
 use Rattle.petal_rules.specs.Boots.{awake, raised}
+use Rattle.petal_command.specs.declared.command.Command.{Command}
+use Rattle.petal_rules.specs.Crossing.{crossed, settled_by}
 use Rattle.petal_rules.specs.Jobs.{Acted, down_posts}
 use Rattle.petal_rules.specs.Lists.{In}
 use Rattle.petal_rules.specs.Log.{Log, rev_of}
 use Rattle.petal_rules.specs.Server.{Own, Pairs, Here, Post, Sender, Done, sender, letters_of}
 use Rattle.petal_rules.specs.State.{State, servers_of}
 use Rattle.petal_rules.specs.Progress.{copying_on}
-use Rattle.petal_rules.specs.Store.{Store, cell_cmp}
+use Rattle.petal_rules.specs.Store.{Store, cell_cmp, chain_in}
 use Rattle.petal_rules.specs.Writes.{is_under_way}
-use Rattle.petal_rules.specs.World.{Setting, World, acts, stamped, chosen_log, chosen_state, server_state}
+use Rattle.petal_rules.specs.World.{Setting, World, acts, before_blanks, stamped, chosen_log, chosen_state, server_state}
 use Rattle.petal_rules.specs.declared.job.Job.{Job}
 use Rattle.petal_rules.specs.declared.step.Step.{Step}
+use Rattle.petal_rules.proofs.Settled.{IsSettling, settling}
 use Rattle.petal_rules.proofs.Tests.{true_false}
 use Rattle.petal_history.specs.Claims.{IsPrefix}
+use Rattle.petal_history.specs.Contents.{cell_of_block}
 use Rattle.petal_history.specs.Events.{accepted}
 use Rattle.petal_history.specs.declared.record.Record.{Record}
 use Rattle.law_state.specs.Tables.{IsGrown}
@@ -40,13 +44,13 @@ use Rattle.law_run.proofs.Chains.{did_stores}
 use Rattle.law_run.proofs.Frames.{AreKept, As_before, Anew, OwnFollow, Runs, SaysOk, kept_own}
 use Rattle.law_run.proofs.LogSteps.{IsOfKind, Of_the_log, Of_a_boot, Of_the_rest}
 use Rattle.law_run.proofs.Looks.{Accepts, is_data}
-use Rattle.law_run.proofs.Puts.{calm_told, stored_told, unchanged}
+use Rattle.law_run.proofs.Puts.{calm_told, joined_same, stored_told, unchanged}
 use Rattle.law_requests.proofs.Stepping.{proposed_pairs}
 use Rattle.law_run.proofs.Grounds.{proposed_store}
 use Rattle.law_run.proofs.Says.{IsUnended, is_written, did_says, downs_unended, glances_unended, logged_unended, quiet_data, unended_no_data, unended_no_end}
 use Rattle.law_run.proofs.ServerJobs.{did_job}
 use Rattle.law_run.proofs.Shows.{data_of, show_told}
-use Rattle.law_run.proofs.Steps.{ServerStep, ServerTold, LooksTold, letters, assembled, quiet_looks}
+use Rattle.law_run.proofs.Steps.{IsMiddle, ServerStep, ServerTold, LooksTold, letters, assembled, kept_here, quiet_looks}
 use Rattle.law_run.proofs.Votes.{votes_told}
 
 -- letters that end no request
@@ -81,11 +85,12 @@ pub record ServesAt : Type 0 where
   pub within : n < setting.servers
   pub stamp : ℕ
   pub what : Step
+  pub unblanked : before_blanks what setting w n ≡ w.before_blank
   pub later : List Record
 
 module _ (at : ServesAt) where
   abbrev pub after_step : Acted → World
-  after_step acted = (acts at.w at.n at.what at.stamp acted).world
+  after_step acted = (acts at.setting at.w at.n at.what at.stamp acted).world
 
   -- what is chosen after the step
   pub record Next (acted : Acted) : Type 0 where
@@ -93,6 +98,7 @@ module _ (at : ServesAt) where
     pub onward : Ground at.setting at.state (after_step acted)
     pub grows : IsPrefix (chosen_log at.setting at.w) (chosen_log at.setting (after_step acted))
     pub grown : IsGrown (chosen_state at.setting at.w) (chosen_state at.setting (after_step acted))
+    pub middle : IsMiddle at.setting at.w (after_step acted) onward.records onward.good.visits
 
   abbrev pub step_of : (acted : Acted) → Serving at.setting at.w at.n at.what acted → Next acted → ServerStep
   step_of acted serving next = record {
@@ -108,11 +114,13 @@ module _ (at : ServesAt) where
     stamp = at.stamp;
     what = at.what;
     acted = acted;
+    unblanked = at.unblanked;
     serving = serving;
     next = next.along;
     onward = next.onward;
     grows = next.grows;
     grown = next.grown;
+    middle = next.middle;
     later = at.later;
   }
 
@@ -161,7 +169,9 @@ module _ (at : ServesAt) where
             body = body.Data seq (data_of this cell epoch);
           } in
           show_told this numbered runs client seq cell epoch h seat r
-          (λ lead. none_pending own cell (free lead)) letter refl refl refl (λ row b. unchanged this same row b (λ mine. refl))
+          (λ lead. none_pending own cell (free lead)) letter refl refl refl same
+          (λ row b. unchanged this same row b
+          (λ mine. ap (λ c. chain_in c (cell_of_block row b)) (kept_here this refl (joined_same this same at.n))))
           (λ number e. accepts letter seq _ number (inl refl) refl e)
       job_looks done d queue serving next same accepts =
           let this = step_of _ serving next in
@@ -180,7 +190,7 @@ module _ (at : ServesAt) where
           let s = said (sender here) at.stamp 0 done.posts letter i in
           did_says this k runs onward done did s.post s.there c seq (sym s.to ∙ to) (sym s.body ∙ says) still in
           assembled this (stored_told this same runs says (did_stores hears here own done seated did)
-          (λ k onward held. did_job this k runs onward done seated did held))
+          (λ k onward held. did_job this k runs onward done seated did held refl))
           (job_looks done did queue serving next same accepts)
 
       -- the server stops once its commit is made
@@ -192,7 +202,7 @@ module _ (at : ServesAt) where
           let this = step_of _ serving next in
           let says : (k : Plain) → Onward at.m k → SaysOk this k = λ k onward. unended_says this (without_rev here) downs refl downs_end k in
           assembled this (stored_told this same runs says (did_stores hears here own done seated did)
-          (λ k onward held. did_job this k runs onward done seated did held))
+          (λ k onward held. did_job this k runs onward done seated did held refl))
           (unended_looks this (without_rev here) downs refl downs_end)
 
     no_posts : (post : Post) → In post [] → IsUnended post
@@ -210,6 +220,10 @@ module _ (at : ServesAt) where
         let is : letters this ≡ stamped at.stamp (letters_of who 0 posts) = ap (stamped at.stamp) letters_are in
         assembled this (calm_told this same chains job (λ k onward. unended_says this who posts is unended k)) (unended_looks this who posts is unended)
 
+    -- by an entry that is applied the server's operations and blocks stay
+    entry_settled : (entry : Command) → IsSettling (crossed here.state entry own) (settled_by here entry (crossed here.state entry own))
+    entry_settled entry = settling here entry (crossed here.state entry own)
+
     goes_told : (log : Log) (done : Done) (queue : List Job) (runs : (at.w.servers at.n).life.running ≡ true)
         → Worked at.setting at.w at.n log done → (serving : Serving at.setting at.w at.n at.what (served_so at.setting at.w at.n log done queue))
         (next : Next (served_so at.setting at.w at.n log done queue)) → IsSame (served_so at.setting at.w at.n log done queue)
@@ -225,7 +239,10 @@ module _ (at : ServesAt) where
         (λ on. As_before runs (ap (λ (p : Pairs). p.finished) pairs) (ap (λ (p : Pairs). p.pending) pairs)))
         (sender here) posts refl (λ post i. logged_unended post.body (says post i))
     goes_told _ _ queue runs (By_entry log entry more front) serving next same accepts =
-        calm_step _ serving next same refl (λ k onward. kept_own (step_of _ serving next) k onward refl (λ on. As_before runs refl refl))
+        let settled = entry_settled entry in
+        calm_step _ serving next same settled.chains
+        (λ k onward. kept_own (step_of _ serving next) k onward settled.chains
+        (λ on. As_before runs (ap (λ (p : Pairs). p.finished) settled.pairs) (ap (λ (p : Pairs). p.pending) settled.pairs)))
         (sender here) [] refl no_posts
 
     ends_told : (log : Log) (done : Done) (runs : (at.w.servers at.n).life.running ≡ true) → Worked at.setting at.w at.n log done
@@ -241,7 +258,10 @@ module _ (at : ServesAt) where
         (λ on. As_before runs (ap (λ (p : Pairs). p.finished) pairs) (ap (λ (p : Pairs). p.pending) pairs)))
         (without_rev here) downs refl downs_end
     ends_told _ _ runs (By_entry log entry more front) serving next same =
-        calm_step _ serving next same refl (λ k onward. kept_own (step_of _ serving next) k onward refl (λ on. As_before runs refl refl))
+        let settled = entry_settled entry in
+        calm_step _ serving next same settled.chains
+        (λ k onward. kept_own (step_of _ serving next) k onward settled.chains
+        (λ on. As_before runs (ap (λ (p : Pairs). p.finished) settled.pairs) (ap (λ (p : Pairs). p.pending) settled.pairs)))
         (without_rev here) downs refl downs_end
 
     rest_told : (acted : Acted) (serving of_it : Serving at.setting at.w at.n at.what acted) (next : Next acted) → IsSame acted → AreAccepted (after_step acted)

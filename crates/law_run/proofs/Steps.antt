@@ -8,19 +8,22 @@ use Rattle.petal_machine.specs.declared.event.Event.{Event}
 use Rattle.petal_machine.specs.Machine.{Plain, disk_of}
 use Rattle.petal_machine.specs.Run.{Obeys, replay}
 use Rattle.petal_msg.specs.declared.letter.Letter.{Letter}
+use Rattle.petal_command.specs.declared.command.Command.{Command}
 use Rattle.petal_state.specs.CellState.{cell_link}
+use Rattle.petal_state.specs.Command.{state_after}
+use Rattle.petal_rules.specs.Blanked.{BeforeBlank, kept_store}
 use Rattle.petal_rules.specs.Lists.{In}
 use Rattle.petal_rules.specs.Log.{Log, state_in}
 use Rattle.petal_rules.specs.State.{State, authority}
-use Rattle.petal_rules.specs.Store.{chain_in, entry_at, bytes_of}
+use Rattle.petal_rules.specs.Store.{Store, chain_in, entry_at, bytes_of}
 use Rattle.petal_rules.specs.Server.{Server, Own, Done}
 use Rattle.petal_rules.specs.Jobs.{Acted}
-use Rattle.petal_rules.specs.World.{Setting, World, acts, stamped, server_state, chosen_log, chosen_state}
+use Rattle.petal_rules.specs.World.{Setting, World, acts, before_blanks, blank_joins_in, counted, counted_by, kept, kept_by, stamped, server_state, chosen_log, chosen_state}
 use Rattle.petal_rules.specs.declared.step.Step.{Step}
 use Rattle.petal_rules.proofs.ListLemmas.{put_same, put_apart}
 use Rattle.petal_rules.proofs.Tests.{all_put, none_some, same_or_apart, some_or_none}
 use Rattle.petal_history.specs.Claims.{IsPrefix}
-use Rattle.petal_history.specs.Contents.{cell_of_block, content_by, held_at}
+use Rattle.petal_history.specs.Contents.{cell_of_block, content_by}
 use Rattle.petal_history.specs.Events.{change_by, takes, makes, make_of, looks, look_of, told_with}
 use Rattle.petal_history.specs.declared.record.Record.{Record}
 use Rattle.law_state.specs.Below.{IsBelow}
@@ -31,17 +34,25 @@ use Rattle.law_state.proofs.Steady.{front_plain, log_below}
 use Rattle.law_steps.specs.Ready.{Rests}
 use Rattle.law_steps.specs.Happens.{Worked, By_job, By_ballot, By_entry, Serving, Goes, Ends, Stays, Wakes, Fails}
 use Rattle.law_steps.proofs.Fronts.{front_itself, front_same}
-use Rattle.law_steps.proofs.Histories.{own_below}
 use Rattle.law_steps.specs.Waking.{AllMayWake}
+use Rattle.law_stores.specs.Waiting.{IsOwn}
+use Rattle.law_copies.specs.Good.{Good, store_of}
 use Rattle.law_copies.specs.Pair.{owns_of}
-use Rattle.law_run.specs.Follow.{Ground, Follow, Stores}
+use Rattle.law_copies.specs.Visits.{Visits}
+use Rattle.law_run.specs.Follow.{Ground, HasOnlyKnown, Follow, OfStores, Stores}
 use Rattle.law_run.proofs.Along.{Along, rows_in, plain_now}
 use Rattle.law_run.proofs.Born.{serves_born}
+use Rattle.law_run.proofs.Counted.{of_stores, same_kept}
 use Rattle.law_run.proofs.Looks.{Looked, is_data, no_look}
 use Rattle.law_run.proofs.Machine.{Obeys-append, replay-append, onward_itself}
 use Rattle.law_run.proofs.Onwards.{follow_onward}
 use Rattle.law_run.proofs.Makes.{made_all, drop_front}
 use Rattle.law_run.proofs.Members.{all_empty}
+
+-- two copies after a step, by what was chosen before it: at the places of then, servers have been where they have been after it
+pub record IsMiddle (setting : Setting) (w v : World) (records : List Record) (visits : Visits) : Type 0 where
+  pub good : Good setting records (chosen_log setting w) (counted_by setting (chosen_log setting w) v)
+  pub visits_are : (n place : ℕ) (cell : Cell) → good.visits n place cell ≡ visits n place cell
 
 -- a server's step, at a state from what is chosen on: the world and the machine before it, what is chosen after it, and the
 -- records that follow
@@ -58,11 +69,13 @@ pub record ServerStep : Type 0 where
   pub stamp : ℕ
   pub what : Step
   pub acted : Acted
+  pub unblanked : before_blanks what setting w n ≡ w.before_blank
   pub serving : Serving setting w n what acted
-  pub next : Along setting state (acts w n what stamp acted).world
-  pub onward : Ground setting state (acts w n what stamp acted).world
-  pub grows : IsPrefix (chosen_log setting w) (chosen_log setting (acts w n what stamp acted).world)
-  pub grown : IsGrown (chosen_state setting w) (chosen_state setting (acts w n what stamp acted).world)
+  pub next : Along setting state (acts setting w n what stamp acted).world
+  pub onward : Ground setting state (acts setting w n what stamp acted).world
+  pub grows : IsPrefix (chosen_log setting w) (chosen_log setting (acts setting w n what stamp acted).world)
+  pub grown : IsGrown (chosen_state setting w) (chosen_state setting (acts setting w n what stamp acted).world)
+  pub middle : IsMiddle setting w (acts setting w n what stamp acted).world onward.records onward.good.visits
   pub later : List Record
 
 append_nil : {A : Type 0} (xs : List A) → xs ++ [] ≡ xs
@@ -70,9 +83,15 @@ append_nil [] = refl
 append_nil (x ∷ xs) = ap (λ ys. x ∷ ys) (append_nil xs)
 
 -- where no server has an entry there are zeros
-zero_content : (v : World) (cell : Cell) → ((k : ℕ) → chain_in (owns_of v k).store.chains cell ≡ []) → (o : Option ℕ) → content_by v cell 0 o ≡ zero_block
+zero_content : (v : World) (cell : Cell) → ((k : ℕ) → chain_in (store_of v k).chains cell ≡ []) → (o : Option ℕ)
+    → content_by v cell 0 o ≡ zero_block
 zero_content v cell empty None = refl
 zero_content v cell empty (Some k) = ap (λ c. bytes_of (entry_at c 0)) (empty k)
+
+-- a server's own state is below what is chosen, where its entries are
+below_at : (setting : Setting) (w : World) → Firm setting w → (front : List Command) → IsPrefix front (chosen_log setting w)
+    → IsBelow (state_after setting.servers front) (chosen_state setting w)
+below_at setting w firm front prefix = log_below setting.servers front (chosen_log setting w) firm.plain prefix
 
 -- a cell that has no link later had none before
 none_below : (one other : State) (cell : Cell) → IsBelow one other → cell_link other cell ≡ None → cell_link one cell ≡ None
@@ -113,22 +132,29 @@ serves_within setting w wake firm n what _ (Wakes booted asleep) = (wake n).chos
 serves_within setting w wake firm n what _ (Fails booted asleep) = firm.servers n
 
 -- what a server stores is of disks that it knows
-pub born_kept : (setting : Setting) (w : World) → AllMayWake setting w → Firm setting w → Rests setting w
-    → ((i : ℕ) (cell : Cell) → cell_link (server_state setting w i) cell ≡ None → chain_in (owns_of w i).store.chains cell ≡ [])
-    → (n stamp : ℕ) (what : Step) (acted : Acted) → Serving setting w n what acted → Firm setting (acts w n what stamp acted).world
-    → (i : ℕ) (cell : Cell) → cell_link (server_state setting (acts w n what stamp acted).world i) cell ≡ None
-    → chain_in (owns_of (acts w n what stamp acted).world i).store.chains cell ≡ []
-born_kept setting w wake firm rests born n stamp what acted serving later =
-    let v = (acts w n what stamp acted).world in
+pub born_kept : (setting : Setting) (w : World) → AllMayWake setting w → Firm setting w → Rests setting w → OfStores w (HasOnlyKnown setting w)
+    → (n stamp : ℕ) (what : Step) (acted : Acted) → before_blanks what setting w n ≡ w.before_blank → Serving setting w n what acted
+    → Firm setting (acts setting w n what stamp acted).world
+    → OfStores (acts setting w n what stamp acted).world (HasOnlyKnown setting (acts setting w n what stamp acted).world)
+born_kept setting w wake firm rests born n stamp what acted unblanked serving later =
+    let v = (acts setting w n what stamp acted).world in
     let front : IsPrefix acted.server.log.applied (chosen_log setting v) =
     subst (λ (x : Server). IsPrefix x.log.applied (chosen_log setting v)) (put_same w.servers n acted.server) (later.servers n) in
     let below : IsBelow (server_state setting w n) (state_in setting.servers acted.server.log) =
     log_below setting.servers _ _ (front_plain setting.servers _ _ later.plain front) (serves_grow setting w wake n what acted serving) in
-    all_put w.servers n acted.server
-    (λ k (x : Server). (cell : Cell) → cell_link (state_in setting.servers x.log) cell ≡ None → chain_in x.own.store.chains cell ≡ []) born
-    (λ cell none.
-    let before = none_below _ _ cell below none in
-    serves_born setting w firm rests n what acted serving cell before ∙ born n cell before)
+    record {
+      now = all_put w.servers n acted.server
+          (λ k (x : Server). (cell : Cell) → cell_link (state_in setting.servers x.log) cell ≡ None → chain_in x.own.store.chains cell ≡ [])
+          born.now
+          (λ cell none.
+          let before = none_below _ _ cell below none in
+          serves_born setting w firm rests n what acted serving cell before ∙ born.now n cell before);
+      before = all_put w.servers n acted.server
+          (λ k (x : Server). (b : BeforeBlank) → before_blanks what setting w n k ≡ Some b → (cell : Cell)
+          → cell_link (state_in setting.servers x.log) cell ≡ None → chain_in b.store.chains cell ≡ [])
+          (λ k b is. born.before k b (ap (λ f. f k) (sym unblanked) ∙ is))
+          (λ b is cell none. born.before n b (ap (λ f. f n) (sym unblanked) ∙ is) cell (none_below _ _ cell below none));
+    }
 
 module _ (this : ServerStep) where
   abbrev setting : Setting
@@ -145,7 +171,7 @@ module _ (this : ServerStep) where
   new = this.acted.server.own
 
   abbrev pub later_world : World
-  later_world = (acts this.w this.n this.what this.stamp this.acted).world
+  later_world = (acts this.setting this.w this.n this.what this.stamp this.acted).world
 
   abbrev v : World
   v = later_world
@@ -170,16 +196,58 @@ module _ (this : ServerStep) where
       this.along.firm.servers (serves_within this.setting this.w this.ground.wake this.along.firm this.n this.what this.acted this.serving)
 
   -- nothing is stored of disks that were not chosen before the step
-  unput : (cell : Cell) → cell_link (chosen_state this.setting this.w) cell ≡ None → (i : ℕ) → chain_in (owns_of v i).store.chains cell ≡ []
+  unput : (cell : Cell) → cell_link (chosen_state this.setting this.w) cell ≡ None → (i : ℕ) → chain_in (kept this.setting v i).chains cell ≡ []
   unput cell none i =
-      let before = λ (j : ℕ). none_below _ _ cell (own_below this.setting this.w this.along.firm j) none in
-      elim (same_or_apart i this.n) [
-        | inl e ↦
-            ap (λ (o : Own). chain_in o.store.chains cell) (ap (owns_of v) e ∙ own_now)
-            ∙ serves_born this.setting this.w this.along.firm this.ground.ready.rests this.n this.what this.acted this.serving cell (before this.n)
-            ∙ this.ground.born this.n cell (before this.n)
-        | inr ne ↦ ap (λ (o : Own). chain_in o.store.chains cell) (own_other i ne) ∙ this.ground.born i cell (before i)
-      ]
+      of_stores this.setting v (HasOnlyKnown this.setting v) this.onward.born i cell
+      (none_below _ _ cell (below_at this.setting this.w this.along.firm _ (logs_within i)) none)
+
+  -- ### Stores that count
+
+  abbrev pub joined_then : ℕ → ℕ
+  joined_then i = blank_joins_in this.setting (chosen_log this.setting this.w) i
+
+  abbrev pub joined_now : ℕ → ℕ
+  joined_now i = blank_joins_in this.setting (chosen_log this.setting v) i
+
+  -- where no Join with an empty store of the server is chosen, its store counts as before
+  pub kept_now : (i : ℕ) → joined_now i ≡ joined_then i
+      → kept this.setting v i ≡ kept_store (joined_then i) (this.w.before_blank i) (owns_of v i).store
+  kept_now i same = (λ k. kept_store (same k) (this.unblanked k i) (owns_of v i).store)
+
+  pub kept_other : (i : ℕ) → i ≢ this.n → joined_now i ≡ joined_then i → kept this.setting v i ≡ kept this.setting this.w i
+  kept_other i ne same =
+      kept_now i same ∙ ap (λ (o : Own). kept_store (joined_then i) (this.w.before_blank i) o.store) (own_other i ne)
+
+  -- and that of this server, where its chains stay
+  pub kept_here : new.store.chains ≡ own.store.chains → joined_now this.n ≡ joined_then this.n
+      → (kept this.setting v this.n).chains ≡ (kept this.setting this.w this.n).chains
+  kept_here chains same =
+      ap (λ (s : Store). s.chains) (kept_now this.n same)
+      ∙ same_kept (joined_then this.n) (this.w.before_blank this.n) (owns_of v this.n).store own.store
+      (ap (λ (o : Own). o.store.chains) own_now ∙ chains)
+
+  pub kept_chain : new.store.chains ≡ own.store.chains → (i : ℕ) → joined_now i ≡ joined_then i
+      → (kept this.setting v i).chains ≡ (kept this.setting this.w i).chains
+  kept_chain chains i same = elim (same_or_apart i this.n) [
+    | inl e ↦
+        subst (λ j. (kept this.setting v j).chains ≡ (kept this.setting this.w j).chains) (sym e)
+        (kept_here chains (ap joined_now (sym e) ∙ same ∙ ap joined_then e))
+    | inr ne ↦ ap (λ (s : Store). s.chains) (kept_other i ne same)
+  ]
+
+  -- by what was chosen before the step they are as before
+  pub kept_middle : new.store.chains ≡ own.store.chains → (i : ℕ)
+      → (kept_by this.setting (chosen_log this.setting this.w) v i).chains ≡ (kept this.setting this.w i).chains
+  kept_middle chains i =
+      ap (λ (s : Store). s.chains) (λ k. kept_store (joined_then i) (this.unblanked k i) (owns_of v i).store)
+      ∙ same_kept (joined_then i) (this.w.before_blank i) (owns_of v i).store (owns_of this.w i).store (elim (same_or_apart i this.n) [
+        | inl e ↦ ap (λ (o : Own). o.store.chains) (ap (owns_of v) e ∙ own_now) ∙ chains ∙ ap (λ j. (owns_of this.w j).store.chains) (sym e)
+        | inr ne ↦ ap (λ (o : Own). o.store.chains) (own_other i ne)
+      ])
+
+  -- a server whose own store counts has it count after the step, too
+  pub own_after : IsOwn this.setting this.w this.n → joined_now this.n ≡ joined_then this.n → kept this.setting v this.n ≡ new.store
+  own_after counts same = kept_now this.n same ∙ counts (owns_of v this.n).store ∙ ap (λ (o : Own). o.store) own_now
 
   -- ### What is told
 
@@ -212,8 +280,8 @@ module _ (this : ServerStep) where
       let one = plain_now this.setting this.w this.along.firm in
       let two = plain_now this.setting v this.next.firm in
       let k1 = replay this.m taken.es in
-      let made = made_all after v rows more k1 (fresh_rows servers before after two this.grown) taken.follows.stores
-      (λ row h b. zero_content v (cell_of_block row b)
+      let made = made_all after (counted this.setting v) rows more k1 (fresh_rows servers before after two this.grown) taken.follows.stores
+      (λ row h b. zero_content (counted this.setting v) (cell_of_block row b)
       (unput (cell_of_block row b) (none_before servers before after one two this.grown row h (cell_of_block row b) refl))
       (authority after (cell_of_block row b))) in
       let ms = map make_of more in
@@ -226,7 +294,7 @@ module _ (this : ServerStep) where
       let seen = look k2 following in
       let ls = looks this.setting.lines this.later letters in
       let k3 = replay k2 ls in
-      let stores : Stores after (rows_in this.setting v) v k3 =
+      let stores : Stores after (rows_in this.setting v) (counted this.setting v) k3 =
       record {
         known = λ row h.
             let k = following.stores.known row h in
@@ -251,14 +319,14 @@ module _ (this : ServerStep) where
       (λ letter h. no_look this.setting.lines this.later letter letter.body (quiet letter h)) in
       subst (Looked k) (sym none) (record { may = tt; disks = refl; mindful = following.stores.mindful; onward = onward_itself k })
 
-  -- the content of a cell that the server's step leaves, where the same server's copy counts
-  pub same_content : (cell : Cell) (o : Option ℕ) → (o ≡ Some this.n → chain_in new.store.chains cell ≡ chain_in own.store.chains cell)
-      → content_by this.w cell 0 o ≡ content_by v cell 0 o
-  same_content cell None h = refl
-  same_content cell (Some s) h = elim (same_or_apart s this.n) [
+  -- the content of a cell that a step leaves at which nothing is chosen, where the same server's copy counts
+  pub same_content : chosen_log this.setting v ≡ chosen_log this.setting this.w → (cell : Cell) (o : Option ℕ)
+      → (o ≡ Some this.n → chain_in (kept this.setting v this.n).chains cell ≡ chain_in (kept this.setting this.w this.n).chains cell)
+      → content_by (counted this.setting this.w) cell 0 o ≡ content_by (counted this.setting v) cell 0 o
+  same_content same cell None h = refl
+  same_content same cell (Some i) h = ap (λ c. bytes_of (entry_at c 0)) (sym (elim (same_or_apart i this.n) [
     | inl e ↦
-        subst (λ i. held_at (this.w.servers i) cell 0 ≡ held_at (v.servers i) cell 0) (sym e)
-        (ap (λ c. bytes_of (entry_at c 0)) (sym (h (ap Some e)))
-        ∙ ap (λ server. held_at server cell 0) (sym (put_same this.w.servers this.n this.acted.server)))
-    | inr ne ↦ ap (λ server. held_at server cell 0) (sym (put_apart this.w.servers this.n this.acted.server s ne))
-  ]
+        subst (λ j. chain_in (kept this.setting v j).chains cell ≡ chain_in (kept this.setting this.w j).chains cell) (sym e) (h (ap Some e))
+    | inr ne ↦ ap (λ (s : Store). chain_in s.chains cell)
+        (kept_other i ne (ap (λ log. blank_joins_in this.setting log i) same))
+  ]))

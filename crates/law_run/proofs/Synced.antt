@@ -1,12 +1,11 @@
 -- An entry that a copy sends is one of the holder's chain, so it is of epoch 0.
-use Rattle.std.proofs.Common.{◌≡◌, ◌++◌, ◌∷◌, ◌==◌, ℕ, zero, suc, List, [], true, false, Option, Some, None, refl, sym, ap, ◌∙◌, subst, ◌⊎◌, inl, inr}
+use Rattle.std.proofs.Common.{◌≡◌, ◌∷◌, ◌==◌, ℕ, zero, suc, List, [], false, Some, refl, sym, ap, ◌∙◌, subst, inl, inr}
 use Rattle.std.specs.List.{range_with_len}
 use Rattle.std.specs.Prelude.{filter, not, slice_get}
 use Rattle.busy_marks.specs.Marks.{above}
-use Rattle.global_tables.specs.declared.link.LinkRow.{LinkRow}
 use Rattle.petal_base.specs.declared.cell.Cell.{Cell}
 use Rattle.petal_base.specs.Cells.{cell_of, key_at}
-use Rattle.petal_msg.specs.Kinds.{Copied, Glanced, is_logged, subject_of}
+use Rattle.petal_msg.specs.Kinds.{Copied, Glanced, subject_of}
 use Rattle.petal_msg.specs.declared.body.Body.{Body}
 use Rattle.petal_msg.specs.declared.body.Body.TheVariants as body
 use Rattle.petal_msg.specs.declared.copying.Copying.{Copying}
@@ -18,17 +17,17 @@ use Rattle.petal_rules.specs.Jobs.{Acted, down_posts}
 use Rattle.petal_rules.specs.Lists.{In}
 use Rattle.petal_rules.specs.Log.{Log}
 use Rattle.petal_rules.specs.Server.{Own, Here, Post, Sender, Done, letters_of, sender}
-use Rattle.petal_rules.specs.State.{State, holder_of}
+use Rattle.petal_rules.specs.State.{State}
 use Rattle.petal_rules.specs.Store.{Chain, Stored, chain_in, epochs_of}
 use Rattle.petal_rules.specs.World.{Setting, World, stamped}
 use Rattle.petal_rules.specs.declared.step.Step.{Step}
 use Rattle.petal_rules.proofs.ListLemmas.{in-append}
 use Rattle.petal_rules.proofs.Tests.{none_some, same_some, true_false}
 use Rattle.law_steps.specs.DidLead.{Asks, A_slot, A_copy, A_trim, A_copied_entry, A_page, Of_the_log}
-use Rattle.law_steps.specs.DidHolder.{DidHolder, CopyStep, TakenCopy, Asks_to_trim, Sends, Unmarks_copied, Closes_copy, Asks_page, Turns_page, Begins_copy, Goes_on_copying, Finds_it_full, Tidies}
+use Rattle.law_steps.specs.DidHolder.{DidHolder, CopyStep, Asks_to_trim, Sends, Unmarks_copied, Closes_copy, Asks_page, Turns_page, Begins_copy, Goes_on_copying, Finds_it_full, Tidies}
 use Rattle.law_steps.specs.DidOther.{DidOther, TrimStep, Is_trimmed, Drops_entry, Answers_page, Is_copied_to, Goes_on_trimming, Puts_entry, Has_entry, Has_no_slot}
 use Rattle.law_steps.specs.Did.{Did, Ignores, Refuses, By_read, By_lead, By_second, By_holder, By_other}
-use Rattle.law_steps.specs.Happens.{Handled, Happens, Serves, Turns, Worked, By_job, By_ballot, By_entry, Serving, Goes, Ends, Stays, Wakes, Fails, is_between, own_place, without_rev}
+use Rattle.law_steps.specs.Happens.{Handled, Happens, Serves, Blanks, Turns, Worked, By_job, By_ballot, By_entry, Serving, Goes, Ends, Stays, Wakes, Fails, is_between, own_place, without_rev}
 use Rattle.law_steps.proofs.Letters.{one_post, posted, said}
 use Rattle.law_steps.proofs.Subjects.{of_read, of_second}
 use Rattle.law_copies.specs.Pair.{owns_of}
@@ -142,7 +141,7 @@ module _ (setting : Setting) (state : State) (w : World) (ground : Ground settin
   worked_short : (n : ℕ) (log : Log) (done : Done) → Worked setting w n log done → (post : Post) → In post done.posts
       → IsShortSync post.body
   worked_short n _ _ (By_job log done same did seat) =
-      did_short (Handled w n) (own_place setting w n) (owns_of w n) (ground.short n) done did
+      did_short (Handled w n) (own_place setting w n) (owns_of w n) (ground.short.now n) done did
   worked_short n _ _ (By_ballot log started posts same starts says) = λ post i. unsynced post.body
       (logged_not (subject_of post.body) (says post i))
   worked_short n _ _ (By_entry log entry more front) = λ post i. none_in post i
@@ -160,10 +159,11 @@ module _ (setting : Setting) (state : State) (w : World) (ground : Ground settin
   serves_sent n stamp what _ (Fails booted asleep) = posted_short (sender (own_place setting w n)) stamp [] (λ post i. none_in post i)
 
   pub happens_short : (v : World) → Happens setting state w v → (letter : Letter) → In letter v.sent → IsShortSync letter.body
-  happens_short _ (Serves n stamp what acted lt within serving) letter i = elim (in-append letter (stamped stamp acted.letters) w.sent i) [
+  happens_short _ (Serves n stamp what acted lt within unblanked serving) letter i = elim (in-append letter (stamped stamp acted.letters) w.sent i) [
     | inl new ↦ serves_sent n stamp what acted serving letter new
     | inr old ↦ ground.copied letter old
   ]
+  happens_short _ (Blanks n stamp lt within asleep) letter i = ground.copied letter i
   happens_short _ (Turns c stamp in_call reacted lt within turned onward) letter i =
       elim (in-append letter (stamped stamp (letters_of (client_sender c reacted.client) 0 reacted.posts)) w.sent i) [
         | inl new ↦ posted_short (client_sender c reacted.client) stamp reacted.posts

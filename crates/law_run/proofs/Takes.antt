@@ -12,18 +12,23 @@ use Rattle.petal_machine.specs.declared.event.Write.{Write}
 use Rattle.petal_machine.specs.Machine.{same_bytes}
 use Rattle.script_lines.specs.declared.request.Request.{Request}
 use Rattle.script_lines.specs.declared.request.Request.TheVariants as request
+use Rattle.global_tables.specs.Disk.{disk_at}
 use Rattle.petal_rules.specs.Lists.{In}
 use Rattle.petal_rules.specs.Store.{Chain, cell_cmp}
 use Rattle.petal_rules.specs.Clients.{Asked}
 use Rattle.petal_rules.specs.World.{World}
 use Rattle.petal_rules.proofs.CellTables.{cell_cmp_same}
-use Rattle.petal_history.specs.Contents.{cell_of_block}
-use Rattle.petal_history.specs.Events.{Change, before_step, after_step, open_write, write_by, write_asked, blocks_of, blocks_in, changed_blocks, writes_so, taker, taken, takes_on, takes, all_there, with_first}
+use Rattle.petal_history.specs.Contents.{cell_of_block, has_content_where}
+use Rattle.petal_history.specs.Events.{Change, before_step, after_step, open_write, write_by, write_asked, blocks_of, blocks_in, changed_blocks, is_changed, writes_so, taker, taken, takes_on, takes, all_there, with_first}
 use Rattle.petal_rules.proofs.Tests.{by_bool, true_false, both_true, same_numbers, number_itself, nat_lists_same, none_some, same_some}
 use Rattle.law_run.proofs.Members.{all_empty, into_map, of_map, into_flat_map, of_flat_map, into_range, into_filter, of_filter, none_pass, into_filter_map, of_filter_map, found_one, row_at, key_at, put_key}
 
 unlike : (xs ys : List ℕ) → xs ≡ ys → not (same_bytes xs ys) ≡ false
 unlike xs ys e = ap (λ zs. not (same_bytes xs zs)) (sym e) ∙ ap not (nat_list_eq_equiv.refl xs)
+
+and_not : (a b : Bool) → b ≡ false → (a && b) ≡ false
+and_not true b e = e
+and_not false b e = refl
 
 -- a client's open write is its own
 written_by : (client seq : ℕ) (asked : Request) (write : Write) → write_by client seq asked ≡ Some write → write.client ≡ client
@@ -61,12 +66,15 @@ module _ (change : Change) where
   abbrev rows : List DiskRow
   rows = change.chosen.disks.rows
 
+  -- the block has a content after the step
+  abbrev pub has_then : DiskRow → ℕ → Bool
+  has_then row = has_content_where change.chosen_next (disk_at change.chosen_next.disks.rows row.id)
+
   -- no content changes
   pub no_takes : ((row : DiskRow) → In row rows → (b : ℕ) → before_step change row b ≡ after_step change row b) → takes change ≡ Some []
   no_takes same = ap all_there (all_empty (takes_on change) rows (λ row h.
       ap (map (λ b. taken (taker change.w row.name b (after_step change row b))))
-      (none_pass (λ b. not (same_bytes (before_step change row b) (after_step change row b))) (blocks_in change.setting change.next)
-      (λ b i. unlike _ _ (same row h b)))))
+      (none_pass (is_changed change row) (blocks_in change.setting change.next) (λ b i. and_not _ _ (unlike _ _ (same row h b))))))
 
   -- a block of which a server has an entry is among those that are looked at
   pub block_there : (n : ℕ) (row : DiskRow) (block : ℕ) (chain : Chain) → n < change.setting.servers
@@ -111,10 +119,12 @@ module _ (change : Change) where
     pub es : List Event
     pub told : takes change ≡ Some es
     pub each : (e : Event) → In e es → TakesOne e
-    pub all : (row : DiskRow) → In row rows → (b : ℕ) → (before_step change row b ≡ after_step change row b) ⊎ ((e : Event) × In e es × TakesIt row b e)
+    pub all : (row : DiskRow) → In row rows → (b : ℕ) → has_then row b ≡ true
+        → (before_step change row b ≡ after_step change row b) ⊎ ((e : Event) × In e es × TakesIt row b e)
 
   -- where a content that changes is that of a write under way
-  module _ (given : (row : DiskRow) → In row rows → (b : ℕ) → (before_step change row b ≡ after_step change row b) ⊎ Gives row b) where
+  module _ (given : (row : DiskRow) → In row rows → (b : ℕ) → has_then row b ≡ true
+      → (before_step change row b ≡ after_step change row b) ⊎ Gives row b) where
     abbrev changes : DiskRow → ℕ → Bool
     changes row b = not (same_bytes (before_step change row b) (after_step change row b))
 
@@ -147,8 +157,10 @@ module _ (change : Change) where
         )
 
     -- of a block whose content changes
-    told_changed : (row : DiskRow) → In row rows → (b : ℕ) → changes row b ≡ true → Gives row b
-    told_changed row h b differs = elim (given row h b) [ inl same ↦ true_false differs (unlike _ _ same) | inr g ↦ g ]
+    told_changed : (row : DiskRow) → In row rows → (b : ℕ) → is_changed change row b ≡ true → Gives row b
+    told_changed row h b changed =
+        let tests = both_true (has_then row b) (changes row b) changed in
+        elim (given row h b tests.0) [ inl same ↦ true_false tests.1 (unlike _ _ same) | inr g ↦ g ]
 
     -- each that is told of is so
     told_so : (x : Option Event) → In x (flat_map (takes_on change) rows) → (e : Event) × (x ≡ Some e) × TakesOne e
@@ -157,8 +169,8 @@ module _ (change : Change) where
         let row = of_row.0 in
         let of_block = of_map (told_of row) (changed_blocks change row) x of_row.2 in
         let b = of_block.0 in
-        let differs = (of_filter (changes row) (blocks_in change.setting change.next) b of_block.1).1 in
-        let one = told_one row b (told_changed row of_row.1 b differs) in
+        let changed = (of_filter (is_changed change row) (blocks_in change.setting change.next) b of_block.1).1 in
+        let one = told_one row b (told_changed row of_row.1 b changed) in
         (one.0, of_block.2 ∙ one.1, record { row = row; there = of_row.1; block = b; it = one.2 })
 
     pub takes_told : AreTold
@@ -168,12 +180,14 @@ module _ (change : Change) where
           es = there.es;
           told = there.is;
           each = λ e h. let t = told_so (Some e) (there.back e h) in subst TakesOne (sym (same_some t.1)) t.2;
-          all = λ row h b. by_bool (changes row b)
+          all = λ row h b has. by_bool (changes row b)
               (λ differs.
-              let g = told_changed row h b differs in
+              let changed : is_changed change row b ≡ true = (λ i. has i && differs i) in
+              let g = told_changed row h b changed in
               let one = told_one row b g in
               let place = into_flat_map (takes_on change) rows row (told_of row b) h
-              (into_map (told_of row) (changed_blocks change row) b (into_filter (changes row) (blocks_in change.setting change.next) b g.looked differs)) in
+              (into_map (told_of row) (changed_blocks change row) b
+              (into_filter (is_changed change row) (blocks_in change.setting change.next) b g.looked changed)) in
               inr (one.0, there.on one.0 (subst (λ (x : Option Event). In x (flat_map (takes_on change) rows)) one.1 place), one.2))
               (λ same. inl (nat_lists_same _ _ (unchanged _ same)));
         }

@@ -1,5 +1,5 @@
 -- What ties servers and clients to the plain machine.
-use Rattle.std.specs.Prelude.{◌≡◌, ◌≤◌, ◌<◌, ◌⊎◌, ℕ, true, false, List, [], ◌∷◌, Some, None, ◌++◌}
+use Rattle.std.specs.Prelude.{◌≡◌, ◌≤◌, ◌<◌, ◌⊎◌, ℕ, true, List, [], ◌∷◌, Some, None, ◌++◌}
 use Rattle.std.specs.Ordering.{nat_cmp}
 use Rattle.petal_base.specs.declared.cell.Cell.{Cell}
 use Rattle.petal_command.specs.declared.command.Command.{Command}
@@ -18,19 +18,22 @@ use Rattle.petal_msg.specs.declared.operation.Ending.TheVariants as ending
 use Rattle.petal_msg.specs.declared.operation.Finished.{Finished}
 use Rattle.petal_msg.specs.declared.operation.Pending.{Pending}
 use Rattle.petal_state.specs.CellState.{cell_link}
+use Rattle.petal_state.specs.Command.{state_after}
+use Rattle.petal_rules.specs.Blanked.{BeforeBlank}
 use Rattle.petal_rules.specs.Lists.{In}
-use Rattle.petal_rules.specs.State.{State, authority, in_both}
+use Rattle.petal_rules.specs.State.{State, authority, in_both, is_in}
 use Rattle.petal_rules.specs.Server.{Own}
-use Rattle.petal_rules.specs.Store.{Chain, Stored, cell_cmp, chain_in}
-use Rattle.petal_rules.specs.World.{Setting, World, clock_of, server_state, start, chosen_log, chosen_state}
+use Rattle.petal_rules.specs.Store.{Chain, Store, Stored, cell_cmp, chain_in}
+use Rattle.petal_rules.specs.World.{Setting, World, blank_joins_in, clock_of, server_state, start, chosen_log, chosen_state, counted, kept}
 use Rattle.petal_history.specs.Claims.{Holds, IsPrefix}
-use Rattle.petal_history.specs.Contents.{content_in}
+use Rattle.petal_history.specs.Contents.{content_in, has_content}
 use Rattle.petal_history.specs.Events.{open_write, same_name}
 use Rattle.petal_history.specs.Legal.{world_after}
 use Rattle.petal_history.specs.declared.record.Record.{Record}
 use Rattle.law_log.specs.Requested.{WasStarted}
 use Rattle.law_steps.specs.Ready.{Ready}
 use Rattle.law_steps.specs.Waking.{AllMayWake}
+use Rattle.law_stores.specs.Waiting.{IsOwn}
 use Rattle.law_copies.specs.Good.{Good}
 use Rattle.law_copies.specs.Pair.{owns_of}
 use Rattle.law_copies.specs.Visits.{IsLast, IsLinked, Visits, place_by}
@@ -48,6 +51,19 @@ pub record Named (w : World) : Type 0 where
 -- an entry of epoch 0, or none
 abbrev pub IsShort : Chain → Type 0
 IsShort chain = (chain ≡ []) ⊎ ((entry : Stored) × (chain ≡ (0, entry) ∷ []))
+
+-- so it is of the store of each server, and of the one from before its device was made blank
+pub record OfStores (w : World) (So : ℕ → Store → Type 0) : Type 0 where
+  pub now : (n : ℕ) → So n (owns_of w n).store
+  pub before : (n : ℕ) (before : BeforeBlank) → w.before_blank n ≡ Some before → So n before.store
+
+-- its chains are short
+abbrev pub HasShortChains : ℕ → Store → Type 0
+HasShortChains n store = (cell : Cell) → IsShort (chain_in store.chains cell)
+
+-- it has entries only of disks that the server knows
+abbrev pub HasOnlyKnown : Setting → World → ℕ → Store → Type 0
+HasOnlyKnown setting w n store = (cell : Cell) → cell_link (server_state setting w n) cell ≡ None → chain_in store.chains cell ≡ []
 
 -- an entry that a copy sends is of epoch 0
 abbrev pub IsShortSync : Body → Type 0
@@ -73,24 +89,30 @@ AreRemembered setting state w lives visits reached = (front : List Command) (cel
     → visits n (place_by setting front row) cell ≡ Some own → at cell_cmp own.pairs.pending cell ≡ Some op
     → IsRemembered setting state w lives n (place_by setting front row) cell op
 
--- the ground on which the run stands, at a state from what is chosen on: the laws below it, after these records; the operations that
--- servers had at places that count are of writes that are known of; and what a server has put is of a disk that it knows
+-- the ground on which the run stands, at a state from what is chosen on: the laws below it, after these records, of two copies by the
+-- stores that count, which of a server that runs and is In as itself is its own, and no Join of it with an empty store stands behind the
+-- front by which it is so; the operations that servers had at places that count are of writes that are known of; and what a server has put
+-- is of a disk that it knows
 pub record Ground (setting : Setting) (state : State) (w : World) : Type 0 where
   pub ready : Ready setting state w
   pub wake : AllMayWake setting w
   pub records : List Record
   pub come : world_after setting (start setting) records ≡ w
-  pub good : Good setting records (chosen_log setting w) w
+  pub good : Good setting records (chosen_log setting w) (counted setting w)
   pub started : (front : List Command) (of link holder inc other other_inc : ℕ)
       → IsPrefix (front ++ Caught of link holder inc other other_inc ∷ []) (chosen_log setting w)
       → WasStarted setting records holder inc front (record { map = of; link = link })
+  pub own : (n : ℕ) → (w.servers n).life.running ≡ true → is_in (server_state setting w n) n (w.servers n).life.inc ≡ true → IsOwn setting w n
+  pub joined : (n : ℕ) (front : List Command) → IsPrefix front (chosen_log setting w)
+      → is_in (state_after setting.servers front) n (w.servers n).life.inc ≡ true
+      → blank_joins_in setting front n ≡ blank_joins_in setting (chosen_log setting w) n
   pub lives : Lives
   pub asking : AskingBy setting state w lives
   pub recalled : AreRemembered setting state w lives good.visits good.reached
   pub named : Named w
-  pub short : (n : ℕ) (cell : Cell) → IsShort (chain_in (owns_of w n).store.chains cell)
+  pub short : OfStores w HasShortChains
   pub copied : (letter : Letter) → In letter w.sent → IsShortSync letter.body
-  pub born : (n : ℕ) (cell : Cell) → cell_link (server_state setting w n) cell ≡ None → chain_in (owns_of w n).store.chains cell ≡ []
+  pub born : OfStores w (HasOnlyKnown setting w)
 
 -- ### The machine
 
@@ -98,30 +120,30 @@ pub record Ground (setting : Setting) (state : State) (w : World) : Type 0 where
 abbrev pub kept_at : State → World → DiskRow → ℕ → List ℕ
 kept_at chosen w row block = content_in chosen w row 0 block
 
--- the machine has these disks, each with the contents that count by this state, and no other
+-- the machine has these disks, each with the contents that count by this state, where a block has one, and no other
 pub record Stores (chosen : State) (rows : List DiskRow) (w : World) (m : Plain) : Type 0 where
-  pub known : (row : DiskRow) → In row rows → Holds m.disks row.name (kept_at chosen w row)
+  pub known : (row : DiskRow) → In row rows → Holds m.disks row.name (has_content chosen row) (kept_at chosen w row)
   pub unknown : (name : List ℕ) → named rows name ≡ None → disk_of m.disks name ≡ None
   pub mindful : IsMindful m
 
 -- why the write of an operation that is pending at this server, which has this chain, has had its bytes: while the server has the cell's
--- link in Both by its own state, it heard that the second one has put, or the second one has; or the server has put itself, and its copy
--- counts by what is chosen
+-- link in Both by its own state, it heard that the second one has put, or the second one has, and the link is in Both by what is chosen;
+-- or the server has put itself, and its copy counts by what is chosen
 pub data HasCounted (setting : Setting) (w : World) (n : ℕ) (cell : Cell) (op : Pending) (chain : Chain) : Type 0 where
   Is_told : in_both (server_state setting w n) cell ≡ true → op.stage.paired ≡ true → HasCounted setting w n cell op chain
-  Is_followed : (row : LinkRow) → IsLinked setting (w.servers n).log.applied cell row → row.state ≡ Both → op.stage.put ≡ true
-      → chain ≡ chain_in (owns_of w row.secondary).store.chains cell → HasCounted setting w n cell op chain
+  Is_followed : (row : LinkRow) → IsLinked setting (w.servers n).log.applied cell row → row.state ≡ Both → in_both (chosen_state setting w) cell ≡ true
+      → op.stage.put ≡ true → chain ≡ chain_in (kept setting w row.secondary).chains cell → HasCounted setting w n cell op chain
   Is_counted : op.stage.put ≡ true → authority (chosen_state setting w) cell ≡ Some n → HasCounted setting w n cell op chain
 
 -- its disks are these; the writes under way are those that clients have open; and one whose operation was put where it counts, at
 -- a server that runs, or that ended as written, has had its bytes
 pub record Follow (setting : Setting) (rows : List DiskRow) (w : World) (m : Plain) : Type 0 where
-  pub stores : Stores (chosen_state setting w) rows w m
+  pub stores : Stores (chosen_state setting w) rows (counted setting w) m
   pub seats : (c : ℕ) → Seat (open_write w c) (open_of m.opened c)
   pub letters : (letter : Letter) (c seq : ℕ) → In letter w.sent → letter.to ≡ actor.Client c → letter.body ≡ body.Written seq
       → IsOpen (w.clients c) seq → is_held m c ≡ true
   pub pending : (n : ℕ) (cell : Cell) (op : Pending) → (w.servers n).life.running ≡ true → at cell_cmp (owns_of w n).pairs.pending cell ≡ Some op
-      → HasCounted setting w n cell op (chain_in (owns_of w n).store.chains cell) → IsOpen (w.clients op.client) op.seq
+      → HasCounted setting w n cell op (chain_in (kept setting w n).chains cell) → IsOpen (w.clients op.client) op.seq
       → is_held m op.client ≡ true
   pub finished : (n c : ℕ) (last : Finished) → (w.servers n).life.running ≡ true → at nat_cmp (owns_of w n).pairs.finished c ≡ Some last
       → last.ending ≡ ending.Written → IsOpen (w.clients c) last.seq → is_held m c ≡ true

@@ -1,6 +1,6 @@
 -- A link that is in Both again: the Caught that made it so stands in the log. And a link's place in Both is told by the incarnations
 -- of its two servers.
-use Rattle.std.proofs.Common.{◌≡◌, ◌+◌, ◌++◌, ◌&&◌, ℕ, List, [], ◌∷◌, true, false, if◌then◌else◌, Some, refl, sym, ap, ◌∙◌, subst, ◌⊎◌, inl, inr, append_assoc, arith}
+use Rattle.std.proofs.Common.{◌≡◌, ◌+◌, ◌++◌, ◌&&◌, ℕ, List, [], ◌∷◌, Bool, true, false, if◌then◌else◌, Some, refl, sym, ap, ◌∙◌, subst, ◌⊎◌, inl, inr, append_assoc, arith}
 use Rattle.std.specs.Prelude.{fold, slice_get}
 use Rattle.std.proofs.lemmas.Grind.{fold-append}
 use Rattle.petal_base.specs.declared.cell.Cell.{Cell}
@@ -19,13 +19,14 @@ use Rattle.petal_rules.specs.Lists.{In}
 use Rattle.petal_rules.specs.State.{State, is_in}
 use Rattle.petal_rules.proofs.ListLemmas.{in_later}
 use Rattle.petal_rules.proofs.Tests.{by_bool, same_some, true_false}
-use Rattle.law_state.specs.Places.{IsCaughtBy, IsCaughtIn, IsCaughtSince, By_caught, By_join, By_leave, StaysSo}
+use Rattle.law_state.specs.Places.{IsCaughtBy, IsCaughtIn, IsCaughtSince, IsCaughtStill, IsHeldStill, IsLostIn, By_caught, By_join, By_leave, StaysSo}
 use Rattle.law_state.specs.Plain.{IsPlain, IsPlainLog}
 use Rattle.law_state.specs.Rows.{IsLater}
 use Rattle.law_state.specs.Tables.{IsPlainState}
 use Rattle.law_state.proofs.Ages.{between, in_up, out_by}
 use Rattle.law_state.proofs.Entries.{entering, folding, log_plain}
 use Rattle.law_state.proofs.Grown.{alone_not_both, one_before}
+use Rattle.law_state.proofs.Joins.{alone_joined, both_before, row_still}
 use Rattle.law_state.proofs.Leaves.{both_up}
 use Rattle.law_state.proofs.Steady.{front_plain, grown_below, plain_steady}
 use Rattle.law_state.proofs.Touching.{entry_stays, places_of_both, places_on, stays_on, touched, untouched}
@@ -64,6 +65,39 @@ abbrev later_caught : (s : State) (entry : Command) (entries : List Command) (ce
 later_caught s entry entries cell row c =
     record { before = entry ∷ c.before; entry = c.entry; rest = c.rest; lies = ap (λ xs. entry ∷ xs) c.lies; was = c.was; acts = c.acts; on = c.on }
 
+-- the row of a link that one server holds alone
+abbrev held_row : LinkRow → (holder : ℕ) (whole : Bool) → LinkRow
+held_row row holder whole = record row { state = Only holder whole }
+
+-- such a Caught finds the link held by this server still
+record IsCaughtHeld (s : State) (entries : List Command) (cell : Cell) (row : LinkRow) (holder : ℕ) (whole : Bool) : Type 0 where
+  later : Bool
+  found : IsCaughtAmong s entries cell (held_row row holder later)
+  kept : whole ≡ true → later ≡ true
+
+-- of these entries one is a Join of the holder with an empty store, which acts
+record IsLostAmong (s : State) (entries : List Command) (holder : ℕ) : Type 0 where
+  before : List Command
+  inc : ℕ
+  rest : List Command
+  lies : entries ≡ before ++ Join holder inc true ∷ rest
+  may : may_join (slice_get (fold after s before).view.members holder) inc ≡ true
+
+-- what becomes of a link that the server holds alone
+abbrev HeldUntil : State → List Command → Cell → (row now : LinkRow) → (holder : ℕ) (whole : Bool) → Type 0
+HeldUntil s entries cell row now holder whole =
+    IsHeldStill holder whole now.state ⊎ (now.state ≡ Lost) × IsLostAmong s entries holder ⊎ IsCaughtHeld s entries cell row holder whole
+
+-- behind one entry more, which leaves the link as it is, but that more of it may have to be copied
+held_on : (s : State) (entry : Command) (rest : List Command) (cell : Cell) (row now : LinkRow) (holder : ℕ) (whole more : Bool) → (whole ≡ true → more ≡ true)
+    → HeldUntil (after s entry) rest cell row now holder more → HeldUntil s (entry ∷ rest) cell row now holder whole
+held_on s entry rest cell row now holder whole more kept (inl still) = inl (still.0, still.1, λ e. still.2 (kept e))
+held_on s entry rest cell row now holder whole more kept (inr (inl lost)) =
+    let c = lost.1 in
+    inr (inl (lost.0, record { before = entry ∷ c.before; inc = c.inc; rest = c.rest; lies = ap (λ xs. entry ∷ xs) c.lies; may = c.may }))
+held_on s entry rest cell row now holder whole more kept (inr (inr c)) =
+    inr (inr (record { later = c.later; found = later_caught s entry rest cell (held_row row holder c.later) c.found; kept = λ e. c.kept (kept e) }))
+
 -- such a Caught put the link in Both, as it is at the end
 record IsCaughtLast (s : State) (entries : List Command) (cell : Cell) (now : LinkRow) : Type 0 where
   row : LinkRow
@@ -80,7 +114,7 @@ pub left_row : (row : LinkRow) (server : ℕ) → has_server server row ≡ true
 left_row row server has = ap (λ b. (if b then record row { state = left_state (other_of server row) row.state } else row).state) has
 
 -- a Leave changes no link that one server holds alone
-pub stays_row : (row : LinkRow) (server holder : ℕ) → has_server server row ≡ true → row.state ≡ Only holder false → row_left server row ≡ row
+pub stays_row : {whole : Bool} (row : LinkRow) (server holder : ℕ) → has_server server row ≡ true → row.state ≡ Only holder whole → row_left server row ≡ row
 stays_row row server holder has alone =
     let same : left_state (other_of server row) row.state ≡ row.state = ap (left_state (other_of server row)) alone ∙ sym alone in
     ap (λ b. if b then record row { state = left_state (other_of server row) row.state } else row) has ∙ (λ i. record row { state = same i })
@@ -95,7 +129,8 @@ module _ (servers : ℕ) where
       elim (touched servers s p cell row is ((plain_steady servers s p).linked cell row is).served entry plain on) [
         | By_leave left at seats ↦ left_not_both (other_of left.server row) row.state
             (sym (left_row row left.server left.one_of) ∙ ap (λ (r : LinkRow). r.state) (same_some (sym at ∙ there) ∙ same) ∙ both)
-        | By_join joined at apart seats ↦ absurd (apart (ap (λ (r : LinkRow). r.state) (same_some (sym at ∙ there) ∙ same) ∙ both))
+        | By_join joined at apart seats ↦ absurd (apart (both_before joined.server joined.blank row
+            (ap (λ (r : LinkRow). r.state) (same_some (sym at ∙ there) ∙ same) ∙ both)))
         | By_caught acts one ↦ (
             let is_next : record row { state = Both } ≡ next = same_some (sym one.same ∙ there) in
             let whole = stays_on cell next s (after s entry) _ (subst (λ r. StaysSo cell r s (after s entry)) is_next one) stays in
@@ -127,31 +162,51 @@ module _ (servers : ℕ) where
             (λ off. inl (ap (λ b. if b then places_from t rest row + 1 else places_from t rest row) off ∙ sym (places_later row h.now h.so rest t) ∙ quiet)))
       ]
 
-  -- a link that a server holds alone leaves that state by a Caught first
+  -- a link that is Lost stays so
+  lost_until : (entries : List Command) (s : State) → IsPlainState servers s → IsPlainLog servers entries → (cell : Cell) (row now : LinkRow)
+      → cell_link s cell ≡ Some row → row.state ≡ Lost → cell_link (fold after s entries) cell ≡ Some now → now.state ≡ Lost
+  lost_until entries s p all cell row now is lost end =
+      let later = folding servers entries s p all in
+      let h = (grown_below servers s (fold after s entries) p later.plain later.grown).rows cell row is in
+      ap (λ (r : LinkRow). r.state) (same_some (sym end ∙ h.is)) ∙ h.lost lost
+
+  -- one that a server holds alone leaves that state by a Caught first, or by the holder's Join with an empty store
   alone_until : (entries : List Command) (s : State) → IsPlainState servers s → IsPlainLog servers entries → (cell : Cell) (row now : LinkRow) (holder : ℕ)
-      → cell_link s cell ≡ Some row → row.state ≡ Only holder false → cell_link (fold after s entries) cell ≡ Some now
-      → (now.state ≡ Only holder false) ⊎ IsCaughtAmong s entries cell row
+      (whole : Bool) → cell_link s cell ≡ Some (held_row row holder whole) → cell_link (fold after s entries) cell ≡ Some now
+      → HeldUntil s entries cell row now holder whole
   unfolding In
-  alone_until [] s p all cell row now holder is alone end = inl (ap (λ (r : LinkRow). r.state) (same_some (sym end ∙ is)) ∙ alone)
-  alone_until (entry ∷ rest) s p all cell row now holder is alone end =
+  alone_until [] s p all cell row now holder whole is end = inl (whole, ap (λ (r : LinkRow). r.state) (same_some (sym end ∙ is)), λ e. e)
+  alone_until (entry ∷ rest) s p all cell row now holder whole is end =
       let plain = all entry (inl refl) in
       let more = λ (other : Command) (h : In other rest). all other (inr h) in
       let t = after s entry in
       let step = entering servers s entry p plain in
-      let onward = λ (there : cell_link t cell ≡ Some row). goes_on s entry rest cell row now holder
-      (alone_until rest t step.plain more cell row now holder there alone end) in
-      by_bool (touches s entry row)
-      (λ on. elim (touched servers s p cell row is ((plain_steady servers s p).linked cell row is).served entry plain on) [
-        | By_leave left at seats ↦ onward (at ∙ ap Some (stays_row row left.server holder left.one_of alone))
-        | By_join joined at apart seats ↦ onward at
-        | By_caught acts one ↦ inr (record { before = []; entry = entry; rest = rest; lies = refl; was = is; acts = acts; on = on })
+      let held = held_row row holder whole in
+      let onward = λ (more_fills : Bool) (kept : whole ≡ true → more_fills ≡ true) (there : cell_link t cell ≡ Some (held_row row holder more_fills)).
+      held_on s entry rest cell row now holder whole more_fills kept (alone_until rest t step.plain more cell row now holder more_fills there end) in
+      by_bool (touches s entry held)
+      (λ on. elim (touched servers s p cell held is ((plain_steady servers s p).linked cell held is).served entry plain on) [
+        | By_leave left at seats ↦ onward whole (λ e. e) (at ∙ ap Some (stays_row held left.server holder left.one_of refl))
+        | By_join joined at apart seats ↦ elim (alone_joined joined.server joined.blank held holder whole refl) [
+          | inl still ↦ onward still.0 still.2 (at ∙ ap Some (row_still joined.server joined.blank held still.1))
+          | inr lost ↦ inr (inl (
+            lost_until rest t step.plain more cell _ now at lost.2 end,
+            record {
+              before = [];
+              inc = joined.inc;
+              rest = rest;
+              lies = ap (λ e. e ∷ rest) (joined.is ∙ (λ i. Join (sym lost.1 i) joined.inc (lost.0 i)));
+              may = ap (λ k. may_join (slice_get s.view.members k) joined.inc) lost.1 ∙ joined.may;
+            },
+          ))
+        ]
+        | By_caught acts one ↦ inr (inr (record {
+          later = whole;
+          found = record { before = []; entry = entry; rest = rest; lies = refl; was = is; acts = acts; on = on };
+          kept = λ e. e;
+        }))
       ])
-      (λ off. onward (entry_stays servers s p cell row is entry plain off).same)
-    where
-      goes_on : (s : State) (entry : Command) (rest : List Command) (cell : Cell) (row now : LinkRow) (holder : ℕ)
-          → (now.state ≡ Only holder false) ⊎ IsCaughtAmong (after s entry) rest cell row → (now.state ≡ Only holder false) ⊎ IsCaughtAmong s (entry ∷ rest) cell row
-      goes_on s entry rest cell row now holder (inl e) = inl e
-      goes_on s entry rest cell row now holder (inr c) = inr (later_caught s entry rest cell row c)
+      (λ off. onward whole (λ e. e) (entry_stays servers s p cell held is entry plain off).same)
 
   -- while a link is in Both, and both of its servers stay In, nothing touches it
   both_quiet : (entries : List Command) (s : State) → IsPlainState servers s → IsPlainLog servers entries → (cell : Cell) (row : LinkRow) (one other : ℕ)
@@ -196,16 +251,20 @@ module _ (servers : ℕ) (front whole : List Command) (all : IsPlainLog servers 
   at_place : (before : List Command) → state_after servers (front ++ before) ≡ fold after s before
   at_place before = fold-append after (start servers) front before
 
+  -- an entry of those behind the front, with all before it
+  behind_front : (before : List Command) (entry : Command) (rest : List Command) → prefix.later ≡ before ++ entry ∷ rest
+      → IsPrefix ((front ++ before) ++ entry ∷ []) whole
+  behind_front before entry rest lies = record {
+    later = rest;
+    is = prefix.is ∙ ap (λ xs. front ++ xs) lies ∙ sym (append_assoc front before (entry ∷ rest)) ∙ sym (append_assoc (front ++ before) (entry ∷ []) rest);
+  }
+
   abbrev caught_in : (cell : Cell) (row : LinkRow) → IsCaughtAmong s prefix.later cell row → IsCaughtIn servers front whole cell row
   caught_in cell row c = record {
     until = front ++ c.before;
     entry = c.entry;
     behind = record { later = c.before; is = refl };
-    stands = record {
-      later = c.rest;
-      is = prefix.is ∙ ap (λ xs. front ++ xs) c.lies ∙ sym (append_assoc front c.before (c.entry ∷ c.rest))
-          ∙ sym (append_assoc (front ++ c.before) (c.entry ∷ []) c.rest);
-    };
+    stands = behind_front c.before c.entry c.rest c.lies;
     was = ap (λ (t : State). cell_link t cell) (at_place c.before) ∙ c.was;
     acts = subst (λ (t : State). IsCaughtBy t c.entry row) (sym (at_place c.before)) c.acts;
   }
@@ -240,13 +299,31 @@ module _ (servers : ℕ) (front whole : List Command) (all : IsPlainLog servers 
         })
       ]
 
-  pub log_alone : (cell : Cell) (row now : LinkRow) (holder : ℕ) → cell_link s cell ≡ Some row → row.state ≡ Only holder false
-      → cell_link (state_after servers whole) cell ≡ Some now → (now.state ≡ Only holder false) ⊎ IsCaughtIn servers front whole cell row
-  log_alone cell row now holder is alone end =
-      elim (alone_until servers prefix.later s plain more cell row now holder is alone (sym (ap (λ (t : State). cell_link t cell) whole_is) ∙ end)) [
+  lost_in : (holder : ℕ) → IsLostAmong s prefix.later holder → IsLostIn servers front whole holder
+  lost_in holder c = record {
+    until = front ++ c.before;
+    inc = c.inc;
+    behind = record { later = c.before; is = refl };
+    stands = behind_front c.before (Join holder c.inc true) c.rest c.lies;
+    may = ap (λ (t : State). may_join (slice_get t.view.members holder) c.inc) (at_place c.before) ∙ c.may;
+  }
+
+  pub log_alone : (cell : Cell) (row now : LinkRow) (holder : ℕ) (fills : Bool) → cell_link s cell ≡ Some row → row.state ≡ Only holder fills
+      → cell_link (state_after servers whole) cell ≡ Some now
+      → IsHeldStill holder fills now.state ⊎ (now.state ≡ Lost) × IsLostIn servers front whole holder
+      ⊎ IsCaughtStill servers front whole cell row holder fills
+  log_alone cell row now holder fills is alone end =
+      elim (alone_until servers prefix.later s plain more cell row now holder fills (is ∙ (λ i. Some (record row { state = alone i })))
+      (sym (ap (λ (t : State). cell_link t cell) whole_is) ∙ end)) [
         | inl same ↦ inl same
-        | inr c ↦ inr (caught_in cell row c)
+        | inr (inl lost) ↦ inr (inl (lost.0, lost_in holder lost.1))
+        | inr (inr c) ↦ inr (inr (record { later = c.later; found = caught_in cell (held_row row holder c.later) c.found; kept = c.kept }))
       ]
+
+  pub log_lost : (cell : Cell) (row now : LinkRow) → cell_link s cell ≡ Some row → row.state ≡ Lost → cell_link (state_after servers whole) cell ≡ Some now
+      → now.state ≡ Lost
+  log_lost cell row now is lost end =
+      lost_until servers prefix.later s plain more cell row now is lost (sym (ap (λ (t : State). cell_link t cell) whole_is) ∙ end)
 
   pub log_both_place : (cell : Cell) (row : LinkRow) (one other : ℕ) → cell_link s cell ≡ Some row → row.state ≡ Both
       → is_in s row.primary one ≡ true → is_in s row.secondary other ≡ true

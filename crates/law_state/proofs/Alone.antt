@@ -16,12 +16,13 @@ use Rattle.petal_rules.specs.Crossing.{touches_cell}
 use Rattle.petal_rules.specs.State.{State, lead, is_lead, row_in_both, in_both, first, second, primary, secondary, is_alone_on}
 use Rattle.petal_rules.proofs.Tests.{by_bool, true_false, none_some, same_some, same_numbers, number_itself, some_or_none, is_the_one}
 use Rattle.law_state.specs.Places.{By_caught, By_join, By_leave}
-use Rattle.law_state.specs.Rows.{IsServed, IsServedBy, ByBoth, ByOne}
+use Rattle.law_state.specs.Rows.{IsServed, IsServedBy, ByBoth, ByNone, ByOne}
 use Rattle.law_state.specs.Steady.{IsSteady}
 use Rattle.law_state.specs.Below.{IsBelow}
 use Rattle.law_state.specs.Plain.{IsPlain}
 use Rattle.law_state.specs.Tables.{IsPlainState}
 use Rattle.law_state.proofs.Ages.{out_by}
+use Rattle.law_state.proofs.Caughts.{alone_by}
 use Rattle.law_state.proofs.Cells.{led_by, first_by, second_by, both_first, both_second}
 use Rattle.law_state.proofs.Leaves.{both_up}
 use Rattle.law_state.proofs.Grown.{one_before}
@@ -49,11 +50,6 @@ state_both row Both e = refl
 state_both row (Only holder whole) e = true_false e refl
 state_both row Lost e = true_false e refl
 
-state_alone : (n : ℕ) (state : LinkState) → is_alone n state ≡ true → (whole : Bool) × (state ≡ Only n whole)
-state_alone n Both e = true_false e refl
-state_alone n (Only holder whole) e = (whole, ap (λ h. Only h whole) (same_numbers holder n e))
-state_alone n Lost e = true_false e refl
-
 pub both_row : (state : State) (cell : Cell) → in_both state cell ≡ true → IsBothRow state cell
 both_row state cell e = by (cell_link state cell) refl e
   where
@@ -66,7 +62,7 @@ alone_row state n cell e = by (cell_link state cell) refl e
   where
     by : (o : Option LinkRow) → cell_link state cell ≡ o → option_map_or (λ row. is_alone n row.state) o false ≡ true → IsAloneRow state n cell
     by None is f = true_false f refl
-    by (Some row) is f = let so = state_alone n row.state f in record { row = row; whole = so.0; is = is; alone = so.1 }
+    by (Some row) is f = let so = alone_by n row.state f in record { row = row; whole = so.0; is = is; alone = so.1 }
 
 pub so_both : (state : State) (cell : Cell) (row : LinkRow) → cell_link state cell ≡ Some row → row.state ≡ Both → in_both state cell ≡ true
 so_both state cell row is both =
@@ -92,13 +88,13 @@ module _ (state : State) (steady : IsSteady state) where
   pub lead_alone : (n : ℕ) (cell : Cell) → is_lead state n cell ≡ true → in_both state cell ≡ false → is_alone_on state n cell ≡ true
   lead_alone n cell e apart = elim (led_by state steady cell n (is_the_one (lead state cell) n e)) [
     | inl b ↦ true_false (so_both state cell b.0.row b.0.is b.0.so) apart
-    | inr held ↦ so_alone state n cell held.row false held.is held.so
+    | inr held ↦ so_alone state n cell held.row held.whole held.is held.so
   ]
 
   pub lead_first : (n : ℕ) (cell : Cell) → is_lead state n cell ≡ true → in_both state cell ≡ true → first state cell ≡ Some n
   lead_first n cell e both = elim (led_by state steady cell n (is_the_one (lead state cell) n e)) [
     | inl b ↦ both_first state cell b.0.row b.0.is b.0.linked b.0.so ∙ ap Some b.1
-    | inr held ↦ true_false both (alone_not_both state n cell (so_alone state n cell held.row false held.is held.so))
+    | inr held ↦ true_false both (alone_not_both state n cell (so_alone state n cell held.row held.whole held.is held.so))
   ]
 
   -- the link of a cell that is led
@@ -161,18 +157,19 @@ module _ (state : State) (steady : IsSteady state) where
       let second : a.row.secondary ≡ j = same_some (sym (ap (option_map (λ (r : LinkRow). r.secondary)) a.is) ∙ two) in
       by a.row.state a.alone first second (steady.linked cell a.row a.is).served
     where
-      holder_is : (h : ℕ) (whole : Bool) → Only n whole ≡ Only h false → n ≡ h
-      holder_is h whole f = cc
+      holder_is : (h : ℕ) {a b : Bool} → Only n a ≡ Only h b → n ≡ h
+      holder_is h f = cc
 
       by : (s : LinkState) {row : LinkRow} {whole : Bool} → row.state ≡ Only n whole → row.primary ≡ i → row.secondary ≡ j → IsServedBy (is_up state) (λ k. is_up_as state k 1) row
           → IsLeft n cell i j
       by s alone first second (ByBoth both up up') = let f : Both ≡ Only n _ = sym both ∙ alone in absurd cc
-      by s {whole = whole} alone first second (ByOne holder other only (inl pair) out) =
-          let same : n ≡ holder = holder_is holder whole (sym alone ∙ only) in
+      by s alone first second (ByNone one other lost pair out) = let f : Lost ≡ Only n _ = sym lost ∙ alone in absurd cc
+      by s alone first second (ByOne holder other whole only (inl pair) out) =
+          let same : n ≡ holder = holder_is holder (sym alone ∙ only) in
           let one : n ≡ i = same ∙ sym pair.0 ∙ first in
           record { one_of = inl one; first_out = λ ne. absurd (ne one); second_out = λ ne. sym (ap (λ k. is_up_as state k 1) (sym pair.1 ∙ second)) ∙ out }
-      by s {whole = whole} alone first second (ByOne holder other only (inr pair) out) =
-          let same : n ≡ holder = holder_is holder whole (sym alone ∙ only) in
+      by s alone first second (ByOne holder other whole only (inr pair) out) =
+          let same : n ≡ holder = holder_is holder (sym alone ∙ only) in
           let one : n ≡ j = same ∙ sym pair.1 ∙ second in
           record { one_of = inr one; first_out = λ ne. sym (ap (λ k. is_up_as state k 1) (sym pair.0 ∙ first)) ∙ out; second_out = λ ne. absurd (ne one) }
 
@@ -237,7 +234,8 @@ touched_alone servers s p entry plain was steady below cell n inc e one together
     let on = now.on n inc mine (ap (serves n row) b.both ∙ mine) before still in
     elim (steady.linked cell now.now now.is).served [
       | ByBoth so up up' ↦ true_false (both_up (is_up t) now.now gone.server up up' (one_before row now.now gone.server now.so ∙ gone.one_of)) gone.out
-      | ByOne holder other alone pair out ↦ (
+      | ByOne holder other whole alone pair out ↦ (
           let same = same_numbers holder n (sym (ap (serves n now.now) alone) ∙ on) in
-          so_alone t n cell now.now false now.is (alone ∙ ap (λ k. Only k false) same))
+          so_alone t n cell now.now whole now.is (alone ∙ ap (λ k. Only k whole) same))
+      | ByNone one other lost pair out ↦ true_false on (ap (serves n now.now) lost)
     ]

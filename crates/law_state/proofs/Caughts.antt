@@ -1,10 +1,9 @@
 -- A Caught: the link that one server held alone is in Both again. Who is In stays so.
-use Rattle.std.proofs.Common.{◌≡◌, ◌==◌, ◌&&◌, ℕ, [], Bool, true, false, if◌then◌else◌, Option, Some, None, refl, sym, ap, ◌∙◌, subst, inl, inr}
+use Rattle.std.proofs.Common.{◌≡◌, ◌==◌, ◌&&◌, ℕ, Bool, true, false, if◌then◌else◌, Option, Some, None, refl, sym, ap, ◌∙◌, subst, inl, inr}
 use Rattle.std.specs.Prelude.{option_map}
-use Rattle.std.proofs.lemmas.List.{append-nil}
 use Rattle.global_tables.specs.declared.link.LinkRow.{LinkRow}
 use Rattle.global_tables.specs.declared.link.LinkState.{LinkState}
-use Rattle.global_tables.specs.declared.link.LinkState.TheVariants.{Both, Only}
+use Rattle.global_tables.specs.declared.link.LinkState.TheVariants.{Both, Only, Lost}
 use Rattle.global_tables.specs.Link.{is_link, has_server, link_at, other_of, row_caught}
 use Rattle.global_tables.specs.Link as links
 use Rattle.petal_state.specs.CellState.{serves}
@@ -12,15 +11,13 @@ use Rattle.petal_command.specs.declared.command.Command.TheVariants.{Caught}
 use Rattle.petal_state.specs.Command.{act, is_alone, may_catch}
 use Rattle.petal_state.specs.Place.{touches}
 use Rattle.petal_state.specs.State.{State, is_up, is_up_as}
-use Rattle.petal_rules.specs.Lists.{In}
 use Rattle.petal_rules.proofs.Tests.{by_bool, by_test, both_true, number_itself, same_numbers, same_some, true_false}
 use Rattle.law_state.specs.Ages.{age_of}
-use Rattle.law_state.specs.Rows.{IsHeldOn, IsLater, IsServed, IsServedBy, IsServedOn, ByBoth, ByOne}
+use Rattle.law_state.specs.Rows.{IsHeldOn, IsLater, IsLostOn, IsServed, IsServedBy, IsServedOn, ByBoth, ByNone, ByOne}
 use Rattle.law_state.specs.Tables.{IsPlainState}
 use Rattle.law_state.proofs.Ages.{in_up, no_less}
 use Rattle.law_state.proofs.Grown.{Step, later_itself}
-use Rattle.law_state.proofs.Links.{in_map}
-use Rattle.law_state.proofs.Places.{find_map, found_at}
+use Rattle.law_state.proofs.Changing.{changing, link_changed}
 
 -- the state after the link is in Both again
 abbrev pub caught_by : State → (of link : ℕ) → State
@@ -37,13 +34,6 @@ row_in_both of link row is = ap (λ b. if b then record row { state = Both } els
 pub row_uncaught : (of link : ℕ) (row : LinkRow) → is_link of link row ≡ false → row_caught of link row ≡ row
 row_uncaught of link row away = ap (λ b. if b then record row { state = Both } else row) away
 
--- a row that is found is found by its own map and number
-pub found_itself : (s : State) (map at : ℕ) (row : LinkRow) → link_at s.links map at ≡ Some row → link_at s.links row.map row.link ≡ Some row
-found_itself s map at row e =
-    let found = found_at (is_link map at) s.links row e in
-    let h = both_true (row.map == map) (row.link == at) found.2 in
-    (λ i. link_at s.links (same_numbers row.map map h.0 i) (same_numbers row.link at h.1 i)) ∙ e
-
 -- what a Caught finds: the link's row, its holder and its other server
 pub record IsCatchable (holder other : ℕ) (row : LinkRow) : Type 0 where
   pub alone : is_alone holder row.state ≡ true
@@ -55,14 +45,20 @@ catchable holder other (Some row) e =
     let h = both_true (is_alone holder row.state) (other_of holder row == other) e in
     (row, refl, record { alone = h.0; other_is = same_numbers (other_of holder row) other h.1 })
 
-pub alone_is : (holder n : ℕ) (state : LinkState) → is_alone holder state ≡ true → state ≡ Only n false → n ≡ holder
+pub alone_is : {whole : Bool} (holder n : ℕ) (state : LinkState) → is_alone holder state ≡ true → state ≡ Only n whole → n ≡ holder
 alone_is holder n state e f = same_numbers n holder (sym (ap (is_alone holder) f) ∙ e)
+
+pub alone_by : (holder : ℕ) (state : LinkState) → is_alone holder state ≡ true → (whole : Bool) × (state ≡ Only holder whole)
+alone_by holder Both e = true_false e refl
+alone_by holder (Only alone whole) e = (whole, ap (λ h. Only h whole) (same_numbers alone holder e))
+alone_by holder Lost e = true_false e refl
 
 -- both servers of a link are In where its holder is, and the other one
 two_up : (up first : ℕ → Bool) (row : LinkRow) (holder other : ℕ) → IsServedBy up first row → IsCatchable holder other row → up holder ≡ true → up other ≡ true
     → (up row.primary ≡ true) × (up row.secondary ≡ true)
 two_up up first row holder other (ByBoth state one two) is e f = (one, two)
-two_up up first row holder other (ByOne h o state pair out) is e f = elim pair [
+two_up up first row holder other (ByNone one o state pair out) is e f = true_false is.alone (ap (is_alone holder) state)
+two_up up first row holder other (ByOne h o whole state pair out) is e f = elim pair [
   | inl at ↦ (
       (let same = at.0 ∙ alone_is holder h row.state is.alone state in
       let next : row.secondary ≡ other = sym (ap (λ b. if b then row.secondary else row.primary) (itself row.primary holder same)) ∙ is.other_is in
@@ -131,8 +127,7 @@ module _ (servers : ℕ) (s : State) (p : IsPlainState servers s) (of link holde
   t = caught_by s of link
 
   pub link_caught : (map at : ℕ) → link_at t.links map at ≡ option_map (row_caught of link) (link_at s.links map at)
-  link_caught map at = find_map (is_link map at) (is_link map at) (row_caught of link) s.links
-      (λ row. let so = later_caught of link row in λ i. is_link map at (record row { map = so.map i; link = so.link i }))
+  link_caught = link_changed servers s p s.view (row_caught of link) (later_caught of link)
 
   -- a row of this link that is found is the one that the Caught finds
   pub the_row : (row : LinkRow) → link_at s.links row.map row.link ≡ Some row → is_link of link row ≡ true → IsCatchable holder other row
@@ -154,57 +149,24 @@ module _ (servers : ℕ) (s : State) (p : IsPlainState servers s) (of link holde
       by_test (λ (now : LinkRow). serves n now now.state ≡ true) (is_link of link row) _ _ (λ same. has) (λ no. serving)
 
   held_caught : (row : LinkRow) → link_at s.links row.map row.link ≡ Some row → IsHeldOn s t row (row_caught of link row)
-  held_caught row is n alone out same = by_test (λ (now : LinkRow). now.state ≡ Only n false) (is_link of link row) _ _
+  held_caught row is n whole alone out same = by_test (λ (now : LinkRow). (later : Bool) × (now.state ≡ Only n later)) (is_link of link row) _ _
       (λ here.
       let holds = alone_is holder n row.state (the_row row is here).alone alone in
       true_false (ap (is_up s) holds ∙ in_up s holder holder_inc acts.holds) out)
-      (λ no. alone)
+      (λ no. (whole, alone))
 
-  found_caught : (row : LinkRow) → In row t.links → link_at t.links row.map row.link ≡ Some row
-  found_caught row h =
-      let was = in_map (row_caught of link) s.links row h in
-      let so = later_caught of link was.0 in
-      subst (λ r. link_at t.links r.map r.link ≡ Some r) (sym was.2)
-      ((λ i. link_at t.links (so.map i) (so.link i)) ∙ link_caught was.0.map was.0.link ∙ ap (option_map (row_caught of link)) (p.found was.0 was.1))
+  lost_caught : (row : LinkRow) → link_at s.links row.map row.link ≡ Some row → IsLostOn row (row_caught of link row)
+  lost_caught row is lost = by_test (λ (now : LinkRow). now.state ≡ Lost) (is_link of link row) _ _
+      (λ here. true_false (the_row row is here).alone (ap (is_alone holder) lost)) (λ no. lost)
 
   pub catching : Step servers s t
-  catching = record {
-    plain = record {
-      many = p.many;
-      members = p.members;
-      queue = p.queue;
-      made = p.made;
-      count = p.count;
-      rows = p.rows;
-      names = p.names;
-      tuples = p.tuples;
-      links = λ map at tuple e lt.
-          let old = p.links map at tuple e lt in
-          let so = later_caught of link old.row in record {
-            row = row_caught of link old.row;
-            is = link_caught map at ∙ ap (option_map (row_caught of link)) old.is;
-            asked = record {
-              map = so.map ∙ old.asked.map;
-              place = so.link ∙ old.asked.place;
-              primary = so.primary ∙ old.asked.primary;
-              secondary = so.secondary ∙ old.asked.secondary;
-              served = served_caught old.row (found_itself s map at old.row old.is) old.asked.served;
-            };
-          };
-      unlinked = λ map at none. link_caught map at ∙ ap (option_map (row_caught of link)) (p.unlinked map at none);
-      found = found_caught;
-    };
-    grown = record {
-      more = [];
-      rows = sym (append-nil s.disks.rows);
-      maps = λ map tuple e. e;
-      links = λ map at row e. record {
-        now = row_caught of link row;
-        is = link_caught map at ∙ ap (option_map (row_caught of link)) e;
-        so = later_caught of link row;
-        on = on_caught row;
-        held = held_caught row (found_itself s map at row e);
-      };
-      ages = λ n. no_less (age_of s n);
-    };
-  }
+  catching = changing servers s p s.view (row_caught of link) (later_caught of link) (record {
+    many = p.many;
+    members = p.members;
+    queue = p.queue;
+    ages = λ n. no_less (age_of s n);
+    served = served_caught;
+    on = on_caught;
+    held = held_caught;
+    lost = lost_caught;
+  })

@@ -4,13 +4,13 @@ use Rattle.std.specs.Prelude.{option_map, option_and_then, if◌then◌else◌}
 use Rattle.std.specs.Option.{option_map_or}
 use Rattle.petal_base.specs.declared.cell.Cell.{Cell}
 use Rattle.global_tables.specs.declared.link.LinkRow.{LinkRow}
-use Rattle.global_tables.specs.declared.link.LinkState.TheVariants.{Both, Only}
+use Rattle.global_tables.specs.declared.link.LinkState.TheVariants.{Both, Only, Lost}
 use Rattle.global_tables.specs.Link.{has_server}
 use Rattle.petal_state.specs.State.{is_up}
 use Rattle.petal_state.specs.CellState.{live, leaving, cell_link, row_lead, state_lead, serves}
 use Rattle.petal_rules.specs.State.{State, lead, is_lead, leads_link, is_the, both, in_both, first, second, authority, readable, row_in_both, row_authority}
 use Rattle.petal_rules.proofs.Tests.{by_bool, both_true, none_some, same_some, same_numbers, some_or_none, true_false}
-use Rattle.law_state.specs.Rows.{ByBoth, ByOne}
+use Rattle.law_state.specs.Rows.{ByBoth, ByNone, ByOne}
 use Rattle.law_state.specs.Steady.{IsLinked, IsSteady}
 
 -- ### What the readers of a cell stand on
@@ -106,6 +106,28 @@ module _ (state : State) (cell : Cell) (row : LinkRow) (is : cell_link state cel
     pub alone_reader : (n : ℕ) → readable state n cell ≡ (is_up state n && holder == n)
     alone_reader n = reader_is n ∙ ap (λ s. is_up state n && serves n row s) so
 
+  -- neither does, since the one that served it alone came back with nothing
+  module _ (so : row.state ≡ Lost) where
+    pub lost_lead : lead state cell ≡ None
+    lost_lead = lead_is ∙ ap (state_lead state row.primary) so
+
+    pub lost_first : first state cell ≡ None
+    lost_first = ap (option_map (λ row. row.primary)) (both_is ∙ ap (row_in_both row) so)
+
+    pub lost_second : second state cell ≡ None
+    lost_second = ap (option_map (λ row. row.secondary)) (both_is ∙ ap (row_in_both row) so)
+
+    pub lost_in_both : in_both state cell ≡ false
+    lost_in_both = in_both_is ∙ ap (λ s. is_some (row_in_both row s)) so
+
+    pub lost_authority : authority state cell ≡ None
+    lost_authority = authority_is ∙ ap (row_authority row) so
+
+    pub lost_reader : (n : ℕ) → readable state n cell ≡ false
+    lost_reader n =
+        reader_is n ∙ ap (λ s. is_up state n && serves n row s) so
+        ∙ by_bool (is_up state n) (λ t. ap (λ b. b && false) t) (λ f. ap (λ b. b && false) f)
+
 -- ### A cell of a steady state
 
 -- the cell has no link and is dead, or it has one
@@ -125,7 +147,8 @@ pub record IsHeldBy (state : State) (cell : Cell) (holder : ℕ) : Type 0 where
   pub row : LinkRow
   pub is : cell_link state cell ≡ Some row
   pub linked : IsLinked state cell row
-  pub so : row.state ≡ Only holder false
+  pub whole : Bool
+  pub so : row.state ≡ Only holder whole
   pub up : is_up state holder ≡ true
 
 module _ (state : State) (steady : IsSteady state) (cell : Cell) where
@@ -150,10 +173,11 @@ module _ (state : State) (steady : IsSteady state) (cell : Cell) where
     | Dead dead none ↦ none_some (dead_lead state cell dead) leads
     | Linked row is linked ↦ elim linked.served [
       | ByBoth so one other ↦ inl (record { row = row; is = is; linked = linked; so = so }, same_some (sym (both_lead state cell row is linked so) ∙ leads))
-      | ByOne holder other so pair out ↦ by_bool (is_up state holder)
-          (λ up. let same : holder ≡ n = same_some (sym (alone_lead state cell row is linked holder false so up) ∙ leads) in
-          inr (subst (IsHeldBy state cell) same (record { row = row; is = is; linked = linked; so = so; up = up })))
-          (λ gone. none_some (alone_leads_not state cell row is linked holder false so gone) leads)
+      | ByOne holder other whole so pair out ↦ by_bool (is_up state holder)
+          (λ up. let same : holder ≡ n = same_some (sym (alone_lead state cell row is linked holder whole so up) ∙ leads) in
+          inr (subst (IsHeldBy state cell) same (record { row = row; is = is; linked = linked; whole = whole; so = so; up = up })))
+          (λ gone. none_some (alone_leads_not state cell row is linked holder whole so gone) leads)
+      | ByNone one other so pair out ↦ none_some (lost_lead state cell row is linked so) leads
     ]
   ]
 
@@ -163,7 +187,8 @@ module _ (state : State) (steady : IsSteady state) (cell : Cell) where
     | Dead dead none ↦ none_some (dead_first state cell dead) e
     | Linked row is linked ↦ elim linked.served [
       | ByBoth so one other ↦ (record { row = row; is = is; linked = linked; so = so }, same_some (sym (both_first state cell row is linked so) ∙ e))
-      | ByOne holder other so pair out ↦ none_some (alone_first state cell row is linked holder false so) e
+      | ByOne holder other whole so pair out ↦ none_some (alone_first state cell row is linked holder whole so) e
+      | ByNone one other so pair out ↦ none_some (lost_first state cell row is linked so) e
     ]
   ]
 
@@ -172,7 +197,8 @@ module _ (state : State) (steady : IsSteady state) (cell : Cell) where
     | Dead dead none ↦ none_some (dead_second state cell dead) e
     | Linked row is linked ↦ elim linked.served [
       | ByBoth so one other ↦ (record { row = row; is = is; linked = linked; so = so }, same_some (sym (both_second state cell row is linked so) ∙ e))
-      | ByOne holder other so pair out ↦ none_some (alone_second state cell row is linked holder false so) e
+      | ByOne holder other whole so pair out ↦ none_some (alone_second state cell row is linked holder whole so) e
+      | ByNone one other so pair out ↦ none_some (lost_second state cell row is linked so) e
     ]
   ]
 
@@ -184,9 +210,10 @@ module _ (state : State) (steady : IsSteady state) (cell : Cell) where
     | Linked row is linked ↦ elim linked.served [
       | ByBoth so one other ↦ (let h = both_true (is_up state n) (has_server n row) (sym (both_reader state cell row is linked so n) ∙ e) in
           (h.0, inl (record { row = row; is = is; linked = linked; so = so }, h.1)))
-      | ByOne holder other so pair out ↦ (
-          let h = both_true (is_up state n) (holder == n) (sym (alone_reader state cell row is linked holder false so n) ∙ e) in
+      | ByOne holder other whole so pair out ↦ (
+          let h = both_true (is_up state n) (holder == n) (sym (alone_reader state cell row is linked holder whole so n) ∙ e) in
           let same = same_numbers holder n h.1 in
-          (h.0, inr (record { row = row; is = is; linked = linked; so = so ∙ ap (λ k. Only k false) same; up = h.0 })))
+          (h.0, inr (record { row = row; is = is; linked = linked; whole = whole; so = so ∙ ap (λ k. Only k whole) same; up = h.0 })))
+      | ByNone one other so pair out ↦ true_false e (lost_reader state cell row is linked so n)
     ]
   ]

@@ -1,5 +1,5 @@
 -- In a plain state disks, maps and cells belong together, and each server is In, or has left.
-use Rattle.std.proofs.Common.{◌≡◌, ◌≢◌, ◌<◌, ◌==◌, ◌⊎◌, ℕ, List, [], ◌∷◌, true, false, not, Option, Some, None, is_some, refl, sym, ap, ◌∙◌, subst, inl, inr}
+use Rattle.std.proofs.Common.{◌≡◌, ◌≢◌, ◌<◌, ◌==◌, ℕ, List, [], ◌∷◌, true, false, not, Some, None, is_some, refl, sym, ap, ◌∙◌, subst, inl, inr}
 use Rattle.std.specs.Prelude.{fold, slice_get, option_and_then}
 use Rattle.std.specs.Option.{option_map_or}
 use Rattle.std.proofs.lemmas.Grind.{fold-append}
@@ -7,7 +7,6 @@ use Rattle.petal_base.specs.declared.cell.Cell.{Cell}
 use Rattle.global_tables.specs.Disk.{disk_at, named, is_disk, same_name}
 use Rattle.global_tables.specs.View.{inc_in}
 use Rattle.global_tables.specs.declared.disk.DiskRow.{DiskRow}
-use Rattle.global_tables.specs.declared.fence.Member.{Member}
 use Rattle.global_tables.specs.declared.fence.Member.TheVariants as member
 use Rattle.petal_command.specs.declared.command.Command.{Command}
 use Rattle.petal_command.specs.declared.command.Command.TheVariants.{Join, Leave, Caught, MakeDisk, Witness}
@@ -19,18 +18,18 @@ use Rattle.petal_rules.specs.State.{State}
 use Rattle.petal_rules.proofs.Tests.{by_bool, by_test, same_some, same_numbers, same_or_apart, number_itself, some_or_none, nat_lists_same, true_false}
 use Rattle.petal_history.specs.Claims.{IsPrefix}
 use Rattle.petal_rules.proofs.ListLemmas.{in_later}
-use Rattle.law_state.specs.Disks.{AreDisks, AreInOrOut, HasJoined}
+use Rattle.law_state.specs.Disks.{AreDisks, AreInOrOut}
 use Rattle.law_state.specs.Plain.{IsPlain, IsPlainLog}
 use Rattle.law_state.specs.Steady.{HasLink}
 use Rattle.law_state.specs.Tables.{IsPlainState}
 use Rattle.law_state.proofs.Ages.{in_once, in_up, up_some}
 use Rattle.law_state.proofs.Caughts.{act_caught}
-use Rattle.law_state.proofs.Joins.{joined_by, in_now, was_out}
+use Rattle.law_state.proofs.Joins.{joined_by, was_out}
 use Rattle.law_state.proofs.Joins.{in_beside as joined_beside}
 use Rattle.law_state.proofs.Places.{find_here, get_in, in_get, get_replicate, text_itself}
-use Rattle.law_state.proofs.Leaves.{left_by, in_before, in_beside}
+use Rattle.law_state.proofs.Leaves.{left_by, in_beside}
 use Rattle.law_state.proofs.Steady.{front_plain, in_first, linked, unlinked}
-use Rattle.law_state.proofs.Entries.{entering, in_at_start, log_plain, settled_act, start_plain}
+use Rattle.law_state.proofs.Entries.{entering, log_plain, settled_act}
 
 module _ (servers : ℕ) (s : State) (p : IsPlainState servers s) where
   at : (row : DiskRow) → In row s.disks.rows → disk_at s.disks.rows row.id ≡ Some row
@@ -100,13 +99,12 @@ log_in servers log all = plain_in servers (state_after servers log) (log_plain s
 -- an incarnation that an entry makes Out has this very Leave
 made_out : (servers : ℕ) (s : State) → IsPlainState servers s → (entry : Command) → IsPlain servers entry → (n inc : ℕ) → is_up_as s n inc ≡ true
     → is_up_as (act entry s) n inc ≡ false → Leave n inc ≡ entry
-made_out servers s p (Join server later true) plain n inc is = true_false refl plain
-made_out servers s p (Join server later false) plain n inc is =
-    by_test (λ (t : State). is_up_as t n inc ≡ false → Leave n inc ≡ Join server later false) (may_join (slice_get s.view.members server) later)
-    (joined_by s server later) s
+made_out servers s p (Join server later blank) plain n inc is =
+    by_test (λ (t : State). is_up_as t n inc ≡ false → Leave n inc ≡ Join server later blank) (may_join (slice_get s.view.members server) later)
+    (joined_by s server later blank) s
     (λ may out. elim (same_or_apart n server) [
-      | inl e ↦ true_false (sym (ap (is_up s) e) ∙ in_up s n inc is) (was_out servers s p server later may)
-      | inr ne ↦ true_false (joined_beside servers s p server later may n inc ne ∙ is) out
+      | inl e ↦ true_false (sym (ap (is_up s) e) ∙ in_up s n inc is) (was_out servers s p server later blank may)
+      | inr ne ↦ true_false (joined_beside servers s p server later blank may n inc ne ∙ is) out
     ])
     (λ no out. true_false is out)
 made_out servers s p (Leave server last) plain n inc is =
@@ -152,62 +150,3 @@ who_is_out servers front whole n inc all prefix is out =
     (out_left servers prefix.later (state_after servers front) (log_plain servers front (front_plain servers front whole all prefix))
     (λ c h. all c (rest c h)) n inc is
     (sym (ap (λ t. is_up_as t n inc) (ap (state_after servers) prefix.is ∙ fold-append after (start servers) front prefix.later)) ∙ out))
-
--- ### Who is In has joined
-
--- an incarnation that an entry makes In has this very Join
-made_in : (servers : ℕ) (s : State) → IsPlainState servers s → (entry : Command) → IsPlain servers entry → (n inc : ℕ) → is_up_as s n inc ≡ false
-    → is_up_as (act entry s) n inc ≡ true → Join n inc false ≡ entry
-made_in servers s p (Join server later true) plain n inc out = true_false refl plain
-made_in servers s p (Join server later false) plain n inc out =
-    by_test (λ (t : State). is_up_as t n inc ≡ true → Join n inc false ≡ Join server later false) (may_join (slice_get s.view.members server) later)
-    (joined_by s server later) s
-    (λ may is. elim (same_or_apart n server) [
-      | inl e ↦
-          let same : later ≡ inc = same_numbers later inc (sym (in_now servers s p server later may inc) ∙ sym (ap (λ k. is_up_as (joined_by s server later) k inc) e) ∙ is) in
-          λ i. Join (e i) (sym same i) false
-      | inr ne ↦ true_false (sym (joined_beside servers s p server later may n inc ne) ∙ is) out
-    ])
-    (λ no is. true_false is out)
-made_in servers s p (Leave server last) plain n inc out =
-    by_test (λ (t : State). is_up_as t n inc ≡ true → Join n inc false ≡ Leave server last) (is_up_as s server last) (left_by s server) s
-    (λ now is. true_false (in_before servers s p server last now n inc is) out)
-    (λ no is. true_false is out)
-made_in servers s p (Caught of link holder holder_inc other other_inc) plain n inc out =
-    act_caught (λ (t : State). is_up_as t n inc ≡ true → Join n inc false ≡ Caught of link holder holder_inc other other_inc) s
-    of link holder holder_inc other other_inc (λ acts is. true_false is out) (λ is. true_false is out)
-made_in servers s p (MakeDisk client seq name tuple) plain n inc out =
-    by_test (λ (t : State). is_up_as t n inc ≡ true → Join n inc false ≡ MakeDisk client seq name tuple) (not (is_new seq (latest s client))) s _
-    (λ old is. true_false is out)
-    (λ new. by_test (λ (t : State). is_up_as t n inc ≡ true → Join n inc false ≡ MakeDisk client seq name tuple) (is_some (named s.disks.rows name))
-    (told s client seq Verdict.Exists) (told (with_disk s name tuple) client seq Verdict.Ok)
-    (λ there is. true_false is out) (λ none is. true_false is out))
-made_in servers s p (Witness client seq turn) plain n inc out = λ is. true_false is out
-made_in servers s p _ plain n inc out = absurd plain
-
-in_joined : (servers : ℕ) (log : List Command) (s : State) → IsPlainState servers s → IsPlainLog servers log → (n inc : ℕ) → is_up_as s n inc ≡ false
-    → is_up_as (fold after s log) n inc ≡ true → In (Join n inc false) log
-unfolding In
-in_joined servers [] s p all n inc out is = true_false is out
-in_joined servers (entry ∷ log) s p all n inc out is =
-    let plain = all entry (inl refl) in
-    let next = (entering servers s entry p plain).plain in
-    by_bool (is_up_as (after s entry) n inc)
-    (λ now. inl (made_in servers s p entry plain n inc out (sym (ap (λ (t : State). is_up_as t n inc) (settled_act servers s entry p plain)) ∙ now)))
-    (λ stays. inr (in_joined servers log (after s entry) next (λ other h. all other (inr h)) n inc stays is))
-
--- who is In at the start is so with the first incarnation
-one_at_start : (servers n inc : ℕ) → is_up_as (start servers) n inc ≡ true → inc ≡ 1
-one_at_start servers n inc e = by (slice_get (start servers).view.members n) refl e
-  where
-    by : (o : Option Member) → slice_get (start servers).view.members n ≡ o → option_map_or (λ present. present == inc) (option_and_then inc_in o) false ≡ true
-        → inc ≡ 1
-    by None is f = true_false f refl
-    by (Some m) is f = sym (same_numbers 1 inc
-        (sym (ap (λ (o : Option Member). option_map_or (λ present. present == inc) (option_and_then inc_in o) false) (ap Some (in_at_start servers n m is))) ∙ f))
-
-pub who_is_in : (servers : ℕ) (log : List Command) (n inc : ℕ) → IsPlainLog servers log → is_up_as (state_after servers log) n inc ≡ true
-    → (inc ≡ 1) ⊎ HasJoined log n inc
-who_is_in servers log n inc all is = by_bool (is_up_as (start servers) n inc)
-    (λ first. inl (one_at_start servers n inc first))
-    (λ not_yet. inr (false, in_joined servers log (start servers) (start_plain servers) all n inc not_yet is))

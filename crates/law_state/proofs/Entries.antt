@@ -1,5 +1,5 @@
 -- Plain entries keep a state plain, and only add to its tables, but for servers that leave and join, and links that are in Both again.
-use Rattle.std.proofs.Common.{◌≡◌, ◌+◌, ℕ, zero, suc, List, [], ◌∷◌, length, true, false, not, Option, Some, None, refl, sym, ap, subst, inl, inr, is_some, arith}
+use Rattle.std.proofs.Common.{◌≡◌, ◌+◌, ℕ, zero, suc, List, [], ◌∷◌, length, false, not, Option, Some, None, refl, sym, ap, subst, inl, inr, is_some, arith}
 use Rattle.std.specs.Prelude.{fold, replicate, slice_get}
 use Rattle.std.proofs.lemmas.List.{length-replicate}
 use Rattle.global_tables.specs.declared.disk.Verdict.{Verdict}
@@ -29,9 +29,8 @@ none_of None e = refl
 none_of (Some x) e = true_false refl e
 
 acting : (servers : ℕ) (s : State) (command : Command) → IsPlainState servers s → IsPlain servers command → Step servers s (act command s)
-acting servers s (Join server inc true) p proper = true_false refl proper
-acting servers s (Join server inc false) p proper =
-    by_test (Step servers s) (may_join (slice_get s.view.members server) inc) _ s (λ may. joining servers s p server inc may) (λ no. stays servers s p)
+acting servers s (Join server inc blank) p proper =
+    by_test (Step servers s) (may_join (slice_get s.view.members server) inc) _ s (λ may. joining servers s p server inc blank may) (λ no. stays servers s p)
 acting servers s (Leave server inc) p proper =
     by_test (Step servers s) (is_up_as s server inc) _ s (λ is. leaving servers s p server inc is) (λ no. stays servers s p)
 acting servers s (Caught of link holder holder_inc other other_inc) p proper =

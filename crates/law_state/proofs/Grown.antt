@@ -1,13 +1,13 @@
 -- States that have grown from one another, and rows of links that are later than others.
-use Rattle.std.proofs.Common.{◌≡◌, ◌≤◌, ◌++◌, ℕ, List, [], false, Option, refl, sym, ap, ◌∙◌, append_assoc, arith}
+use Rattle.std.proofs.Common.{◌≡◌, ◌≤◌, ◌++◌, ℕ, List, [], Bool, Option, refl, sym, ap, ◌∙◌, inl, inr, append_assoc, arith}
 use Rattle.std.proofs.lemmas.List.{append-nil}
 use Rattle.global_tables.specs.Link.{has_server}
 use Rattle.global_tables.specs.declared.disk.Latest.{Latest}
 use Rattle.global_tables.specs.declared.link.LinkRow.{LinkRow}
-use Rattle.global_tables.specs.declared.link.LinkState.TheVariants.{Both, Only}
+use Rattle.global_tables.specs.declared.link.LinkState.TheVariants.{Both, Only, Lost}
 use Rattle.petal_rules.specs.State.{State}
 use Rattle.law_state.specs.Ages.{age_of}
-use Rattle.law_state.specs.Rows.{IsHeldOn, IsLater, IsServedOn}
+use Rattle.law_state.specs.Rows.{IsBetween, IsHeldOn, IsLater, IsServedOn}
 use Rattle.law_state.specs.Tables.{IsGrown, IsPlainState}
 use Rattle.law_state.proofs.Ages.{between, no_less, out_same}
 
@@ -18,8 +18,20 @@ later_itself row = record { map = refl; link = refl; primary = refl; secondary =
 pub one_before : (row later : LinkRow) (n : ℕ) → IsLater row later → has_server n later ≡ has_server n row
 one_before row later n so = λ i. has_server n (record row { primary = so.primary i; secondary = so.secondary i })
 
-pub alone_not_both : {B : Type 0} (row : LinkRow) (holder : ℕ) → row.state ≡ Only holder false → row.state ≡ Both → B
-alone_not_both row holder e f = let g : Only holder false ≡ Both = sym e ∙ f in absurd cc
+-- it is between the same servers
+pub between_later : (row later : LinkRow) (one other : ℕ) → IsLater row later → IsBetween row one other → IsBetween later one other
+between_later row later one other so (inl pair) = inl (so.primary ∙ pair.0, so.secondary ∙ pair.1)
+between_later row later one other so (inr pair) = inr (so.primary ∙ pair.0, so.secondary ∙ pair.1)
+
+-- a link is in one of its states
+pub alone_not_both : {B : Type 0} {whole : Bool} (row : LinkRow) (holder : ℕ) → row.state ≡ Only holder whole → row.state ≡ Both → B
+alone_not_both {whole = whole} row holder e f = let g : Only holder whole ≡ Both = sym e ∙ f in absurd cc
+
+pub lost_not_both : {B : Type 0} (row : LinkRow) → row.state ≡ Lost → row.state ≡ Both → B
+lost_not_both row e f = let g : Lost ≡ Both = sym e ∙ f in absurd cc
+
+pub lost_not_alone : {B : Type 0} {whole : Bool} (row : LinkRow) (holder : ℕ) → row.state ≡ Lost → row.state ≡ Only holder whole → B
+lost_not_alone {whole = whole} row holder e f = let g : Lost ≡ Only holder whole = sym e ∙ f in absurd cc
 
 pub later_on : (one two three : LinkRow) → IsLater one two → IsLater two three → IsLater one three
 later_on one two three a b = record {
@@ -35,19 +47,27 @@ module _ (s t u : State) (old : (n : ℕ) → age_of s n ≤ age_of t n) (new : 
       let g = between s t u n inc (old n) (new n) e f in after_on n inc (one_before one two n so ∙ has) (on n inc has serving e g) g f
 
   pub held_on_on : (one two three : LinkRow) → IsHeldOn s t one two → IsHeldOn t u two three → IsHeldOn s u one three
-  held_on_on one two three on after_on n alone out same =
+  held_on_on one two three on after_on n whole alone out same =
       let a = old n in
       let b = new n in
       let here : age_of t n ≡ age_of s n = omega arith in
       let there : age_of u n ≡ age_of t n = omega arith in
-      after_on n (on n alone out here) (out_same s t n out here) there
+      let middle = on n whole alone out here in
+      after_on n middle.0 middle.1 (out_same s t n out here) there
 
 pub grown_itself : (s : State) → IsGrown s s
 grown_itself s = record {
   more = [];
   rows = sym (append-nil s.disks.rows);
   maps = λ of tuple e. e;
-  links = λ of link row e. record { now = row; is = e; so = later_itself row; on = λ n inc has serving a b. serving; held = λ n alone out same. alone };
+  links = λ of link row e. record {
+    now = row;
+    is = e;
+    so = later_itself row;
+    on = λ n inc has serving a b. serving;
+    held = λ n whole alone out same. (whole, alone);
+    lost = λ gone. gone;
+  };
   ages = λ n. no_less (age_of s n);
 }
 
@@ -68,6 +88,7 @@ grown_on s t u one two = record {
         so = later_on row middle.now last.now middle.so last.so;
         on = served_on_on s t u one.ages two.ages row middle.now last.now middle.so middle.on last.on;
         held = held_on_on s t u one.ages two.ages row middle.now last.now middle.held last.held;
+        lost = λ gone. last.lost (middle.lost gone);
       };
   ages = λ n. let a = one.ages n in let b = two.ages n in at_most _ _ _ a b;
 }
@@ -105,7 +126,9 @@ untabled servers rev verdicts s t h = record {
     more = h.grown.more;
     rows = h.grown.rows;
     maps = h.grown.maps;
-    links = λ of link row e. let old = h.grown.links of link row e in record { now = old.now; is = old.is; so = old.so; on = old.on; held = old.held };
+    links = λ of link row e.
+        let old = h.grown.links of link row e in
+        record { now = old.now; is = old.is; so = old.so; on = old.on; held = old.held; lost = old.lost };
     ages = h.grown.ages;
   };
 }

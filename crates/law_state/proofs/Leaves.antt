@@ -1,8 +1,8 @@
 -- A Leave: its server is Out, and of the links that it served with another one the other one is left.
-use Rattle.std.proofs.Common.{◌≡◌, ◌≢◌, ◌≤◌, ◌+◌, ◌==◌, ℕ, [], Bool, true, false, Option, Some, None, refl, sym, ap, ◌∙◌, subst, inl, inr, arith}
+use Rattle.std.proofs.Common.{◌≡◌, ◌≢◌, ◌≤◌, ◌+◌, ◌==◌, ℕ, Bool, true, false, Option, Some, None, refl, sym, ap, ◌∙◌, inl, inr, arith}
 use Rattle.std.specs.Prelude.{◌||◌, if◌then◌else◌, slice_get, option_map, option_and_then}
 use Rattle.std.specs.Option.{option_map_or}
-use Rattle.std.proofs.lemmas.List.{append-nil, length-set}
+use Rattle.std.proofs.lemmas.List.{length-set}
 use Rattle.std.proofs.lemmas.Option.{slice_get_within}
 use Rattle.global_tables.specs.declared.fence.Member.{Member}
 use Rattle.global_tables.specs.declared.fence.Member.TheVariants as member
@@ -15,15 +15,15 @@ use Rattle.global_tables.specs.View.{is_in, inc_in, last_inc, out_of, servers_in
 use Rattle.global_tables.specs.View as view
 use Rattle.petal_state.specs.CellState.{serves}
 use Rattle.petal_state.specs.State.{State, inc_of, is_up, is_up_as}
-use Rattle.petal_rules.specs.Lists.{In}
 use Rattle.petal_rules.proofs.Tests.{by_bool, by_test, same_some, same_or_apart, same_numbers, number_itself, true_false}
 use Rattle.law_state.specs.Ages.{age, age_of}
-use Rattle.law_state.specs.Rows.{IsHeldOn, IsServed, IsServedOn, IsBetween, IsLater, ByBoth, ByOne}
+use Rattle.law_state.specs.Rows.{IsHeldOn, IsLostOn, IsServed, IsServedOn, IsBetween, IsLater, ByBoth, ByNone, ByOne}
 use Rattle.law_state.specs.Tables.{IsPlainState}
 use Rattle.law_state.proofs.Ages.{in_up, out_not}
 use Rattle.law_state.proofs.Grown.{Step, later_itself}
-use Rattle.law_state.proofs.Links.{either_false, in_map}
-use Rattle.law_state.proofs.Places.{find_map, get_set_here, get_set_beside}
+use Rattle.law_state.proofs.Changing.{changing, link_changed}
+use Rattle.law_state.proofs.Links.{either_false}
+use Rattle.law_state.proofs.Places.{get_set_here, get_set_beside}
 
 pub either_true : (a b : Bool) → (a || b) ≡ true → a ≡ false → b ≡ true
 either_true true b e f = let g : true ≡ false = f in absurd cc
@@ -147,20 +147,22 @@ module _ (servers : ℕ) (s : State) (p : IsPlainState servers s) (server inc : 
   -- ### Links
 
   pub link_left : (of link : ℕ) → links.link_at t.links of link ≡ option_map (row_left server) (links.link_at s.links of link)
-  link_left of link = find_map (is_link of link) (is_link of link) (row_left server) s.links
-      (λ row. let so = later_left row server in λ i. is_link of link (record row { map = so.map i; link = so.link i }))
+  link_left = link_changed servers s p t.view (row_left server) (λ row. later_left row server)
 
   served_left : (row : LinkRow) → IsServed s row → IsServed t (row_left server row)
   served_left row (ByBoth state one two) = by_test (IsServed t) (has_server server row) _ _
-      (λ has. ByOne (other_of server row) server (ap (left_state (other_of server row)) state) (other_between row server has) (out_not t server out_now 1))
+      (λ has. ByOne (other_of server row) server false (ap (left_state (other_of server row)) state) (other_between row server has) (out_not t server out_now 1))
       (λ no. let apart = either_false (row.primary == server) (row.secondary == server) no in
       ByBoth state (up_beside row.primary (differ row.primary apart.0) ∙ one) (up_beside row.secondary (differ row.secondary apart.1) ∙ two))
     where
       differ : (n : ℕ) → (n == server) ≡ false → n ≢ server
       differ n away e = true_false (ap (λ k. k == server) e ∙ number_itself server) away
-  served_left row (ByOne holder other state pair out) = by_test (IsServed t) (has_server server row) _ _
-      (λ has. ByOne holder other (ap (left_state (other_of server row)) state) pair (not_first other out))
-      (λ no. ByOne holder other state pair (not_first other out))
+  served_left row (ByOne holder other whole state pair out) = by_test (IsServed t) (has_server server row) _ _
+      (λ has. ByOne holder other whole (ap (left_state (other_of server row)) state) pair (not_first other out))
+      (λ no. ByOne holder other whole state pair (not_first other out))
+  served_left row (ByNone one other state pair out) = by_test (IsServed t) (has_server server row) _ _
+      (λ has. ByNone one other (ap (left_state (other_of server row)) state) pair (not_first other out))
+      (λ no. ByNone one other state pair (not_first other out))
 
   -- one that is In before and after still serves the links that it served
   on_left : (row : LinkRow) → IsServedOn s t row (row_left server row)
@@ -177,54 +179,21 @@ module _ (servers : ℕ) (s : State) (p : IsPlainState servers s) (server inc : 
 
   -- and who holds a link alone goes on to
   held_left : (row : LinkRow) → IsHeldOn s t row (row_left server row)
-  held_left row n alone out same = by_test (λ (now : LinkRow). now.state ≡ Only n false) (has_server server row) _ _
-      (λ gone. ap (left_state (other_of server row)) alone) (λ no. alone)
+  held_left row n whole alone out same = by_test (λ (now : LinkRow). (later : Bool) × (now.state ≡ Only n later)) (has_server server row) _ _
+      (λ gone. (whole, ap (left_state (other_of server row)) alone)) (λ no. (whole, alone))
 
-  found_left : (row : LinkRow) → In row t.links → links.link_at t.links row.map row.link ≡ Some row
-  found_left row h =
-      let was = in_map (row_left server) s.links row h in
-      let so = later_left was.0 server in
-      subst (λ r. links.link_at t.links r.map r.link ≡ Some r) (sym was.2)
-      ((λ i. links.link_at t.links (so.map i) (so.link i)) ∙ link_left was.0.map was.0.link ∙ ap (option_map (row_left server)) (p.found was.0 was.1))
+  lost_left : (row : LinkRow) → IsLostOn row (row_left server row)
+  lost_left row lost = by_test (λ (now : LinkRow). now.state ≡ Lost) (has_server server row) _ _
+      (λ gone. ap (left_state (other_of server row)) lost) (λ no. lost)
 
   pub leaving : Step servers s t
-  leaving = record {
-    plain = record {
-      many = length-set s.view.members server gone ∙ p.many;
-      members = members_now;
-      queue = ap (awaiting (servers_in t.view.members)) p.queue;
-      made = p.made;
-      count = p.count;
-      rows = p.rows;
-      names = p.names;
-      tuples = p.tuples;
-      links = λ of link tuple e lt.
-          let old = p.links of link tuple e lt in
-          let so = later_left old.row server in record {
-            row = row_left server old.row;
-            is = link_left of link ∙ ap (option_map (row_left server)) old.is;
-            asked = record {
-              map = so.map ∙ old.asked.map;
-              place = so.link ∙ old.asked.place;
-              primary = so.primary ∙ old.asked.primary;
-              secondary = so.secondary ∙ old.asked.secondary;
-              served = served_left old.row old.asked.served;
-            };
-          };
-      unlinked = λ of link none. link_left of link ∙ ap (option_map (row_left server)) (p.unlinked of link none);
-      found = found_left;
-    };
-    grown = record {
-      more = [];
-      rows = sym (append-nil s.disks.rows);
-      maps = λ of tuple e. e;
-      links = λ of link row e. record {
-        now = row_left server row;
-        is = link_left of link ∙ ap (option_map (row_left server)) e;
-        so = later_left row server;
-        on = on_left row;
-        held = held_left row;
-      };
-      ages = ages;
-    };
-  }
+  leaving = changing servers s p t.view (row_left server) (λ row. later_left row server) (record {
+    many = length-set s.view.members server gone ∙ p.many;
+    members = members_now;
+    queue = ap (awaiting (servers_in t.view.members)) p.queue;
+    ages = ages;
+    served = λ row is. served_left row;
+    on = on_left;
+    held = λ row is. held_left row;
+    lost = λ row is. lost_left row;
+  })

@@ -2,6 +2,7 @@ pub mod Places
 pub mod Ages
 pub mod Links
 pub mod Grown
+pub mod Changing
 pub mod Leaves
 pub mod Joins
 pub mod Caughts
@@ -10,8 +11,10 @@ pub mod Entries
 pub mod Cells
 pub mod Steady
 pub mod Disks
+pub mod Incarnations
 pub mod Rows
 pub mod Roles
 pub mod Touching
 pub mod Alone
 pub mod Again
+pub mod BlankJoins

@@ -40,6 +40,10 @@ pub either_false : (a b : Bool) → (a || b) ≡ false → (a ≡ false) × (b �
 either_false true b e = let f : true ≡ false = e in absurd cc
 either_false false b e = (refl, e)
 
+pub or_true : (a b : Bool) → b ≡ true → (a || b) ≡ true
+or_true true b e = refl
+or_true false b e = e
+
 no_member : (n : ℕ) (xs : List ℕ) (i : ℕ) → list_any (nat_eq n) xs ≡ false → i < length xs → n ≢ slice_index xs i
 no_member n [] i h lt = absurd (omega arith)
 no_member n (x ∷ xs) zero h lt = λ e. let f : (n == x) ≡ true = (Decides-eqb n x).1 e in true_false f (either_false (nat_eq n x) (list_any (nat_eq n) xs) h).0
@@ -109,9 +113,9 @@ served_between s of i primary secondary = by (is_up s primary) (is_up s secondar
 
     by : (a b : Bool) → is_up s primary ≡ a → is_up s secondary ≡ b → IsServed s (row_between of (ups s) i primary secondary)
     by true true e f = ByBoth (so true true e f) e f
-    by true false e f = ByOne primary secondary (so true false e f) (inl (refl, refl)) (out_not s secondary f 1)
-    by false true e f = ByOne secondary primary (so false true e f) (inr (refl, refl)) (out_not s primary e 1)
-    by false false e f = ByOne primary secondary (so false false e f) (inl (refl, refl)) (out_not s secondary f 1)
+    by true false e f = ByOne primary secondary false (so true false e f) (inl (refl, refl)) (out_not s secondary f 1)
+    by false true e f = ByOne secondary primary false (so false true e f) (inr (refl, refl)) (out_not s primary e 1)
+    by false false e f = ByOne primary secondary false (so false false e f) (inl (refl, refl)) (out_not s secondary f 1)
 
 pub new_served : (s : State) (of : ℕ) (tuple : List ℕ) (i : ℕ) → IsServed s (new_row of tuple (ups s) i)
 new_served s of tuple i = served_between s of i (slice_index tuple i) (slice_index tuple ((i + 1) % length tuple))

@@ -154,7 +154,14 @@ module _ (servers : ℕ) (s : State) (p : IsPlainState servers s) (name tuple : 
       more = made_row ∷ [];
       rows = refl;
       maps = λ of ids e. map_front s.maps ids tuple s.disks.made of e;
-      links = λ of link row e. record { now = row; is = find_front (is_link of link) s.links late row e; so = later_itself row; on = λ n inc has serving a b. serving; held = λ n alone out same. alone };
+      links = λ of link row e. record {
+        now = row;
+        is = find_front (is_link of link) s.links late row e;
+        so = later_itself row;
+        on = λ n inc has serving a b. serving;
+        held = λ n whole alone out same. (whole, alone);
+        lost = λ gone. gone;
+      };
       ages = λ n. no_less (age_of s n);
     };
   }

@@ -188,7 +188,7 @@ module _ (servers : ℕ) (s t : State) (p : IsPlainState servers s) (q : IsPlain
   grown_below = record {
     rows = λ cell row e. elim (some_or_none (tuple_of s.maps cell.map)) [
       | inl h ↦ (let later = g.links cell.map (link_of (length h.0) cell.block) row (sym (link_by servers s p cell h.0 h.1) ∙ e) in
-          record { now = later.now; is = link_by servers t q cell h.0 (g.maps cell.map h.0 h.1) ∙ later.is; so = later.so; on = later.on; held = later.held })
+          record { now = later.now; is = link_by servers t q cell h.0 (g.maps cell.map h.0 h.1) ∙ later.is; so = later.so; on = later.on; held = later.held; lost = later.lost })
       | inr none ↦ none_some (ap (option_and_then (λ ids. link_at s.links cell.map (link_of (length ids) cell.block))) none) e
     ];
     ages = g.ages;

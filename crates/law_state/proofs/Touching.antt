@@ -5,7 +5,7 @@ use Rattle.std.specs.Prelude.{fold, slice_get, option_map, option_and_then}
 use Rattle.std.proofs.lemmas.Grind.{fold-append}
 use Rattle.petal_base.specs.declared.cell.Cell.{Cell}
 use Rattle.global_tables.specs.declared.link.LinkRow.{LinkRow}
-use Rattle.global_tables.specs.declared.link.LinkState.TheVariants.{Both, Only}
+use Rattle.global_tables.specs.declared.link.LinkState.TheVariants.{Both}
 use Rattle.global_tables.specs.Disk.{named}
 use Rattle.global_tables.specs.Link.{has_server, is_link, link_at, row_caught, row_left, new_rows}
 use Rattle.global_tables.specs.Map.{tuple_of}
@@ -13,7 +13,7 @@ use Rattle.global_tables.specs.Region.{link_of}
 use Rattle.petal_command.specs.declared.command.Command.{Command}
 use Rattle.petal_command.specs.declared.command.Command.TheVariants.{Join, Leave, Caught, MakeDisk, Witness}
 use Rattle.petal_state.specs.CellState.{cell_link}
-use Rattle.petal_state.specs.Command.{act, after, is_alone, is_new, may_join, with_disk, state_after}
+use Rattle.petal_state.specs.Command.{act, after, is_new, may_join, with_disk, state_after}
 use Rattle.petal_state.specs.Place.{touches, places_from}
 use Rattle.petal_state.specs.State.{inc_of, is_up, is_up_as, latest, start, ups}
 use Rattle.petal_rules.specs.Lists.{In}
@@ -21,20 +21,21 @@ use Rattle.petal_rules.specs.State.{State}
 use Rattle.petal_rules.proofs.ListLemmas.{in_later}
 use Rattle.petal_rules.proofs.Tests.{both_true, by_bool, by_test, none_some, number_itself, same_numbers, some_or_none, true_false}
 use Rattle.petal_history.specs.Claims.{IsPrefix}
-use Rattle.law_state.specs.Places.{IsReseated, IsTouchedBy, By_caught, By_join, By_leave, StaysSo}
+use Rattle.law_state.specs.Places.{IsReseated, IsTouchedBy, By_caught, By_join, By_leave, StaysSo, row_joined}
 use Rattle.law_state.specs.Plain.{IsPlain, IsPlainLog}
 use Rattle.law_state.specs.Tables.{IsPlainState}
 use Rattle.law_state.proofs.Entries.{entering, log_plain, settled_act}
-use Rattle.law_state.specs.Rows.{IsServed, ByBoth, ByOne}
-use Rattle.law_state.proofs.Caughts.{act_caught, alone_is, catch_so, caught_by, found_itself, link_caught, row_in_both, row_uncaught, the_row, touch_by, touch_so}
-use Rattle.law_state.proofs.Grown.{alone_not_both}
-use Rattle.law_state.proofs.Joins.{joined_by, some_now, was_out}
+use Rattle.law_state.specs.Rows.{IsServed, ByBoth, ByNone, ByOne}
+use Rattle.law_state.proofs.Caughts.{act_caught, alone_by, catch_so, caught_by, link_caught, row_in_both, row_uncaught, the_row, touch_by, touch_so}
+use Rattle.law_state.proofs.Changing.{found_itself}
+use Rattle.law_state.proofs.Grown.{alone_not_both, lost_not_both}
+use Rattle.law_state.proofs.Joins.{joined_by, link_joined, row_beside, some_now, was_out}
 use Rattle.law_state.proofs.Joins.{inc_beside as joined_beside}
 use Rattle.law_state.proofs.Leaves.{both_up, inc_beside, left_by, link_left, none_now, row_stays}
 use Rattle.law_state.proofs.Links.{either_false}
 use Rattle.law_state.proofs.Making.{map_front}
 use Rattle.law_state.proofs.Places.{find_front}
-use Rattle.law_state.proofs.Steady.{front_plain, log_steady}
+use Rattle.law_state.proofs.Steady.{front_plain, log_steady, plain_steady}
 
 differ : (a b : ℕ) → (a == b) ≡ false → a ≢ b
 differ a b away e = true_false (ap (λ k. k == b) e ∙ number_itself b) away
@@ -62,16 +63,18 @@ module _ (servers : ℕ) (s : State) (p : IsPlainState servers s) (cell : Cell) 
   ]
 
   act_stays : (entry : Command) → IsPlain servers entry → touches s entry row ≡ false → StaysSo cell row s (act entry s)
-  act_stays (Join server inc true) plain off = true_false refl plain
-  act_stays (Join server inc false) plain off =
-      by_test (StaysSo cell row s) (may_join (slice_get s.view.members server) inc) (joined_by s server inc) s
+  act_stays (Join server inc blank) plain off =
+      by_test (StaysSo cell row s) (may_join (slice_get s.view.members server) inc) (joined_by s server inc blank) s
       (λ may.
       let away : has_server server row ≡ false = sym (ap (λ b. b && has_server server row) may) ∙ off in
       let apart = either_false (row.primary == server) (row.secondary == server) away in
+      let served = ((plain_steady servers s p).linked cell row is).served in
       record {
-        same = is;
-        primary = joined_beside servers s p server inc may row.primary (differ row.primary server apart.0);
-        secondary = joined_beside servers s p server inc may row.secondary (differ row.secondary server apart.1);
+        same = moved_link (joined_by s server inc blank) row (λ ids e. e) (λ link e.
+            link_joined servers s p server inc blank may cell.map link ∙ ap (option_map (row_joined server blank)) e
+            ∙ ap Some (row_beside server blank (is_up s) (λ n. is_up_as s n 1) row served away));
+        primary = joined_beside servers s p server inc blank may row.primary (differ row.primary server apart.0);
+        secondary = joined_beside servers s p server inc blank may row.secondary (differ row.secondary server apart.1);
       })
       (λ no. itself)
   act_stays (Leave server inc) plain off = by_test (StaysSo cell row s) (is_up_as s server inc) (left_by s server) s
@@ -130,18 +133,21 @@ module _ (servers : ℕ) (s : State) (p : IsPlainState servers s) (cell : Cell) 
   row_after entry plain now e = ap (λ (t : State). cell_link t cell) (settled_act servers s entry p plain) ∙ e
 
   pub touched : (entry : Command) → IsPlain servers entry → touches s entry row ≡ true → IsTouchedBy cell row s entry
-  touched (Join server inc true) plain on = true_false refl plain
-  touched (Join server inc false) plain on =
+  touched (Join server inc blank) plain on =
       let h = both_true (may_join (slice_get s.view.members server) inc) (has_server server row) on in
-      By_join (record { server = server; inc = inc; is = refl; may = h.0; one_of = h.1 })
-      (row_after (Join server inc false) plain row (ap (λ b. cell_link (if b then joined_by s server inc else s) cell) h.0 ∙ is))
+      By_join (record { server = server; inc = inc; blank = blank; is = refl; may = h.0; one_of = h.1 })
+      (row_after (Join server inc blank) plain (row_joined server blank row)
+      (ap (λ b. cell_link (if b then joined_by s server inc blank else s) cell) h.0
+      ∙ moved_link servers s p cell row is (joined_by s server inc blank) (row_joined server blank row) (λ ids e. e)
+      (λ at e. link_joined servers s p server inc blank h.0 cell.map at ∙ ap (option_map (row_joined server blank)) e)))
       (λ both. elim served [
-        | ByBoth so one two ↦ true_false (both_up (is_up s) row server one two h.1) (was_out servers s p server inc h.0)
-        | ByOne holder other so pair out ↦ alone_not_both row holder so both
+        | ByBoth so one two ↦ true_false (both_up (is_up s) row server one two h.1) (was_out servers s p server inc blank h.0)
+        | ByOne holder other whole so pair out ↦ alone_not_both row holder so both
+        | ByNone one other so pair out ↦ lost_not_both row so both
       ])
-      (seats_after (Join server inc false) plain server (Some inc)
-      (subst (λ b. IsReseated s (if b then joined_by s server inc else s) server (Some inc)) (sym h.0)
-      (record { here = some_now servers s p server inc h.0; beside = joined_beside servers s p server inc h.0 })))
+      (seats_after (Join server inc blank) plain server (Some inc)
+      (subst (λ b. IsReseated s (if b then joined_by s server inc blank else s) server (Some inc)) (sym h.0)
+      (record { here = some_now servers s p server inc blank h.0; beside = joined_beside servers s p server inc blank h.0 })))
   touched (Leave server inc) plain on =
       let h = both_true (is_up_as s server inc) (has_server server row) on in
       By_leave (record { server = server; inc = inc; is = refl; up = h.0; one_of = h.1 })
@@ -156,16 +162,15 @@ module _ (servers : ℕ) (s : State) (p : IsPlainState servers s) (cell : Cell) 
       let h = touch_by s row of link holder inc other other_inc on in
       let k = both_true (row.map == of) (row.link == link) h.0 in
       let found = the_row servers s p of link holder inc other other_inc h.1 row (found_row servers s p cell row is) h.0 in
+      let held = alone_by holder row.state found.alone in
       By_caught
       (record {
         holder = holder;
         inc = inc;
         other_inc = other_inc;
+        whole = held.0;
         is = λ i. Caught (sym (same_numbers row.map of k.0) i) (sym (same_numbers row.link link k.1) i) holder inc (sym found.other_is i) other_inc;
-        alone = elim served [
-          | ByBoth so one two ↦ true_false found.alone (ap (is_alone holder) so)
-          | ByOne h o so pair out ↦ so ∙ ap (λ n. Only n false) (alone_is holder h row.state found.alone so)
-        ];
+        alone = held.1;
         holds = h.1.holds;
         joins = ap (λ n. is_up_as s n other_inc) found.other_is ∙ h.1.joins;
       })
@@ -201,7 +206,7 @@ log_touched servers log entry cell row all plain is on =
 
 -- ### Places
 
-counted : (b : Bool) (a x y : ℕ) → a ≡ x + y → (if b then a + 1 else a) ≡ (if b then x + 1 else x) + y
+pub counted : (b : Bool) (a x y : ℕ) → a ≡ x + y → (if b then a + 1 else a) ≡ (if b then x + 1 else x) + y
 counted true a x y e = omega arith
 counted false a x y e = e
 

@@ -1,6 +1,6 @@
 -- When a state is one that more plain entries left: what the earlier one says of a name, the later one says too; and of a cell what
 -- its link's servers are that have stayed In.
-use Rattle.std.specs.Prelude.{◌≡◌, ◌≤◌, ◌<◌, ◌⊎◌, ℕ, List, Some, true, false}
+use Rattle.std.specs.Prelude.{◌≡◌, ◌≤◌, ◌<◌, ◌⊎◌, ℕ, Bool, List, Some, true, false}
 use Rattle.petal_base.specs.declared.cell.Cell.{Cell}
 use Rattle.global_tables.specs.declared.link.LinkRow.{LinkRow}
 use Rattle.global_tables.specs.declared.link.LinkState.TheVariants.{Only}
@@ -9,7 +9,7 @@ use Rattle.petal_state.specs.CellState.{cell_link}
 use Rattle.petal_state.specs.State.{is_up}
 use Rattle.petal_rules.specs.State.{State, find, lead, is_in, is_lead, is_second, readable}
 use Rattle.law_state.specs.Ages.{age_of}
-use Rattle.law_state.specs.Rows.{IsHeldOn, IsLater, IsServedOn}
+use Rattle.law_state.specs.Rows.{IsHeldOn, IsLater, IsLostOn, IsServedOn}
 
 -- the later row of a cell's link
 pub record HasLater (earlier later : State) (cell : Cell) (row : LinkRow) : Type 0 where
@@ -18,9 +18,10 @@ pub record HasLater (earlier later : State) (cell : Cell) (row : LinkRow) : Type
   pub so : IsLater row now
   pub on : IsServedOn earlier later row now
   pub held : IsHeldOn earlier later row now
+  pub lost : IsLostOn row now
 
--- a link stays between its two servers; who served it, and has been In all the time, serves it still; an incarnation that was Out
--- stays Out; and a disk is found as before
+-- a link stays between its two servers; who served it, and has been In all the time, serves it still; one that is Lost stays so; an
+-- incarnation that was Out stays Out; and a disk is found as before
 pub record IsBelow (earlier later : State) : Type 0 where
   pub rows : (cell : Cell) (row : LinkRow) → cell_link earlier cell ≡ Some row → HasLater earlier later cell row
   pub ages : (n : ℕ) → age_of earlier n ≤ age_of later n
@@ -30,7 +31,8 @@ pub record IsBelow (earlier later : State) : Type 0 where
 pub record HoldsAlone (state : State) (n : ℕ) (cell : Cell) : Type 0 where
   pub row : LinkRow
   pub is : cell_link state cell ≡ Some row
-  pub alone : row.state ≡ Only n false
+  pub whole : Bool
+  pub alone : row.state ≡ Only n whole
 
 -- the server held the cell's link alone, and is its second server now that the link is in Both again
 pub record HasComeSecond (earlier later : State) (n : ℕ) (cell : Cell) : Type 0 where

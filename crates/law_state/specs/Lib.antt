@@ -8,3 +8,4 @@ pub mod Firm
 pub mod Tables
 pub mod Disks
 pub mod Places
+pub mod Joins

@@ -2,7 +2,7 @@
 use Rattle.std.specs.Prelude.{◌≡◌, ◌⊎◌, ℕ, Bool, true, false}
 use Rattle.global_tables.specs.Link.{has_server}
 use Rattle.global_tables.specs.declared.link.LinkRow.{LinkRow}
-use Rattle.global_tables.specs.declared.link.LinkState.TheVariants.{Both, Only}
+use Rattle.global_tables.specs.declared.link.LinkState.TheVariants.{Both, Only, Lost}
 use Rattle.petal_state.specs.CellState.{serves}
 use Rattle.petal_state.specs.State.{State, is_up, is_up_as}
 use Rattle.law_state.specs.Ages.{age_of}
@@ -12,10 +12,11 @@ abbrev pub IsBetween : LinkRow → (one other : ℕ) → Type 0
 IsBetween row one other = ((row.primary ≡ one) × (row.secondary ≡ other)) ⊎ ((row.primary ≡ other) × (row.secondary ≡ one))
 
 -- by who is In, and who is In with its first incarnation: both servers serve the link, and are In; or one of them alone, and the
--- other one has left, or was Out when the link was made
+-- other one has left, or was Out when the link was made; or neither, since the one that held it alone came back with nothing
 pub data IsServedBy (up first : ℕ → Bool) (row : LinkRow) : Type 0 where
   ByBoth : row.state ≡ Both → up row.primary ≡ true → up row.secondary ≡ true → IsServedBy up first row
-  ByOne : (holder other : ℕ) → row.state ≡ Only holder false → IsBetween row holder other → first other ≡ false → IsServedBy up first row
+  ByOne : (holder other : ℕ) (whole : Bool) → row.state ≡ Only holder whole → IsBetween row holder other → first other ≡ false → IsServedBy up first row
+  ByNone : (one other : ℕ) → row.state ≡ Lost → IsBetween row one other → first other ≡ false → IsServedBy up first row
 
 abbrev pub IsServed : State → LinkRow → Type 0
 IsServed state row = IsServedBy (is_up state) (λ n. is_up_as state n 1) row
@@ -35,4 +36,9 @@ IsServedOn earlier later row now = (n inc : ℕ) → has_server n row ≡ true �
 
 -- a link that one server holds alone stays so while the holder is Out
 abbrev pub IsHeldOn : (earlier later : State) → (row now : LinkRow) → Type 0
-IsHeldOn earlier later row now = (n : ℕ) → row.state ≡ Only n false → is_up earlier n ≡ false → age_of later n ≡ age_of earlier n → now.state ≡ Only n false
+IsHeldOn earlier later row now = (n : ℕ) (whole : Bool) → row.state ≡ Only n whole → is_up earlier n ≡ false → age_of later n ≡ age_of earlier n
+    → (later : Bool) × (now.state ≡ Only n later)
+
+-- a link that is Lost stays so
+abbrev pub IsLostOn : (row now : LinkRow) → Type 0
+IsLostOn row now = row.state ≡ Lost → now.state ≡ Lost

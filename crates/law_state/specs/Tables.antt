@@ -10,7 +10,7 @@ use Rattle.global_tables.specs.View.{last_inc}
 use Rattle.petal_rules.specs.Lists.{In}
 use Rattle.petal_rules.specs.State.{State}
 use Rattle.law_state.specs.Ages.{age_of}
-use Rattle.law_state.specs.Rows.{IsHeldOn, IsServed, IsServedOn, IsLater}
+use Rattle.law_state.specs.Rows.{IsHeldOn, IsLostOn, IsServed, IsServedOn, IsLater}
 
 -- the row of the disk that was made at this place: its map has the disk's number; it has no snapshot, and never moved
 pub record IsNewRow (place : ℕ) (row : DiskRow) : Type 0 where
@@ -57,9 +57,10 @@ pub record HasLaterRow (earlier later : State) (of link : ℕ) (row : LinkRow) :
   pub so : IsLater row now
   pub on : IsServedOn earlier later row now
   pub held : IsHeldOn earlier later row now
+  pub lost : IsLostOn row now
 
--- disks and maps were added, and those before stay as they were; a link stays between its two servers, and who served it, and has
--- been In all the time, serves it still; and an incarnation that was Out stays Out
+-- disks and maps were added, and those before stay as they were; a link stays between its two servers, who served it, and has been In
+-- all the time, serves it still, and one that is Lost stays so; and an incarnation that was Out stays Out
 pub record IsGrown (earlier later : State) : Type 0 where
   pub more : List DiskRow
   pub rows : later.disks.rows ≡ earlier.disks.rows ++ more

@@ -1,26 +1,28 @@
 //! What plain entries of the agreed log make: states in which each cell's link is served by both of its servers, or by one of
-//! them once the other one has left, until a Caught of the link.
+//! them once the other one has left, until a Caught of the link, or by none once that one has come back with an empty store.
 //!
 //! To the laws above it promises that such a state is steady, what of what it says of a cell, a server or a name each later
 //! one says too, and what has become of a link from one of its places to a later one. It knows nothing of letters, clients or histories.
 #![tactic(auto)]
 
-ghost use Rattle.std.specs.Prelude.{◌≡◌, ◌<◌, ◌≤◌, ◌⊎◌, ℕ, List, Some, length, true, false};
+ghost use Rattle.std.specs.Prelude.{◌≡◌, ◌<◌, ◌≤◌, ◌⊎◌, ℕ, Bool, List, [], ◌∷◌, ◌++◌, Some, length, slice_get, true, false};
 ghost use Rattle.petal_base.specs.declared.cell.Cell.{Cell};
 ghost use Rattle.global_tables.specs.declared.link.LinkRow.{LinkRow};
-ghost use Rattle.global_tables.specs.declared.link.LinkState.TheVariants.{Both, Only};
+ghost use Rattle.global_tables.specs.declared.link.LinkState.TheVariants.{Both, Only, Lost};
 ghost use Rattle.petal_command.specs.declared.command.Command.{Command};
-ghost use Rattle.petal_command.specs.declared.command.Command.TheVariants.{Leave};
+ghost use Rattle.petal_command.specs.declared.command.Command.TheVariants.{Join, Leave};
 ghost use Rattle.petal_history.specs.Claims.{IsPrefix};
 ghost use Rattle.petal_state.specs.CellState.{cell_link};
-ghost use Rattle.petal_state.specs.Command.{after, state_after};
+ghost use Rattle.petal_state.specs.Command.{after, may_join, state_after};
 ghost use Rattle.petal_state.specs.Place.{places_from, touches};
 ghost use Rattle.petal_state.specs.State.{start};
+ghost use Rattle.petal_rules.specs.Blanked.{blank_joins_from};
 ghost use Rattle.petal_rules.specs.Lists.{In};
 ghost use Rattle.petal_rules.specs.State.{State, is_in};
 ghost use Rattle.law_state.specs.Below.{IsBelow, KeepsRoles};
 ghost use Rattle.law_state.specs.Disks.{AreDisks, AreInOrOut, HasJoined};
-ghost use Rattle.law_state.specs.Places.{IsCaughtIn, IsCaughtSince, IsTouchedBy, StaysSo};
+ghost use Rattle.law_state.specs.Joins.{CountsJoins, HasJoinedSince};
+ghost use Rattle.law_state.specs.Places.{IsCaughtSince, IsCaughtStill, IsHeldStill, IsLostIn, IsTouchedBy, StaysSo};
 ghost use Rattle.law_state.specs.Plain.{IsPlain, IsPlainLog};
 ghost use Rattle.law_state.specs.Steady.{IsSteady};
 ghost use Rattle.law_state.specs.Tables.{IsGrown, IsPlainState};
@@ -87,9 +89,26 @@ pub fn an_entry_that_does_not_touch_a_link()
 {}
 
 /// A link that is in Both is at the place at which it was seen before, or a Caught put it there since. One that a server holds alone
-/// stays so, or its first change is the holder's Caught. And while both servers of a link in Both stay In, it stays at its place.
+/// stays so, or its first change is the holder's Caught, or the holder joins with an empty store and the link is Lost, which it stays. And
+/// while both servers of a link in Both stay In, it stays at its place.
 pub fn a_link_is_in_both_again_by_its_caught()
     ensures caught { (servers : ℕ) (front whole : List Command) → IsPlainLog servers whole → IsPrefix front whole → (cell : Cell) (row now : LinkRow) → cell_link (state_after servers front) cell ≡ Some row → cell_link (state_after servers whole) cell ≡ Some now → now.state ≡ Both → (places_from (start servers) whole row ≡ places_from (start servers) front row) ⊎ IsCaughtSince servers front whole cell now }
-    ensures alone { (servers : ℕ) (front whole : List Command) → IsPlainLog servers whole → IsPrefix front whole → (cell : Cell) (row now : LinkRow) (holder : ℕ) → cell_link (state_after servers front) cell ≡ Some row → row.state ≡ Only holder false → cell_link (state_after servers whole) cell ≡ Some now → (now.state ≡ Only holder false) ⊎ IsCaughtIn servers front whole cell row }
+    ensures alone { (servers : ℕ) (front whole : List Command) → IsPlainLog servers whole → IsPrefix front whole → (cell : Cell) (row now : LinkRow) (holder : ℕ) (fills : Bool) → cell_link (state_after servers front) cell ≡ Some row → row.state ≡ Only holder fills → cell_link (state_after servers whole) cell ≡ Some now → IsHeldStill holder fills now.state ⊎ (now.state ≡ Lost) × IsLostIn servers front whole holder ⊎ IsCaughtStill servers front whole cell row holder fills }
+    ensures lost { (servers : ℕ) (front whole : List Command) → IsPlainLog servers whole → IsPrefix front whole → (cell : Cell) (row now : LinkRow) → cell_link (state_after servers front) cell ≡ Some row → row.state ≡ Lost → cell_link (state_after servers whole) cell ≡ Some now → now.state ≡ Lost }
     ensures both { (servers : ℕ) (front whole : List Command) → IsPlainLog servers whole → IsPrefix front whole → (cell : Cell) (row : LinkRow) (one other : ℕ) → cell_link (state_after servers front) cell ≡ Some row → row.state ≡ Both → is_in (state_after servers front) row.primary one ≡ true → is_in (state_after servers front) row.secondary other ≡ true → is_in (state_after servers whole) row.primary one ≡ true → is_in (state_after servers whole) row.secondary other ≡ true → places_from (start servers) whole row ≡ places_from (start servers) front row }
+{}
+
+/// A server that is In as an incarnation was so before, or has joined as it since, and no Join of that incarnation or an earlier one
+/// acts any more.
+pub fn an_incarnation_joins_once()
+    ensures since { (servers : ℕ) (front whole : List Command) (n inc : ℕ) → IsPlainLog servers whole → IsPrefix front whole → is_in (state_after servers whole) n inc ≡ true → (is_in (state_after servers front) n inc ≡ true) ⊎ ((blank : Bool) × HasJoinedSince servers front whole n inc blank) }
+    ensures joins { (servers : ℕ) (front whole : List Command) (n inc : ℕ) (blank : Bool) → IsPlainLog servers whole → (joined : HasJoinedSince servers front whole n inc blank) → is_in (state_after servers (joined.until ++ Join n inc blank ∷ [])) n inc ≡ true }
+    ensures once { (servers : ℕ) (front whole : List Command) (n inc other : ℕ) → IsPlainLog servers whole → IsPrefix front whole → is_in (state_after servers front) n inc ≡ true → other ≤ inc → may_join (slice_get (state_after servers whole).view.members n) other ≡ false }
+{}
+
+/// The Joins of a server with an empty store that act are counted: a longer log has no fewer, and each entry that counts is such a Join.
+pub fn blank_joins_only_grow()
+    ensures grows { (servers : ℕ) (front whole : List Command) (n : ℕ) → IsPrefix front whole → blank_joins_from (start servers) front n ≤ blank_joins_from (start servers) whole n }
+    ensures entry { (servers : ℕ) (front : List Command) (entry : Command) (n : ℕ) → CountsJoins servers front entry n }
+    ensures counts { (servers : ℕ) (front whole : List Command) (n inc : ℕ) → HasJoinedSince servers front whole n inc true → blank_joins_from (start servers) front n < blank_joins_from (start servers) whole n }
 {}

@@ -58,6 +58,7 @@ below_on a b c one two = record {
         so = later_on row middle.now last.now middle.so last.so;
         on = served_on_on a b c one.ages two.ages row middle.now last.now middle.so middle.on last.on;
         held = held_on_on a b c one.ages two.ages row middle.now last.now middle.held last.held;
+        lost = λ gone. last.lost (middle.lost gone);
       };
   ages = λ n. let x = one.ages n in let y = two.ages n in omega arith;
   finds = λ name disk e. two.finds name disk (one.finds name disk e);
@@ -65,7 +66,14 @@ below_on a b c one two = record {
 
 pub below_itself : (a : State) → IsBelow a a
 below_itself a = record {
-  rows = λ cell row e. record { now = row; is = e; so = later_itself row; on = λ n inc has serving x y. serving; held = λ n alone out same. alone };
+  rows = λ cell row e. record {
+    now = row;
+    is = e;
+    so = later_itself row;
+    on = λ n inc has serving x y. serving;
+    held = λ n whole alone out same. (whole, alone);
+    lost = λ gone. gone;
+  };
   ages = λ n. no_less (age_of a n);
   finds = λ name disk e. e;
 }

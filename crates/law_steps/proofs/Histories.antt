@@ -14,7 +14,7 @@ use Rattle.petal_msg.specs.declared.letter.Actor.{Actor}
 use Rattle.petal_msg.specs.declared.letter.Actor.TheVariants as actor
 use Rattle.petal_msg.specs.declared.letter.Letter.{Letter}
 use Rattle.script_lines.specs.declared.script.Script.{Script}
-use Rattle.petal_state.specs.CellState.{cell_link}
+use Rattle.petal_state.specs.CellState.{cell_link, serves}
 use Rattle.petal_state.specs.Command.{state_after}
 use Rattle.petal_history.specs.Claims.{IsPrefix, Grows}
 use Rattle.petal_history.specs.Legal.{Follows, IsLegal, IsLegalFrom, stepped, world_after}
@@ -22,9 +22,9 @@ use Rattle.petal_history.specs.declared.record.Record.{Record}
 use Rattle.petal_rules.specs.Lists.{In}
 use Rattle.petal_rules.specs.Clients.{Client}
 use Rattle.petal_rules.specs.Log.{Log, state_in}
-use Rattle.petal_rules.specs.Server.{Own, Server, Done}
-use Rattle.petal_rules.specs.Boots.{awake, raised, stays, wakes}
-use Rattle.petal_rules.specs.Crossing.{crossed}
+use Rattle.petal_rules.specs.Server.{Own, Pairs, Server, Done}
+use Rattle.petal_rules.specs.Boots.{awake, blanked, raised, stays, wakes}
+use Rattle.petal_rules.specs.Crossing.{crossed, settled_by}
 use Rattle.petal_rules.specs.Returns.{holds_link, proposed}
 use Rattle.petal_rules.specs.Progress.{has_proposed}
 use Rattle.petal_rules.specs.State.{State, id_of, in_both, is_alone_on, is_in, is_lead, lead, link_named}
@@ -33,30 +33,32 @@ use Rattle.petal_rules.specs.Jobs.{Acted}
 use Rattle.petal_rules.specs.World.{Setting, World, acts, reacts, step, server_step, client_step, next_line, received, clock_of, server_state, client_state, chosen_log, chosen_state, setting_of, start, MayServer, MayActor}
 use Rattle.petal_rules.specs.declared.job.Job.{Job}
 use Rattle.petal_rules.specs.declared.step.Step.{Step}
+use Rattle.petal_rules.specs.declared.step.Step.TheVariants.{Blank}
 use Rattle.petal_rules.proofs.ListLemmas.{in_later, put_same}
-use Rattle.petal_rules.proofs.Tests.{all_put, is_the_one, none_some, true_false}
+use Rattle.petal_rules.proofs.Settled.{by_settled, settling}
+use Rattle.petal_rules.proofs.Tests.{all_put, is_the_one, none_some, number_itself, true_false}
 use Rattle.law_state.specs.Below.{IsBelow}
 use Rattle.law_state.specs.Firm.{Firm}
 use Rattle.law_state.specs.Plain.{IsPlainLog}
 use Rattle.law_state.specs.Steady.{IsSteady}
-use Rattle.law_state.specs.Places.{IsCaughtIn}
+use Rattle.law_state.specs.Places.{IsCaughtStill}
 use Rattle.law_state.specs.Started.{HasStarted}
 use Rattle.law_state.proofs.Again.{log_alone}
-use Rattle.law_state.proofs.Ages.{between, in_once}
+use Rattle.law_state.proofs.Ages.{between, in_once, in_up}
 use Rattle.law_state.proofs.Alone.{alone_not_both, led_row, second_both, so_alone, so_both}
-use Rattle.law_state.proofs.Cells.{led_by}
-use Rattle.law_state.proofs.Roles.{log_roles}
+use Rattle.law_state.proofs.Cells.{IsHeldBy, led_by}
+use Rattle.law_state.proofs.Roles.{holder_is_one, log_roles}
 use Rattle.law_state.proofs.Steady.{log_steady, log_below, front_plain}
-use Rattle.law_steps.specs.Happens.{Handled, AreQueued, Worked, By_job, By_ballot, By_entry, Serving, Goes, Ends, Stays, Wakes, Fails, served_so, stopped_so, shown_so, own_place, Happens, Serves, Turns}
+use Rattle.law_steps.specs.Happens.{Handled, AreQueued, Worked, By_job, By_ballot, By_entry, Serving, Goes, Ends, Stays, Wakes, Fails, served_so, stopped_so, shown_so, own_place, Happens, Serves, Blanks, Turns}
 use Rattle.law_steps.specs.Ready.{IsReady, IsRising, Ready, Rests, AreFirm}
 use Rattle.law_steps.proofs.Subjects.{copies_rise, unheld_stays}
 use Rattle.law_steps.proofs.Tables.{rising_filter}
 use Rattle.law_steps.specs.Operations.{AtRest}
 use Rattle.law_steps.proofs.Fronts.{below_on, front_itself, front_long, front_more, front_on}
 use Rattle.law_steps.specs.Resting.{AreResting}
-use Rattle.law_steps.proofs.Resting.{ballot_rests, did_rests, log_rests, none_rest}
+use Rattle.law_steps.proofs.Resting.{ballot_rests, did_rests, log_rests, none_rest, resting_equal}
 use Rattle.law_steps.proofs.Minds.{ballot_unheld, crossed_unheld, held_as_flag}
-use Rattle.law_steps.proofs.Serving.{server_serves}
+use Rattle.law_steps.proofs.Serving.{is_blank, server_serves}
 use Rattle.law_steps.proofs.Staged.{did_ready}
 use Rattle.law_steps.proofs.Turning.{is_call, client_turns}
 
@@ -83,8 +85,8 @@ module _ (servers : ℕ) (front whole : List Command) (plain : IsPlainLog server
     (pending : Table Cell Pending)
     (before : (cell : Cell) (op : Pending) → at cell_cmp pending cell ≡ Some op → is_in (state_after servers front) n inc ≡ true)
     (still : (cell : Cell) (op : Pending) → at cell_cmp pending cell ≡ Some op → is_in (state_after servers whole) n inc ≡ true)
-    (caught : (cell : Cell) (op : Pending) → at cell_cmp pending cell ≡ Some op → (row : LinkRow) → cell_link (state_after servers front) cell ≡ Some row
-    → row.state ≡ Only n false → IsCaughtIn servers front whole cell row → held cell ≡ true)
+    (caught : (cell : Cell) (op : Pending) → at cell_cmp pending cell ≡ Some op → (row : LinkRow) (copied : Bool)
+    → cell_link (state_after servers front) cell ≡ Some row → IsCaughtStill servers front whole cell row n copied → held cell ≡ true)
     (ready : IsReady (state_after servers front) n held pending) where
   abbrev earlier : State
   earlier = state_after servers front
@@ -96,13 +98,17 @@ module _ (servers : ℕ) (front whole : List Command) (plain : IsPlainLog server
   was_steady = log_steady servers front (front_plain servers front whole plain prefix)
 
   -- who holds the link of such an operation alone goes on to
-  alone_still : (cell : Cell) (op : Pending) → at cell_cmp pending cell ≡ Some op → (row : LinkRow) → cell_link earlier cell ≡ Some row → row.state ≡ Only n false
-      → is_alone_on later n cell ≡ true
-  alone_still cell op is row there alone =
+  alone_still : (cell : Cell) (op : Pending) → at cell_cmp pending cell ≡ Some op → (row : LinkRow) (copied : Bool) → cell_link earlier cell ≡ Some row
+      → row.state ≡ Only n copied → is_alone_on later n cell ≡ true
+  alone_still cell op is row copied there alone =
       let h = (log_below servers front whole plain prefix).rows cell row there in
-      elim (log_alone servers front whole plain prefix cell row h.now n there alone h.is) [
-        | inl same ↦ so_alone later n cell h.now false h.is same
-        | inr found ↦ true_false (caught cell op is row there alone found) (ready.staged cell op is).unheld
+      let held : IsHeldBy earlier cell n =
+      record { row = row; is = there; linked = was_steady.linked cell row there; whole = copied; so = alone; up = in_up earlier n inc (before cell op is) } in
+      let on = h.on n inc (holder_is_one earlier cell n held) (ap (serves n row) alone ∙ number_itself n) (before cell op is) (still cell op is) in
+      elim (log_alone servers front whole plain prefix cell row h.now n copied there alone h.is) [
+        | inl same ↦ so_alone later n cell h.now same.0 h.is same.1
+        | inr (inl gone) ↦ true_false on (ap (serves n h.now) gone.0)
+        | inr (inr found) ↦ true_false (caught cell op is row copied there found) (ready.staged cell op is).unheld
       ]
 
   lead_still : (cell : Cell) (op : Pending) → at cell_cmp pending cell ≡ Some op → is_lead later n cell ≡ true
@@ -111,7 +117,7 @@ module _ (servers : ℕ) (front whole : List Command) (plain : IsPlainLog server
         | inl leads ↦ leads
         | inr second ↦ true_false
             (second_both later (log_steady servers whole plain) cell n (is_the_one _ n second.second))
-            (alone_not_both later n cell (alone_still cell op is second.alone.row second.alone.is second.alone.alone))
+            (alone_not_both later n cell (alone_still cell op is second.alone.row second.alone.whole second.alone.is second.alone.alone))
       ]
 
   stage_still : (cell : Cell) (op : Pending) → at cell_cmp pending cell ≡ Some op → in_both later cell ≡ true → AtRest op.stage
@@ -119,7 +125,7 @@ module _ (servers : ℕ) (front whole : List Command) (plain : IsPlainLog server
       let s = ready.staged cell op is in
       elim (led_by earlier was_steady cell n (is_the_one (lead earlier cell) n s.lead)) [
         | inl b ↦ s.stage (so_both earlier cell b.0.row b.0.is b.0.so)
-        | inr alone ↦ true_false both (alone_not_both later n cell (alone_still cell op is alone.row alone.is alone.so))
+        | inr alone ↦ true_false both (alone_not_both later n cell (alone_still cell op is alone.row alone.whole alone.is alone.so))
       ]
 
   ready_on : IsReady later n held pending
@@ -163,12 +169,13 @@ module _ (setting : Setting) (w : World) (firm : Firm setting w) where
   -- a Caught behind its own entries the server has in mind, where it is In as itself
   caught_held : (n : ℕ) (more : List Command) → IsPrefix (w.servers n).log.applied more → IsPrefix more (chosen_log setting w)
       → (w.servers n).life.running ≡ true → is_in (server_state setting w n) n (w.servers n).life.inc ≡ true → (cell : Cell) (row : LinkRow)
-      → cell_link (server_state setting w n) cell ≡ Some row → row.state ≡ Only n false
-      → IsCaughtIn setting.servers (w.servers n).log.applied more cell row → has_proposed (server_state setting w n) (w.servers n).own cell ≡ true
-  caught_held n more on chosen runs seat cell row is alone found =
+      → (copied : Bool) → cell_link (server_state setting w n) cell ≡ Some row
+      → IsCaughtStill setting.servers (w.servers n).log.applied more cell row n copied → has_proposed (server_state setting w n) (w.servers n).own cell ≡ true
+  caught_held n more on chosen runs seat cell row copied is still =
+      let found = still.found in
       let acts = found.acts in
       let stands = front_on (found.until ++ found.entry ∷ []) more (chosen_log setting w) found.stands chosen in
-      let mine : acts.holder ≡ n = same_only (sym acts.alone ∙ alone) in
+      let mine : acts.holder ≡ n = same_only (sym acts.alone) in
       let until_chosen = front_on found.until _ _ (front_more found.until found.entry) stands in
       let seated_then = runs_at (w.servers n).log.applied found.until found.behind until_chosen n runs seat in
       let inc_is : acts.inc ≡ (w.servers n).life.inc =
@@ -184,7 +191,7 @@ module _ (setting : Setting) (w : World) (firm : Firm setting w) where
             held_as_flag (server_state setting w n) (w.servers n).own cell row is ∙ flag.1.flagged (omega arith))
       ]
     where
-      same_only : {h k : ℕ} → Only h false ≡ Only k false → h ≡ k
+      same_only : {h k : ℕ} {one other : Bool} → Only h one ≡ Only k other → h ≡ k
       same_only e = cc
 
   -- what rests where a server runs, rests at each front of what is chosen from its own entries on
@@ -196,7 +203,7 @@ module _ (setting : Setting) (w : World) (firm : Firm setting w) where
       (has_proposed (server_state setting w n) (w.servers n).own) (w.servers n).own.pairs.pending
       (λ cell op is. rests.seated n cell op runs is)
       (λ cell op is. runs_at (w.servers n).log.applied more on chosen n runs (rests.seated n cell op runs is))
-      (λ cell op is row there alone found. caught_held n more on chosen runs (rests.seated n cell op runs is) cell row there alone found)
+      (λ cell op is row copied there found. caught_held n more on chosen runs (rests.seated n cell op runs is) cell row copied there found)
       (rests.pending n)
 
   pub ready_chosen : Rests setting w → (n : ℕ) → (w.servers n).life.running ≡ true
@@ -209,11 +216,11 @@ chosen_below setting w v firm grows = log_below setting.servers _ _ firm.plain g
 
 -- ### A ballot leaves pairs and copies as they are
 
-link_pairs : (own : Own) (o : Option LinkRow) → (holds_link own o).pairs.pending ≡ own.pairs.pending
+link_pairs : (own : Own) (o : Option LinkRow) → (holds_link own o).pairs ≡ own.pairs
 link_pairs own None = refl
 link_pairs own (Some row) = refl
 
-proposed_pairs : (state : State) (own : Own) (o : Option Command) → (proposed state own o).pairs.pending ≡ own.pairs.pending
+pub proposed_pairs : (state : State) (own : Own) (o : Option Command) → (proposed state own o).pairs ≡ own.pairs
 proposed_pairs state own (Some (Caught of link holder inc other other_inc)) = link_pairs own (link_named state (record { map = of; link = link }))
 proposed_pairs state own (Some _) = refl
 proposed_pairs state own None = refl
@@ -241,18 +248,20 @@ module _ (setting : Setting) (w : World) (rests : Rests setting w) (firm : Firm 
   worked_ready n runs _ _ (By_ballot log started posts same starts says) =
       let to = proposed (server_state setting w n) (w.servers n).own started in
       subst (λ applied. IsReady (state_after setting.servers applied) n (has_proposed (state_after setting.servers applied) to) to.pairs.pending) (sym same)
-      (subst (λ (t : Table Cell Pending). IsReady (server_state setting w n) n (has_proposed (server_state setting w n) to) t)
+      (subst (λ (p : Pairs). IsReady (server_state setting w n) n (has_proposed (server_state setting w n) to) p.pending)
       (sym (proposed_pairs (server_state setting w n) (w.servers n).own started))
       (ready_held (server_state setting w n) n _ _ (w.servers n).own.pairs.pending
       (λ cell op is unheld. ballot_unheld (own_place setting w n) (w.servers n).own started starts cell op is unheld) (rests.pending n)))
   worked_ready n runs _ _ (By_entry log entry more front) =
       let on : IsPrefix (w.servers n).log.applied log.applied = record { later = entry ∷ []; is = more } in
+      let now = state_after setting.servers log.applied in
+      by_settled (λ (own : Own). IsReady now n (has_proposed now own) own.pairs.pending) (own_place setting w n) entry (crossed (server_state setting w n) entry (w.servers n).own) (λ store.
       ready_held (state_after setting.servers log.applied) n _ _ (w.servers n).own.pairs.pending
       (λ cell op is unheld.
       let row = led_row (server_state setting w n) (own_steady setting w firm n) n cell ((rests.pending n).staged cell op is).lead in
       crossed_unheld (server_state setting w n) (state_after setting.servers log.applied) entry (w.servers n).own cell row.0 row.1
       ((log_below setting.servers (w.servers n).log.applied log.applied (front_plain setting.servers _ _ firm.plain front) on).rows cell row.0 row.1) unheld)
-      (ready_at setting w firm rests n runs log.applied on front)
+      (ready_at setting w firm rests n runs log.applied on front))
 
   -- it has operations only while it is In as itself
   worked_seated : (n : ℕ) → (w.servers n).life.running ≡ true → (log : Log) (done : Done) → Worked setting w n log done → (cell : Cell) (op : Pending)
@@ -265,15 +274,20 @@ module _ (setting : Setting) (w : World) (rests : Rests setting w) (firm : Firm 
       subst (λ applied. is_in (state_after setting.servers applied) n (w.servers n).life.inc ≡ true) (sym same) now
   worked_seated n runs _ _ (By_ballot log started posts same starts says) cell op is =
       subst (λ applied. is_in (state_after setting.servers applied) n (w.servers n).life.inc ≡ true) (sym same)
-      (rests.seated n cell op runs (sym (ap (λ t. at cell_cmp t cell) (proposed_pairs (server_state setting w n) (w.servers n).own started)) ∙ is))
+      (rests.seated n cell op runs (sym (ap (λ (p : Pairs). at cell_cmp p.pending cell) (proposed_pairs (server_state setting w n) (w.servers n).own started)) ∙ is))
   worked_seated n runs _ _ (By_entry log entry more front) cell op is =
-      runs_at setting w firm (w.servers n).log.applied log.applied (record { later = entry ∷ []; is = more }) front n runs (rests.seated n cell op runs is)
+      let e = (settling (own_place setting w n) entry (crossed (server_state setting w n) entry (w.servers n).own)).pairs in
+      runs_at setting w firm (w.servers n).log.applied log.applied (record { later = entry ∷ []; is = more }) front n runs
+      (rests.seated n cell op runs (sym (ap (λ (p : Pairs). at cell_cmp p.pending cell) e) ∙ is))
 
   worked_copying : (n : ℕ) (log : Log) (done : Done) → Worked setting w n log done → IsRising cell_cmp done.own.copies.pending
   worked_copying n _ _ (By_job log done same did seat) = copies_rise (Handled w n) (own_place setting w n) (w.servers n).own done did (rests.copying n)
   worked_copying n _ _ (By_ballot log started posts same starts says) =
       subst (IsRising cell_cmp) (sym (proposed_copies (server_state setting w n) (w.servers n).own started)) (rests.copying n)
-  worked_copying n _ _ (By_entry log entry more front) = rising_filter cell_cmp _ (w.servers n).own.copies.pending (rests.copying n)
+  worked_copying n _ _ (By_entry log entry more front) =
+      by_settled (λ (own : Own). IsRising cell_cmp own.copies.pending) (own_place setting w n) entry
+      (crossed (server_state setting w n) entry (w.servers n).own)
+      (λ store. rising_filter cell_cmp _ (w.servers n).own.copies.pending (rests.copying n))
 
   worked_resting : (n : ℕ) (log : Log) (done : Done) → Worked setting w n log done → AreResting (state_in setting.servers log) n done.own
   worked_resting n _ _ (By_job log done same did seat) =
@@ -285,8 +299,11 @@ module _ (setting : Setting) (w : World) (rests : Rests setting w) (firm : Firm 
   worked_resting n _ _ (By_entry log entry more front) =
       let plain : IsPlainLog setting.servers ((w.servers n).log.applied ++ entry ∷ []) =
       subst (IsPlainLog setting.servers) more (front_plain setting.servers _ _ firm.plain front) in
-      subst (λ applied. AreResting (state_after setting.servers applied) n (crossed (server_state setting w n) entry (w.servers n).own)) (sym more)
-      (log_rests setting.servers (w.servers n).log.applied entry plain n (w.servers n).own (rests.resting n))
+      let own = crossed (server_state setting w n) entry (w.servers n).own in
+      subst (λ applied. AreResting (state_after setting.servers applied) n (settled_by (own_place setting w n) entry own)) (sym more)
+      (resting_equal (state_after setting.servers ((w.servers n).log.applied ++ entry ∷ [])) n own (settled_by (own_place setting w n) entry own)
+      (settling (own_place setting w n) entry own).copies
+      (log_rests setting.servers (w.servers n).log.applied entry plain n (w.servers n).own (rests.resting n)))
 
   -- the worlds that a server's step leads to
   rests_put : (n stamp : ℕ) (what : Step) (acted : Acted) → AreQueued w n acted.server.queue
@@ -294,9 +311,9 @@ module _ (setting : Setting) (w : World) (rests : Rests setting w) (firm : Firm 
       acted.server.own.pairs.pending
       → ((cell : Cell) (op : Pending) → acted.server.life.running ≡ true → at cell_cmp acted.server.own.pairs.pending cell ≡ Some op
       → is_in (state_in setting.servers acted.server.log) n acted.server.life.inc ≡ true) → IsRising cell_cmp acted.server.own.copies.pending
-      → AreResting (state_in setting.servers acted.server.log) n acted.server.own → Rests setting (acts w n what stamp acted).world
+      → AreResting (state_in setting.servers acted.server.log) n acted.server.own → Rests setting (acts setting w n what stamp acted).world
   rests_put n stamp what acted queued ready seated copying resting =
-      let v = (acts w n what stamp acted).world in
+      let v = (acts setting w n what stamp acted).world in
       record {
         queues = all_put w.servers n acted.server (λ m (x : Server). AreQueued v m x.queue)
             (λ m. queues_later w v (λ letter. in_later letter _ w.sent) m (w.servers m).queue (rests.queues m))
@@ -309,7 +326,7 @@ module _ (setting : Setting) (w : World) (rests : Rests setting w) (firm : Firm 
         resting = all_put w.servers n acted.server (λ m (x : Server). AreResting (state_in setting.servers x.log) m x.own) rests.resting resting;
       }
 
-  serves_rest : (n stamp : ℕ) (what : Step) (acted : Acted) → Serving setting w n what acted → Rests setting (acts w n what stamp acted).world
+  serves_rest : (n stamp : ℕ) (what : Step) (acted : Acted) → Serving setting w n what acted → Rests setting (acts setting w n what stamp acted).world
   unfolding In
   serves_rest n stamp what _ (Goes log done queue runs worked queued works) =
       rests_put n stamp what (served_so setting w n log done queue) queued (worked_ready n runs log done worked)
@@ -328,15 +345,22 @@ module _ (setting : Setting) (w : World) (rests : Rests setting w) (firm : Firm 
       rests_put n stamp what (stays (raised (w.servers n))) (rests.queues n) (rests.pending n) (λ cell op e is. true_false e asleep) (rests.copying n)
       (rests.resting n)
 
-  serves_by : (n stamp : ℕ) (what : Step) → MayServer what w n
-      → Firm setting (acts w n what stamp (server_step what (server_state setting w n) n (w.servers n))).world
+  -- a blank device leaves pairs and copies as they are
+  blank_rests : (n stamp : ℕ) → (w.servers n).life.running ≡ false → Rests setting (acts setting w n Blank stamp (stays (blanked (w.servers n)))).world
+  blank_rests n stamp asleep =
+      rests_put n stamp Blank (stays (blanked (w.servers n))) (rests.queues n) (rests.pending n) (λ cell op e is. true_false e asleep) (rests.copying n)
+      (resting_equal (server_state setting w n) n (w.servers n).own (blanked (w.servers n)).own refl (rests.resting n))
+
+  serves_by : (n stamp : ℕ) (what : Step) → is_blank what ≡ false → MayServer what w n
+      → Firm setting (acts setting w n what stamp (server_step what (server_state setting w n) n (w.servers n))).world
       → Serving setting w n what (server_step what (server_state setting w n) n (w.servers n))
-  serves_by n stamp what may later = server_serves setting w rests firm n (own_steady setting w firm n) stamp what may later
+  serves_by n stamp what other may later = server_serves setting w rests firm n (own_steady setting w firm n) stamp what other may later
 
   rests_by : (who : Actor) (what : Step) (stamp : ℕ) → MayActor who what setting w → Firm setting (step who what setting w stamp).world
       → Rests setting (step who what setting w stamp).world
   unfolding step
-  rests_by (actor.Server n) what stamp may later = serves_rest n stamp what _ (serves_by n stamp what may.1 later)
+  rests_by (actor.Server n) Blank stamp may later = blank_rests n stamp may.1.rests
+  rests_by (actor.Server n) what stamp may later = serves_rest n stamp what _ (serves_by n stamp what refl may.1 later)
   rests_by (actor.Client c) what stamp may later = record {
     queues = λ m letter i. let known = rests.queues m letter i in (in_later letter _ w.sent known.0, known.1);
     pending = rests.pending;
@@ -350,7 +374,8 @@ module _ (setting : Setting) (w : World) (rests : Rests setting w) (firm : Firm 
       → (state : State) → IsBelow (chosen_state setting (step who what setting w stamp).world) state
       → Happens setting state w (step who what setting w stamp).world
   unfolding step
-  happens_by (actor.Server n) what stamp may lt later state below = Serves n stamp what _ lt may.0 (serves_by n stamp what may.1 later)
+  happens_by (actor.Server n) Blank stamp may lt later state below = Blanks n stamp lt may.0 may.1.rests
+  happens_by (actor.Server n) what stamp may lt later state below = Serves n stamp what _ lt may.0 refl (serves_by n stamp what refl may.1 later)
   happens_by (actor.Client c) what stamp may lt later state below =
       let reacted = client_step what (client_state setting w c) c (w.clients c) (next_line setting.lines c (w.clients c)) in
       let v = (reacts w c stamp reacted).world in

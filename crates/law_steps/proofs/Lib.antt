@@ -19,6 +19,7 @@ pub mod Turning
 pub mod Serving
 pub mod Minds
 pub mod Resting
+pub mod Records
 pub mod Histories
 pub mod Firms
 pub mod Ties

@@ -44,7 +44,7 @@ use Rattle.law_state.specs.Plain.{IsPlain, IsPlainLog}
 use Rattle.law_state.specs.Tables.{IsPlainState}
 use Rattle.law_state.proofs.Ages.{in_up, up_some}
 use Rattle.law_state.proofs.Entries.{log_plain}
-use Rattle.law_state.proofs.Caughts.{found_itself}
+use Rattle.law_state.proofs.Changing.{found_itself}
 use Rattle.law_state.proofs.Places.{found_at}
 use Rattle.law_state.proofs.Touching.{entry_stays}
 use Rattle.law_log.proofs.Flags.{progress_beside, progress_here, same_id}

@@ -1,6 +1,6 @@
 -- Each step of a server is a job that the relation names, or idle; it ends in the server's stop, or leaves the server as it was.
 use Rattle.std.proofs.Common.{◌≡◌, ℕ, true, false, if◌then◌else◌, length, fold, List, [], ◌∷◌, ◌++◌, Option, Some, None, refl, ◌∙◌, sym, ap, subst, inl, inr}
-use Rattle.std.specs.Prelude.{filter, map, nat_lt, not, slice_get}
+use Rattle.std.specs.Prelude.{Bool, filter, map, nat_lt, not, slice_get}
 use Rattle.std.specs.Option.{option_map_or}
 use Rattle.busy_marks.specs.declared.marks.MarkKind.{MarkKind}
 use Rattle.global_tables.specs.Link.{other_of}
@@ -27,7 +27,7 @@ use Rattle.petal_history.specs.Claims.{IsPrefix}
 use Rattle.petal_rules.specs.Ballots.{ballot_posts, ask_posts, asks_next, first_wanted, is_due, own_leave, start_jobs, starts, wanted, with_leave}
 use Rattle.petal_rules.specs.Boots.{boots, raised, stays}
 use Rattle.petal_rules.specs.Copies.{copy_awaited, copy_posts, copy_stage, mend_jobs, next_copy, page_asked, page_for, page_posts, sends_entry, waits_for_job}
-use Rattle.petal_rules.specs.Crossing.{crossed, link_jobs, stage_jobs}
+use Rattle.petal_rules.specs.Crossing.{crossed, link_jobs, settled_by, stage_jobs}
 use Rattle.petal_rules.specs.Progress.{copying_on, has_proposed}
 use Rattle.petal_rules.specs.Returns.{caught_links, is_nothing, own_join, proposed, returning}
 use Rattle.petal_rules.specs.Entries.{applies}
@@ -44,7 +44,7 @@ use Rattle.petal_rules.specs.declared.job.Job.{Job}
 use Rattle.petal_rules.specs.declared.job.Job.TheVariants as job
 use Rattle.petal_rules.specs.declared.step.CommitEnd.TheVariants.{Before, After}
 use Rattle.petal_rules.specs.declared.step.Step.{Step}
-use Rattle.petal_rules.specs.declared.step.Step.TheVariants.{Call, Deliver, Tick, Work, Stop, Boot, Glance}
+use Rattle.petal_rules.specs.declared.step.Step.TheVariants.{Call, Deliver, Tick, Work, Stop, Blank, Boot, Glance}
 use Rattle.petal_rules.specs.declared.step.WorkEnd.{WorkEnd}
 use Rattle.petal_rules.specs.declared.step.WorkEnd.TheVariants as work_end
 use Rattle.petal_paxos.specs.Chosen.{chosen_log as chosen_by}
@@ -149,9 +149,14 @@ seated_does : (here : Here) (own : Own) (what : Job) → IsSeated here own (does
 seated_does here own what = by_bool (is_in here.state here.me here.inc) (λ t. inl t)
     (λ out. inr (subst (LeavesAll own) (sym (asleep here own what out)) (leaves_silent own)))
 
+-- the step makes a stopped server's device blank
+abbrev pub is_blank : Step → Bool
+is_blank Blank = true
+is_blank _ = false
+
 -- where a server's records stay, what is chosen does
 pub chosen_same : (setting : Setting) (w : World) (n stamp : ℕ) (what : Step) (acted : Acted) → acted.server.log.records ≡ (w.servers n).log.records
-    → chosen_log setting (acts w n what stamp acted).world ≡ chosen_log setting w
+    → chosen_log setting (acts setting w n what stamp acted).world ≡ chosen_log setting w
 chosen_same setting w n stamp what acted same =
     let each : (m : ℕ) → (put_at w.servers n acted.server m).log.records ≡ (w.servers m).log.records =
     all_put w.servers n acted.server (λ m (x : Server). x.log.records ≡ (w.servers m).log.records) (λ m. refl) same in
@@ -389,7 +394,7 @@ module _ (setting : Setting) (w : World) (rests : Rests setting w) (firm : Firm 
         → IsWorked (served_so setting w n after (record { own = proposed here.state own started; posts = posts; jobs = [] }) queue)
     An_entry : (after : Log) (entry : Command) (queue : List Job) → after.applied ≡ log.applied ++ entry ∷ [] → after.records ≡ log.records
         → AreQueued w n queue
-        → IsWorked (served_so setting w n after (silent (crossed here.state entry own)) queue)
+        → IsWorked (served_so setting w n after (silent (settled_by here entry (crossed here.state entry own))) queue)
 
   -- a job of the log
   entered_worked : (what : Job) (rest : List Job) → server.queue ≡ what ∷ rest → (done : LogDone) → LogFrame log what done
@@ -486,14 +491,14 @@ module _ (setting : Setting) (w : World) (rests : Rests setting w) (firm : Firm 
 
   -- the world after it knows its log
   abbrev F : Step → Acted → Type 0
-  F what acted = Firm setting (acts w n what stamp acted).world
+  F what acted = Firm setting (acts setting w n what stamp acted).world
 
   -- an entry that the server applied stood in what was chosen before
   front_known : (what : Step) (acted : Acted) → F what acted → acted.server.log.records ≡ log.records
       → IsPrefix acted.server.log.applied (chosen_log setting w)
   front_known what acted later same =
       subst (IsPrefix acted.server.log.applied) (chosen_same setting w n stamp what acted same)
-      (subst (λ (x : Server). IsPrefix x.log.applied (chosen_log setting (acts w n what stamp acted).world)) (put_same w.servers n acted.server)
+      (subst (λ (x : Server). IsPrefix x.log.applied (chosen_log setting (acts setting w n what stamp acted).world)) (put_same w.servers n acted.server)
       (later.servers n))
 
   stops_serve : (what : Step) → server.life.running ≡ true → S what (stops here server)
@@ -505,8 +510,9 @@ module _ (setting : Setting) (w : World) (rests : Rests setting w) (firm : Firm 
   goes_on _ runs (A_ballot after started posts queue same starts says queued) later =
       Goes after _ queue runs (By_ballot after started posts same starts says) queued (inl refl)
   goes_on _ runs (An_entry after entry queue more same queued) later =
-      Goes after (silent (crossed here.state entry own)) queue runs
-      (By_entry after entry more (front_known (Work work_end.Done) (served_so setting w n after (silent (crossed here.state entry own)) queue) later same))
+      let done = silent (settled_by here entry (crossed here.state entry own)) in
+      Goes after done queue runs
+      (By_entry after entry more (front_known (Work work_end.Done) (served_so setting w n after done queue) later same))
       queued (inl refl)
 
   -- its commit is made, and the server stops
@@ -514,8 +520,8 @@ module _ (setting : Setting) (w : World) (rests : Rests setting w) (firm : Firm 
   ends_so what _ runs (A_job after done queue same d seat queued) later = Ends after done runs (By_job after done same d seat)
   ends_so what _ runs (A_ballot after started posts queue same starts says queued) later = Ends after _ runs (By_ballot after started posts same starts says)
   ends_so what _ runs (An_entry after entry queue more same queued) later =
-      Ends after (silent (crossed here.state entry own)) runs
-      (By_entry after entry more (front_known what (stopped_so setting w n after (silent (crossed here.state entry own))) later same))
+      let done = silent (settled_by here entry (crossed here.state entry own)) in
+      Ends after done runs (By_entry after entry more (front_known what (stopped_so setting w n after done) later same))
 
   works_serve : (queue : List Job) → server.queue ≡ queue → (queue ≡ [] → ⊥) → server.life.running ≡ true → F (Work work_end.Done) (works here server queue)
       → S (Work work_end.Done) (works here server queue)
@@ -565,22 +571,23 @@ module _ (setting : Setting) (w : World) (rests : Rests setting w) (firm : Firm 
       by_test (λ (x : Server). S (Boot (work_end.Fault After)) (stays x)) (is_overfull (raised server)) _ _
       (λ full. stays_serve (Boot (work_end.Fault After))) (λ room. Fails refl rests)
 
-  pub server_serves : (what : Step) → MayServer what w n → F what (server_step what (server_state setting w n) n server)
+  pub server_serves : (what : Step) → is_blank what ≡ false → MayServer what w n → F what (server_step what (server_state setting w n) n server)
       → S what (server_step what (server_state setting w n) n server)
   unfolding In
-  server_serves (Call line) may later = absurd may
-  server_serves (Deliver letter) may later =
+  server_serves (Call line) other may later = absurd may
+  server_serves (Deliver letter) other may later =
       by_test (λ (x : Server). S (Deliver letter) (record { server = x; letters = [] })) server.life.running _ _
       (λ runs. Goes log (silent own) _ runs (By_job log (silent own) refl Ignores (inr (leaves_silent own))) (queue_delivered letter may.comes.sent may.comes.own) (inr rests_idle))
       (λ rests. Stays (glance_sender here server) []
       (by_test (λ (who : Sender). who.from ≡ actor.Server n) server.life.running _ _ (λ t. refl) (λ t. refl)) (λ post i. absurd i))
-  server_serves Tick may later =
+  server_serves Tick other may later =
       let done : Done = record { own = own; posts = tick_posts here server; jobs = [] } in
       Goes (asks_next (voter_of here) log) done _ may.runs (By_job (asks_next (voter_of here) log) done refl (By_lead _ (Asks_for _ tick_asks)) (tick_seated may.runs)) queue_started
       (inr (record { same = refl; asks = tick_asks }))
-  server_serves (Work work_end.Done) may later = works_serve server.queue refl may.busy may.acts.runs later
-  server_serves (Work (work_end.Fault Before)) may later = stops_serve (Work (work_end.Fault Before)) may.acts.runs
-  server_serves (Work (work_end.Fault After)) may later = faults_serve server.queue refl may.busy may.acts.runs later
-  server_serves Stop may later = stops_serve Stop may.runs
-  server_serves (Boot end) may later = boots_serve end may.rests
-  server_serves (Glance line round) may later = glances_serve line round
+  server_serves (Work work_end.Done) other may later = works_serve server.queue refl may.busy may.acts.runs later
+  server_serves (Work (work_end.Fault Before)) other may later = stops_serve (Work (work_end.Fault Before)) may.acts.runs
+  server_serves (Work (work_end.Fault After)) other may later = faults_serve server.queue refl may.busy may.acts.runs later
+  server_serves Blank other may later = true_false refl other
+  server_serves Stop other may later = stops_serve Stop may.runs
+  server_serves (Boot end) other may later = boots_serve end may.rests
+  server_serves (Glance line round) other may later = glances_serve line round

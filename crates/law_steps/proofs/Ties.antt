@@ -1,5 +1,5 @@
 -- What ties a server that runs to what is chosen: a Caught of its own stands at most behind its last entry.
-use Rattle.std.proofs.Common.{◌≡◌, ◌++◌, ℕ, List, [], ◌∷◌, true, false, Some, length, sym, ap, ◌∙◌, subst, inl, inr, arith}
+use Rattle.std.proofs.Common.{◌≡◌, ◌++◌, ℕ, Bool, List, [], ◌∷◌, true, Some, length, sym, ap, ◌∙◌, subst, inl, inr, arith}
 use Rattle.global_tables.specs.Link.{has_server, other_of}
 use Rattle.global_tables.specs.declared.link.LinkRow.{LinkRow}
 use Rattle.global_tables.specs.declared.link.LinkState.TheVariants.{Both, Only}
@@ -11,10 +11,10 @@ use Rattle.petal_state.specs.Command.{state_after}
 use Rattle.petal_rules.specs.Progress.{has_proposed}
 use Rattle.petal_rules.specs.State.{State, id_of, is_in, is_alone_on}
 use Rattle.petal_rules.specs.World.{Setting, World, chosen_log, server_state}
-use Rattle.petal_rules.proofs.Tests.{same_numbers, same_some}
+use Rattle.petal_rules.proofs.Tests.{same_numbers, same_some, true_false}
 use Rattle.law_state.specs.Firm.{Firm}
 use Rattle.law_state.specs.Places.{IsCaughtIn, StaysSo}
-use Rattle.law_state.specs.Rows.{ByBoth, ByOne}
+use Rattle.law_state.specs.Rows.{ByBoth, ByNone, ByOne}
 use Rattle.law_state.specs.Started.{HasStarted}
 use Rattle.law_state.proofs.Again.{log_both}
 use Rattle.law_state.proofs.Ages.{in_once}
@@ -40,13 +40,11 @@ module _ (setting : Setting) (w : World) (firm : Firm setting w) (n : ℕ) (runs
 
   -- a Caught behind these entries, of a link that the server serves, is its own, and stands behind its last entry
   record IsOwn (found : LinkRow) (c : IsCaughtIn setting.servers front more cell found) : Type 0 where
-    mine : found.state ≡ Only n false
+    whole : Bool
+    mine : found.state ≡ Only n whole
     at : c.until ≡ front
     own_at : front ≡ (w.servers n).log.applied
     started : has_proposed (server_state setting w n) (w.servers n).own cell ≡ true
-
-  same_only : {h k : ℕ} → Only h false ≡ Only k false → h ≡ k
-  same_only e = cc
 
   own_caught : (found : LinkRow) (c : IsCaughtIn setting.servers front more cell found) → IsOwn found c
   own_caught found c =
@@ -76,7 +74,8 @@ module _ (setting : Setting) (w : World) (firm : Firm setting w) (n : ℕ) (runs
             let there : cell_link (server_state setting w n) cell ≡ Some found =
             ap (λ log. cell_link (state_after setting.servers log) cell) (sym own_at) ∙ ap (λ log. cell_link (state_after setting.servers log) cell) (sym at) ∙ c.was in
             record {
-              mine = acts.alone ∙ ap (λ k. Only k false) holder;
+              whole = acts.whole;
+              mine = acts.alone ∙ ap (λ k. Only k acts.whole) holder;
               at = at;
               own_at = own_at;
               started = held_as_flag (server_state setting w n) (w.servers n).own cell found there ∙ flag.1.flagged (omega arith);
@@ -91,8 +90,9 @@ module _ (setting : Setting) (w : World) (firm : Firm setting w) (n : ℕ) (runs
       let on = h.on n (w.servers n).life.inc has serving seat (runs_at setting w firm front more prefix chosen n runs seat) in
       elim ((log_steady setting.servers more plain).linked cell h.now h.is).served [
         | ByBoth so one other ↦ both h.now h.is so
-        | ByOne holder other so pair out ↦
-            alone (so_alone later n cell h.now false h.is (so ∙ ap (λ k. Only k false) (same_numbers holder n (sym (ap (serves n h.now) so) ∙ on))))
+        | ByOne holder other whole so pair out ↦
+            alone (so_alone later n cell h.now whole h.is (so ∙ ap (λ k. Only k whole) (same_numbers holder n (sym (ap (serves n h.now) so) ∙ on))))
+        | ByNone one other so pair out ↦ true_false on (ap (serves n h.now) so)
       ]
 
   pub stays_both : row.state ≡ Both → StaysInBoth setting n front more cell row
@@ -107,8 +107,8 @@ module _ (setting : Setting) (w : World) (firm : Firm setting w) (n : ℕ) (runs
       ])
       (λ alone. inr alone)
 
-  pub stays_alone : row.state ≡ Only n false → StaysAloneOrCaught setting w n front more cell
-  stays_alone only = by_later
+  pub stays_alone : (whole : Bool) → row.state ≡ Only n whole → StaysAloneOrCaught setting w n front more cell
+  stays_alone whole only = by_later
       (λ now there so.
       elim (log_both setting.servers front more (front_plain setting.servers more _ firm.plain chosen) prefix cell row now is there so) [
         | inl same ↦ (

@@ -29,12 +29,12 @@ use Rattle.petal_rules.specs.Server.{Post, post_to}
 use Rattle.petal_rules.specs.Clients.{Client, Asked, Reaction, Learning, rests, posts_for, write_posts, read_posts, read_posts_at, epoch_for, cell_on, to_propose, sends_or_proposes, goes_out, goes_out_where, post_in_turn, asking, asks_and_sends, called, replies, is_read, is_write, first_round, Sight, with_sight, stays_open, rounds, settles, sees_for, sees, sees_from, answers, hears, hears_of, heard, hears_any, command_of, refusal, verdict_for, answered_where, witnessed, is_witness, judged, judged_by, takes_entry, takes_all, then_goes_out, takes_entries, next_entries, ticked}
 use Rattle.petal_rules.specs.World.{Setting, World, MayClient, client_state, client_step, calls, line_in, next_line}
 use Rattle.petal_rules.specs.declared.step.Step.{Step}
-use Rattle.petal_rules.specs.declared.step.Step.TheVariants.{Call, Deliver, Tick, Work, Stop, Boot, Glance}
+use Rattle.petal_rules.specs.declared.step.Step.TheVariants.{Call, Deliver, Tick, Work, Stop, Blank, Boot, Glance}
 use Rattle.petal_rules.proofs.ListLemmas.{in-append}
 use Rattle.petal_rules.proofs.Tests.{by_test, both_true, same_numbers, only}
 use Rattle.law_state.proofs.Steady.{log_rev}
 use Rattle.law_steps.specs.Happens.{Heard}
-use Rattle.law_steps.specs.Turned.{Turned, Says, Of_the_log, A_write, A_read, OnlySays, IsSame, StaysOpen, IsReason, By_verdict, By_witness, IsJudged, Stops_it, Starts_it, Has_no_space, Is_settled, Goes_on, Begins, Reads, Ends, Shown, Judges}
+use Rattle.law_steps.specs.Turned.{Turned, Says, Of_the_log, A_write, A_read, OnlySays, IsSame, StaysOpen, IsReason, By_verdict, By_witness, IsJudged, Stops_it, Starts_it, Blanks_it, Has_no_space, Is_settled, Goes_on, Begins, Reads, Ends, Shown, Judges}
 use Rattle.law_steps.proofs.Fronts.{front_itself, front_same, front_more, front_on}
 
 -- a client's step is made in a call, or else
@@ -283,6 +283,8 @@ module _ (servers : ℕ) (lines : List Line) (w : World) (c : ℕ) where
   seen_for_turns asked rev sight is h (request.Stop server) e = ends_turn refl (Shown asked rev sight answer.Ok h is (Stops_it server e refl))
   seen_for_turns asked rev sight is h (request.Start server) e =
       ends_turn refl (Shown asked rev sight (if sight.running then answer.Ok else answer.Failed) h is (Starts_it server e refl))
+  seen_for_turns asked rev sight is h (request.Blank server) e =
+      ends_turn refl (Shown asked rev sight (if sight.running then answer.Ok else answer.Failed) h is (Blanks_it server e refl))
   seen_for_turns asked rev sight is h request.Settle e = settle_turns asked rev sight is h e
   seen_for_turns asked rev sight is h _ e = rests_turns
 
@@ -501,5 +503,6 @@ client_turns setting w c Tick may =
     goes_on setting.servers setting.lines w c _ (asking_quiet state c client client.asked _ (where_quiet state c client client.asked refl))
 client_turns setting w c (Work end) may = absurd may
 client_turns setting w c Stop may = absurd may
+client_turns setting w c Blank may = absurd may
 client_turns setting w c (Boot end) may = absurd may
 client_turns setting w c (Glance line round) may = absurd may

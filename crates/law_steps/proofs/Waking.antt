@@ -11,24 +11,19 @@ use Rattle.petal_paxos.specs.declared.record.StateRecord.TheVariants.{Inc, Promi
 use Rattle.petal_paxos.proofs.Committed.{known_inc}
 use Rattle.petal_state.specs.Command.{state_after}
 use Rattle.petal_history.specs.Claims.{IsPrefix}
-use Rattle.petal_history.specs.Legal.{IsLegal, IsLegalFrom, stepped, world_after}
+use Rattle.petal_history.specs.Legal.{IsLegal, world_after}
 use Rattle.petal_history.specs.Sound.{IsSound}
 use Rattle.petal_history.specs.declared.record.Record.{Record}
 use Rattle.petal_rules.specs.Boots.{known_front, raised}
 use Rattle.petal_rules.specs.Entries.{before_known, known_run}
 use Rattle.petal_rules.specs.Log.{Log, known}
-use Rattle.petal_rules.specs.State.{State, is_in}
-use Rattle.petal_rules.specs.World.{Setting, World, start, setting_of, chosen_log, chosen_state}
+use Rattle.petal_rules.specs.State.{is_in}
+use Rattle.petal_rules.specs.World.{start, setting_of, chosen_log, chosen_state}
 use Rattle.petal_rules.proofs.Tests.{by_bool, by_test, none_some, same_numbers, same_some, true_false}
 use Rattle.law_log.proofs.Histories.{history_agrees, logged, out_has_stopped, who_is_in_has_begun}
 use Rattle.law_log.proofs.Jobs.{run_known}
-use Rattle.law_state.specs.Below.{IsBelow}
-use Rattle.law_state.specs.Steady.{IsSteady}
-use Rattle.law_steps.specs.Happens.{Happens}
-use Rattle.law_steps.specs.Ready.{AreFirm, Ready, Rests}
-use Rattle.law_steps.proofs.Fronts.{below_on}
-use Rattle.law_steps.proofs.Histories.{chosen_below, firm_now, front_legal, happens, rests_next, world_more}
-use Rattle.law_steps.specs.Waking.{AllMayWake, MayWake, WakeAlong}
+use Rattle.law_steps.proofs.Histories.{front_legal, world_more}
+use Rattle.law_steps.specs.Waking.{MayWake, WakeAlong}
 
 -- ### Places that records tell of
 
@@ -181,19 +176,3 @@ wake_along script records sound legal = by [] records legal
           may_wake script front sound (front_legal setting (start setting) front (own ∷ later) legal).0,
           subst (λ v. WakeAlong setting v later) e (by (front ++ own ∷ []) later whole),
         )
-
--- what each kind of step keeps, where each stopped server may wake, holds after every legal history
-pub kept_waking : (setting : Setting) (P : State → World → Type 0)
-    → ((state : State) → IsSteady state → (w v : World) → AllMayWake setting w → Ready setting state w → P state w → Happens setting state w v → P state v)
-    → (w : World) (records : List Record) → AreFirm setting w records → WakeAlong setting w records → Rests setting w
-    → ((state : State) → IsSteady state → IsBelow (chosen_state setting w) state → P state w) → IsLegalFrom setting w records
-    → (state : State) → IsSteady state → IsBelow (chosen_state setting (world_after setting w records)) state → P state (world_after setting w records)
-kept_waking setting P keeps w [] firm wake rests p legal = p
-kept_waking setting P keeps w (own ∷ later) firm wake rests p legal =
-    let v = (stepped setting w own).world in
-    let next = firm_now setting v later firm.2 in
-    kept_waking setting P keeps v later firm.2 wake.1 (rests_next setting w own rests firm.0 legal.0 next)
-    (λ state steady below.
-    let up : IsBelow (chosen_state setting w) state = below_on _ _ _ (chosen_below setting w v next firm.1) below in
-    keeps state steady w v wake.0 (record { rests = rests; firm = firm.0; below = up }) (p state steady up)
-    (happens setting w own rests firm.0 legal.0 next state below)) legal.1

@@ -12,9 +12,9 @@ use Rattle.petal_msg.specs.declared.letter.Actor.TheVariants as actor
 use Rattle.petal_msg.specs.declared.letter.Letter.{Letter}
 use Rattle.petal_state.specs.Command.{state_after}
 use Rattle.petal_history.specs.Claims.{IsPrefix}
-use Rattle.petal_rules.specs.Boots.{awake, raised, stays, wakes}
+use Rattle.petal_rules.specs.Boots.{awake, blanked, raised, stays, wakes}
 use Rattle.petal_rules.specs.Copies.{next_copy}
-use Rattle.petal_rules.specs.Crossing.{crossed}
+use Rattle.petal_rules.specs.Crossing.{crossed, settled_by}
 use Rattle.petal_rules.specs.Returns.{proposed}
 use Rattle.petal_rules.specs.Lists.{In}
 use Rattle.petal_rules.specs.Log.{Log, rev_of}
@@ -22,11 +22,11 @@ use Rattle.petal_rules.specs.State.{State, is_in, servers_of}
 use Rattle.petal_rules.specs.Server.{Server, Own, Here, Post, Sender, Done, silent, sender, stopped, letters_of}
 use Rattle.petal_rules.specs.Jobs.{Acted, here_of, down_posts}
 use Rattle.petal_rules.specs.Clients.{Reaction}
-use Rattle.petal_rules.specs.World.{Setting, World, acts, reacts, server_state, chosen_log}
+use Rattle.petal_rules.specs.World.{Setting, World, acts, before_blanks, reacts, server_state, chosen_log}
 use Rattle.petal_rules.specs.declared.job.Job.{Job}
 use Rattle.petal_rules.specs.declared.job.Job.TheVariants as job
 use Rattle.petal_rules.specs.declared.step.Step.{Step}
-use Rattle.petal_rules.specs.declared.step.Step.TheVariants.{Boot, Work}
+use Rattle.petal_rules.specs.declared.step.Step.TheVariants.{Blank, Boot, Work}
 use Rattle.petal_rules.specs.declared.step.CommitEnd.TheVariants.{After}
 use Rattle.petal_rules.specs.declared.step.WorkEnd.TheVariants as work_end
 use Rattle.law_state.specs.Below.{IsBelow}
@@ -103,7 +103,8 @@ Starts here own (Some (Caught of link holder inc other other_inc)) = IsBallotFor
 Starts here own _ = Unit {0}
 
 -- what a running server does in a step, before its letters go: a job that applies no entry, one that starts a ballot and has a Caught
--- in mind then, or one that applies an entry and drops what others asked of it on the links that the entry touches
+-- in mind then, or one that applies an entry and drops what others asked of it on the links that the entry touches; by its own Join
+-- its store waits for nobody any more
 pub data Worked (setting : Setting) (w : World) (n : ℕ) : Log → Done → Type 0 where
   By_job : (log : Log) (done : Done) → log.applied ≡ (w.servers n).log.applied → Did (Handled w n) (own_place setting w n) (w.servers n).own done
       → IsSeated (own_place setting w n) (w.servers n).own done
@@ -112,7 +113,7 @@ pub data Worked (setting : Setting) (w : World) (n : ℕ) : Log → Done → Typ
       → Starts (own_place setting w n) (w.servers n).own started → ((post : Post) → In post posts → is_logged (subject_of post.body) ≡ true)
       → Worked setting w n log (record { own = proposed (server_state setting w n) (w.servers n).own started; posts = posts; jobs = [] })
   By_entry : (log : Log) (entry : Command) → log.applied ≡ (w.servers n).log.applied ++ entry ∷ [] → IsPrefix log.applied (chosen_log setting w)
-      → Worked setting w n log (silent (crossed (server_state setting w n) entry (w.servers n).own))
+      → Worked setting w n log (silent (settled_by (own_place setting w n) entry (crossed (server_state setting w n) entry (w.servers n).own)))
 
 -- what a server's step leaves and sends
 abbrev pub served_so : Setting → World → (n : ℕ) → Log → Done → List Job → Acted
@@ -160,10 +161,13 @@ pub record IsOnward (servers : ℕ) (state : State) (before after : List Command
 
 -- ### Steps
 
--- the world after a step that is allowed, where `state` is at least what is chosen then
+-- the world after a step that is allowed, where `state` is at least what is chosen then; a stopped server's device may be made blank
 pub data Happens (setting : Setting) (state : State) (w : World) : World → Type 0 where
-  Serves : (n stamp : ℕ) (what : Step) (acted : Acted) → w.server_clocks n < stamp → n < setting.servers → Serving setting w n what acted
-      → Happens setting state w (acts w n what stamp acted).world
+  Serves : (n stamp : ℕ) (what : Step) (acted : Acted) → w.server_clocks n < stamp → n < setting.servers
+      → before_blanks what setting w n ≡ w.before_blank → Serving setting w n what acted
+      → Happens setting state w (acts setting w n what stamp acted).world
+  Blanks : (n stamp : ℕ) → w.server_clocks n < stamp → n < setting.servers → (w.servers n).life.running ≡ false
+      → Happens setting state w (acts setting w n Blank stamp (stays (blanked (w.servers n)))).world
   Turns : (c stamp : ℕ) (in_call : Bool) (reacted : Reaction) → w.client_clocks c < stamp → c < 9
       → Turned (Heard w (actor.Client c)) setting.servers setting.lines c (w.clients c) in_call reacted
       → IsOnward setting.servers state (w.clients c).applied reacted.client.applied

@@ -94,11 +94,13 @@ pub record IsJudged (servers c : ℕ) (before after : List Command) (asked : Ask
 
 -- ### Answers by a glance
 
--- why a glance answers the operator's line: a stop is done; a start is, or has failed where the server doesn't run; and a settle has no
--- space where the server's last copy found no slot, or is done where its round has shown each server and all is settled
+-- why a glance answers the operator's line: a stop is done; a start, or a blank, is, or has failed where the server doesn't run; and a
+-- settle has no space where the server's last copy found no slot, or is done where its round has shown each server and all is settled
 pub data IsSeenAs (state : State) (asked : Asked) (sight : Sight) (given : Answer) : Type 0 where
   Stops_it : (server : ℕ) → asked.request ≡ request.Stop server → given ≡ answer.Ok → IsSeenAs state asked sight given
   Starts_it : (server : ℕ) → asked.request ≡ request.Start server → given ≡ (if sight.running then answer.Ok else answer.Failed)
+      → IsSeenAs state asked sight given
+  Blanks_it : (server : ℕ) → asked.request ≡ request.Blank server → given ≡ (if sight.running then answer.Ok else answer.Failed)
       → IsSeenAs state asked sight given
   Has_no_space : asked.request ≡ request.Settle → sight.full ≡ true → given ≡ answer.NoSpace → IsSeenAs state asked sight given
   Is_settled : asked.request ≡ request.Settle → sight.round ≡ asked.round → length (with_sight asked sight).seen ≡ servers_of state

@@ -1,5 +1,5 @@
 -- A boot, as the rules have it.
-use Rattle.std.proofs.Common.{◌≡◌, ◌≤◌, ℕ, Bool, true, false, List, [], length, Ok, Err, refl, sym, ap, subst, ◌∙◌, arith}
+use Rattle.std.proofs.Common.{◌≡◌, ◌≤◌, ◌<◌, ℕ, Bool, true, false, None, Some, List, [], length, Ok, Err, refl, sym, ap, subst, ◌∙◌, arith}
 use Rattle.std.specs.Prelude.{not, if◌then◌else◌}
 use Rattle.kept_chains.specs.Kept.{store_of}
 use Rattle.log_side.specs.Done as logs
@@ -13,7 +13,7 @@ use Rattle.petal_paxos.specs.declared.record.StateRecord.{StateRecord}
 use Rattle.petal_rules.specs.Boots.{boots, raised, stays}
 use Rattle.petal_rules.specs.Jobs.{Acted, is_overfull, journal_records}
 use Rattle.petal_rules.specs.Server.{Server}
-use Rattle.petal_rules.specs.Store.{Store}
+use Rattle.petal_rules.specs.Store.{Store, blank_store}
 use Rattle.petal_rules.specs.declared.step.CommitEnd.{CommitEnd}
 use Rattle.petal_rules.specs.declared.step.CommitEnd.TheVariants.{Before, After}
 use Rattle.petal_rules.specs.declared.step.Step.TheVariants.{Boot}
@@ -24,14 +24,15 @@ use Rattle.server_core.specs.Core.{Core, acted, here_in, server_of}
 use Rattle.server_core.proofs.Boots.{raised_are, room}
 use Rattle.server_core.proofs.Rooms.{few_records, few_stored}
 use Rattle.server_store.specs.Holdings.{Holdings}
+use Rattle.server_store.specs.Slots.{slot_start}
 use Rattle.state_store.specs.Device.{Keeping}
 use Rattle.world_desks.specs.Desks.{Site, acted_at, left_of, may_take, site_after}
 use Rattle.memory_server.proofs.Faults.{left_stopped, left_with}
 use Rattle.memory_server.proofs.Recovering.{shown_in}
 use Rattle.memory_server.proofs.Seen.{seen_after, seen_letters}
-use Rattle.memory_server.specs.Booted.{Booted, core_at}
+use Rattle.memory_server.specs.Booted.{Booted, BootedBlank, core_at}
 use Rattle.memory_server.specs.Recovery.{IsReread, Shown, Shows, on_device}
-use Rattle.memory_server.specs.Server.{HasFailed, Mounted, faults_of, left_at, site_of, whole_after, whole_of}
+use Rattle.memory_server.specs.Server.{HasFailed, Mounted, faults_of, left_at, site_of, store_on, whole_after, whole_of}
 
 -- what is left of a stopped server is told by its incarnation and by what its devices show
 left_alike : (old new : Server) → old.life.running ≡ false → new.life.running ≡ false → new.life.inc ≡ old.life.inc
@@ -202,4 +203,34 @@ module _ {D : Type 0} {device : Ghosts D} (old : Mounted D) (store : Holdings D)
         ∙ sym (seen_letters (whole_of old) (Boot end) end (may end) (acted_at (whole_of old) (Boot end)).letters refl);
     stands = booted.stands;
     cause = λ fault. let failed = booted.cause fault in omega (arith, later, failed);
+  }
+
+-- ### A blank device
+
+module _ {D : Type 0} (device : Ghosts D) (core : Core) (store : Holdings D) (state : Keeping D) (disk : D) (kept : logs.HoldsAt device state) where
+  abbrev empty : Mounted D
+  empty = record { core = core; store = store_on disk store; state = state }
+
+  -- a store was made there, with which the server booted
+  pub booted_on : (made : Holdings D) (new : Mounted D) (end : WorkEnd) (letters : List Letter) → store_of made ≡ blank_store store.slots
+      → device.faults disk ≤ device.faults made.disk
+      → Booted device (record { core = core; store = made; state = state }) new end letters → BootedBlank device empty new None end letters
+  booted_on made new end letters is later booted =
+      let same : whole_of (record { core = core; store = made; state = state }) ≡ whole_of empty
+      = ap (λ (s : Store). record { me = core.log.voter.me; servers = core.log.voter.servers; server = server_of core s state.records }) is in
+      record {
+        site = booted.site ∙ ap (λ (site : Site). left_at (whole_after site (Boot end))) same;
+        sends = booted.sends ∙ ap (λ (site : Site). (acted_at site (Boot end)).letters) same;
+        kept = record { stands = λ _ _. booted.stands; rests = λ no. absurd (cc); room = tt; state = λ _. booted.stands.state };
+        cause = λ fault. let failed = booted.cause fault in omega (arith, later, failed);
+      }
+
+  -- the device failed, and was handed back
+  pub failed_on : (back : D) → core.running ≡ false → slot_start store.slots ≤ device.size back → device.faults disk < device.faults back
+      → BootedBlank device empty (record { core = core; store = store; state = state }) (Some back) (Fault Before) []
+  failed_on back off room failed = record {
+    site = refl;
+    sends = refl;
+    kept = record { stands = λ _ no. absurd (cc); rests = λ _. off; room = room; state = λ _. kept };
+    cause = λ _. omega (arith, failed);
   }

@@ -1,9 +1,10 @@
 -- A job in which a device failed, as the rules have it.
-use Rattle.std.proofs.Common.{◌≡◌, ◌≤◌, inl, inr, ℕ, Bool, true, false, List, [], ◌∷◌, Option, Some, None, length, refl, sym, ap, ◌∙◌, arith}
+use Rattle.std.proofs.Common.{◌≡◌, ◌≤◌, inl, inr, ℕ, Bool, true, false, List, [], ◌∷◌, Option, Some, None, Err, length, refl, sym, ap, ◌∙◌, arith}
 use Rattle.std.specs.Prelude.{if◌then◌else◌}
 use Rattle.kept_chains.specs.Kept.{store_of}
 use Rattle.log_side.specs.Done as logs
 use Rattle.pair_side.specs.Done.{HoldsAt}
+use Rattle.pair_side.specs.declared.error.WorkError.TheVariants.{Failed}
 use Rattle.petal_disk.specs.declared.disk.Disk.{Ghosts}
 use Rattle.global_tables.specs.declared.link.LinkRow.{LinkRow}
 use Rattle.petal_command.specs.declared.command.Command.{Command}
@@ -22,7 +23,7 @@ use Rattle.petal_rules.specs.declared.step.CommitEnd.{CommitEnd}
 use Rattle.petal_rules.specs.declared.step.CommitEnd.TheVariants.{Before, After}
 use Rattle.petal_rules.specs.declared.step.Step.TheVariants.{Work}
 use Rattle.petal_rules.specs.declared.step.WorkEnd.TheVariants.{Fault}
-use Rattle.server_core.specs.Core.{Core, after_first, farewell_of, here_in, left_by_first, server_of}
+use Rattle.server_core.specs.Core.{Core, HasFaults, after_first, farewell_of, here_in, left_by_first, server_of}
 use Rattle.server_core.proofs.Rooms.{few_records, few_stored}
 use Rattle.server_core.proofs.Stops.{stopped_with}
 use Rattle.server_core.proofs.Works.{fits}
@@ -30,7 +31,7 @@ use Rattle.server_store.specs.Holdings.{Holdings}
 use Rattle.state_store.specs.Device.{Keeping}
 use Rattle.world_desks.specs.Desks.{acted_at, left_of}
 use Rattle.memory_server.specs.Recovery.{CommitsOnce, Shown, Shows, on_device}
-use Rattle.memory_server.specs.Server.{Mounted, Stands, left_at, site_of, whole_after, whole_of}
+use Rattle.memory_server.specs.Server.{HasFailed, Mounted, Stands, left_at, site_of, whole_after, whole_of}
 
 -- ### What a job commits
 
@@ -152,3 +153,20 @@ module _ {D : Type 0} {device : Ghosts D} {old : Mounted D} (stands : Stands dev
   pub few_after : (store : Holdings D) (state : Keeping D) → HoldsAt device store → logs.HoldsAt device state
       → ((store_of store).records ≤ journal_records) × (length state.records ≤ journal_records)
   few_after store state holds kept = (few_stored device store holds, few_records device state kept)
+
+-- ### Counts of faults
+
+-- a device failed in the job, and both were opened again
+pub has_failed : {D T : Type 0} (device : Ghosts D) (old : Mounted D) (store : Holdings D) (state : Keeping D) (core : Core) (again : Holdings D) (kept : Keeping D)
+    → HasFaults {T = T} (device.faults old.store.disk) (device.faults store.disk) (device.faults old.state.disk) (device.faults state.disk) (Err Failed)
+    → (device.faults store.disk ≤ device.faults again.disk) × (device.faults state.disk ≤ device.faults kept.disk)
+    → HasFailed device old (record { core = core; store = again; state = kept })
+has_failed device old store state core again kept cause later =
+    let data_later = cause.data_later in
+    let state_later = cause.state_later in
+    let again_later = later.0 in
+    let kept_later = later.1 in
+    elim (cause.failed refl) [
+      | inl more ↦ omega (arith, more, data_later, state_later, again_later, kept_later)
+      | inr more ↦ omega (arith, more, data_later, state_later, again_later, kept_later)
+    ]

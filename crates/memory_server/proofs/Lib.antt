@@ -4,3 +4,5 @@ pub mod Seen
 pub mod Recovering
 pub mod Faults
 pub mod Booting
+pub mod Working
+pub mod Keeping

@@ -3,7 +3,7 @@ use Rattle.std.proofs.Common.{◌≡◌, Bool, true, refl, ◌∙◌, sym}
 use Rattle.memory_server.specs.Server.{left_at, whole_after}
 use Rattle.petal_msg.specs.declared.letter.Letter.{Letter}
 use Rattle.petal_rules.specs.declared.step.Step.{Step}
-use Rattle.petal_rules.specs.declared.step.Step.TheVariants.{Call, Deliver, Tick, Work, Stop, Boot, Glance}
+use Rattle.petal_rules.specs.declared.step.Step.TheVariants.{Call, Deliver, Tick, Work, Stop, Blank, Boot, Glance}
 use Rattle.petal_rules.specs.declared.step.WorkEnd.{WorkEnd}
 use Rattle.world_desks.proofs.Left.{StepsLeft, steps_left}
 use Rattle.world_desks.specs.Desks.{Site, acted_at, ended, may_take, site_after}
@@ -16,6 +16,7 @@ may_ended (Deliver letter) end running = refl
 may_ended Tick end running = refl
 may_ended (Work named) end running = refl
 may_ended Stop end running = refl
+may_ended Blank end running = refl
 may_ended (Boot named) end running = refl
 may_ended (Glance line round) end running = refl
 

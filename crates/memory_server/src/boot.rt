@@ -1,18 +1,21 @@
 //! A stopped server boots.
 
-ghost use Rattle.std.specs.Prelude.{◌≡◌, ◌<◌, [], false, IfOk};
+ghost use Rattle.std.specs.Prelude.{◌≡◌, ◌<◌, ◌≤◌, [], false, IfOk};
 ghost use Rattle.log_side.specs.Done as logs;
 ghost use Rattle.pair_side.specs.Done.{HoldsAt};
 ghost use Rattle.petal_paxos.specs.Kept.{inc_of};
 ghost use Rattle.petal_rules.specs.World.{greatest_u32};
-ghost use Rattle.memory_server.specs.Booted.{Booted, core_at};
+ghost use Rattle.server_store.specs.Slots.{slot_start};
+ghost use Rattle.memory_server.specs.Booted.{Booted, BootedBlank, core_at};
+ghost use Rattle.memory_server.specs.Server.{store_on};
 
 use crate::recovery::{Counts, reopen, reread};
+use crate::taken::{done, failed};
 use petal_base::{NoMemory, Sequence};
 use petal_disk::Disk;
-use petal_rules::{CommitEnd, WorkEnd};
+use petal_rules::CommitEnd;
 use server_core::{ServerCore, WorkError};
-use server_store::Store;
+use server_store::{Store, StoreError};
 use state_store::StateStore;
 use std::alloc::Global;
 use world_desks::Taken;
@@ -51,21 +54,12 @@ fn boot_opened<D: Disk>(
     let _slots = store.slots();
     let before = Counts::of(store, state);
     match core.boot(alloc, state) {
-        Ok(letters) => Ok(Taken {
-            letters,
-            end: WorkEnd::Done,
-        }),
-        Err(WorkError::JournalFull) => Ok(Taken {
-            letters: Sequence::new(alloc),
-            end: WorkEnd::Done,
-        }),
+        Ok(letters) => Ok(done(letters)),
+        Err(WorkError::JournalFull) => Ok(done(Sequence::new(alloc))),
         Err(WorkError::Failed) => {
             let end = reopen(alloc, store, state, before)?;
             raise_at(end, core);
-            Ok(Taken {
-                letters: Sequence::new(alloc),
-                end: WorkEnd::Fault(end),
-            })
+            Ok(failed(Sequence::new(alloc), end))
         }
         Err(WorkError::NoMemory) => Err(NoMemory),
     }
@@ -96,4 +90,37 @@ pub fn boot_again<D: Disk>(
     }
     let taken = boot_opened(alloc, core, store, state)?;
     Ok(taken)
+}
+
+/// A stopped server boots whose data device is a blank one: a store is made there, which waits to be filled, and then it boots as
+/// any other. Where that device fails the server stays stopped, and the device is handed back: it is as good as blank.
+///
+/// # Errors
+/// As of [`boot_again`].
+pub fn boot_blank<D: Disk>(
+    alloc: Global,
+    core: &mut ServerCore,
+    store: &mut Store<D>,
+    state: &mut StateStore<D>,
+    disk: D,
+) -> Result<(Taken, Option<D>), NoMemory>
+    requires stopped { core.old.running ≡ false }
+    requires raises { core.old.log.voter.inc < greatest_u32 }
+    requires room { slot_start store.old.slots ≤ D.size disk }
+    ensures { IfOk result (λ out. D.told → logs.HoldsAt D.Disk state.old
+        → BootedBlank D.Disk (record { core = core.old; store = store_on disk store.old; state = state.old })
+        (record { core = core.new; store = store.new; state = state.new }) out.1 out.0.end out.0.letters) }
+{
+    match Store::format(alloc, disk, store.slots(), true) {
+        Ok(made) => {
+            *store = made;
+            let taken = boot_again(alloc, core, store, state)?;
+            Ok((taken, None))
+        }
+        Err((disk, StoreError::Failed)) => {
+            let taken = failed(Sequence::new(alloc), CommitEnd::Before);
+            Ok((taken, Some(disk)))
+        }
+        Err(_) => Err(NoMemory),
+    }
 }

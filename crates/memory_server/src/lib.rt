@@ -8,6 +8,8 @@ mod boot;
 mod cast;
 mod recovery;
 mod server;
+mod taken;
+mod work;
 
 pub use cast::members;
 pub use server::MemServer;

@@ -4,19 +4,20 @@ ghost use Rattle.std.specs.Prelude.{◌≡◌, ◌∷◌, ◌&&◌, [], true, If
 ghost use Rattle.log_side.specs.Done as logs;
 ghost use Rattle.petal_paxos.specs.declared.record.StateRecord.TheVariants.{Inc};
 ghost use Rattle.petal_rules.specs.Server.{first_server};
-ghost use Rattle.petal_rules.specs.declared.step.Step.TheVariants.{Boot, Stop, Tick, Work};
+ghost use Rattle.petal_rules.specs.declared.step.Step.TheVariants.{Blank, Boot, Stop, Tick, Work};
 ghost use Rattle.petal_rules.specs.declared.step.WorkEnd.TheVariants.{Done};
 ghost use Rattle.world_desks.specs.Desks.{IsFault, acted_at, end_in, ended, may_take};
 ghost use Rattle.server_store.specs.Slots.{slot_start};
 ghost use Rattle.memory_server.specs.Server.{HasFailed, left_at, site_of, whole_after, whole_of};
 
-use crate::boot::boot_again;
-use crate::recovery::{Counts, reopen};
+use crate::boot::{boot_again, boot_blank};
+use crate::taken::done;
+use crate::work::work_first;
 use petal_base::{Inc, NoMemory, Rev, Sequence, ServerId};
 use petal_disk::{Disk, MemDisk, Plan, Planned, Which};
 use petal_msg::Letter;
-use petal_rules::{Step, WorkEnd};
-use server_core::{ReadError, ServerCore, WorkError};
+use petal_rules::Step;
+use server_core::{ReadError, ServerCore};
 use server_store::{DATA_START, SLOT_BYTES, Store};
 use state_store::{DEVICE_BYTES, StateStore};
 use std::alloc::Global;
@@ -32,38 +33,28 @@ pub struct MemServer {
     core: ServerCore,
     store: Store<Device>,
     state: StateStore<Device>,
+    // a blank data device, which takes the place of the store's; only of a stopped server, until it boots
+    blank: Option<Device>,
     // what the stores have in memory is not known to be what their devices show: it takes no job, and does not boot
     over: bool,
 }
 
 impl Model for MemServer {
-    ghost use Rattle.std.specs.Prelude.{◌≡◌, false};
     ghost use Rattle.petal_disk.specs.declared.memory_disk.MemDisk.{MemDisk};
     ghost use Rattle.petal_disk.specs.declared.planned.Planned.{Planned};
-    ghost use Rattle.pair_side.specs.Side.{HasTicketsAt};
-    ghost use Rattle.memory_server.specs.Server.{Mounted, Stands};
+    ghost use Rattle.memory_server.specs.Server.{IsKept, Mounted, store_at};
 
     ghost Value = { Mounted (Planned MemDisk) };
 
-    ghost view = { λ s. record { core = s.core; store = s.store; state = s.state } };
+    ghost view = { λ s. record { core = s.core; store = store_at s.blank s.store; state = s.state } };
 
-    ghost invariant = { λ s. s.over ≡ false → Stands ⟦<Planned<MemDisk> as Disk>⟧ (record { core = s.core; store = s.store; state = s.state }) };
+    ghost invariant = { λ s. IsKept ⟦<Planned<MemDisk> as Disk>⟧ s.over s.blank (record { core = s.core; store = s.store; state = s.state }) };
 }
 
 fn both(a: bool, b: bool) -> bool
     ensures { result ≡ (a && b) }
 {
     a && b
-}
-
-/// A step of which no device failed.
-fn done(letters: Sequence<Letter>) -> Taken
-    ensures { result ≡ record { letters = letters; end = Done } }
-{
-    Taken {
-        letters,
-        end: WorkEnd::Done,
-    }
 }
 
 /// The state store of a server that runs for the first time.
@@ -105,6 +96,7 @@ impl MemServer {
                 core,
                 store,
                 state,
+                blank: None,
                 over: false,
             }),
             Err(_) => Err(NoMemory),
@@ -116,7 +108,10 @@ impl MemServer {
         ensures { site_of self.new ≡ site_of self.old }
     {
         match device {
-            Which::Data => self.store.arm(plan),
+            Which::Data => match &mut self.blank {
+                None => self.store.arm(plan),
+                Some(disk) => disk.arm(plan),
+            },
             Which::State => self.state.arm(plan),
         }
     }
@@ -132,38 +127,22 @@ impl MemServer {
         Ok(self.core.stop(alloc))
     }
 
-    /// Does the first job of the queue. A server whose journal is full stops, and so does one of which a device fails: then the
-    /// devices tell whether the commit was made.
+    /// Does the first job of the queue, where it runs.
     fn work(&mut self, alloc: Global) -> Result<Taken, NoMemory>
         ensures site { IfOk result (λ taken. site_of self.new ≡ left_at (whole_after (whole_of self.old) (Work taken.end))) }
         ensures letters { IfOk result (λ taken. taken.letters ≡ (acted_at (whole_of self.old) (Work taken.end)).letters) }
         ensures cause { IfOk result (λ taken. IsFault taken.end → HasFailed ⟦<Planned<MemDisk> as Disk>⟧ self.old self.new) }
     {
-        if self.over || !self.core.is_running() || self.core.spent(&self.store) {
+        if self.over || self.blank.is_some() {
             return Err(NoMemory);
         }
-        // as many slots as a number of 32 bits can tell
-        let _slots = self.store.slots();
-        let before = Counts::of(&self.store, &self.state);
-        match self.core.work(alloc, &mut self.store, &mut self.state) {
-            Ok(Some(letters)) => Ok(done(letters)),
-            Ok(None) => Ok(done(Sequence::new(alloc))),
-            Err(WorkError::JournalFull) => Ok(done(self.stop(alloc)?)),
-            Err(WorkError::Failed) => {
-                self.over = true;
-                let letters = self.core.stop(alloc);
-                let end = reopen(alloc, &mut self.store, &mut self.state, before)?;
-                self.over = false;
-                Ok(Taken {
-                    letters,
-                    end: WorkEnd::Fault(end),
-                })
-            }
-            Err(WorkError::NoMemory) => {
-                self.over = true;
-                Err(NoMemory)
-            }
+        if !self.core.is_running() || self.core.spent(&self.store) {
+            return Err(NoMemory);
         }
+        self.over = true;
+        let taken = work_first(alloc, &mut self.core, &mut self.store, &mut self.state)?;
+        self.over = false;
+        Ok(taken)
     }
 
     /// A tick, in which the data device may fail; then all is as before.
@@ -172,6 +151,9 @@ impl MemServer {
         ensures taken { IfOk result (λ taken. taken ≡ record { letters = (acted_at (whole_of self.old) Tick).letters; end = Done }) }
         ensures err { OnErr result (whole_of self.new ≡ whole_of self.old) }
     {
+        if self.blank.is_some() {
+            return Err(ReadError::NoMemory);
+        }
         let letters = self.core.tick(alloc, &mut self.store)?;
         Ok(done(letters))
     }
@@ -192,8 +174,27 @@ impl MemServer {
         }
     }
 
-    /// It boots, where it is stopped and its incarnation can be raised: both stores are opened again, and it runs as its next
-    /// incarnation. Where the journal of the state device has no room it stays stopped, and so does one of which the state device
+    /// A blank device, in which as many slots fit, takes the place of the data device, where it is stopped.
+    fn blank(&mut self, alloc: Global) -> Result<(), NoMemory>
+        ensures site { OnOk result (whole_of self.new ≡ whole_after (whole_of self.old) Blank) }
+        ensures err { OnErr result (self.new ≡ self.old) }
+    {
+        if self.over || self.core.is_running() {
+            return Err(NoMemory);
+        }
+        let Ok(disk) = MemDisk::new(
+            alloc,
+            DATA_START + SLOT_BYTES * u64::from(self.store.slots()),
+        ) else {
+            return Err(NoMemory);
+        };
+        self.blank = Some(Planned::new(disk));
+        Ok(())
+    }
+
+    /// It boots, where it is stopped and its incarnation can be raised: a store is made on a blank device, which waits to be
+    /// filled, both stores are opened again, and it runs as its next incarnation. Where the blank device fails it stays stopped
+    /// as it was. Where the journal of the state device has no room it stays stopped, and so does one of which the state device
     /// fails: then the devices tell whether the incarnation was raised.
     fn boot(&mut self, alloc: Global) -> Result<Taken, NoMemory>
         ensures site { IfOk result (λ taken. site_of self.new ≡ left_at (whole_after (whole_of self.old) (Boot taken.end))) }
@@ -204,9 +205,20 @@ impl MemServer {
             return Err(NoMemory);
         }
         self.over = true;
-        let taken = boot_again(alloc, &mut self.core, &mut self.store, &mut self.state)?;
-        self.over = false;
-        Ok(taken)
+        match self.blank.take() {
+            None => {
+                let taken = boot_again(alloc, &mut self.core, &mut self.store, &mut self.state)?;
+                self.over = false;
+                Ok(taken)
+            }
+            Some(disk) => {
+                let (core, store, state) = (&mut self.core, &mut self.store, &mut self.state);
+                let (taken, back) = boot_blank(alloc, core, store, state, disk)?;
+                self.blank = back;
+                self.over = false;
+                Ok(taken)
+            }
+        }
     }
 
     /// Takes the step, whatever it has in memory.
@@ -225,6 +237,10 @@ impl MemServer {
             Step::Tick => self.tick(alloc),
             Step::Work(_) => self.work(alloc),
             Step::Stop => Ok(done(self.stop(alloc)?)),
+            Step::Blank => {
+                self.blank(alloc)?;
+                Ok(done(Sequence::new(alloc)))
+            }
             Step::Boot(_) => self.boot(alloc),
             Step::Glance { line, round } => Ok(done(self.core.glance(alloc, *line, *round)?)),
         }
@@ -236,7 +252,7 @@ impl MemServer {
     {
         match step {
             Step::Tick | Step::Work(_) | Step::Stop => self.core.is_running(),
-            Step::Boot(_) => !self.core.is_running(),
+            Step::Blank | Step::Boot(_) => !self.core.is_running(),
             Step::Call { line: _ }
             | Step::Deliver { letter: _ }
             | Step::Glance { line: _, round: _ } => true,

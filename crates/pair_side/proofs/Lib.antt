@@ -6,3 +6,4 @@ pub mod Blank
 pub mod Crossings
 pub mod ByLink
 pub mod Letters
+pub mod Entering

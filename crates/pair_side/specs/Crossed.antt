@@ -1,12 +1,20 @@
 -- What an entry of the log leaves of a side and its store.
-use Rattle.std.specs.Prelude.{◌≡◌, ℕ, ◌+◌, not, filter, length}
+use Rattle.std.specs.Prelude.{◌≡◌, ℕ, ◌+◌, ◌&&◌, ◌==◌, Bool, false, not, filter, length, Option, None, Some, Result, Err, IfErr, OnOk}
 use Rattle.std.specs.Map.{values_of}
 use Rattle.petal_base.specs.declared.cell.Cell.{Cell}
 use Rattle.petal_command.specs.declared.command.Command.{Command}
+use Rattle.petal_disk.specs.Disk.{LeavesOnly}
+use Rattle.petal_disk.specs.declared.disk.Disk.{Ghosts}
 use Rattle.petal_table.specs.Table.{Table}
-use Rattle.petal_rules.specs.Crossing.{crossed, touches_cell}
+use Rattle.petal_rules.specs.Crossing.{crossed, crossed_by, is_blank_join, touches_cell}
+use Rattle.petal_rules.specs.Server.{Here}
 use Rattle.petal_rules.specs.State.{State}
 use Rattle.server_store.specs.Holdings.{Holdings}
+use Rattle.kept_chains.specs.Kept.{store_of}
+use Rattle.kept_chains.specs.Standing.{StandsAsEither}
+use Rattle.pair_side.specs.declared.error.WorkError.{WorkError}
+use Rattle.pair_side.specs.declared.error.WorkError.TheVariants.{Failed}
+use Rattle.pair_side.specs.Done.{HasFault, HoldsAt}
 use Rattle.pair_side.specs.Side.{Side, HasTicketsAt, own_of, times}
 
 module _ {D : Type 0} (state : State) (entry : Command) where
@@ -22,3 +30,23 @@ module _ {D : Type 0} (state : State) (entry : Command) where
     pub own : own_of new after ≡ crossed state entry (own_of old before)
     pub keeps : HasTicketsAt new after
     pub store : after ≡ record before { tickets = after.tickets }
+
+-- by the entry the store is to wait for nobody any more, and its journal has no room for that
+abbrev pub lacks_room : {D : Type 0} → (me inc : ℕ) → Option Command → Holdings D → Bool
+lacks_room me inc None store = false
+lacks_room me inc (Some entry) store = is_blank_join entry me inc && (store.fresh && (store.log.region.count == 65536))
+
+module _ {D T : Type 0} where
+  -- a server's own part is what the rule says of the entry, if there is one, where the device tells its bytes, and the tickets
+  -- stand where they are needed. A crash at any moment leaves the store before, or the rule's after it
+  pub record IsEntered (device : Ghosts D) (here : Here) (entry : Option Command) (old new : Side) (before after : Holdings D) (result : Result T WorkError) : Type 0 where
+    pub own : OnOk result (device.told → own_of new after ≡ crossed_by here entry (own_of old before))
+    pub keeps : HasTicketsAt new after
+    pub holds : device.told → HoldsAt device before → OnOk result (HoldsAt device after)
+    pub moments : device.told → HoldsAt device before
+        → LeavesOnly device.moment device.left_since before.disk after.disk
+        (StandsAsEither (store_of before) (crossed_by here entry (own_of old before)).store)
+    pub kept : device.told → after.entries ≡ before.entries
+    pub errors : IfErr result (λ e. e ≡ Failed)
+    pub cause : HasFault (device.faults before.disk) (device.faults after.disk) result
+    pub run : device.came_to before.disk after.disk

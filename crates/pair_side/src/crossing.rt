@@ -1,6 +1,6 @@
 //! What an entry of the log does to a server's part in its pairs.
 
-ghost use Rattle.std.specs.Prelude.{◌≡◌, ◌≤◌, ◌+◌, ◌&&◌, ℕ, not, map, filter, find, length, IfOk, Some};
+ghost use Rattle.std.specs.Prelude.{◌≡◌, ◌≤◌, ◌+◌, ◌&&◌, ℕ, false, not, map, filter, find, length, IfOk, Some};
 ghost use Rattle.std.specs.List.Sorted.{IsStrictlySortedBy};
 ghost use Rattle.std.specs.Map.{keys_of, values_of};
 ghost use Rattle.petal_state.specs.Command.{after};
@@ -10,11 +10,12 @@ ghost use Rattle.petal_rules.specs.Crossing.{touches_cell};
 ghost use Rattle.petal_rules.specs.State.{id_of};
 ghost use Rattle.petal_rules.specs.Store.{Store as Stored, cell_cmp};
 ghost use Rattle.petal_rules.specs.declared.job.Job.TheVariants as job;
-ghost use Rattle.pair_side.specs.Crossed.{AreFreed, IsCrossed};
+ghost use Rattle.pair_side.specs.Crossed.{AreFreed, IsCrossed, IsEntered, lacks_room};
 ghost use Rattle.pair_side.specs.Side.{HasTicketsAt, pairs_of, times};
 
-use crate::{Here, Side, give_back, link_id};
+use crate::{Here, Side, WorkError, give_back, link_id};
 use global_state::{GlobalState, LinkRow, LinkState};
+use kept_chains::settle;
 use link_table::has_server;
 use pair_lock::PairLock;
 use petal_base::{Cell, NoMemory, ServerId};
@@ -63,13 +64,57 @@ pub fn drops_cells<X: Drop>(here: &Here, entry: &Command, table: &mut Table<Cell
 
 /// What others asked of this server on the links that the entry touches is dropped with all that is remembered of copies there,
 /// and the slots set apart for others are free. The state is that before the entry. It takes no memory.
-pub fn crosses<D: Disk>(here: &Here, entry: &Command, side: &mut Side, store: &mut Store<D>)
+fn crosses<D: Disk>(here: &Here, entry: &Command, side: &mut Side, store: &mut Store<D>)
     requires { HasTicketsAt side.old store.old }
     ensures { IsCrossed here.now.state entry.now side.old side.new store.old store.new }
 {
     frees(here, entry, &mut side.apart, store);
     drops_cells(here, entry, &mut side.last);
     side.copies.crosses(here, entry);
+}
+
+/// Whether the entry is this incarnation's own Join with an empty store.
+fn is_blank_join(here: &Here, entry: &Command) -> bool
+    ensures { result ≡ rules.is_blank_join entry.now here.now.me here.now.inc }
+{
+    match entry {
+        Command::Join { server, inc, blank } => {
+            *blank && server.get() == here.me() && *inc == here.inc()
+        }
+        _ => false,
+    }
+}
+
+/// Whether the store is to wait for nobody any more by the entry, and its journal has no room for that.
+pub fn lacks_room<D: Disk>(here: &Here, entry: &Command, store: &Store<D>) -> bool
+    ensures { result ≡ lacks_room here.now.me here.now.inc (Some entry.now) store.now }
+{
+    is_blank_join(here, entry) && store.fresh() && store.is_full()
+}
+
+/// The entry does to the server's own part what it does: what it drops is dropped, and with its own Join a server that came back
+/// with nothing waits for nobody any more, which is the one commit. The state is that before the entry. It takes no memory.
+///
+/// # Errors
+/// `Failed`, where the device failed.
+pub fn enters<D: Disk>(
+    here: &Here,
+    entry: &Command,
+    side: &mut Side,
+    store: &mut Store<D>,
+) -> Result<(), WorkError>
+    requires tickets { HasTicketsAt side.old store.old }
+    requires room { lacks_room here.now.me here.now.inc (Some entry.now) store.old ≡ false }
+    ensures { IsEntered D.Disk here.now (Some entry.now) side.old side.new store.old store.new result }
+{
+    crosses(here, entry, side, store);
+    if !is_blank_join(here, entry) {
+        return Ok(());
+    }
+    match settle(store) {
+        Ok(()) => Ok(()),
+        Err(_) => Err(WorkError::Failed),
+    }
 }
 
 fn stages(

@@ -15,7 +15,7 @@ mod side;
 mod slots;
 
 pub use copies::Copies;
-pub use crossing::{crosses, entry_jobs};
+pub use crossing::{enters, entry_jobs, lacks_room};
 pub use done::{Done, FollowUp, only};
 pub use error::WorkError;
 pub use here::Here;

@@ -1,5 +1,5 @@
 -- What every legal history keeps. These are statements; `law_run` shows them.
-use Rattle.std.specs.Prelude.{◌≡◌, ◌≢◌, ◌⊎◌, ◌+◌, ◌&&◌, ◌++◌, ◌∷◌, ◌≤◌, ℕ, Bool, List, slice_get, Option, Some, None, true, false}
+use Rattle.std.specs.Prelude.{◌≡◌, ◌≢◌, ◌⊎◌, ◌+◌, ◌&&◌, ◌++◌, [], ◌∷◌, ◌≤◌, ℕ, Bool, List, slice_get, Option, Some, None, true, false}
 use Rattle.std.specs.Ordering.{nat_cmp}
 use Rattle.busy_marks.specs.declared.marks.MarkKind.TheVariants.{Busy, Stale}
 use Rattle.petal_base.specs.declared.cell.Cell.{Cell}
@@ -7,6 +7,8 @@ use Rattle.petal_command.specs.declared.command.Command.{Command}
 use Rattle.petal_paxos.specs.Kept.{known_at}
 use Rattle.petal_table.specs.Table.{at, put}
 use Rattle.global_tables.specs.Disk.{named}
+use Rattle.global_tables.specs.Link.{other_of}
+use Rattle.global_tables.specs.declared.link.LinkRow.{LinkRow}
 use Rattle.global_tables.specs.declared.disk.DiskRow.{DiskRow}
 use Rattle.petal_machine.specs.Machine.{Plain, blank, content, disk_of}
 use Rattle.petal_machine.specs.Run.{replay}
@@ -20,12 +22,14 @@ use Rattle.script_lines.specs.declared.script.Script.{Script}
 use Rattle.petal_rules.specs.Clients.{Asked}
 use Rattle.petal_rules.specs.Lists.{In}
 use Rattle.petal_rules.specs.Progress.{has_proposed}
+use Rattle.petal_state.specs.CellState.{cell_link}
+use Rattle.petal_state.specs.Command.{is_alone}
 use Rattle.petal_state.specs.declared.answer.Hold.TheVariants.{No}
-use Rattle.petal_rules.specs.State.{State, first, second, primary, secondary, in_both, is_in, is_lead, leads_link, held}
+use Rattle.petal_rules.specs.State.{State, first, second, is_in, is_lead, is_whole, leads_link, held}
 use Rattle.petal_rules.specs.Store.{Chain, Store, cell_cmp, chain_in, version_of, is_marked}
 use Rattle.petal_rules.specs.Log.{rev_of}
-use Rattle.petal_rules.specs.World.{Setting, World, start, setting_of, server_state, devices, chosen_log, chosen_state}
-use Rattle.petal_history.specs.Contents.{content_at}
+use Rattle.petal_rules.specs.World.{Setting, World, start, setting_of, server_state, devices, chosen_log, chosen_state, counted}
+use Rattle.petal_history.specs.Contents.{content_at, has_content}
 use Rattle.petal_history.specs.Events.{IsRunOf, events_of}
 use Rattle.petal_history.specs.Legal.{IsLegal, stepped, world_after}
 use Rattle.petal_history.specs.Sound.{IsSound}
@@ -56,19 +60,25 @@ TwoCopies state w cell =
 abbrev pub IsMarked : Store → Cell → Type 0
 IsMarked store cell = (is_marked store Busy cell ≡ true) ⊎ (is_marked store Stale cell ≡ true)
 
--- two copies of a cell are equal, or the block is marked at one of them
-abbrev pub AreCovered : Store → Store → Cell → Type 0
-AreCovered one other cell = (chain_in one.chains cell ≡ chain_in other.chains cell) ⊎ IsMarked one cell ⊎ IsMarked other cell
+-- the other server came back with nothing, so that the holder is to copy each block that it has; it has this one
+pub record IsToBeCopied (row : LinkRow) (holder : Store) (cell : Cell) : Type 0 where
+  pub whole : is_whole row.state ≡ true
+  pub stored : chain_in holder.chains cell ≢ []
 
--- the rule for a cell that one server holds alone: an unequal block is marked at one of the cell's two servers
+-- two copies of a cell are equal, or the block is marked at one of them, or the holder is to copy all that it has
+abbrev pub AreCovered : LinkRow → (holder other : Store) → Cell → Type 0
+AreCovered row holder other cell =
+    (chain_in holder.chains cell ≡ chain_in other.chains cell) ⊎ IsMarked holder cell ⊎ IsMarked other cell ⊎ IsToBeCopied row holder cell
+
+-- the rule for a cell that one server holds alone
 abbrev pub Covered : State → World → Cell → Type 0
 Covered state w cell =
-    (n m : ℕ) → primary state cell ≡ Some n → secondary state cell ≡ Some m → in_both state cell ≡ false
-    → AreCovered (w.servers n).own.store (w.servers m).own.store cell
+    (row : LinkRow) (holder : ℕ) → cell_link state cell ≡ Some row → is_alone holder row.state ≡ true
+    → AreCovered row (w.servers holder).own.store (w.servers (other_of holder row)).own.store cell
 
--- where a step changes a cell's chain at the server that leads the cell's link by its own state, the block was marked there
+-- where a step changes a cell's chain at a running server that leads the cell's link by its own state, the block was marked there
 pub record ChangesMarked (setting : Setting) (w v : World) (n : ℕ) (cell : Cell) : Type 0 where
-  pub marked : leads_link (server_state setting w n) n cell ≡ true
+  pub marked : (w.servers n).life.running ≡ true → leads_link (server_state setting w n) n cell ≡ true
       → chain_in (v.servers n).own.store.chains cell ≢ chain_in (w.servers n).own.store.chains cell
       → IsMarked (w.servers n).own.store cell
 
@@ -116,22 +126,29 @@ abbrev pub machine_after : Option (List Event) → Plain
 machine_after None = blank
 machine_after (Some events) = replay blank events
 
--- the machine's disk of this name has these contents
-pub record Holds (disks : List Disk) (name : List ℕ) (contents : ℕ → List ℕ) : Type 0 where
+-- the machine's disk of this name has these contents, where a block has one
+pub record Holds (disks : List Disk) (name : List ℕ) (has : ℕ → Bool) (contents : ℕ → List ℕ) : Type 0 where
   pub disk : Disk
   pub is : disk_of disks name ≡ Some disk
-  pub same : (block : ℕ) → content disk.now block ≡ contents block
+  pub same : (block : ℕ) → has block ≡ true → content disk.now block ≡ contents block
 
--- the machine has the disks of the chosen state, each with its contents, and no other
+-- the machine has the disks of the chosen state, each with its contents but for links that are Lost, and no other
 pub record AreHeld (setting : Setting) (w : World) (disks : List Disk) : Type 0 where
-  pub known : (row : DiskRow) → In row (chosen_state setting w).disks.rows → Holds disks row.name (content_at setting w row.id row.epoch)
+  pub known : (row : DiskRow) → In row (chosen_state setting w).disks.rows
+      → Holds disks row.name (has_content (chosen_state setting w) row) (content_at setting w row.id row.epoch)
   pub unknown : (name : List ℕ) → named (chosen_state setting w).disks.rows name ≡ None → disk_of disks name ≡ None
 
--- what a world keeps: agreement, the rules of two copies for each cell, and the rule of requests
+-- a store that waits to be filled is empty
+abbrev pub AreEmpty : World → Type 0
+AreEmpty w = (n : ℕ) → (w.servers n).own.store.fresh ≡ true → ((w.servers n).own.store.chains ≡ []) × ((w.servers n).own.store.marks ≡ [])
+
+-- what a world keeps: agreement, the rules of two copies for each cell, by the stores that count, that of empty stores, and the rule of
+-- requests
 pub record Stands (setting : Setting) (w : World) : Type 0 where
   pub agrees : Agrees setting w
-  pub copies : (cell : Cell) → TwoCopies (chosen_state setting w) w cell
-  pub covered : (cell : Cell) → Covered (chosen_state setting w) w cell
+  pub copies : (cell : Cell) → TwoCopies (chosen_state setting w) (counted setting w) cell
+  pub covered : (cell : Cell) → Covered (chosen_state setting w) (counted setting w) cell
+  pub empty : AreEmpty w
   pub requests : Requests setting w
 
 -- the chosen log after a list of records is at the front of that after more of them

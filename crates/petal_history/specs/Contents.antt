@@ -1,5 +1,6 @@
--- What the disks hold: the entries of each block's authority, in the state that was chosen last.
-use Rattle.std.specs.Prelude.{ℕ, List, Option, Some, None}
+-- What the disks hold: the entries of each block's authority, in the state that was chosen last. A server that is blanked counts as it
+-- was until its Join tells of it; of a link that is Lost nothing is said.
+use Rattle.std.specs.Prelude.{ℕ, Bool, false, List, Option, Some, None, is_some}
 use Rattle.petal_base.specs.Block.{zero_block}
 use Rattle.petal_base.specs.declared.cell.Cell.{Cell}
 use Rattle.global_tables.specs.Disk.{disk_at}
@@ -7,7 +8,7 @@ use Rattle.global_tables.specs.declared.disk.DiskRow.{DiskRow}
 use Rattle.petal_rules.specs.State.{State, authority}
 use Rattle.petal_rules.specs.Store.{chain_in, entry_at, bytes_of}
 use Rattle.petal_rules.specs.Server.{Server}
-use Rattle.petal_rules.specs.World.{Setting, World, chosen_state}
+use Rattle.petal_rules.specs.World.{Setting, World, chosen_state, counted}
 
 -- the cell of a disk's block
 abbrev pub cell_of_block : DiskRow → ℕ → Cell
@@ -30,8 +31,17 @@ abbrev pub content_where : State → World → Option DiskRow → (epoch block :
 content_where state w None epoch block = zero_block
 content_where state w (Some row) epoch block = content_in state w row epoch block
 
+-- some server's copy of the disk's block counts: its link is not Lost
+abbrev pub has_content : State → DiskRow → ℕ → Bool
+has_content state row block = is_some (authority state (cell_of_block row block))
+
+-- the same, for a disk that may be unknown
+abbrev pub has_content_where : State → Option DiskRow → ℕ → Bool
+has_content_where state None block = false
+has_content_where state (Some row) block = has_content state row block
+
 -- the content of a block of the disk of this number
 abbrev pub content_at : Setting → World → (disk epoch block : ℕ) → List ℕ
 content_at setting w disk epoch block =
     let state = chosen_state setting w in
-    content_where state w (disk_at state.disks.rows disk) epoch block
+    content_where state (counted setting w) (disk_at state.disks.rows disk) epoch block

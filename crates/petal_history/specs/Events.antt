@@ -27,10 +27,10 @@ use Rattle.script_lines.specs.declared.script.Script.{Script}
 use Rattle.petal_rules.specs.Clients.{Asked}
 use Rattle.petal_rules.specs.Server.{Server}
 use Rattle.petal_rules.specs.State.{State}
-use Rattle.petal_rules.specs.World.{Setting, World, start, setting_of, chosen_state}
+use Rattle.petal_rules.specs.World.{Setting, World, start, setting_of, chosen_state, counted}
 use Rattle.petal_rules.specs.declared.step.Step.{Step}
 use Rattle.petal_rules.specs.declared.step.Step.TheVariants.{Call, Deliver}
-use Rattle.petal_history.specs.Contents.{content_in, content_where}
+use Rattle.petal_history.specs.Contents.{content_in, content_where, has_content_where}
 use Rattle.petal_history.specs.Legal.{stepped}
 use Rattle.petal_history.specs.declared.record.Record.{Record}
 
@@ -90,7 +90,7 @@ abbrev pub blocks_in : Setting → World → List ℕ
 blocks_in setting w =
     map (λ row. row.0) (fold (λ (t : Table ℕ ℕ) b. put nat_cmp t b b) [] (flat_map (λ n. blocks_of (w.servers n)) (range_with_len 0 setting.servers)))
 
--- a step, as contents see it: the worlds before and after it, and what is chosen in each
+-- a step, as contents see it: the worlds before and after it with the stores that count, and what is chosen in each
 pub record Change : Type 0 where
   pub setting : Setting
   pub w : World
@@ -99,7 +99,8 @@ pub record Change : Type 0 where
   pub chosen_next : State
 
 abbrev pub change_by : Setting → World → World → Change
-change_by setting w next = record { setting = setting; w = w; next = next; chosen = chosen_state setting w; chosen_next = chosen_state setting next }
+change_by setting w next =
+    record { setting = setting; w = counted setting w; next = counted setting next; chosen = chosen_state setting w; chosen_next = chosen_state setting next }
 
 -- the content of a disk's block at the disk's epoch, before the step and after it
 abbrev pub before_step : Change → DiskRow → ℕ → List ℕ
@@ -108,9 +109,15 @@ before_step change row block = content_in change.chosen change.w row row.epoch b
 abbrev pub after_step : Change → DiskRow → ℕ → List ℕ
 after_step change row block = content_where change.chosen_next change.next (disk_at change.chosen_next.disks.rows row.id) row.epoch block
 
+-- the block has a content after the step, and it is another one
+abbrev pub is_changed : Change → DiskRow → ℕ → Bool
+is_changed change row block =
+    has_content_where change.chosen_next (disk_at change.chosen_next.disks.rows row.id) block
+    && not (same_bytes (before_step change row block) (after_step change row block))
+
 -- the blocks of a disk whose content is another after the step, by number
 abbrev pub changed_blocks : Change → DiskRow → List ℕ
-changed_blocks change row = filter (λ b. not (same_bytes (before_step change row b) (after_step change row b))) (blocks_in change.setting change.next)
+changed_blocks change row = filter (is_changed change row) (blocks_in change.setting change.next)
 
 abbrev pub writes_so : List ℕ → ℕ → List ℕ → Write → Bool
 writes_so name block bytes write = same_bytes write.disk name && (write.block == block) && same_bytes write.bytes bytes

@@ -180,6 +180,49 @@ a read vol 1\n",
 }
 
 #[test]
+fn servers_that_are_blanked(rt: HostRuntime) -> Result<(), Fail> {
+    let rows: [Row; 4] = [
+        Row {
+            shows: "a server that comes back with nothing is filled, and its neighbours may stop",
+            lines: "a write vol 1 fill 1\na write vol 2 fill 2\nwait\nop blank 2\nop settle\nop stop 1\nop stop 3\nwait\na read vol 1\nb read vol 2\n",
+            written: &[
+                "2: ok\n4: ok\n5: ok\n7: ok\n8: ok\n9: ok\n10: ok\n12: data 65536x1\n13: data 65536x2\n",
+            ],
+            ..ON_DISK
+        },
+        Row {
+            shows: "the same, where letters are lost and come twice",
+            start: "servers 5 slots 16\nnet lose 3\nnet twice 2\na disk vol on 0 1 2 3 4\nwait\n",
+            lines: "a write vol 1 fill 1\na write vol 2 fill 2\nwait\nop blank 2\nop settle\nop stop 1\nop stop 3\nwait\na read vol 1\nb read vol 2\n",
+            letters: Letters::LostAndTwice,
+            written: &[
+                "4: ok\n6: ok\n7: ok\n9: ok\n10: ok\n11: ok\n12: ok\n14: data 65536x1\n15: data 65536x2\n",
+            ],
+            ..RUN
+        },
+        Row {
+            shows: "a server that is stopped already is blanked",
+            lines: "a write vol 1 fill 1\nwait\nop stop 2\nwait\na write vol 1 fill 2\nwait\nop blank 2\nop settle\nop stop 1\nwait\na read vol 1\n",
+            written: &["2: ok\n4: ok\n6: ok\n8: ok\n10: ok\n11: ok\n12: ok\n14: data 65536x2\n"],
+            ..ON_DISK
+        },
+        Row {
+            shows: "what a server held alone is lost with its device, and other blocks of it are served",
+            lines: "a write vol 2 fill 3\nwait\nop stop 1\nwait\na write vol 1 fill 4\nwait\nop blank 2\nop settle\nop start 1\nop settle\nwait
+a read vol 1\nb write vol 1 fill 5\nc read vol 2\nd write vol 0 fill 6\nwait\na read vol 0\n",
+            written: &[
+                "2: ok\n4: ok\n6: ok\n8: ok\n10: ok\n11: ok\n12: ok\n13: ok\n15: unavailable\n16: unavailable\n17: data 65536x3\n18: ok\n20: data 65536x6\n",
+            ],
+            ..ON_DISK
+        },
+    ];
+    for row in &rows {
+        assert!(rt; is_so(&rt, rt.alloc(), row)?, "{}", row.shows);
+    }
+    Ok(())
+}
+
+#[test]
 fn lines_that_are_refused(rt: HostRuntime) -> Result<(), Fail> {
     let rows: [Row; 3] = [
         Row {
@@ -209,13 +252,7 @@ fn lines_that_are_refused(rt: HostRuntime) -> Result<(), Fail> {
 
 #[test]
 fn lines_that_are_not_built_yet(rt: HostRuntime) -> Result<(), Fail> {
-    let rows: [Row; 3] = [
-        Row {
-            shows: "a blank server is not built yet",
-            lines: "op blank 1\n",
-            written: &["refused line 2: not built\n"],
-            ..REFUSED
-        },
+    let rows: [Row; 2] = [
         Row {
             shows: "a snapshot is not built yet",
             lines: "a disk vol on 0 1\n# the other\na snap vol monday\n",

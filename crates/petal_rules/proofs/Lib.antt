@@ -2,4 +2,5 @@ pub mod Applied
 pub mod CellTables
 pub mod Letters
 pub mod ListLemmas
+pub mod Settled
 pub mod Tests

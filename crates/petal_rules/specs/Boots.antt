@@ -1,4 +1,5 @@
--- A server that boots: what stands on its devices is there, what it had in memory is gone, and it is a new incarnation.
+-- A server that boots: what stands on its devices is there, what it had in memory is gone, and it is a new incarnation. Its data
+-- device may have been made blank before.
 use Rattle.std.specs.Prelude.{◌+◌, true, List, [], length, if◌then◌else◌}
 use Rattle.petal_command.specs.declared.command.Command.{Command}
 use Rattle.petal_msg.specs.declared.letter.Actor.TheVariants as actor
@@ -6,8 +7,9 @@ use Rattle.petal_paxos.specs.declared.record.StateRecord.TheVariants.{Inc}
 use Rattle.petal_rules.specs.Entries.{known_run}
 use Rattle.petal_rules.specs.Jobs.{Acted, down_posts, is_overfull}
 use Rattle.petal_rules.specs.Log.{Log, first_log, commits, rev_of}
-use Rattle.petal_rules.specs.Server.{Server, Here, no_copies, no_pairs, letters_of}
+use Rattle.petal_rules.specs.Server.{Server, Own, Here, no_copies, no_pairs, letters_of}
 use Rattle.petal_rules.specs.State.{servers_of}
+use Rattle.petal_rules.specs.Store.{blank_store}
 use Rattle.petal_rules.specs.declared.step.CommitEnd.TheVariants.{Before, After}
 use Rattle.petal_rules.specs.declared.step.WorkEnd.{WorkEnd}
 use Rattle.petal_rules.specs.declared.step.WorkEnd.TheVariants.{Done, Fault}
@@ -42,6 +44,12 @@ wakes here server = record {
   letters = letters_of (record { from = actor.Server here.me; inc = server.life.inc; rev = rev_of server.log }) 0
       (down_posts here.me here.inc (servers_of here.state));
 }
+
+-- a stopped server's data device is a blank one
+abbrev pub blanked : Server → Server
+blanked server =
+    let own : Own = server.own in
+    record server { own = record own { store = blank_store own.store.slots } }
 
 -- the server stays as it is
 abbrev pub stays : Server → Acted

@@ -1,8 +1,8 @@
 -- What an entry of the log does to a server's own part in the pairs. At an entry that changes a link, or makes one of its two
 -- servers In or Out, all is dropped that the server keeps of the link but its own pending operations: what others asked of it,
 -- how far the pages and copies are, and the copies under way. Its own operations stay, with their slots, and go on by the link
--- as it now is.
-use Rattle.std.specs.Prelude.{ℕ, ◌-◌, ◌&&◌, not, Bool, false, List, [], ◌++◌, map, filter, length, Option, Some, None, is_some}
+-- as it now is. And with its own Join a server that came back with nothing waits for nobody any more.
+use Rattle.std.specs.Prelude.{ℕ, ◌-◌, ◌==◌, ◌&&◌, not, Bool, true, false, List, [], ◌++◌, map, filter, length, if◌then◌else◌, Option, Some, None, is_some}
 use Rattle.std.specs.Option.{option_map_or}
 use Rattle.global_tables.specs.Link.{has_server}
 use Rattle.global_tables.specs.declared.link.LinkRow.{LinkRow}
@@ -10,13 +10,15 @@ use Rattle.global_tables.specs.declared.link.LinkState.{LinkState}
 use Rattle.global_tables.specs.declared.link.LinkState.TheVariants.{Both, Only, Lost}
 use Rattle.petal_base.specs.declared.cell.Cell.{Cell}
 use Rattle.petal_command.specs.declared.command.Command.{Command}
+use Rattle.petal_command.specs.declared.command.Command.TheVariants.{Join}
 use Rattle.petal_msg.specs.declared.copying.LinkId.{LinkId}
 use Rattle.petal_msg.specs.declared.operation.LastOp.{LastOp}
 use Rattle.petal_state.specs.Command.{after}
 use Rattle.petal_state.specs.Place.{touches}
 pub use Rattle.petal_state.specs.Place.{touches_cell}
 use Rattle.petal_rules.specs.State.{State, id_of, link_named, other_in}
-use Rattle.petal_rules.specs.Server.{Own, Copies}
+use Rattle.petal_rules.specs.Server.{Own, Here, Copies}
+use Rattle.petal_rules.specs.Store.{settled}
 use Rattle.petal_rules.specs.Writes.{has_slot}
 use Rattle.petal_rules.specs.declared.job.Job.{Job}
 use Rattle.petal_rules.specs.declared.job.Job.TheVariants as job
@@ -45,6 +47,16 @@ crossed state entry own = record {
   store = record own.store { tickets = own.store.tickets - length (filter (loses_slot state entry) own.pairs.last) };
 }
 
+-- the entry is this incarnation's own Join with an empty store
+abbrev pub is_blank_join : Command → (me inc : ℕ) → Bool
+is_blank_join (Join server joined true) me inc = (server == me) && (joined == inc)
+is_blank_join _ me inc = false
+
+-- with its own Join, and before any other commit to its data device, a server's store waits for nobody any more: from then on each of
+-- its links is held by the other server, which copies all, or is Lost
+abbrev pub settled_by : Here → Command → Own → Own
+settled_by here entry own = if is_blank_join entry here.me here.inc then record own { store = settled own.store } else own
+
 -- its own operations on these links go on
 abbrev pub stage_jobs : State → Command → Own → List Job
 stage_jobs state entry own = map (λ row. job.Stage row.0) (filter (λ row. touches_cell state entry row.0) own.pairs.pending)
@@ -61,9 +73,9 @@ abbrev pub link_jobs : State → Command → ℕ → List Job
 link_jobs state entry me =
     map (λ row. job.Mend (id_of row)) (filter (λ row. touches state entry row && is_mended (after state entry) me row row.state) (after state entry).links)
 
-abbrev pub crossed_by : State → Option Command → Own → Own
-crossed_by state None own = own
-crossed_by state (Some entry) own = crossed state entry own
+abbrev pub crossed_by : Here → Option Command → Own → Own
+crossed_by here None own = own
+crossed_by here (Some entry) own = settled_by here entry (crossed here.state entry own)
 
 -- the jobs that follow an entry
 abbrev pub jobs_by : State → ℕ → Option Command → Own → List Job

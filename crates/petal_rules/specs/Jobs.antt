@@ -162,7 +162,7 @@ abbrev pub crossing : Here → Server → List Job → Option Command → LogDon
 crossing here server rest entry done = record {
   server = record server {
     log = done.log;
-    own = crossed_by here.state entry server.own;
+    own = crossed_by here entry server.own;
     queue = rest ++ done.jobs ++ jobs_by here.state here.me entry server.own;
   };
   letters = letters_of (sender here) 0 done.posts;

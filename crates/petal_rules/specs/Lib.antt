@@ -14,6 +14,7 @@ pub mod Crossing
 pub mod Returns
 pub mod Jobs
 pub mod Boots
+pub mod Blanked
 pub mod Clients
 pub mod World
 pub mod Agreement

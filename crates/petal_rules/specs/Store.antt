@@ -1,5 +1,5 @@
 -- What a server keeps of blocks on its data device.
-use Rattle.std.specs.Prelude.{ℕ, ◌+◌, ◌-◌, Bool, false, List, [], ◌∷◌, length, map, max, sum_by, nat_le, if◌then◌else◌, Option, Some, None, unwrap_or}
+use Rattle.std.specs.Prelude.{ℕ, ◌+◌, ◌-◌, Bool, true, false, List, [], ◌∷◌, length, map, max, sum_by, nat_le, if◌then◌else◌, Option, Some, None, unwrap_or}
 use Rattle.std.specs.declared.cmp.Ordering.{Ordering}
 use Rattle.std.specs.Ordering.{nat_cmp, ordering_then}
 use Rattle.busy_marks.specs.Marks.{has_mark, with_mark, without_mark}
@@ -38,6 +38,14 @@ cell_cmp a b = ordering_then (nat_cmp a.map b.map) (nat_cmp a.block b.block)
 -- a device on which nothing was put, and that waits for nobody to fill it
 abbrev pub empty_store : ℕ → Store
 empty_store slots = record { slots = slots; chains = []; tickets = 0; marks = []; fresh = false; records = 0 }
+
+-- a blank device, which is to be filled by others
+abbrev pub blank_store : ℕ → Store
+blank_store slots = record (empty_store slots) { fresh = true }
+
+-- the device waits for nobody any more, which is one record more where it did
+abbrev pub settled : Store → Store
+settled store = if store.fresh then record store { fresh = false; records = store.records + 1 } else store
 
 -- a cell's entries
 abbrev pub chain_in : Table Cell Chain → Cell → Chain

@@ -13,16 +13,18 @@ use Rattle.script_lines.specs.declared.script.Script.{Script}
 use Rattle.petal_paxos.specs.Chosen.{Devices}
 use Rattle.petal_paxos.specs.Chosen.{chosen_log as chosen_by}
 use Rattle.petal_state.specs.Command.{state_after}
+use Rattle.petal_state.specs.State as empty
+use Rattle.petal_rules.specs.Blanked.{BeforeBlank, blank_joins_from, kept_store}
 use Rattle.petal_rules.specs.Lists.{In, put_at}
 use Rattle.petal_rules.specs.Log.{state_in}
 use Rattle.petal_rules.specs.State.{State}
-use Rattle.petal_rules.specs.Store.{top_of}
-use Rattle.petal_rules.specs.Server.{Server, first_server, letters_of}
+use Rattle.petal_rules.specs.Store.{Store, top_of}
+use Rattle.petal_rules.specs.Server.{Own, Server, first_server, letters_of}
 use Rattle.petal_rules.specs.Jobs.{Acted, here_of, works, delivered, ticks, faults, stops, glances, operator}
-use Rattle.petal_rules.specs.Boots.{boots}
+use Rattle.petal_rules.specs.Boots.{boots, blanked, stays}
 use Rattle.petal_rules.specs.Clients.{Client, Asked, Reaction, first_client, client_sender, rests, called, heard, ticked}
 use Rattle.petal_rules.specs.declared.step.Step.{Step}
-use Rattle.petal_rules.specs.declared.step.Step.TheVariants.{Call, Deliver, Tick, Work, Stop, Boot, Glance}
+use Rattle.petal_rules.specs.declared.step.Step.TheVariants.{Call, Deliver, Tick, Work, Stop, Blank, Boot, Glance}
 use Rattle.petal_rules.specs.declared.step.WorkEnd.TheVariants as work_end
 
 -- what a run is given: how many servers and slots, and the lines of its script
@@ -34,6 +36,7 @@ pub record Setting : Type 0 where
 -- a step that a line of the operator gives a server
 pub data Deed : Type 0 where
   Stopped : Deed
+  Blanked : Deed
   Booted : Deed
 
 -- what was done of the operator's last line: the server that is at its hand, with the last step that the line gave it, until
@@ -43,7 +46,8 @@ pub record Control : Type 0 where
   pub glanced : Option ℕ
 
 -- all servers and clients, by number, with the stamp of the last step of each; all letters ever sent, the newest first; the
--- answers given so far, each with its line; and what was done of the operator's last line
+-- answers given so far, each with its line; what was done of the operator's last line; and of each server that was blanked the store
+-- from before, which no rule reads
 pub record World : Type 0 where
   pub servers : ℕ → Server
   pub clients : ℕ → Client
@@ -52,6 +56,7 @@ pub record World : Type 0 where
   pub sent : List Letter
   pub answers : List (ℕ × Answer)
   pub control : Control
+  pub before_blank : ℕ → Option BeforeBlank
 
 -- the servers run, nothing was stored, called or sent
 abbrev pub start : Setting → World
@@ -63,6 +68,7 @@ start setting = record {
   sent = [];
   answers = [];
   control = record { hand = None; glanced = None };
+  before_blank = λ n. None;
 }
 
 -- ### What a script sets
@@ -91,6 +97,7 @@ line_in (Deliver letter) = None
 line_in Tick = None
 line_in (Work end) = None
 line_in Stop = None
+line_in Blank = None
 line_in (Boot end) = None
 line_in (Glance line round) = None
 
@@ -101,6 +108,7 @@ letter_in (Deliver letter) = Some letter
 letter_in Tick = None
 letter_in (Work end) = None
 letter_in Stop = None
+letter_in Blank = None
 letter_in (Boot end) = None
 letter_in (Glance line round) = None
 
@@ -132,6 +140,38 @@ state_at setting w place = state_after setting.servers (take place (chosen_log s
 abbrev pub chosen_state : Setting → World → State
 chosen_state setting w = state_after setting.servers (chosen_log setting w)
 
+-- ### What counts of stores
+
+-- how many Joins of the server with an empty store are among these entries
+abbrev pub blank_joins_in : Setting → List Command → ℕ → ℕ
+blank_joins_in setting log n = blank_joins_from (empty.start setting.servers) log n
+
+-- the store of a server that counts by these entries: from its blank until they tell of it, the one before the blank
+abbrev pub kept_by : Setting → List Command → World → ℕ → Store
+kept_by setting log w n = kept_store (blank_joins_in setting log n) (w.before_blank n) (w.servers n).own.store
+
+abbrev pub with_store : Server → Store → Server
+with_store server store =
+    let own : Own = server.own in
+    record server { own = record own { store = store } }
+
+-- the world as it counts by these entries: each server has the store that counts
+abbrev pub counted_by : Setting → List Command → World → World
+counted_by setting log w = record w { servers = λ n. with_store (w.servers n) (kept_by setting log w n) }
+
+-- the same by what is chosen
+abbrev pub kept : Setting → World → ℕ → Store
+kept setting w n = kept_by setting (chosen_log setting w) w n
+
+abbrev pub counted : Setting → World → World
+counted setting w = counted_by setting (chosen_log setting w) w
+
+-- a blank leaves the store before
+abbrev pub before_blanks : Step → Setting → World → ℕ → ℕ → Option BeforeBlank
+before_blanks Blank setting w n =
+    put_at w.before_blank n (Some (record { joins = blank_joins_in setting (chosen_log setting w) n; store = kept setting w n }))
+before_blanks _ setting w n = w.before_blank
+
 -- ### What a step does
 
 -- a server's step, at its state
@@ -142,6 +182,7 @@ server_step Tick state me server = ticks (here_of state me server) server
 server_step (Work work_end.Done) state me server = works (here_of state me server) server server.queue
 server_step (Work (work_end.Fault end)) state me server = faults (here_of state me server) server server.queue end
 server_step Stop state me server = stops (here_of state me server) server
+server_step Blank state me server = stays (blanked server)
 server_step (Boot end) state me server = boots (here_of state me server) server end
 server_step (Glance line round) state me server = glances (here_of state me server) line round server
 
@@ -156,6 +197,7 @@ client_step (Deliver letter) state me client line = heard state me client letter
 client_step Tick state me client line = ticked state me client
 client_step (Work end) state me client line = rests client
 client_step Stop state me client line = rests client
+client_step Blank state me client line = rests client
 client_step (Boot end) state me client line = rests client
 client_step (Glance number round) state me client line = rests client
 
@@ -172,17 +214,19 @@ pub record Stepped : Type 0 where
 -- the steps of a line wait for their glance
 abbrev pub controls : Step → ℕ → Control → Control
 controls Stop n control = record control { hand = Some (n, Stopped) }
+controls Blank n control = record control { hand = Some (n, Blanked) }
 controls (Boot end) n control = record control { hand = Some (n, Booted) }
 controls (Glance line round) n control = record { hand = None; glanced = Some line }
 controls _ n control = control
 
-abbrev pub acts : World → ℕ → Step → ℕ → Acted → Stepped
-acts w n what stamp acted = record {
+abbrev pub acts : Setting → World → ℕ → Step → ℕ → Acted → Stepped
+acts setting w n what stamp acted = record {
   world = record w {
     servers = put_at w.servers n acted.server;
     server_clocks = put_at w.server_clocks n stamp;
     sent = stamped stamp acted.letters ++ w.sent;
     control = controls what n w.control;
+    before_blank = before_blanks what setting w n;
   };
   letters = stamped stamp acted.letters;
   answer = None;
@@ -208,7 +252,7 @@ reacts w c stamp reacted =
 
 -- a step of an actor with this stamp
 unfoldable pub step : Actor → Step → Setting → World → ℕ → Stepped
-step (actor.Server n) what setting w stamp = acts w n what stamp (server_step what (server_state setting w n) n (w.servers n))
+step (actor.Server n) what setting w stamp = acts setting w n what stamp (server_step what (server_state setting w n) n (w.servers n))
 step (actor.Client c) what setting w stamp =
     reacts w c stamp (client_step what (client_state setting w c) c (w.clients c) (next_line setting.lines c (w.clients c)))
 
@@ -244,21 +288,35 @@ pub record IsOpenLine (w : World) (asked : Asked) : Type 0 where
   pub is : (w.clients operator).asked ≡ Some asked
   pub first : w.control.glanced ≢ Some asked.line
 
--- a line stops this server
-abbrev pub Stops : Request → ℕ → Type 0
-Stops (request.Stop server) n = server ≡ n
-Stops _ n = ⊥
+-- a line stops this server, as its first step
+abbrev pub Stops : Request → ℕ → Option (ℕ × Deed) → Type 0
+Stops (request.Stop server) n before = (server ≡ n) × (before ≡ None)
+Stops (request.Blank server) n before = (server ≡ n) × (before ≡ None)
+Stops _ n before = ⊥
 
 -- the operator's open line stops this server, which runs
 pub record MayStop (w : World) (n : ℕ) : Type 0 where
   pub runs : (w.servers n).life.running ≡ true
   pub asked : Asked
   pub opened : IsOpenLine w asked
-  pub stops : Stops asked.request n
+  pub stops : Stops asked.request n w.control.hand
 
--- a line boots this server, behind what the line did before
+-- a line blanks this server, after its stop or as its first step
+abbrev pub Blanks : Request → ℕ → Option (ℕ × Deed) → Type 0
+Blanks (request.Blank server) n before = (server ≡ n) × ((before ≡ None) ⊎ (before ≡ Some (n, Stopped)))
+Blanks _ n before = ⊥
+
+-- the operator's open line blanks this server, which is stopped
+pub record MayBlank (w : World) (n : ℕ) : Type 0 where
+  pub rests : (w.servers n).life.running ≡ false
+  pub asked : Asked
+  pub opened : IsOpenLine w asked
+  pub blanks : Blanks asked.request n w.control.hand
+
+-- a line boots this server, after what the line did before
 abbrev pub Boots : Request → ℕ → Option (ℕ × Deed) → Type 0
 Boots (request.Start server) n before = (server ≡ n) × (before ≡ None)
+Boots (request.Blank server) n before = (server ≡ n) × (before ≡ Some (n, Blanked))
 Boots _ n before = ⊥
 
 -- the operator's open line boots this server, which is stopped and whose incarnation can be raised
@@ -273,6 +331,7 @@ pub record MayBoot (w : World) (n : ℕ) : Type 0 where
 abbrev pub IsDone : Request → (n : ℕ) → (running : Bool) → Option (ℕ × Deed) → Type 0
 IsDone (request.Stop server) n running before = (server ≡ n) × (running ≡ false)
 IsDone (request.Start server) n running before = (server ≡ n) × ((running ≡ true) ⊎ (before ≡ Some (n, Booted)))
+IsDone (request.Blank server) n running before = (server ≡ n) × (before ≡ Some (n, Booted))
 IsDone _ n running before = ⊥
 
 -- behind the steps that a line gives, or at once where it gives none, stands the line's one glance; a settle glances at all
@@ -314,6 +373,7 @@ MayServer (Deliver letter) w n = MayReceive w n letter
 MayServer Tick w n = MayAct w n
 MayServer (Work end) w n = MayWork w n
 MayServer Stop w n = MayStop w n
+MayServer Blank w n = MayBlank w n
 MayServer (Boot end) w n = MayBoot w n
 MayServer (Glance line round) w n = MayGlance w n line round
 
@@ -323,6 +383,7 @@ MayClient (Deliver letter) setting w c = MayDeliver w (actor.Client c) letter
 MayClient Tick setting w c = Unit {0}
 MayClient (Work end) setting w c = ⊥
 MayClient Stop setting w c = ⊥
+MayClient Blank setting w c = ⊥
 MayClient (Boot end) setting w c = ⊥
 MayClient (Glance line round) setting w c = ⊥
 

@@ -33,6 +33,8 @@ pub enum Step {
     Work(WorkEnd),
     /// A running server stops.
     Stop,
+    /// A stopped server gets a blank data device.
+    Blank,
     /// A stopped server boots, which a failed device may end.
     Boot(WorkEnd),
     /// A server shows the operator whether it runs, for this line and this round of it.

@@ -1,8 +1,8 @@
--- The lines that are built: clients make disks, and write and read their blocks; the operator stops and starts servers, and waits
--- until they are settled.
+-- The lines that are built: clients make disks, and write and read their blocks; the operator stops, starts and blanks servers,
+-- and waits until they are settled.
 use Rattle.std.specs.Prelude.{ℕ, Bool, true, false, ◌&&◌, ◌||◌, nat_lt, List, [], ◌∷◌, Option, Some, None, if◌then◌else◌}
 use Rattle.script_lines.specs.declared.request.Request.{Request}
-use Rattle.script_lines.specs.declared.request.Request.TheVariants.{Disk, Write, Read, Stop, Start, Settle}
+use Rattle.script_lines.specs.declared.request.Request.TheVariants.{Disk, Write, Read, Stop, Start, Blank, Settle}
 use Rattle.script_lines.specs.declared.request.Line.{Line}
 
 abbrev pub is_built_request : Request → Bool
@@ -11,6 +11,7 @@ is_built_request (Write name block pattern) = true
 is_built_request (Read name None block) = true
 is_built_request (Stop server) = true
 is_built_request (Start server) = true
+is_built_request (Blank server) = true
 is_built_request Settle = true
 is_built_request _ = false
 
@@ -18,6 +19,7 @@ is_built_request _ = false
 abbrev pub is_operators : Request → Bool
 is_operators (Stop server) = true
 is_operators (Start server) = true
+is_operators (Blank server) = true
 is_operators Settle = true
 is_operators _ = false
 

@@ -1,5 +1,5 @@
-//! The lines that are built so far: clients make disks, and write and read their blocks; the operator stops and starts servers,
-//! and waits until they are settled.
+//! The lines that are built so far: clients make disks, and write and read their blocks; the operator stops, starts and
+//! blanks servers, and waits until they are settled.
 
 ghost use Rattle.std.specs.Prelude.{◌≡◌};
 ghost use Rattle.petal_run.specs.Built.{is_built, is_built_request, is_operators, first_not_built};
@@ -15,6 +15,7 @@ fn is_built_request(request: &Request) -> bool
         | Request::Write { .. }
         | Request::Stop { .. }
         | Request::Start { .. }
+        | Request::Blank { .. }
         | Request::Settle => true,
         Request::Read {
             name: _,
@@ -30,7 +31,8 @@ fn is_operators(request: &Request) -> bool
     ensures { result ≡ is_operators request.now }
 {
     match request {
-        Request::Stop { .. } | Request::Start { .. } | Request::Settle => true,
+        Request::Stop { .. } | Request::Start { .. } | Request::Blank { .. } | Request::Settle =>
+            true,
         _ => false,
     }
 }

@@ -4,7 +4,7 @@ use Rattle.petal_msg.specs.declared.letter.Actor.{Actor}
 use Rattle.petal_msg.specs.declared.letter.Actor.TheVariants as actor
 use Rattle.petal_rules.specs.World.{Setting, World, MayActor, MayClient, MayServer, MayStep, received, greatest_u64}
 use Rattle.petal_rules.specs.declared.step.Step.{Step}
-use Rattle.petal_rules.specs.declared.step.Step.TheVariants.{Call, Deliver, Tick, Work, Stop, Boot, Glance}
+use Rattle.petal_rules.specs.declared.step.Step.TheVariants.{Call, Deliver, Tick, Work, Stop, Blank, Boot, Glance}
 use Rattle.petal_rules.specs.declared.step.WorkEnd.{WorkEnd}
 use Rattle.petal_rules.specs.declared.step.WorkEnd.TheVariants.{Done}
 use Rattle.petal_world.specs.Play.{phase_for, stamp_of}
@@ -16,6 +16,7 @@ server_ended (Deliver letter) end w n may = may
 server_ended Tick end w n may = may
 server_ended (Work named) end w n may = may
 server_ended Stop end w n may = may
+server_ended Blank end w n may = may
 server_ended (Boot named) end w n may = may
 server_ended (Glance line round) end w n may = may
 
@@ -26,6 +27,7 @@ client_none (Deliver letter) end setting w c may = refl
 client_none Tick end setting w c may = refl
 client_none (Work named) end setting w c may = absurd may
 client_none Stop end setting w c may = refl
+client_none Blank end setting w c may = refl
 client_none (Boot named) end setting w c may = absurd may
 client_none (Glance line round) end setting w c may = refl
 
@@ -35,6 +37,7 @@ client_ended (Deliver letter) end setting w c may = refl
 client_ended Tick end setting w c may = refl
 client_ended (Work named) end setting w c may = absurd may
 client_ended Stop end setting w c may = refl
+client_ended Blank end setting w c may = refl
 client_ended (Boot named) end setting w c may = absurd may
 client_ended (Glance line round) end setting w c may = refl
 
@@ -44,6 +47,7 @@ client_done (Deliver letter) setting w c may = refl
 client_done Tick setting w c may = refl
 client_done (Work named) setting w c may = absurd may
 client_done Stop setting w c may = refl
+client_done Blank setting w c may = refl
 client_done (Boot named) setting w c may = absurd may
 client_done (Glance line round) setting w c may = refl
 
@@ -53,6 +57,7 @@ received_ended (Deliver letter) end = refl
 received_ended Tick end = refl
 received_ended (Work named) end = refl
 received_ended Stop end = refl
+received_ended Blank end = refl
 received_ended (Boot named) end = refl
 received_ended (Glance line round) end = refl
 
@@ -82,5 +87,6 @@ phase_ended (Deliver letter) end who setting w phase = refl
 phase_ended Tick end who setting w phase = refl
 phase_ended (Work named) end who setting w phase = refl
 phase_ended Stop end who setting w phase = refl
+phase_ended Blank end who setting w phase = refl
 phase_ended (Boot named) end who setting w phase = refl
 phase_ended (Glance line round) end who setting w phase = refl

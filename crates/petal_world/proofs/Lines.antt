@@ -1,27 +1,43 @@
 -- What the operator's open line asks for, and which steps and which glance it allows.
-use Rattle.std.proofs.Common.{◌≡◌, ◌⊎◌, ◌<◌, inl, inr, ℕ, Bool, true, false, Option, None, refl, sym, ap, subst, ◌∙◌}
+use Rattle.std.proofs.Common.{◌≡◌, ◌⊎◌, ◌<◌, inl, inr, ℕ, Bool, true, false, Option, Some, None, refl, sym, ap, subst, ◌∙◌}
 use Rattle.script_lines.specs.declared.request.Request.{Request}
 use Rattle.script_lines.specs.declared.request.Request.TheVariants as request
 use Rattle.petal_rules.specs.Clients.{Asked}
 use Rattle.petal_rules.specs.Server.{Life}
-use Rattle.petal_rules.specs.World.{Setting, Boots, Deed, IsDue, MayBoot, MayGlance, MayStop, Stops, World, greatest_u32}
+use Rattle.petal_rules.specs.World.{Setting, Blanks, Blanked, Boots, Deed, IsDue, MayBlank, MayBoot, MayGlance, MayStop, Stopped, Stops, World, greatest_u32}
 use Rattle.world_desks.specs.Desks.{Desk, desk_of}
 use Rattle.world_desks.proofs.Left.{left_life, left_runs}
-use Rattle.petal_world.specs.Lines.{HasStarted, HasStopped, IsSettling, IsStartedBy, IsStoppedBy}
+use Rattle.petal_world.specs.Lines.{HasBlanked, HasStarted, HasStopped, IsBlankedBy, IsSettling, IsStartedBy, IsStoppedBy, IsToBlank, IsToStart, IsToStop}
 
-stops_is : (asked : Request) (n : ℕ) → Stops asked n → asked ≡ request.Stop n
-stops_is (request.Stop server) n is = ap request.Stop is
-stops_is _ n never = absurd never
+stops_is : (asked : Request) (n : ℕ) (hand : Option (ℕ × Deed)) → Stops asked n hand
+    → ((asked ≡ request.Stop n) ⊎ (asked ≡ request.Blank n)) × (hand ≡ None)
+stops_is (request.Stop server) n hand is = (inl (ap request.Stop is.0), is.1)
+stops_is (request.Blank server) n hand is = (inr (ap request.Blank is.0), is.1)
+stops_is _ n hand never = absurd never
 
-is_stops : (asked : Request) (n : ℕ) → asked ≡ request.Stop n → Stops asked n
-is_stops asked n is = subst (λ (r : Request). Stops r n) (sym is) refl
+is_stops : (asked : Request) (n : ℕ) (hand : Option (ℕ × Deed)) → (asked ≡ request.Stop n) ⊎ (asked ≡ request.Blank n) → hand ≡ None → Stops asked n hand
+is_stops asked n hand (inl is) empty = subst (λ (r : Request). Stops r n hand) (sym is) (refl, empty)
+is_stops asked n hand (inr is) empty = subst (λ (r : Request). Stops r n hand) (sym is) (refl, empty)
 
-boots_is : (asked : Request) (n : ℕ) (hand : Option (ℕ × Deed)) → Boots asked n hand → (asked ≡ request.Start n) × (hand ≡ None)
-boots_is (request.Start server) n hand is = (ap request.Start is.0, is.1)
+blanks_is : (asked : Request) (n : ℕ) (hand : Option (ℕ × Deed)) → Blanks asked n hand
+    → (asked ≡ request.Blank n) × ((hand ≡ None) ⊎ (hand ≡ Some (n, Stopped)))
+blanks_is (request.Blank server) n hand is = (ap request.Blank is.0, is.1)
+blanks_is _ n hand never = absurd never
+
+is_blanks : (asked : Request) (n : ℕ) (hand : Option (ℕ × Deed)) → asked ≡ request.Blank n → (hand ≡ None) ⊎ (hand ≡ Some (n, Stopped))
+    → Blanks asked n hand
+is_blanks asked n hand is before = subst (λ (r : Request). Blanks r n hand) (sym is) (refl, before)
+
+boots_is : (asked : Request) (n : ℕ) (hand : Option (ℕ × Deed)) → Boots asked n hand
+    → ((asked ≡ request.Start n) × (hand ≡ None)) ⊎ ((asked ≡ request.Blank n) × (hand ≡ Some (n, Blanked)))
+boots_is (request.Start server) n hand is = inl (ap request.Start is.0, is.1)
+boots_is (request.Blank server) n hand is = inr (ap request.Blank is.0, is.1)
 boots_is _ n hand never = absurd never
 
-is_boots : (asked : Request) (n : ℕ) (hand : Option (ℕ × Deed)) → asked ≡ request.Start n → hand ≡ None → Boots asked n hand
-is_boots asked n hand is empty = subst (λ (r : Request). Boots r n hand) (sym is) (refl, empty)
+is_boots : (asked : Request) (n : ℕ) (hand : Option (ℕ × Deed))
+    → ((asked ≡ request.Start n) × (hand ≡ None)) ⊎ ((asked ≡ request.Blank n) × (hand ≡ Some (n, Blanked))) → Boots asked n hand
+is_boots asked n hand (inl is) = subst (λ (r : Request). Boots r n hand) (sym is.0) (refl, is.1)
+is_boots asked n hand (inr is) = subst (λ (r : Request). Boots r n hand) (sym is.0) (refl, is.1)
 
 -- what a server's desk tells of it
 pub runs_as : (setting : Setting) (w : World) (n : ℕ) (desk : Desk) (b : Bool) → desk ≡ desk_of setting w n → b ≡ desk.site.server.life.running
@@ -34,29 +50,66 @@ inc_as setting w n desk inc is told =
     ap (λ (life : Life). life.inc) (sym (left_life (w.servers n))) ∙ ap (λ (d : Desk). d.site.server.life.inc) (sym is) ∙ sym told
 
 module _ (w : World) (n : ℕ) where
-  pub stopped_by : (may : MayStop w n) → IsStoppedBy w n may.asked.line
-  stopped_by may = record { asked = may.asked; opened = may.opened; line_is = refl; request_is = stops_is may.asked.request n may.stops }
+  pub stops_empty : MayStop w n → w.control.hand ≡ None
+  stops_empty may = (stops_is may.asked.request n w.control.hand may.stops).1
 
-  pub may_stop_by : (line : ℕ) → (w.servers n).life.running ≡ true → IsStoppedBy w n line → MayStop w n
-  may_stop_by line runs by = record { runs = runs; asked = by.asked; opened = by.opened; stops = is_stops by.asked.request n by.request_is }
+  pub stopped_by : MayStop w n → IsToStop w n
+  stopped_by may = elim ((stops_is may.asked.request n w.control.hand may.stops).0) [
+    | inl is ↦ inl (may.asked.line, record { asked = may.asked; opened = may.opened; line_is = refl; request_is = is })
+    | inr is ↦ inr (may.asked.line, record { asked = may.asked; opened = may.opened; line_is = refl; request_is = is })
+  ]
 
-  pub started_by : (may : MayBoot w n) → IsStartedBy w n may.asked.line
-  started_by may =
-      record { asked = may.asked; opened = may.opened; line_is = refl; request_is = (boots_is may.asked.request n w.control.hand may.boots).0 }
+  pub may_stop_by : (w.servers n).life.running ≡ true → w.control.hand ≡ None → IsToStop w n → MayStop w n
+  may_stop_by runs empty (inl by) =
+      record { runs = runs; asked = by.1.asked; opened = by.1.opened; stops = is_stops by.1.asked.request n w.control.hand (inl by.1.request_is) empty }
+  may_stop_by runs empty (inr by) =
+      record { runs = runs; asked = by.1.asked; opened = by.1.opened; stops = is_stops by.1.asked.request n w.control.hand (inr by.1.request_is) empty }
 
-  pub boots_empty : MayBoot w n → w.control.hand ≡ None
-  boots_empty may = (boots_is may.asked.request n w.control.hand may.boots).1
+  pub blanked_by : MayBlank w n → IsToBlank w n
+  blanked_by may = (
+    may.asked.line,
+    record { asked = may.asked; opened = may.opened; line_is = refl; request_is = (blanks_is may.asked.request n w.control.hand may.blanks).0 },
+  )
 
-  pub may_boot_by : (line : ℕ) → (w.servers n).life.running ≡ false → (w.servers n).life.inc < greatest_u32 → w.control.hand ≡ None
-      → IsStartedBy w n line → MayBoot w n
-  may_boot_by line rests raises empty by =
-      record { rests = rests; raises = raises; asked = by.asked; opened = by.opened; boots = is_boots by.asked.request n w.control.hand by.request_is empty }
+  pub blanks_behind : MayBlank w n → (w.control.hand ≡ None) ⊎ (w.control.hand ≡ Some (n, Stopped))
+  blanks_behind may = (blanks_is may.asked.request n w.control.hand may.blanks).1
+
+  pub may_blank_by : (w.servers n).life.running ≡ false → IsToBlank w n → (w.control.hand ≡ None) ⊎ (w.control.hand ≡ Some (n, Stopped)) → MayBlank w n
+  may_blank_by rests by before =
+      record { rests = rests; asked = by.1.asked; opened = by.1.opened; blanks = is_blanks by.1.asked.request n w.control.hand by.1.request_is before }
+
+  -- what gives a server its boot: a line that starts it, or one that blanked it
+  abbrev pub IsToBoot : Type 0
+  IsToBoot = (IsToStart w n × (w.control.hand ≡ None)) ⊎ (IsToBlank w n × (w.control.hand ≡ Some (n, Blanked)))
+
+  pub booted_by : MayBoot w n → IsToBoot
+  booted_by may = elim (boots_is may.asked.request n w.control.hand may.boots) [
+    | inl is ↦ inl ((may.asked.line, record { asked = may.asked; opened = may.opened; line_is = refl; request_is = is.0 }), is.1)
+    | inr is ↦ inr ((may.asked.line, record { asked = may.asked; opened = may.opened; line_is = refl; request_is = is.0 }), is.1)
+  ]
+
+  pub may_boot_by : (w.servers n).life.running ≡ false → (w.servers n).life.inc < greatest_u32 → IsToBoot → MayBoot w n
+  may_boot_by rests raises (inl (by, empty)) = record {
+    rests = rests;
+    raises = raises;
+    asked = by.1.asked;
+    opened = by.1.opened;
+    boots = is_boots by.1.asked.request n w.control.hand (inl (by.1.request_is, empty));
+  }
+  may_boot_by rests raises (inr (by, blanked)) = record {
+    rests = rests;
+    raises = raises;
+    asked = by.1.asked;
+    opened = by.1.opened;
+    boots = is_boots by.1.asked.request n w.control.hand (inr (by.1.request_is, blanked));
+  }
 
   -- the open line is a settle in this round, or its glance is due behind what it gave the server
   abbrev pub ShownBy : (line round : ℕ) → Type 0
-  ShownBy line round = IsSettling w line round ⊎ ((round ≡ 0) × (HasStopped w n line ⊎ HasStarted w n line))
+  ShownBy line round = IsSettling w line round ⊎ ((round ≡ 0) × (HasStopped w n line ⊎ HasBlanked w n line ⊎ HasStarted w n line))
 
-  -- a line that stops the server is done where it doesn't run, one that starts it where it runs or has booted
+  -- a line that stops the server is done where it doesn't run, one that starts it where it runs or has booted, and one that blanks it
+  -- where it has booted
   shown_as : (line round : ℕ) (may : MayGlance w n line round) (asked : Request) → may.asked.request ≡ asked
       → IsDue w may.asked n round asked → ShownBy line round
   shown_as line round may (request.Stop server) is due = inr (
@@ -73,7 +126,7 @@ module _ (w : World) (n : ℕ) where
   )
   shown_as line round may (request.Start server) is due = inr (
     due.0,
-    inr (record {
+    inr (inr (record {
       by = record {
         asked = may.asked;
         opened = record { is = may.is; first = due.1 };
@@ -81,7 +134,19 @@ module _ (w : World) (n : ℕ) where
         request_is = is ∙ ap request.Start due.2.0;
       };
       shows = due.2.1;
-    }),
+    })),
+  )
+  shown_as line round may (request.Blank server) is due = inr (
+    due.0,
+    inr (inl (record {
+      by = record {
+        asked = may.asked;
+        opened = record { is = may.is; first = due.1 };
+        line_is = may.line_is;
+        request_is = is ∙ ap request.Blank due.2.0;
+      };
+      booted = due.2.1;
+    })),
   )
   shown_as line round may request.Settle is due =
       inl (record { asked = may.asked; is = may.is; line_is = may.line_is; round_is = sym due; request_is = is })
@@ -106,7 +171,13 @@ module _ (w : World) (n : ℕ) where
     line_is = done.by.line_is;
     due = due_of done.by.asked round (request.Stop n) done.by.request_is (first, done.by.opened.first, (refl, done.rests));
   }
-  may_glance_by line round (inr (first, inr done)) = record {
+  may_glance_by line round (inr (first, inr (inl done))) = record {
+    asked = done.by.asked;
+    is = done.by.opened.is;
+    line_is = done.by.line_is;
+    due = due_of done.by.asked round (request.Blank n) done.by.request_is (first, done.by.opened.first, (refl, done.booted));
+  }
+  may_glance_by line round (inr (first, inr (inr done))) = record {
     asked = done.by.asked;
     is = done.by.opened.is;
     line_is = done.by.line_is;

@@ -7,7 +7,7 @@ use Rattle.petal_msg.specs.declared.letter.Actor.TheVariants as actor
 use Rattle.script_lines.specs.declared.request.Line.{Line}
 use Rattle.petal_rules.specs.World.{Setting, World, MayStep, MayClient, start, clock_of, next_stamp, next_line, setting_of}
 use Rattle.petal_rules.specs.declared.step.Step.{Step}
-use Rattle.petal_rules.specs.declared.step.Step.TheVariants.{Call, Deliver, Tick, Work, Stop, Boot, Glance}
+use Rattle.petal_rules.specs.declared.step.Step.TheVariants.{Call, Deliver, Tick, Work, Stop, Blank, Boot, Glance}
 use Rattle.petal_rules.specs.declared.step.WorkEnd.{WorkEnd}
 use Rattle.petal_history.specs.Legal.{IsLegalFrom, Follows, InPhase, CallsInPhase, world_after, stepped}
 use Rattle.petal_history.specs.declared.record.Record.{Record}
@@ -29,6 +29,7 @@ can_take setting w c (Deliver letter) may = tt
 can_take setting w c Tick may = tt
 can_take setting w c (Work end) may = tt
 can_take setting w c Stop may = tt
+can_take setting w c Blank may = tt
 can_take setting w c (Boot end) may = tt
 can_take setting w c (Glance line round) may = tt
 
@@ -76,6 +77,7 @@ calls_in (Deliver letter) who setting w phase = tt
 calls_in Tick who setting w phase = tt
 calls_in (Work end) who setting w phase = tt
 calls_in Stop who setting w phase = tt
+calls_in Blank who setting w phase = tt
 calls_in (Boot end) who setting w phase = tt
 calls_in (Glance line round) who setting w phase = tt
 

@@ -1,7 +1,7 @@
 //! What was done of the operator's last line.
 
 ghost use Rattle.std.specs.Prelude.{◌≡◌, ◌≢◌, ◌↔◌, Some, None, IsTrue};
-ghost use Rattle.petal_rules.specs.World.{Booted, controls};
+ghost use Rattle.petal_rules.specs.World.{Blanked, Booted, Stopped, controls};
 ghost use Rattle.petal_rules.specs.World as rules;
 
 use petal_base::ServerId;
@@ -12,6 +12,7 @@ use std::marker::Model;
 #[derive(Clone, Copy, Debug)]
 pub enum Given {
     Stop,
+    Blank,
     Boot,
 }
 
@@ -49,6 +50,7 @@ impl Control {
     {
         match step {
             Step::Stop => self.hand = Some((server, Given::Stop)),
+            Step::Blank => self.hand = Some((server, Given::Blank)),
             Step::Boot(_) => self.hand = Some((server, Given::Boot)),
             Step::Glance { line, round: _ } => {
                 self.hand = None;
@@ -75,13 +77,33 @@ impl Control {
         }
     }
 
+    /// Whether this server is at the operator's hand, and stopped last.
+    pub fn has_stopped(&self, server: ServerId) -> bool
+        ensures { IsTrue result ↔ (self.now.hand ≡ Some (server, Stopped)) }
+    {
+        match self.hand {
+            Some((held, Given::Stop)) => held == server,
+            Some((_, Given::Blank | Given::Boot)) | None => false,
+        }
+    }
+
+    /// Whether this server is at the operator's hand, and was blanked last.
+    pub fn has_blanked(&self, server: ServerId) -> bool
+        ensures { IsTrue result ↔ (self.now.hand ≡ Some (server, Blanked)) }
+    {
+        match self.hand {
+            Some((held, Given::Blank)) => held == server,
+            Some((_, Given::Stop | Given::Boot)) | None => false,
+        }
+    }
+
     /// Whether this server is at the operator's hand, and booted last.
     pub fn has_booted(&self, server: ServerId) -> bool
         ensures { IsTrue result ↔ (self.now.hand ≡ Some (server, Booted)) }
     {
         match self.hand {
             Some((held, Given::Boot)) => held == server,
-            Some((_, Given::Stop)) | None => false,
+            Some((_, Given::Stop | Given::Blank)) | None => false,
         }
     }
 

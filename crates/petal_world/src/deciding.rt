@@ -4,10 +4,10 @@ ghost use Rattle.std.specs.Prelude.{◌≡◌, ◌↔◌, ℕ, Some, IsTrue, sli
 ghost use Rattle.petal_msg.specs.declared.letter.Actor.TheVariants as actor;
 ghost use Rattle.client_core.specs.Open.{settle_of};
 ghost use Rattle.petal_rules.specs.Jobs.{operator};
-ghost use Rattle.petal_rules.specs.World.{Setting, World, MayAct, MayBoot, MayCall, MayClient, MayGlance, MayReceive, MayServer, MayStep, MayStop, MayWork, received};
+ghost use Rattle.petal_rules.specs.World.{Setting, World, MayAct, MayBlank, MayBoot, MayCall, MayClient, MayGlance, MayReceive, MayServer, MayStep, MayStop, MayWork, received};
 ghost use Rattle.petal_table.specs.Table.{at};
 ghost use Rattle.world_desks.specs.Playable.{AreOrdered};
-ghost use Rattle.petal_world.specs.Lines.{HasStarted, HasStopped, IsSettling, IsStartedBy, IsStoppedBy};
+ghost use Rattle.petal_world.specs.Lines.{HasBlanked, HasStarted, HasStopped, IsBlankedBy, IsSettling, IsStartedBy, IsStoppedBy, IsToBlank, IsToStart, IsToStop};
 ghost use Rattle.petal_world.specs.Seats.{seat_of};
 ghost use Rattle.world_desks.specs.Desks.{desk_of};
 ghost use Rattle.world_desks.specs.Sent.{name_of, name_cmp};
@@ -34,6 +34,7 @@ pub fn received(step: &Step) -> Stamp
         | Step::Tick
         | Step::Work(_)
         | Step::Stop
+        | Step::Blank
         | Step::Boot(_)
         | Step::Glance { line: _, round: _ } => 0,
     }
@@ -99,6 +100,52 @@ impl<H: Host> Actors<H> {
         Some(line)
     }
 
+    /// The operator's open line, where it blanks this server and was not glanced at.
+    fn open_blank(&self, server: ServerId) -> Option<u32>
+        ensures { (setting : Setting) (w : World) (line : ℕ) → Shows setting w self.now → (result ≡ Some line) ↔ IsBlankedBy w server line }
+    {
+        let Some(seat) = self.seats.get(OPERATOR) else {
+            return None;
+        };
+        let Some(line) = seat.core.blanks(server) else {
+            return None;
+        };
+        if self.control.has_glanced(line) {
+            return None;
+        }
+        Some(line)
+    }
+
+    /// Whether the operator's open line blanks this server.
+    fn is_to_blank(&self, server: ServerId) -> bool
+        ensures { (setting : Setting) (w : World) → Shows setting w self.now → IsTrue result ↔ IsToBlank w server }
+    {
+        match self.open_blank(server) {
+            None => false,
+            Some(_line) => true,
+        }
+    }
+
+    /// Whether it starts this server.
+    fn is_to_start(&self, server: ServerId) -> bool
+        ensures { (setting : Setting) (w : World) → Shows setting w self.now → IsTrue result ↔ IsToStart w server }
+    {
+        match self.open_start(server) {
+            None => false,
+            Some(_line) => true,
+        }
+    }
+
+    /// Whether it stops this server first, as it does to blank it, too.
+    fn is_to_stop(&self, server: ServerId) -> bool
+        ensures { (setting : Setting) (w : World) → Shows setting w self.now → IsTrue result ↔ IsToStop w server }
+    {
+        match self.open_stop(server) {
+            None => self.is_to_blank(server),
+            Some(_line) => true,
+        }
+    }
+
     /// Whether the server may take a step by itself.
     fn may_act(&self, desk: &Desk<H>, server: ServerId) -> bool
         ensures { (setting : Setting) (w : World) → Shows setting w self.now → desk.now ≡ desk_of setting w server
@@ -129,10 +176,27 @@ impl<H: Host> Actors<H> {
         if !desk.host.is_running() {
             return false;
         }
-        match self.open_stop(server) {
-            None => false,
-            Some(_line) => true,
+        if !self.control.is_empty() {
+            return false;
         }
+        self.is_to_stop(server)
+    }
+
+    /// Whether the server's data device may be replaced by a blank one.
+    fn may_blank(&self, desk: &Desk<H>, server: ServerId) -> bool
+        ensures { (setting : Setting) (w : World) → Shows setting w self.now → desk.now ≡ desk_of setting w server
+            → IsTrue result ↔ MayBlank w server }
+    {
+        if desk.host.is_running() {
+            return false;
+        }
+        if !self.is_to_blank(server) {
+            return false;
+        }
+        if self.control.is_empty() {
+            return true;
+        }
+        self.control.has_stopped(server)
     }
 
     /// Whether the server may boot.
@@ -146,13 +210,13 @@ impl<H: Host> Actors<H> {
         if desk.host.inc() >= Inc::MAX {
             return false;
         }
+        if self.control.has_blanked(server) {
+            return self.is_to_blank(server);
+        }
         if !self.control.is_empty() {
             return false;
         }
-        match self.open_start(server) {
-            None => false,
-            Some(_line) => true,
-        }
+        self.is_to_start(server)
     }
 
     /// Whether the open line is this one, and has stopped the server.
@@ -182,6 +246,19 @@ impl<H: Host> Actors<H> {
         }
         if desk.host.is_running() {
             return true;
+        }
+        self.control.has_booted(server)
+    }
+
+    /// Whether the open line is this one, and has blanked the server, which has booted since.
+    fn has_blanked(&self, server: ServerId, line: u32) -> bool
+        ensures { (setting : Setting) (w : World) → Shows setting w self.now → IsTrue result ↔ HasBlanked w server line }
+    {
+        let Some(own) = self.open_blank(server) else {
+            return false;
+        };
+        if own != line {
+            return false;
         }
         self.control.has_booted(server)
     }
@@ -223,6 +300,9 @@ impl<H: Host> Actors<H> {
         if self.has_stopped(desk, server, line) {
             return true;
         }
+        if self.has_blanked(server, line) {
+            return true;
+        }
         self.has_started(desk, server, line)
     }
 
@@ -251,9 +331,11 @@ impl<H: Host> Actors<H> {
             Step::Call { line } => self.may_call(seat, *line),
             Step::Deliver { letter } => self.may_deliver(Actor::Client(client), letter.get()),
             Step::Tick => true,
-            Step::Work(_) | Step::Stop | Step::Boot(_) | Step::Glance { line: _, round: _ } => {
-                false
-            }
+            Step::Work(_)
+            | Step::Stop
+            | Step::Blank
+            | Step::Boot(_)
+            | Step::Glance { line: _, round: _ } => false,
         }
     }
 
@@ -267,6 +349,7 @@ impl<H: Host> Actors<H> {
             Step::Tick => self.may_act(desk, server),
             Step::Work(_) => self.may_work(desk, server),
             Step::Stop => self.may_stop(desk, server),
+            Step::Blank => self.may_blank(desk, server),
             Step::Boot(_) => self.may_boot(desk, server),
             Step::Glance { line, round } => self.may_glance(desk, server, *line, *round),
         }

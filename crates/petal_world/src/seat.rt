@@ -57,9 +57,11 @@ impl Seat {
             Step::Call { line: _ } => self.call(alloc),
             Step::Deliver { letter } => self.core.deliver(alloc, letter.get()),
             Step::Tick => self.core.tick(alloc),
-            Step::Work(_) | Step::Stop | Step::Boot(_) | Step::Glance { line: _, round: _ } => {
-                Ok(nothing(alloc))
-            }
+            Step::Work(_)
+            | Step::Stop
+            | Step::Blank
+            | Step::Boot(_)
+            | Step::Glance { line: _, round: _ } => Ok(nothing(alloc)),
         }
     }
 }

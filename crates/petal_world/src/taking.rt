@@ -99,6 +99,7 @@ impl<H: Host> Actors<H> {
                 | Step::Tick
                 | Step::Work(_)
                 | Step::Stop
+                | Step::Blank
                 | Step::Boot(_)
                 | Step::Glance { line: _, round: _ },
                 _,

@@ -6,28 +6,29 @@ use script_lines::{Line, Request, Script};
 use std::alloc::Global;
 use std::collections::VecDeque;
 
-/// A line that is to be called, its phase, the server that it stops or starts, where it does that, and whether it is a settle.
+/// What a line of the operator asks a server for.
+#[derive(Clone, Copy, Debug, PartialEq, Eq)]
+pub(crate) enum Order {
+    Stop,
+    Start,
+    Blank,
+}
+
+/// A line that is to be called, its phase, what it asks of a server, where it does that, and whether it is a settle.
 #[derive(Clone, Copy, Debug, PartialEq, Eq)]
 pub(crate) struct Due {
     pub(crate) number: u32,
     pub(crate) phase: u32,
-    pub(crate) stops: Option<ServerId>,
-    pub(crate) starts: Option<ServerId>,
+    pub(crate) order: Option<(Order, ServerId)>,
     pub(crate) settles: bool,
 }
 
-/// The server that the request stops, where it stops one.
-fn stopped_by(request: &Request) -> Option<ServerId> {
+/// What the request asks for, and of which server, where it asks that of one.
+fn ordered_by(request: &Request) -> Option<(Order, ServerId)> {
     match request {
-        Request::Stop { server } => Some(*server),
-        _ => None,
-    }
-}
-
-/// The server that the request starts, where it starts one.
-fn started_by(request: &Request) -> Option<ServerId> {
-    match request {
-        Request::Start { server } => Some(*server),
+        Request::Stop { server } => Some((Order::Stop, *server)),
+        Request::Start { server } => Some((Order::Start, *server)),
+        Request::Blank { server } => Some((Order::Blank, *server)),
         _ => None,
     }
 }
@@ -62,8 +63,7 @@ impl Caller {
         self.due.push_back(Due {
             number: line.number,
             phase: line.phase,
-            stops: stopped_by(&line.request),
-            starts: started_by(&line.request),
+            order: ordered_by(&line.request),
             settles: is_settle(&line.request),
         })?;
         Ok(())

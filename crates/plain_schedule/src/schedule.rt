@@ -5,7 +5,7 @@ ghost use Rattle.petal_history.specs.Sound.{IsSound};
 ghost use Rattle.world_desks.specs.Playable.{AreOrdered};
 ghost use Rattle.plain_schedule.specs.Places.{GoesOn};
 
-use crate::caller::{Caller, Due, callers_of};
+use crate::caller::{Caller, Due, Order, callers_of};
 use crate::patience::Patience;
 use crate::post::{Handing, Post};
 use memory_server::{MemServer, members};
@@ -288,41 +288,63 @@ impl Schedule {
             self.note_call(client);
             let line = due.number;
             self.take(alloc, Actor::Client(client), &Step::Call { line })?;
-            if let Some(server) = due.stops {
-                self.stop(alloc, line, server)?;
-            }
-            if let Some(server) = due.starts {
-                self.start(alloc, line, server)?;
+            if let Some((order, server)) = due.order {
+                self.obey(alloc, line, order, server)?;
             }
         }
         Ok(())
     }
 
-    // The operator's line stops the server, where it runs, and shows the operator that it does not.
-    fn stop(&mut self, alloc: Global, line: u32, server: ServerId) -> Result<(), NoMemory>
+    // The server takes the steps that the operator's line gives it, and is shown to the operator.
+    fn obey(
+        &mut self,
+        alloc: Global,
+        line: u32,
+        order: Order,
+        server: ServerId,
+    ) -> Result<(), NoMemory>
         ensures script { self.new.world.script ≡ self.old.world.script }
         ensures goes_on { GoesOn self.old.world.records self.new.world.records }
     {
-        let actor = Actor::Server(server);
-        self.take(alloc, actor, &Step::Stop)?;
-        self.take(alloc, actor, &Step::Glance { line, round: 0 })?;
+        match order {
+            Order::Stop => self.stop(alloc, server)?,
+            Order::Start => self.boot(alloc, server)?,
+            Order::Blank => self.blank(alloc, server)?,
+        }
+        let glance = Step::Glance { line, round: 0 };
+        self.take(alloc, Actor::Server(server), &glance)?;
         Ok(())
     }
 
-    // The operator's line starts the server, where it is stopped, and shows the operator whether it runs.
-    fn start(&mut self, alloc: Global, line: u32, server: ServerId) -> Result<(), NoMemory>
+    // The server stops, where it runs.
+    fn stop(&mut self, alloc: Global, server: ServerId) -> Result<(), NoMemory>
         ensures script { self.new.world.script ≡ self.old.world.script }
         ensures goes_on { GoesOn self.old.world.records self.new.world.records }
     {
-        let actor = Actor::Server(server);
-        if self
-            .take(alloc, actor, &Step::Boot(WorkEnd::Done))?
-            .is_some()
-        {
+        self.take(alloc, Actor::Server(server), &Step::Stop)?;
+        Ok(())
+    }
+
+    // It boots, where it is stopped.
+    fn boot(&mut self, alloc: Global, server: ServerId) -> Result<(), NoMemory>
+        ensures script { self.new.world.script ≡ self.old.world.script }
+        ensures goes_on { GoesOn self.old.world.records self.new.world.records }
+    {
+        let boot = Step::Boot(WorkEnd::Done);
+        if self.take(alloc, Actor::Server(server), &boot)?.is_some() {
             self.rounds_left = AFTER_BOOT;
         }
-        self.take(alloc, actor, &Step::Glance { line, round: 0 })?;
         Ok(())
+    }
+
+    // It stops, where it runs, and boots with a blank data device.
+    fn blank(&mut self, alloc: Global, server: ServerId) -> Result<(), NoMemory>
+        ensures script { self.new.world.script ≡ self.old.world.script }
+        ensures goes_on { GoesOn self.old.world.records self.new.world.records }
+    {
+        self.stop(alloc, server)?;
+        self.take(alloc, Actor::Server(server), &Step::Blank)?;
+        self.boot(alloc, server)
     }
 
     // How many ticks are passed on at once to one of so many actors. After a loss they come to one after the other, for some rounds
@@ -443,12 +465,12 @@ impl Schedule {
 
     /// Each client and then each server has its turn, by number. In it an actor gets the letters that were sent to it, ticks are
     /// passed on to it, a client with nothing open calls its next line of the phase, and a server works until its queue is
-    /// empty, before the ticks and after them. Where the operator calls a line that stops or starts a server, the stop or the boot
-    /// and its glance follow at once; while a settle is open, the operator's turn ends with a glance at each server. A tick is passed on where the actor has waited for it long enough. In the round after a loss
-    /// four to six are passed on at once to one client and one server, and each box is emptied from another letter on than in the
-    /// round before, so that no loss of every K-th letter hits the same letters for ever. In the first round of a later phase a
-    /// client calls nothing, and one that has a line to call asks what was chosen: so it need not find out by an entry of its own
-    /// that a disk was made.
+    /// empty, before the ticks and after them. Where the operator calls a line that stops, starts or blanks a server, the server's
+    /// steps and its glance follow at once; while a settle is open, the operator's turn ends with a glance at each server. A tick is
+    /// passed on where the actor has waited for it long enough. In the round after a loss four to six are passed on at once to one
+    /// client and one server, and each box is emptied from another letter on than in the round before, so that no loss of every K-th
+    /// letter hits the same letters for ever. In the first round of a later phase a client calls nothing, and one that has a line to
+    /// call asks what was chosen: so it need not find out by an entry of its own that a disk was made.
     pub(crate) fn round<R: Wait>(&mut self, rt: &R, alloc: Global) -> Result<(), NoMemory>
         ensures script { self.new.world.script ≡ self.old.world.script }
         ensures goes_on { GoesOn self.old.world.records self.new.world.records }

@@ -12,7 +12,7 @@ pub enum Want {
     NoDisk,
     Unavailable,
     Exists,
-    /// The server that the line starts does not run.
+    /// The server that the line starts or blanks does not run.
     DoesNotRun,
     /// There is none yet.
     Open,
@@ -33,6 +33,8 @@ pub enum Act<'a> {
     Tick(Actor),
     /// The server stops.
     Stop(ServerId),
+    /// The server gets a blank data device.
+    Blank(ServerId),
     /// The server boots.
     Boot(ServerId),
     /// The server is glanced at for this line, in this round of it.
@@ -147,6 +149,7 @@ pub fn act_of<'a>(words: &'a [&'a str]) -> Result<Act<'a>, usize> {
         [who, "works", "off"] => Ok(Act::WorkOff(server(who, 1)?)),
         [who, "ticks"] => Ok(Act::Tick(actor(who, 1)?)),
         [who, "stops"] => Ok(Act::Stop(server(who, 1)?)),
+        [who, "blanks"] => Ok(Act::Blank(server(who, 1)?)),
         [who, "boots"] => Ok(Act::Boot(server(who, 1)?)),
         [who, "shows", line] => Ok(Act::Show(server(who, 1)?, number(line, 3)?, 0)),
         [who, "shows", line, "in", round] => Ok(Act::Show(

@@ -8,3 +8,4 @@ pub mod Ticks
 pub mod Pairing
 pub mod Boots
 pub mod Noting
+pub mod Entering

@@ -18,34 +18,33 @@ use Rattle.petal_rules.specs.Store.{Store}
 use Rattle.petal_rules.specs.declared.job.Job.{Job}
 use Rattle.server_core.specs.Core.{Core, acted, here_in, left_by_first, server_of}
 use Rattle.server_core.specs.Kind.{kind_of}
-use Rattle.server_core.specs.Steps.{IsFullLog, IsFullPair, IsFullWork, IsPairWork}
+use Rattle.server_core.specs.Steps.{IsFullLog, IsFullStore, IsFullWork, IsStoreWork}
 use Rattle.server_core.specs.declared.queue.Kind.TheVariants.{OfPairs}
 use Rattle.server_core.proofs.Rooms.{few_stored}
 use Rattle.server_core.proofs.Works.{made, pair_left, pair_works}
 use Rattle.server_store.specs.Holdings.{Holdings}
 use Rattle.state_store.specs.Device.{Keeping}
 
-module _ {D : Type 0} (device : Ghosts D) (old new : Core) (before after : Holdings D) (first : Job)
+module _ {D : Type 0} (device : Ghosts D) (records : List StateRecord) (old new : Core) (before after : Holdings D) (first : Job)
     (there : slice_get old.queue 0 ≡ Some first) (kind : kind_of first ≡ OfPairs) where
   abbrev rule : Rule
   rule = does (here_in old) (own_of old.side before) first
 
   -- what a crash within it leaves, as what the first job of the queue leaves
-  pub pair_moments : (records : List StateRecord)
-      → LeavesOnly device.moment device.left_since before.disk after.disk (StandsAsEither (store_of before) rule.own.store)
+  pub pair_moments : LeavesOnly device.moment device.left_since before.disk after.disk (StandsAsEither (store_of before) rule.own.store)
       → LeavesOnly device.moment device.left_since before.disk after.disk
       (StandsAsEither (store_of before) (left_by_first old (store_of before) records).own.store)
-  pair_moments records =
+  pair_moments =
       subst (λ (left : Store). LeavesOnly device.moment device.left_since before.disk after.disk (StandsAsEither (store_of before) left))
       (pair_left old (store_of before) records first there kind)
 
   -- it is done as the rule says
   pub pair_worked : (done : Done) (letters : List Letter) → IsDone device (here_in old) old.side new.side before after (Ok done) rule
       → new.running ≡ old.running → new.log ≡ old.log → new.queue ≡ drop 1 old.queue ++ follow_up done.follow → letters ≡ done.letters
-      → device.told → HoldsAt device before → (records : List StateRecord) → length records ≤ journal_records
+      → device.told → HoldsAt device before → length records ≤ journal_records
       → acted new (store_of after) records letters ≡ works (here_in old) (server_of old (store_of before) records) old.queue
   unfolding made
-  pair_worked done letters is running log queue same told holds records few_log =
+  pair_worked done letters is running log queue same told holds few_log =
       let by = is.done told in
       let few_store : rule.own.store.records ≤ journal_records
       = let few = few_stored device after (is.holds told holds) in
@@ -59,13 +58,13 @@ module _ {D : Type 0} (device : Ghosts D) (old new : Core) (before after : Holdi
   -- and so is the rest
   pub pair_work : (done : Done) (letters : List Letter) → IsDone device (here_in old) old.side new.side before after (Ok done) rule
       → new.running ≡ old.running → new.log ≡ old.log → new.queue ≡ drop 1 old.queue ++ follow_up done.follow → letters ≡ done.letters
-      → IsPairWork device old new before after (Ok letters)
+      → IsStoreWork device records old new before after (Ok letters)
   pair_work done letters is running log queue same = record {
     work = pair_worked done letters is running log queue same;
-    life = (running, log);
+    life = (running, ap (λ (part : Part). part.voter) log);
     keeps = is.keeps;
     holds = is.holds;
-    moments = λ told holds records. pair_moments records (is.moments told holds);
+    moments = λ told holds. pair_moments (is.moments told holds);
     still = λ no. absurd (cc);
     same = λ no. absurd (cc);
     kept = tt;
@@ -76,12 +75,12 @@ module _ {D : Type 0} (device : Ghosts D) (old new : Core) (before after : Holdi
 
 -- a full journal of the one device or of the other
 module _ {D E : Type 0} (device : Ghosts D) (other : Ghosts E) (old new : Core) where
-  pub full_pair : (before after : Holdings D) (state : Keeping E) → IsFullPair device old new before after
+  pub full_store : (before after : Holdings D) (state : Keeping E) → IsFullStore device state.records old new before after
       → IsFullWork device other old new before after state state
-  full_pair before after state full = record {
+  full_store before after state full = record {
     count = inl full.count;
     same = (full.same.0, full.same.1, refl);
-    stops = λ told also holds kept. full.stops told holds state.records;
+    stops = λ told also holds kept. full.stops told holds;
   }
 
   pub full_log : (store : Holdings D) (before after : Keeping E) → IsFullLog other (store_of store) old new before after

@@ -227,7 +227,7 @@ module _ (old : Core) (before : Store) (records : List StateRecord) (there : sli
   entry = known was.log (next_place was.log)
 
   abbrev own_after : Own
-  own_after = crossed_by where_old.state entry was.own
+  own_after = crossed_by where_old entry was.own
 
   abbrev stages : List Job
   stages = jobs_by where_old.state where_old.me entry was.own
@@ -235,6 +235,16 @@ module _ (old : Core) (before : Store) (records : List StateRecord) (there : sli
   entry_works : own_after.store.records ≤ journal_records → length (applies was.log).log.records ≤ journal_records
       → works where_old was old.queue ≡ crossing where_old was (drop 1 old.queue) entry (applies was.log)
   entry_works few_store few_log = first_done where_old was old.queue job.Apply there ∙ fits where_old was _ few_store few_log
+
+  entry_done : after_first where_old was old.queue ≡ (crossing where_old was (drop 1 old.queue) entry (applies was.log)).server
+  entry_done = first_left where_old was old.queue job.Apply there
+
+  pub entry_left : own_after.store ≡ (left_by_first old before records).own.store
+  entry_left = sym (ap (λ (it : Server). it.own.store) entry_done)
+
+  pub entry_stops : own_after.store.records ≡ journal_records + 1 → works where_old was old.queue ≡ stops where_old was
+  entry_stops more = first_done where_old was old.queue job.Apply there
+      ∙ full_store where_old was (crossing where_old was (drop 1 old.queue) entry (applies was.log)) more
 
   -- an entry is applied as the rule says
   pub entry_worked : (new : Core) (after : Store) (done : LogDone) → IsBy (sender_of old.log) (log_of new.log records) done (applies was.log)

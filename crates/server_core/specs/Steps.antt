@@ -1,6 +1,5 @@
 -- What a job leaves of a server: one of the pairs, over the store, and one of the agreed log, over the state store.
 use Rattle.std.specs.Prelude.{◌≡◌, ◌≤◌, ◌⊎◌, length, List, Result, Err, IfOk, OnOk, OnErr}
-use Rattle.petal_base.specs.declared.memory.NoMemory.{NoMemory as OutOfMemory}
 use Rattle.kept_chains.specs.Kept.{store_of}
 use Rattle.kept_chains.specs.Standing.{StandsAsEither}
 use Rattle.log_side.specs.Done as logs
@@ -64,26 +63,26 @@ IsLeft part side store records first left =
 
 module _ {D : Type 0} where
   -- the data device's journal has no room for the record of the first job, and nothing changed
-  pub record IsFullPair (device : Ghosts D) (old new : Core) (before after : Holdings D) : Type 0 where
+  pub record IsFullStore (device : Ghosts D) (records : List StateRecord) (old new : Core) (before after : Holdings D) : Type 0 where
     pub count : before.log.region.count ≡ 65536
     pub same : (new ≡ old) × (after ≡ before)
-    pub stops : device.told → HoldsAt device before → (records : List StateRecord) → Stops old (store_of before) records
+    pub stops : device.told → HoldsAt device before → Stops old (store_of before) records
 
-  -- the first job, of the pairs, is done as the rule says where the device tells its bytes and shows the store; the rest is as of
-  -- each job of the pairs
-  pub record IsPairWork (device : Ghosts D) (old new : Core) (before after : Holdings D) (result : Result (List Letter) WorkError) : Type 0 where
-    pub work : IfOk result (λ letters. device.told → HoldsAt device before → (records : List StateRecord) → length records ≤ journal_records
+  -- the first job, of the pairs or that applies an entry, is done as the rule says at these records of the state device, where
+  -- the data device tells its bytes and shows the store; the rest is as of each job of the pairs. The state device is not called
+  pub record IsStoreWork (device : Ghosts D) (records : List StateRecord) (old new : Core) (before after : Holdings D) (result : Result (List Letter) WorkError) : Type 0 where
+    pub work : IfOk result (λ letters. device.told → HoldsAt device before → length records ≤ journal_records
         → acted new (store_of after) records letters ≡ works (here_in old) (server_of old (store_of before) records) old.queue)
-    pub life : (new.running ≡ old.running) × (new.log ≡ old.log)
+    pub life : (new.running ≡ old.running) × (new.log.voter ≡ old.log.voter)
     pub keeps : OnOk result (HasTicketsAt new.side after)
     pub holds : device.told → HoldsAt device before → OnOk result (HoldsAt device after)
-    pub moments : device.told → HoldsAt device before → (records : List StateRecord)
+    pub moments : device.told → HoldsAt device before
         → LeavesOnly device.moment device.left_since before.disk after.disk
         (StandsAsEither (store_of before) (left_by_first old (store_of before) records).own.store)
     pub still : result ≡ Err NoMemory → device.told → HoldsAt device before → HoldsAt device after
     pub same : result ≡ Err NoMemory → (new ≡ old) × (after ≡ record before { disk = after.disk })
     pub kept : OnErr result (device.told → after.entries ≡ before.entries)
-    pub full : result ≡ Err JournalFull → IsFullPair device old new before after
+    pub full : result ≡ Err JournalFull → IsFullStore device records old new before after
     pub cause : HasFault (device.faults before.disk) (device.faults after.disk) result
     pub run : device.came_to before.disk after.disk
 
@@ -109,15 +108,6 @@ module _ {D : Type 0} where
     pub full : result ≡ Err JournalFull → IsFullLog device store old new before after
     pub cause : HasFault (device.faults before.disk) (device.faults after.disk) result
     pub run : device.came_to before.disk after.disk
-
-  -- the next entry is applied as the rule says; no device is called
-  pub record IsApplied (old new : Core) (before after : Holdings D) (records : List StateRecord) (result : Result (List Letter) OutOfMemory) : Type 0 where
-    pub work : IfOk result (λ letters. length before.log.records ≤ journal_records → length records ≤ journal_records
-        → acted new (store_of after) records letters ≡ works (here_in old) (server_of old (store_of before) records) old.queue)
-    pub life : (new.running ≡ old.running) × (new.log.voter ≡ old.log.voter)
-    pub keeps : HasTicketsAt new.side after
-    pub store : after ≡ record before { tickets = after.tickets }
-    pub err : OnErr result ((new ≡ old) × (after ≡ before))
 
 -- either journal has no room for the record of the first job; nothing changed, and the rule lets the server stop
 pub record IsFullWork {D E : Type 0} (device : Ghosts D) (other : Ghosts E) (old new : Core) (before after : Holdings D) (state left : Keeping E) : Type 0 where

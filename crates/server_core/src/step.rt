@@ -5,7 +5,7 @@ ghost use Rattle.log_side.specs.Done as logs;
 ghost use Rattle.log_side.specs.Entered.{entry_in, entry_of};
 ghost use Rattle.log_side.specs.Part.{Part, state_of};
 ghost use Rattle.petal_disk.specs.Disk.{LeavesOnly};
-ghost use Rattle.petal_rules.specs.Crossing.{crossed_by, jobs_by};
+ghost use Rattle.petal_rules.specs.Crossing.{jobs_by};
 ghost use Rattle.petal_state.specs.Command.{after};
 ghost use Rattle.petal_rules.specs.State.{State};
 ghost use Rattle.petal_rules.specs.Store as stores;
@@ -13,11 +13,12 @@ ghost use Rattle.petal_rules.specs.World.{greatest_u64};
 ghost use Rattle.kept_chains.specs.Kept.{store_of};
 ghost use Rattle.kept_chains.specs.Standing.{StandsAsEither};
 ghost use Rattle.pair_side.specs.declared.error.WorkError.TheVariants as error;
-ghost use Rattle.pair_side.specs.Side.{HasTicketsAt, own_of};
+ghost use Rattle.pair_side.specs.Side.{HasTicketsAt};
+ghost use Rattle.pair_side.specs.Crossed.{IsEntered, lacks_room};
 ghost use Rattle.pair_side.specs.Done.{HasVersions, HoldsAt};
 ghost use Rattle.server_core.specs.Core.{HasFaults, IsWork, is_spent, left_by_first, own_in};
 ghost use Rattle.server_core.specs.Kind.{kind_of};
-ghost use Rattle.server_core.specs.Steps.{IsApplied, IsFullWork, IsLeft, IsLogWork, IsPairWork, log_rule, of_state};
+ghost use Rattle.server_core.specs.Steps.{IsFullWork, IsLeft, IsLogWork, IsStoreWork, log_rule, of_state};
 ghost use Rattle.state_store.specs.Device.{StandsForEither};
 ghost use Rattle.server_core.specs.declared.queue.Kind.TheVariants.{Applies, OfLog, OfPairs};
 
@@ -26,7 +27,7 @@ use crate::queue::{Kind, add_all, enter, go_on, kind_of, make_room};
 use crate::server::ServerCore;
 use crate::wants::start_wanted;
 use log_side::{Entered, LogDone, LogSide, Next};
-use pair_side::{crosses, entry_jobs};
+use pair_side::{enters, entry_jobs, lacks_room};
 use petal_base::{Inc, NoMemory, Sequence, ServerId};
 use petal_disk::Disk;
 use petal_msg::Letter;
@@ -56,27 +57,44 @@ pub(crate) fn of_state(error: StateError) -> WorkError
     }
 }
 
-/// What an entry that was applied does to the pairs.
-fn crosses_by<D: Disk>(
+/// Whether the next entry would have the store wait for nobody any more, and its journal has no room for that.
+fn next_lacks_room<D: Disk>(
+    alloc: Global,
+    log: &LogSide,
+    next: &Option<Next>,
+    store: &Store<D>,
+) -> bool
+    ensures { result ≡ lacks_room log.now.voter.me log.now.voter.inc (option_map entry_in next.now) store.now }
+{
+    match next {
+        Some(next) => {
+            let here = Here::new(alloc, log.state(), log.me(), log.inc());
+            lacks_room(&here, &next.entry, store)
+        }
+        None => false,
+    }
+}
+
+/// What an entry that was applied does to the pairs and the store.
+fn enters_by<D: Disk>(
     alloc: Global,
     me: ServerId,
     inc: Inc,
     entered: &Option<Entered>,
     side: &mut Side,
     store: &mut Store<D>,
-)
-    requires { HasTicketsAt side.old store.old }
-    ensures own { (state : State) → IfSome entered.now (λ it. it.before ≡ state)
-        → own_of side.new store.new ≡ crossed_by state (option_map entry_of entered.now) (own_of side.old store.old) }
-    ensures keeps { HasTicketsAt side.new store.new }
-    ensures store { store.new ≡ record store.old { tickets = store.new.tickets } }
+) -> Result<(), WorkError>
+    requires tickets { HasTicketsAt side.old store.old }
+    requires room { lacks_room me inc (option_map entry_of entered.now) store.old ≡ false }
+    ensures { (state : State) → IfSome entered.now (λ it. it.before ≡ state)
+        → IsEntered D.Disk (record { state = state; me = me; inc = inc }) (option_map entry_of entered.now) side.old side.new store.old store.new result }
 {
     match entered {
         Some(entered) => {
             let here = Here::new(alloc, &entered.before, me, inc);
-            crosses(&here, &entered.entry, side, store);
+            enters(&here, &entered.entry, side, store)
         }
-        None => {}
+        None => Ok(()),
     }
 }
 
@@ -165,23 +183,25 @@ impl ServerCore {
             None => return Ok(None),
         };
         match first {
-            Kind::OfPairs => Ok(Some(self.work_pair(alloc, store)?)),
+            Kind::OfPairs => Ok(Some(self.work_pair(alloc, store, state)?)),
             Kind::OfLog => Ok(Some(self.work_log(alloc, store, state)?)),
             Kind::Applies => Ok(Some(self.work_apply(alloc, store, state)?)),
         }
     }
 
     /// Does the first job, of the pairs.
-    fn work_pair<D: Disk>(
+    fn work_pair<D: Disk, E: Disk>(
         &mut self,
         alloc: Global,
         store: &mut Store<D>,
+        state: &StateStore<E>,
     ) -> Result<Sequence<Letter>, WorkError>
         requires goes_on { is_spent self.old (store_of store.old) ≡ false }
         requires tickets { HasTicketsAt self.old.side store.old }
         requires first { IsSomeAnd (slice_get self.old.queue 0) (λ job. kind_of job ≡ OfPairs) }
-        ensures { IsPairWork D.Disk self.old self.new store.old store.new result }
+        ensures { IsStoreWork D.Disk state.now.records self.old self.new store.old store.new result }
     {
+        let _ = state;
         has_versions(store);
         let here = Here::new(alloc, self.log.state(), self.log.me(), self.log.inc());
         let Some(job) = self.queue.front() else {
@@ -222,19 +242,26 @@ impl ServerCore {
         alloc: Global,
         store: &mut Store<D>,
         state: &StateStore<E>,
-    ) -> Result<Sequence<Letter>, NoMemory>
+    ) -> Result<Sequence<Letter>, WorkError>
         requires tickets { HasTicketsAt self.old.side store.old }
         requires first { IsSomeAnd (slice_get self.old.queue 0) (λ job. kind_of job ≡ Applies) }
-        ensures { IsApplied self.old self.new store.old store.new state.now.records result }
+        ensures { IsStoreWork D.Disk state.now.records self.old self.new store.old store.new result }
     {
         let next = self.log.next_entry(alloc, state)?;
         let jobs = jobs_of_next(alloc, &self.log, &self.side, &next)?;
         make_room(&mut self.queue, jobs.len())?;
+        if next_lacks_room(alloc, &self.log, &next, store) {
+            return Err(WorkError::JournalFull);
+        }
         let (me, inc) = (self.log.me(), self.log.inc());
         let (done, entered) = self.log.apply(alloc, state, next)?;
-        crosses_by(alloc, me, inc, &entered, &mut self.side, store);
-        enter(&mut self.queue, done.apply, done.again);
-        add_all(&mut self.queue, jobs);
-        Ok(done.letters)
+        match enters_by(alloc, me, inc, &entered, &mut self.side, store) {
+            Ok(()) => {
+                enter(&mut self.queue, done.apply, done.again);
+                add_all(&mut self.queue, jobs);
+                Ok(done.letters)
+            }
+            Err(error) => Err(error),
+        }
     }
 }

@@ -400,6 +400,7 @@ impl<D: Disk> Store<D> {
         ensures errors { IfErr result IsCommitError }
         ensures full { IsErrOf result StoreError.JournalFull ↔ (self.old.log.region.count ≡ 65536) × (self.old.fresh ≡ true) }
         ensures full_rest { IsErrOf result StoreError.JournalFull → self.new ≡ self.old }
+        ensures idle { self.old.fresh ≡ false → self.new ≡ self.old }
 
         ensures records { OnOk result (self.new.log.records ≡ (if self.old.fresh then self.old.log.records ++ records.Settled ∷ [] else self.old.log.records)) }
         ensures unrecorded { OnErr result (self.new.log.records ≡ self.old.log.records) }

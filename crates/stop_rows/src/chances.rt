@@ -1,11 +1,13 @@
-//! Worlds stepped by chance, in which servers stop: two of five by the operator's lines, which may start again, or one since a
-//! device fails.
+//! Worlds stepped by chance, in which servers stop: two of five by the operator's lines, which may start again, also with blank
+//! data devices, or one since a device fails.
 
 use memory_runs::{Failing, start, start_failing};
 use petal_disk::{CallKind, Which};
 use std::alloc::Global;
 use std::test::Fail;
-use world_runs::{Chance, Count, script_by, script_with_starts, script_with_stops, simulate};
+use world_runs::{
+    Chance, Count, script_by, script_with_blanks, script_with_starts, script_with_stops, simulate,
+};
 
 fn simulate_seed(alloc: Global, seed: u32) -> Result<Count, Fail> {
     let mut chance = Chance::new(seed);
@@ -40,6 +42,25 @@ fn worlds_whose_servers_start_again(rt: HostRuntime) -> Result<(), Fail> {
         all = all.and(simulate_starts(rt.alloc(), seed)?);
     }
     assert!(rt; all.answered >= 300, "{all:?}");
+    assert!(rt; all.boots >= 40, "{all:?}");
+    Ok(())
+}
+
+fn simulate_blanks(alloc: Global, seed: u32) -> Result<Count, Fail> {
+    let mut chance = Chance::new(seed);
+    let text = script_with_blanks(alloc, &mut chance)?;
+    let run = start(alloc, text.as_str())?;
+    simulate(alloc, seed, chance, run)
+}
+
+#[test]
+fn worlds_whose_servers_are_blanked(rt: HostRuntime) -> Result<(), Fail> {
+    let mut all = Count::new();
+    for seed in 1..21 {
+        all = all.and(simulate_blanks(rt.alloc(), seed)?);
+    }
+    assert!(rt; all.answered >= 300, "{all:?}");
+    assert!(rt; all.blanks >= 40, "{all:?}");
     assert!(rt; all.boots >= 40, "{all:?}");
     Ok(())
 }

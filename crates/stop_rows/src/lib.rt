@@ -3,6 +3,8 @@
 #![tactic(auto)]
 
 #[cfg(test)]
+mod blanks;
+#[cfg(test)]
 mod boots;
 #[cfg(test)]
 mod chances;

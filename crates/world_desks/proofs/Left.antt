@@ -14,7 +14,7 @@ use Rattle.petal_rules.specs.State.{servers_of}
 use Rattle.petal_rules.specs.World.{World, MayServer, is_spent_server, server_step}
 use Rattle.petal_rules.specs.declared.job.Job.{Job}
 use Rattle.petal_rules.specs.declared.step.Step.{Step}
-use Rattle.petal_rules.specs.declared.step.Step.TheVariants.{Call, Deliver, Tick, Work, Stop, Boot, Glance}
+use Rattle.petal_rules.specs.declared.step.Step.TheVariants.{Call, Deliver, Tick, Work, Stop, Blank, Boot, Glance}
 use Rattle.petal_rules.specs.declared.step.CommitEnd.TheVariants.{After, Before}
 use Rattle.petal_rules.specs.declared.step.WorkEnd.{WorkEnd}
 use Rattle.petal_rules.specs.declared.step.WorkEnd.TheVariants.{Done, Fault}
@@ -89,6 +89,11 @@ shows : (servers n line round : ℕ) (running : Bool) (inc : ℕ) (log : Log) (o
 shows servers n line round true inc log own queue = record { letters = refl; left = refl }
 shows servers n line round false inc log own queue = record { letters = refl; left = refl }
 
+empties : (servers n : ℕ) (running : Bool) (inc : ℕ) (log : Log) (own : Own) (queue : List Job) → not running ≡ true
+    → StepsLeft servers n (made running inc log own queue) Blank
+empties servers n true inc log own queue rests = absurd (cc)
+empties servers n false inc log own queue rests = record { letters = refl; left = refl }
+
 -- ### Boots
 
 -- what is known of places goes by the records alone
@@ -147,6 +152,7 @@ steps_left servers n s (Deliver letter) on = receives servers n letter s.life.ru
 steps_left servers n s Tick on = runs servers n s Tick on
 steps_left servers n s (Work end) on = runs servers n s (Work end) on
 steps_left servers n s Stop on = runs servers n s Stop on
+steps_left servers n s Blank on = empties servers n s.life.running s.life.inc s.log s.own s.queue on
 steps_left servers n s (Boot end) on = boots_at servers n end s.life.running s.life.inc s.log s.own s.queue on
 steps_left servers n s (Glance line round) on = shows servers n line round s.life.running s.life.inc s.log s.own s.queue
 
@@ -157,5 +163,6 @@ allowed w n (Deliver letter) may = refl
 allowed w n Tick may = may.runs
 allowed w n (Work end) may = may.acts.runs
 allowed w n Stop may = may.runs
+allowed w n Blank may = ap not may.rests
 allowed w n (Boot end) may = ap not may.rests
 allowed w n (Glance line round) may = refl

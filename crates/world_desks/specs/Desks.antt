@@ -8,7 +8,7 @@ use Rattle.petal_rules.specs.Jobs.{Acted}
 pub use Rattle.petal_rules.specs.World.{is_spent_server}
 use Rattle.petal_rules.specs.World.{Setting, World, server_step, setting_of, start}
 use Rattle.petal_rules.specs.declared.step.Step.{Step}
-use Rattle.petal_rules.specs.declared.step.Step.TheVariants.{Tick, Work, Stop, Boot}
+use Rattle.petal_rules.specs.declared.step.Step.TheVariants.{Tick, Work, Stop, Blank, Boot}
 use Rattle.petal_rules.specs.declared.step.WorkEnd.{WorkEnd}
 use Rattle.petal_rules.specs.declared.step.WorkEnd.TheVariants.{Done, Fault}
 
@@ -27,11 +27,13 @@ on_devices server = record {
 abbrev pub left_of : Server → Server
 left_of server = if server.life.running then server else on_devices server
 
--- a server that has stopped drops letters, is glanced at and boots, and takes no other step; one that runs does not boot
+-- a server that has stopped drops letters, is glanced at, gets a blank data device and boots, and takes no other step; one that
+-- runs gets no such device and does not boot
 abbrev pub may_take : Step → (running : Bool) → Bool
 may_take Tick running = running
 may_take (Work end) running = running
 may_take Stop running = running
+may_take Blank running = not running
 may_take (Boot end) running = not running
 may_take _ running = true
 

@@ -91,6 +91,7 @@ pub fn step_taken(step: &Step, end: WorkEnd) -> Result<Step, NoMemory>
         Step::Tick => Ok(Step::Tick),
         Step::Work(_) => Ok(Step::Work(end)),
         Step::Stop => Ok(Step::Stop),
+        Step::Blank => Ok(Step::Blank),
         Step::Boot(_) => Ok(Step::Boot(end)),
         Step::Glance { line, round } => Ok(Step::Glance {
             line: *line,

@@ -17,5 +17,5 @@ mod simulation;
 pub use chance::Chance;
 pub use run::Run;
 pub use schedule::{Row, play_row};
-pub use scripts::{script_by, script_with_starts, script_with_stops};
+pub use scripts::{script_by, script_with_blanks, script_with_starts, script_with_stops};
 pub use simulation::{Count, simulate};

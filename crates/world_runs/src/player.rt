@@ -275,6 +275,7 @@ impl<H: Host> Player<H> {
             Act::WorkOff(server) => self.work_off(alloc, *server),
             Act::Tick(actor) => self.run.tick(alloc, *actor),
             Act::Stop(server) => self.run.stop(alloc, *server),
+            Act::Blank(server) => self.run.blank(alloc, *server),
             Act::Boot(server) => self.run.boot(alloc, *server),
             Act::Show(server, line, round) => self.run.show(alloc, *server, *line, *round),
             Act::Hand(mail) => self.hand_over(alloc, mail),

@@ -8,6 +8,9 @@ use script_lines::{Answer, Request, Script};
 use std::alloc::Global;
 use world_told::{Told, told_of};
 
+/// No line gives a server more steps than these, before its glance.
+const MOST_STEPS: u32 = 3;
+
 /// A world, and all letters that were sent in it, in order.
 #[derive(Drop)]
 pub struct Run<H: Host> {
@@ -80,6 +83,11 @@ impl<H: Host> Run<H> {
         self.take(alloc, Actor::Server(server), &Step::Stop)
     }
 
+    /// The stopped server gets a blank data device.
+    pub fn blank(&mut self, alloc: Global, server: ServerId) -> Result<bool, NoMemory> {
+        self.take(alloc, Actor::Server(server), &Step::Blank)
+    }
+
     /// The stopped server boots.
     pub fn boot(&mut self, alloc: Global, server: ServerId) -> Result<bool, NoMemory> {
         self.take(alloc, Actor::Server(server), &Step::Boot(WorkEnd::Done))
@@ -123,7 +131,7 @@ impl<H: Host> Run<H> {
         Some((line, order, server))
     }
 
-    /// The server takes the step that the order gives it, where it can.
+    /// The server takes the next step that the order gives it, where there is one left. Gives whether there was.
     pub fn follow(
         &mut self,
         alloc: Global,
@@ -133,16 +141,25 @@ impl<H: Host> Run<H> {
         match order {
             Order::Stop => self.stop(alloc, server),
             Order::Start => self.boot(alloc, server),
+            Order::Blank => {
+                Ok(
+                    self.stop(alloc, server)?
+                        || self.blank(alloc, server)?
+                        || self.boot(alloc, server)?,
+                )
+            }
         }
     }
 
-    /// What the operator's open line asks for is done: its server stops, where it runs, or boots, where it does not, and is glanced
-    /// at; or all servers are, in a settle's present round. Gives whether it was done only now.
+    /// What the operator's open line asks for is done: its server takes each step that the line gives it and is glanced at; or all
+    /// servers are, in a settle's present round. Gives whether it was done only now.
     pub fn obey(&mut self, alloc: Global) -> Result<bool, NoMemory> {
         match self.open_order() {
             None => self.show_all(alloc),
             Some((line, order, server)) => {
-                self.follow(alloc, order, server)?;
+                for _ in 0..MOST_STEPS {
+                    self.follow(alloc, order, server)?;
+                }
                 self.show(alloc, server, line, 0)
             }
         }
@@ -295,6 +312,7 @@ fn is_call(step: &Step) -> bool {
         | Step::Tick
         | Step::Work(_)
         | Step::Stop
+        | Step::Blank
         | Step::Boot(_)
         | Step::Glance { line: _, round: _ } => false,
     }
@@ -318,6 +336,7 @@ fn last_call(records: &[Record], client: ClientId) -> Option<u32> {
 pub enum Order {
     Stop,
     Start,
+    Blank,
 }
 
 /// What the line asks for, and of which server.
@@ -327,6 +346,7 @@ fn ordered_by(script: &Script, number: u32) -> Option<(Order, ServerId)> {
             return match &line.request {
                 Request::Stop { server } => Some((Order::Stop, *server)),
                 Request::Start { server } => Some((Order::Start, *server)),
+                Request::Blank { server } => Some((Order::Blank, *server)),
                 _ => None,
             };
         }

@@ -12,14 +12,15 @@
 //! | `1 works` | server 1 does the first job of its queue |
 //! | `1 works off` | server 1 does jobs until its queue is empty, and at least one |
 //! | `1 stops` | the server stops: the operator's open line is its stop |
-//! | `1 boots` | the stopped server boots: the operator's open line is its start |
+//! | `1 blanks` | the stopped server gets a blank data device: the operator's open line is its blank |
+//! | `1 boots` | the stopped server boots: the operator's open line is its start, or has blanked it |
 //! | `1 shows 4` | the server is glanced at, for the operator's open line 4, which has given it each of its steps |
 //! | `1 shows 4 in 2` | the server is glanced at in the second round of the operator's open line 4, which is a settle |
 //! | `1 ticks`, `a ticks` | the server or the client sends again what is not answered |
 //! | `agree` | rounds in which everyone gets its letters and works, and in some of which they tick, until each line that was called is answered and all that run are at one revision, but for the operator, who takes no part; what is then on its way is lost |
 //! | `agree without 1`, `agree without b` | the same without this actor |
 //! | `wait` | the next phase begins; each line before it is answered |
-//! | `play out` | rounds, until each line is answered: each letter is handed over twice, the last one first, servers work off their queues, clients and the operator call, servers stop, boot and are glanced at as it says, and in every eighth round clients and a server tick |
+//! | `play out` | rounds, until each line is answered: each letter is handed over twice, the last one first, servers work off their queues, clients and the operator call, servers stop, are blanked, boot and are glanced at as it says, and in every eighth round clients and a server tick |
 //! | `renamed write a>1` | the letter that is next to be handed over comes with a later stamp |
 //! | `changed write a>1` | it comes with another content |
 //!

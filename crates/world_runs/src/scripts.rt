@@ -80,3 +80,21 @@ pub fn script_with_starts(alloc: Global, chance: &mut Chance) -> Result<String, 
     add_lines(alloc, chance, &mut text)?;
     Ok(text)
 }
+
+/// The same, where the operator blanks both of the two, one of them while it is stopped.
+pub fn script_with_blanks(alloc: Global, chance: &mut Chance) -> Result<String, AllocError> {
+    let slots = 3 + chance.below(3);
+    let mut text = format!(in alloc;
+        "servers 5 slots {slots}\na disk vol on 0 1 2\nb disk log on 3 4\n"
+    )?;
+    for _ in 0..4 {
+        let (first, second) = two_by(chance);
+        let orders = format!(in alloc;
+            "op blank {first}\nop stop {second}\nop stop {first}\nop start {first}\nop blank {second}\n"
+        )?;
+        text.push_str(orders.as_str())?;
+    }
+    text.push_str("op settle\n")?;
+    add_lines(alloc, chance, &mut text)?;
+    Ok(text)
+}

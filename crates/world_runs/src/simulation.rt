@@ -109,7 +109,8 @@ impl Choice {
         run.show(alloc, server, line, round)
     }
 
-    // The operator calls its next line, or its open line goes on: its server stops or boots, or is glanced at.
+    // The operator calls its next line, or its open line goes on: its server takes a step that it gives, or is glanced
+    // at.
     fn operate<H: Host>(&mut self, alloc: Global, run: &mut Run<H>) -> Result<bool, NoMemory> {
         if let Some(settling) = run.settling() {
             return self.show(alloc, run, settling);
@@ -153,13 +154,14 @@ impl Choice {
 }
 
 /// How many lines were answered in some runs, how many of these with `nospace` and with `unavailable`, how often a server was
-/// stopped and how often one booted, and in how many jobs a device failed.
+/// stopped, got a blank data device and booted, and in how many jobs a device failed.
 #[derive(Clone, Copy, Debug, PartialEq, Eq)]
 pub struct Count {
     pub answered: usize,
     pub no_space: usize,
     pub unavailable: usize,
     pub stops: usize,
+    pub blanks: usize,
     pub boots: usize,
     pub faults: usize,
 }
@@ -172,6 +174,7 @@ impl Count {
             no_space: 0,
             unavailable: 0,
             stops: 0,
+            blanks: 0,
             boots: 0,
             faults: 0,
         }
@@ -184,23 +187,17 @@ impl Count {
             no_space: self.no_space.saturating_add(more.no_space),
             unavailable: self.unavailable.saturating_add(more.unavailable),
             stops: self.stops.saturating_add(more.stops),
+            blanks: self.blanks.saturating_add(more.blanks),
             boots: self.boots.saturating_add(more.boots),
             faults: self.faults.saturating_add(more.faults),
         }
     }
 }
 
-fn stops<H: Host>(run: &Run<H>) -> usize {
+fn steps<H: Host>(run: &Run<H>, step: &Step) -> usize {
     run.records()
         .iter()
-        .filter(|record| record.step == Step::Stop)
-        .count()
-}
-
-fn boots<H: Host>(run: &Run<H>) -> usize {
-    run.records()
-        .iter()
-        .filter(|record| record.step == Step::Boot(WorkEnd::Done))
+        .filter(|record| record.step == *step)
         .count()
 }
 
@@ -213,12 +210,14 @@ fn counted<H: Host>(run: &Run<H>) -> Count {
             no_space: usize::from(is_no_space(answer)),
             unavailable: usize::from(is_unavailable(answer)),
             stops: 0,
+            blanks: 0,
             boots: 0,
             faults: 0,
         });
     }
-    count.stops = stops(run);
-    count.boots = boots(run);
+    count.stops = steps(run, &Step::Stop);
+    count.blanks = steps(run, &Step::Blank);
+    count.boots = steps(run, &Step::Boot(WorkEnd::Done));
     count.faults = run.failed();
     count
 }

@@ -1,11 +1,21 @@
 //! The disks that chosen commands make, and their links.
 
-use petal_base::{Cell, MapId, Name, NoMemory, ServerId, Tuple};
+use crate::members::Members;
+use petal_base::{Cell, Inc, MapId, Name, NoMemory, ServerId, Tuple};
 use petal_command::Command;
 use std::alloc::Global;
 
-/// A link of a disk's map: its place there, and how many links the map has; its two servers; and whether one of them holds it
-/// alone.
+/// Which of a link's two servers have its blocks.
+#[derive(Clone, Copy, Debug, PartialEq, Eq)]
+enum Serving {
+    Both,
+    Only(ServerId),
+    /// None.
+    Lost,
+}
+
+/// A link of a disk's map: its place there, and how many links the map has; its two servers; which of them have its blocks; and how
+/// many records there were when it last began to be of both.
 #[derive(Clone, Copy, Debug, PartialEq, Eq)]
 pub struct Link {
     map: usize,
@@ -13,7 +23,17 @@ pub struct Link {
     count: u64,
     pub primary: ServerId,
     secondary: ServerId,
-    is_alone: bool,
+    serving: Serving,
+    pub since: usize,
+}
+
+/// Both servers of a link have its blocks again, of which the holder alone had them.
+#[derive(Clone, Copy)]
+struct Catch {
+    map: MapId,
+    place: u8,
+    holder: (ServerId, Inc),
+    other: (ServerId, Inc),
 }
 
 impl Link {
@@ -22,22 +42,49 @@ impl Link {
         cell.map as usize == self.map && self.count != 0 && cell.block % self.count == self.place
     }
 
+    fn other_of(&self, server: ServerId) -> ServerId {
+        if self.primary == server {
+            self.secondary
+        } else {
+            self.primary
+        }
+    }
+
     // A server has left. Gives whether that takes the secondary out of a link that had both.
     fn leave(&mut self, server: ServerId) -> bool {
-        let had_both = !self.is_alone;
-        if self.primary == server || self.secondary == server {
-            self.is_alone = true;
+        let is_here = self.primary == server || self.secondary == server;
+        if self.serving != Serving::Both || !is_here {
+            return false;
         }
-        had_both && self.secondary == server
+        self.serving = Serving::Only(self.other_of(server));
+        self.secondary == server
+    }
+
+    // A server came back with nothing.
+    fn blank(&mut self, server: ServerId) {
+        if self.serving == Serving::Only(server) {
+            self.serving = Serving::Lost;
+        }
+    }
+
+    fn catch(&mut self, own: &Catch, records: usize) {
+        let (holder, _) = own.holder;
+        let (other, _) = own.other;
+        let is_here = self.map == own.map as usize && self.place == u64::from(own.place);
+        let is_alone = self.serving == Serving::Only(holder) && self.other_of(holder) == other;
+        if is_here && is_alone {
+            self.serving = Serving::Both;
+            self.since = records;
+        }
     }
 }
 
-/// The disks by map, their links, and the servers that are out.
+/// The disks by map, their links, and who is in.
 #[derive(Drop)]
 pub struct Disks {
     names: Vec<Name>,
     links: Vec<Link>,
-    out: Vec<ServerId>,
+    members: Members,
 }
 
 /// What some commands have done: the disks that they made, and the links whose secondary they took out, so that the copies of
@@ -59,18 +106,35 @@ impl Done {
 }
 
 impl Disks {
-    /// No disk is made, and all servers are in.
-    pub fn new(alloc: Global) -> Disks {
-        Disks {
+    /// No disk is made, and all of so many servers are in.
+    pub fn new(alloc: Global, servers: u8) -> Result<Disks, NoMemory> {
+        Ok(Disks {
             names: Vec::new(alloc),
             links: Vec::new(alloc),
-            out: Vec::new(alloc),
-        }
+            members: Members::new(alloc, servers)?,
+        })
     }
 
     /// The disk of a map.
     pub fn name(&self, map: MapId) -> Option<&Name> {
         self.names.get(map as usize)
+    }
+
+    /// How many records there were when the cell's link last began to be of both.
+    pub fn since(&self, cell: Cell) -> usize {
+        match self.links.iter().find(|link| link.has(cell)) {
+            Some(link) => link.since,
+            None => 0,
+        }
+    }
+
+    // Who serves a new link.
+    fn first_serving(&self, primary: ServerId, secondary: ServerId) -> Serving {
+        match (self.members.is_in(primary), self.members.is_in(secondary)) {
+            (true, true) => Serving::Both,
+            (false, true) => Serving::Only(secondary),
+            (_, false) => Serving::Only(primary),
+        }
     }
 
     // A new map has these servers.
@@ -80,13 +144,15 @@ impl Disks {
         for (place, primary) in ids.iter().enumerate() {
             let next = if place + 1 == ids.len() { 0 } else { place + 1 };
             if let Some(secondary) = ids.get(next) {
+                let serving = self.first_serving(*primary, *secondary);
                 self.links.push(Link {
                     map,
                     place: place as u64,
                     count: ids.len() as u64,
                     primary: *primary,
                     secondary: *secondary,
-                    is_alone: self.out.contains(primary) || self.out.contains(secondary),
+                    serving,
+                    since: 0,
                 })?;
             }
         }
@@ -103,11 +169,10 @@ impl Disks {
         Ok(())
     }
 
-    fn leave(&mut self, server: ServerId, done: &mut Done) -> Result<(), NoMemory> {
-        if self.out.contains(&server) {
+    fn leave(&mut self, server: ServerId, inc: Inc, done: &mut Done) -> Result<(), NoMemory> {
+        if !self.members.leave(server, inc) {
             return Ok(());
         }
-        self.out.push(server)?;
         for link in self.links.iter_mut() {
             if link.leave(server) {
                 done.passed.push(*link)?;
@@ -116,11 +181,58 @@ impl Disks {
         Ok(())
     }
 
-    /// The command is the next one that is chosen.
-    pub fn apply(&mut self, command: &Command, done: &mut Done) -> Result<(), NoMemory> {
+    // The links that a server alone held which came back with nothing are lost.
+    fn join(&mut self, server: ServerId, inc: Inc, blank: bool) {
+        if !self.members.join(server, inc) || !blank {
+            return;
+        }
+        for link in self.links.iter_mut() {
+            link.blank(server);
+        }
+    }
+
+    fn catch(&mut self, own: &Catch, records: usize) {
+        let (holder, holder_inc) = own.holder;
+        let (other, other_inc) = own.other;
+        if !self.members.is_in_as(holder, holder_inc) || !self.members.is_in_as(other, other_inc) {
+            return;
+        }
+        for link in self.links.iter_mut() {
+            link.catch(own, records);
+        }
+    }
+
+    /// The command is the next one that is chosen, in the record of this number.
+    pub fn apply(
+        &mut self,
+        command: &Command,
+        records: usize,
+        done: &mut Done,
+    ) -> Result<(), NoMemory> {
         match command {
             Command::MakeDisk { name, tuple, .. } => self.make(name, tuple, done),
-            Command::Leave { server, inc: _ } => self.leave(server.get(), done),
+            Command::Leave { server, inc } => self.leave(server.get(), *inc, done),
+            Command::Join { server, inc, blank } => {
+                self.join(server.get(), *inc, *blank);
+                Ok(())
+            }
+            Command::Caught {
+                map,
+                link,
+                holder,
+                holder_inc,
+                other,
+                other_inc,
+            } => {
+                let own = Catch {
+                    map: *map,
+                    place: link.get(),
+                    holder: (holder.get(), *holder_inc),
+                    other: (other.get(), *other_inc),
+                };
+                self.catch(&own, records);
+                Ok(())
+            }
             _ => Ok(()),
         }
     }

@@ -56,6 +56,14 @@ fn request_of(script: &Script, number: u32) -> Option<&Request> {
     None
 }
 
+/// The records from this one on.
+fn from(records: &[Record], at: usize) -> &[Record] {
+    match records.get(at..) {
+        Some(later) => later,
+        None => &[],
+    }
+}
+
 /// The word of what is told.
 fn word_of(told: &Told) -> &'static str {
     match &told.event {
@@ -123,7 +131,7 @@ impl<'a> Telling<'a> {
         let before = self.choices.note_all(here.own.sent.as_slice())?;
         let mut done = Done::new(self.alloc);
         for command in self.choices.chosen_from(before) {
-            self.disks.apply(command, &mut done)?;
+            self.disks.apply(command, here.step, &mut done)?;
         }
         Ok(done)
     }
@@ -152,9 +160,16 @@ impl<'a> Telling<'a> {
         }
     }
 
+    // The records before this one, since both servers of the operation's link have its blocks: until one of them leaves its
+    // operations are of one life of its lead, which numbers them.
+    fn beside<'b>(&self, here: &Here<'b>, operation: Operation) -> &'b [Record] {
+        from(here.before, self.disks.since(operation.cell))
+    }
+
     fn take(&mut self, here: &Here, operation: Operation) -> Result<(), NoMemory> {
+        let bytes = bytes_of(self.beside(here, operation), operation);
         let disk = self.disks.name(operation.cell.map);
-        let write = match (disk, bytes_of(here.before, operation)) {
+        let write = match (disk, bytes) {
             (Some(disk), Some(bytes)) => self.writers.take(disk, operation.cell.block, bytes)?,
             _ => None,
         };
@@ -164,7 +179,7 @@ impl<'a> Telling<'a> {
     // A second server says for the first time that it has put its copy.
     fn takes_second(&mut self, here: &Here, letter: &Letter) -> Result<(), NoMemory> {
         match replicated_by(letter) {
-            Some(operation) if !is_replicated_in(here.before, operation) => {
+            Some(operation) if !is_replicated_in(self.beside(here, operation), operation) => {
                 self.take(here, operation)
             }
             _ => Ok(()),
@@ -184,7 +199,7 @@ impl<'a> Telling<'a> {
 
     // The copies of the link's primary count from now on: what it has put ahead of its second server takes effect.
     fn takes_ahead(&mut self, here: &Here, link: &Link) -> Result<(), NoMemory> {
-        for operation in ahead_on(self.alloc, here.before, link)? {
+        for operation in ahead_on(self.alloc, from(here.before, link.since), link)? {
             self.take(here, operation)?;
         }
         Ok(())
@@ -265,7 +280,7 @@ pub fn told_of(alloc: Global, script: &Script, records: &[Record]) -> Result<Vec
         script,
         writers: Writers::new(alloc)?,
         choices: Choices::new(alloc, script.servers),
-        disks: Disks::new(alloc),
+        disks: Disks::new(alloc, script.servers)?,
         told: Vec::new(alloc),
     };
     tell_all(&mut telling, records)?;

@@ -8,6 +8,7 @@
 mod choices;
 mod disks;
 mod events;
+mod members;
 mod operations;
 mod reads;
 mod writes;

@@ -1,7 +1,6 @@
 -- By induction on the history.
-use Rattle.law_steps.proofs.Firms.{always_firm}
 use Rattle.law_requests.proofs.Histories.{asking_after}
 use Rattle.law_requests.proofs.letters_of_clients_and_replies.Goals as goal
 
 pub returns : goal.returns
-returns c script records sound legal = asking_after script records sound (always_firm script records sound legal) legal
+returns c script records sound legal = asking_after script records sound legal

@@ -1,5 +1,5 @@
 -- By induction on what the whole has more.
-use Rattle.law_state.proofs.Again.{log_alone, log_both, log_both_place}
+use Rattle.law_state.proofs.Again.{log_alone, log_both, log_both_place, log_lost}
 use Rattle.law_state.proofs.a_link_is_in_both_again_by_its_caught.Goals as goal
 
 pub returns-clause-caught : goal.returns-clause-caught
@@ -10,3 +10,6 @@ returns-clause-alone c = log_alone
 
 pub returns-clause-both : goal.returns-clause-both
 returns-clause-both c = log_both_place
+
+pub returns-clause-lost : goal.returns-clause-lost
+returns-clause-lost c = log_lost

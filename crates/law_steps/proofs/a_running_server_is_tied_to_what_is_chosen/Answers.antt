@@ -15,7 +15,7 @@ returns-clause-both c script records sound legal n front more runs own prefix ch
     stays_both setting _ firm n runs front more own prefix chosen seat cell row is has (ap (serves n row) both ∙ has) both
 
 pub returns-clause-alone : goal.returns-clause-alone
-returns-clause-alone c script records sound legal n front more runs own prefix chosen seat cell row is has only =
+returns-clause-alone c script records sound legal n front more runs own prefix chosen seat cell row is has whole only =
     let setting = setting_of script in
     let firm = firm_after setting (start setting) records (always_firm script records sound legal) in
-    stays_alone setting _ firm n runs front more own prefix chosen seat cell row is has (ap (serves n row) only ∙ number_itself n) only
+    stays_alone setting _ firm n runs front more own prefix chosen seat cell row is has (ap (serves n row) only ∙ number_itself n) whole only

@@ -13,12 +13,13 @@ use Rattle.memory_server.proofs.boot.boot_opened.Goals as goal
 pub returns-in-Ok : goal.returns-in-Ok
 returns-in-Ok g c = λ told holds kept opened.
     let old : Mounted _ = record { core = c.args.core.now; store = c.args.store.now; state = c.args.state.now } in
-    boot_done g.D.Disk told old c.requires.stopped holds kept opened c.boot.new.self c.boot.new.state c.in-Ok.letters c.in-Ok.ensures
+    rw c.done.ensures (boot_done g.D.Disk told old c.requires.stopped holds kept opened c.boot.new.self c.boot.new.state c.in-Ok.letters c.in-Ok.ensures)
 
 pub returns-in-Err-JournalFull : goal.returns-in-Err-JournalFull
 returns-in-Err-JournalFull g c = λ told holds kept opened.
     let old : Mounted _ = record { core = c.args.core.now; store = c.args.store.now; state = c.args.state.now } in
-    rw c.new.ensures (boot_full g.D.Disk told old c.requires.stopped holds kept opened c.boot.new.self c.boot.new.state (rw c.in-Err-JournalFull.field-0-is at c.in-Err-JournalFull.ensures))
+    rw (c.done-in-Err-JournalFull.ensures, c.new.ensures)
+    (boot_full g.D.Disk told old c.requires.stopped holds kept opened c.boot.new.self c.boot.new.state (rw c.in-Err-JournalFull.field-0-is at c.in-Err-JournalFull.ensures))
 
 pub returns-in_ok-end-in-Err-Failed : goal.returns-in_ok-end-in-Err-Failed
 returns-in_ok-end-in-Err-Failed g c = λ told holds kept opened.
@@ -41,7 +42,7 @@ returns-in_ok-end-in-Err-Failed g c = λ told holds kept opened.
     = λ x left. inl (stands_before x store (holds.left x left)) in
     let reopened = c.in_ok-end-in-Err-Failed.ensures in
     let later = reopened.later in
-    rw c.new-in-Err-Failed.ensures
+    rw (c.failed.ensures, c.new-in-Err-Failed.ensures)
     (boot_failed g.D.Disk told old c.requires.stopped holds kept opened c.in_ok-end-in-Err-Failed.end c.raise_at.new.core c.reopen.new.store c.reopen.new.state
     (c.raise_at.ensures ∙ ap (core_at c.in_ok-end-in-Err-Failed.end) booted.same) c.requires.known
     (reopened.ends was will told small stored recorded (ap (λ (counts : Counts). counts.stored) c.of-before.ensures ∙ holds.count)

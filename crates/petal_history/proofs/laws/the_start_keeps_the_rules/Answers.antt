@@ -7,6 +7,7 @@ use Rattle.petal_table.proofs.Rows.{at-empty}
 use Rattle.petal_paxos.specs.Chosen.{votes_for, wins, chosen_at, chosen_from, before_first, last_place}
 use Rattle.petal_paxos.specs.declared.record.StateRecord.TheVariants.{Inc}
 use Rattle.petal_state.specs.Command.{state_after}
+use Rattle.petal_rules.proofs.Tests.{true_false}
 use Rattle.petal_rules.specs.Lists.{In}
 use Rattle.petal_rules.specs.Store.{cell_cmp}
 use Rattle.petal_rules.specs.World.{Setting, start, setting_of, devices, chosen_log, chosen_state}
@@ -58,7 +59,8 @@ returns c script = record {
       clients = λ n. record { later = chosen_log (setting_of script) (start (setting_of script)); is = refl };
     };
     copies = λ cell n m is_first is_second. inl refl;
-    covered = λ cell n m is_first is_second apart. inl refl;
+    covered = λ cell row holder is alone. inl refl;
+    empty = λ n fresh. true_false fresh refl;
     requests = record {
       pending = λ n cell op runs is over. none_some (sym (at-empty cell_cmp cell) ∙ is);
       late = λ letter client seq epoch cell bytes h. absurd h;

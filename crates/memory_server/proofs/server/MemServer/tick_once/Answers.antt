@@ -1,3 +1,5 @@
+use Rattle.std.proofs.Common.{sym, ◌∙◌}
+use Rattle.memory_server.proofs.Keeping.{none_there}
 use Rattle.memory_server.proofs.Ticking.{tick_site}
 use Rattle.memory_server.proofs.server.MemServer.tick_once.Goals as goal
 
@@ -5,5 +7,6 @@ pub returns-clause-site : goal.returns-clause-site
 returns-clause-site c =
     let it = c.self.inside in
     let ticked = c.in_ok-letters.ensures in
-    rw (← c.self.view_is)
+    let none = none_there it.blank (sym c.is_some.ensures ∙ c.if-is_some.false) in
+    rw (← c.self.view_is, none)
     (tick_site it.core c.tick.new.self it.store c.tick.new.store it.state c.in_ok-letters.letters (ticked.ok tt it.state.records) ticked.life.1)

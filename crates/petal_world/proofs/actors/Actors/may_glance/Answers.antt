@@ -1,4 +1,4 @@
--- The line is a settle in this round, or it has stopped the server, or has started it.
+-- The line is a settle in this round, or it has stopped the server, or has blanked it, or has started it.
 use Rattle.std.proofs.Common.{inl, inr, refl}
 use Rattle.petal_rules.proofs.Tests.{true_false}
 use Rattle.petal_world.proofs.Allowed.{hindered}
@@ -24,12 +24,21 @@ returns-then-has_stopped g c = λ setting w h is. (
   (λ may. refl),
 )
 
+pub returns-then-has_blanked : goal.returns-then-has_blanked
+returns-then-has_blanked g c = λ setting w h is. (
+  (λ t. may_glance_by w c.args.server c.args.line c.args.round
+      (inr (c.if-round-ne0.false, inr (inl ((c.has_blanked.ensures setting w h).0 c.if-has_blanked.true))))),
+  (λ may. refl),
+)
+
 pub returns : goal.returns
 returns g c = λ setting w h is. (
-  (λ t. may_glance_by w c.args.server c.args.line c.args.round (inr (c.if-round-ne0.false, inr ((c.has_started.ensures setting w h is).0 t)))),
+  (λ t. may_glance_by w c.args.server c.args.line c.args.round
+      (inr (c.if-round-ne0.false, inr (inr ((c.has_started.ensures setting w h is).0 t))))),
   (λ may. elim (shown w c.args.server c.args.line c.args.round may) [
     | inl now ↦ true_false ((c.is_settling.ensures setting w h).1 now) c.if-is_settling.false
     | inr (first, inl done) ↦ true_false ((c.has_stopped.ensures setting w h is).1 done) c.if-has_stopped.false
-    | inr (first, inr done) ↦ (c.has_started.ensures setting w h is).1 done
+    | inr (first, inr (inl done)) ↦ true_false ((c.has_blanked.ensures setting w h).1 done) c.if-has_blanked.false
+    | inr (first, inr (inr done)) ↦ (c.has_started.ensures setting w h is).1 done
   ]),
 )

@@ -1,7 +1,7 @@
 use Rattle.std.proofs.Common.{rules, ◌≡◌, Err, sym}
 use Rattle.kept_chains.specs.Kept.{store_of}
 use Rattle.pair_side.specs.declared.error.WorkError.TheVariants as error
-use Rattle.server_core.proofs.Pairing.{full_log, full_pair}
+use Rattle.server_core.proofs.Pairing.{full_log, full_store}
 use Rattle.log_side.proofs.Said.{still_left}
 use Rattle.server_core.proofs.server.ServerCore.work.Goals as goal
 
@@ -16,10 +16,10 @@ returns-in-None-clause-state_run g c =
     law.stays c.args.state.now.disk
 
 pub returns-in_err-work_pair-in-OfPairs-clause-moments : goal.returns-in_err-work_pair-in-OfPairs-clause-moments
-returns-in_err-work_pair-in-OfPairs-clause-moments g c = λ told holds. c.work_pair.ensures.moments told holds c.args.state.now.records
+returns-in_err-work_pair-in-OfPairs-clause-moments g c = λ told holds. c.work_pair.ensures.moments told holds
 
 pub returns-in_ok-work_pair-in-OfPairs-clause-moments : goal.returns-in_ok-work_pair-in-OfPairs-clause-moments
-returns-in_ok-work_pair-in-OfPairs-clause-moments g c = λ told holds. c.work_pair.ensures.moments told holds c.args.state.now.records
+returns-in_ok-work_pair-in-OfPairs-clause-moments g c = λ told holds. c.work_pair.ensures.moments told holds
 
 pub returns-in_err-work_log-in-OfLog-clause-state_moments : goal.returns-in_err-work_log-in-OfLog-clause-state_moments
 returns-in_err-work_log-in-OfLog-clause-state_moments g c = λ told holds. c.work_log.ensures.moments told holds
@@ -30,7 +30,7 @@ returns-in_ok-work_log-in-OfLog-clause-state_moments g c = λ told holds. c.work
 pub returns-in_err-work_pair-in-OfPairs-clause-full : goal.returns-in_err-work_pair-in-OfPairs-clause-full
 returns-in_err-work_pair-in-OfPairs-clause-full g c full =
     let is : c.work_pair.result ≡ Err error.JournalFull = search rules in
-    full_pair g.D.Disk g.E.Disk c.args.self.now c.work_pair.new.self c.args.store.now c.work_pair.new.store c.args.state.now (c.work_pair.ensures.full is)
+    full_store g.D.Disk g.E.Disk c.args.self.now c.work_pair.new.self c.args.store.now c.work_pair.new.store c.args.state.now (c.work_pair.ensures.full is)
 
 pub returns-in_err-work_log-in-OfLog-clause-full : goal.returns-in_err-work_log-in-OfLog-clause-full
 returns-in_err-work_log-in-OfLog-clause-full g c full =

@@ -1,5 +1,5 @@
 -- What a glance shows comes right after the boot that its line gave.
-use Rattle.law_causes.proofs.a_start_fails_for_a_reason.Goals as goal
+use Rattle.law_causes.proofs.a_boot_fails_for_a_reason.Goals as goal
 use Rattle.law_causes.proofs.Glances.{fails_for_a_reason}
 
 pub returns : goal.returns

@@ -1,0 +1,158 @@
+-- A stopped server's device is made blank: the store from before counts on, so that the machine is told nothing.
+use Rattle.std.proofs.Common.{◌≡◌, ◌==◌, ◌++◌, ℕ, [], true, false, Option, Some, None, refl, sym, ap, ◌∙◌, subst, inl, inr}
+use Rattle.std.specs.Prelude.{drop, if◌then◌else◌, length, map, unwrap_or}
+use Rattle.std.specs.Ordering.{nat_cmp}
+use Rattle.petal_base.specs.declared.cell.Cell.{Cell}
+use Rattle.petal_table.specs.Table.{at}
+use Rattle.petal_table.proofs.Rows.{at-empty}
+use Rattle.global_tables.specs.Disk.{disk_at}
+use Rattle.global_tables.specs.declared.disk.DiskRow.{DiskRow}
+use Rattle.petal_machine.specs.Machine.{Plain}
+use Rattle.petal_msg.specs.declared.operation.Pending.{Pending}
+use Rattle.petal_state.specs.CellState.{cell_link}
+use Rattle.petal_state.specs.Command.{state_after}
+use Rattle.petal_rules.specs.Blanked.{BeforeBlank, kept_store}
+use Rattle.petal_rules.specs.Boots.{blanked, stays}
+use Rattle.petal_rules.specs.Log.{state_in}
+use Rattle.petal_rules.specs.Server.{Server}
+use Rattle.petal_rules.specs.State.{authority, in_both}
+use Rattle.petal_rules.specs.Store.{Chain, Store, bytes_of, cell_cmp, chain_in, entry_at}
+use Rattle.petal_rules.specs.World.{Setting, World, acts, blank_joins_in, chosen_log, chosen_state, counted, kept, server_state}
+use Rattle.petal_rules.specs.declared.step.Step.TheVariants.{Blank}
+use Rattle.petal_rules.proofs.ListLemmas.{put_apart, put_same}
+use Rattle.petal_rules.proofs.Tests.{all_put, all_put_apart, number_itself, same_or_apart, true_false}
+use Rattle.petal_history.specs.Contents.{cell_of_block, content_by, content_where, has_content}
+use Rattle.petal_history.specs.Events.{change_by, makes, make_of, takes, told_with}
+use Rattle.law_state.specs.Firm.{Firm}
+use Rattle.law_steps.proofs.Serving.{chosen_same}
+use Rattle.law_copies.specs.Visits.{IsLinked}
+use Rattle.law_run.specs.Follow.{Follow, HasCounted, HasOnlyKnown, Is_counted, Is_followed, Is_told, OfStores, kept_at}
+use Rattle.law_run.proofs.Along.{disks_now, rows_in}
+use Rattle.law_run.proofs.Counted.{of_stores}
+use Rattle.law_run.proofs.Grounds.{before_after}
+use Rattle.law_run.proofs.Makes.{drop_all}
+use Rattle.law_run.proofs.Takes.{no_takes}
+
+module _ (setting : Setting) (w : World) (n stamp : ℕ) where
+  abbrev pub blank_world : World
+  blank_world = (acts setting w n Blank stamp (stays (blanked (w.servers n)))).world
+
+  abbrev v : World
+  v = blank_world
+
+  -- nothing is chosen
+  same : chosen_log setting v ≡ chosen_log setting w
+  same = chosen_same setting w n stamp Blank (stays (blanked (w.servers n))) refl
+
+  state_same : chosen_state setting v ≡ chosen_state setting w
+  state_same = ap (state_after setting.servers) same
+
+  -- the store from before counts, while as many Joins with an empty store are chosen
+  counts_before : (joins now : ℕ) (store other : Store) → now ≡ joins → kept_store now (Some (record { joins = joins; store = store })) other ≡ store
+  counts_before joins now store other e =
+      ap (λ b. if b then store else other) (ap (λ k. joins == k) e ∙ number_itself joins)
+
+  -- the store from before the blank
+  abbrev from_before : Option BeforeBlank
+  from_before = Some (record { joins = blank_joins_in setting (chosen_log setting w) n; store = kept setting w n })
+
+  -- what counts of stores is as before
+  pub blank_kept : (i : ℕ) → kept setting v i ≡ kept setting w i
+  blank_kept i = elim (same_or_apart i n) [
+    | inl e ↦
+        subst (λ j. kept setting v j ≡ kept setting w j) (sym e)
+        (ap (λ (o : Option BeforeBlank). kept_store (blank_joins_in setting (chosen_log setting v) n) o (v.servers n).own.store)
+        (put_same w.before_blank n from_before)
+        ∙ counts_before (blank_joins_in setting (chosen_log setting w) n) (blank_joins_in setting (chosen_log setting v) n) (kept setting w n)
+        (v.servers n).own.store
+        (ap (λ log. blank_joins_in setting log n) same))
+    | inr ne ↦
+        (λ k. kept_store (blank_joins_in setting (same k) i) (put_apart w.before_blank n from_before i ne k)
+        (put_apart w.servers n (blanked (w.servers n)) i ne k).own.store)
+  ]
+
+  held_same : (cell : Cell) (epoch : ℕ) (o : Option ℕ) → content_by (counted setting v) cell epoch o ≡ content_by (counted setting w) cell epoch o
+  held_same cell epoch None = refl
+  held_same cell epoch (Some i) = ap (λ (s : Store). bytes_of (entry_at (chain_in s.chains cell) epoch)) (blank_kept i)
+
+  content_same : (row : DiskRow) (b : ℕ)
+      → kept_at (chosen_state setting v) (counted setting v) row b ≡ kept_at (chosen_state setting w) (counted setting w) row b
+  content_same row b =
+      ap (λ s. content_by (counted setting v) (cell_of_block row b) 0 (authority s (cell_of_block row b))) state_same
+      ∙ held_same (cell_of_block row b) 0 (authority (chosen_state setting w) (cell_of_block row b))
+
+  -- ### Stores
+
+  state_back : (i : ℕ) (cell : Cell) → cell_link (server_state setting v i) cell ≡ None → cell_link (server_state setting w i) cell ≡ None
+  state_back = all_put w.servers n (blanked (w.servers n))
+      (λ i (x : Server). (cell : Cell) → cell_link (state_in setting.servers x.log) cell ≡ None → cell_link (server_state setting w i) cell ≡ None)
+      (λ i cell e. e) (λ cell e. e)
+
+  pub blank_born : OfStores w (HasOnlyKnown setting w) → OfStores v (HasOnlyKnown setting v)
+  blank_born born = record {
+    now = all_put w.servers n (blanked (w.servers n))
+        (λ i (x : Server). (cell : Cell) → cell_link (state_in setting.servers x.log) cell ≡ None → chain_in x.own.store.chains cell ≡ []) born.now
+        (λ cell none. ap (λ o. unwrap_or {T = Chain} o []) (at-empty cell_cmp cell));
+    before = λ i b is cell none.
+        before_after setting w (HasOnlyKnown setting w) n born.before (of_stores setting w (HasOnlyKnown setting w) born n) i b is cell
+        (state_back i cell none);
+  }
+
+  -- ### What is told
+
+  module _ (firm : Firm setting w) where
+    blank_takes : takes (change_by setting w v) ≡ Some []
+    blank_takes = no_takes (change_by setting w v) (λ row h b.
+        sym (ap (λ s. content_where s (counted setting v) (disk_at s.disks.rows row.id) row.epoch b) state_same
+        ∙ ap (λ o. content_where (chosen_state setting w) (counted setting v) o row.epoch b) ((disks_now setting w firm).at row h)
+        ∙ held_same (cell_of_block row b) row.epoch (authority (chosen_state setting w) (cell_of_block row b))))
+
+    blank_makes : makes (change_by setting w v) ≡ []
+    blank_makes = ap (λ s. map make_of (drop (length (rows_in setting w)) s.disks.rows)) state_same ∙ ap (map make_of) (drop_all (rows_in setting w))
+
+    pub blank_told : told_with [] (takes (change_by setting w v)) (makes (change_by setting w v) ++ [] ++ []) ≡ Some []
+    blank_told = (λ i. told_with [] (blank_takes i) (blank_makes i ++ [] ++ []))
+
+  -- ### Servers and clients stay tied to the machine
+
+  module _ (m : Plain) (asleep : (w.servers n).life.running ≡ false) (follow : Follow setting (rows_in setting w) w m) where
+    -- who runs is as before
+    as_before : (i : ℕ) → (v.servers i).life.running ≡ true → v.servers i ≡ w.servers i
+    as_before = all_put_apart w.servers n (blanked (w.servers n)) (λ i (x : Server). x.life.running ≡ true → x ≡ w.servers i)
+        (λ i ne on. refl) (λ on. true_false on asleep)
+
+    counted_back : (i : ℕ) (cell : Cell) (op : Pending) → v.servers i ≡ w.servers i → HasCounted setting v i cell op (chain_in (kept setting v i).chains cell)
+        → HasCounted setting w i cell op (chain_in (kept setting w i).chains cell)
+    counted_back i cell op e (Is_told both paired) =
+        Is_told (subst (λ (x : Server). in_both (state_in setting.servers x.log) cell ≡ true) e both) paired
+    counted_back i cell op e (Is_followed row linked both shared put equal) =
+        Is_followed row (subst (λ (x : Server). IsLinked setting x.log.applied cell row) e linked) both
+        (ap (λ s. in_both s cell) (sym state_same) ∙ shared) put
+        (ap (λ (s : Store). chain_in s.chains cell) (sym (blank_kept i)) ∙ equal
+        ∙ ap (λ (s : Store). chain_in s.chains cell) (blank_kept row.secondary))
+    counted_back i cell op e (Is_counted put here) = Is_counted put (ap (λ s. authority s cell) (sym state_same) ∙ here)
+
+    pub blank_follow : Follow setting (rows_in setting v) v m
+    blank_follow = subst (λ s. Follow setting s.disks.rows v m) (sym state_same) (record {
+      stores = record {
+        known = λ row h.
+            let k = follow.stores.known row h in
+            record {
+              disk = k.disk;
+              is = k.is;
+              same = λ b has. k.same b (ap (λ s. has_content s row b) (sym state_same) ∙ has) ∙ sym (content_same row b);
+            };
+        unknown = follow.stores.unknown;
+        mindful = follow.stores.mindful;
+      };
+      seats = follow.seats;
+      letters = follow.letters;
+      pending = λ i cell op on is counts still.
+          let e = as_before i on in
+          follow.pending i cell op (ap (λ (x : Server). x.life.running) (sym e) ∙ on)
+          (ap (λ (x : Server). at cell_cmp x.own.pairs.pending cell) (sym e) ∙ is) (counted_back i cell op e counts) still;
+      finished = λ i c last on is.
+          let e = as_before i on in
+          follow.finished i c last (ap (λ (x : Server). x.life.running) (sym e) ∙ on)
+          (ap (λ (x : Server). at nat_cmp x.own.pairs.finished c) (sym e) ∙ is);
+    })

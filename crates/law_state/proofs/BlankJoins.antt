@@ -1,0 +1,57 @@
+-- The Joins of a server with an empty store that act, counted along a log.
+use Rattle.std.proofs.Common.{◌≡◌, ◌≤◌, ◌<◌, ◌+◌, ◌++◌, ◌==◌, ◌&&◌, ℕ, List, [], ◌∷◌, true, if◌then◌else◌, refl, sym, ap, ◌∙◌, inl, inr, arith}
+use Rattle.std.specs.Prelude.{fold, slice_get}
+use Rattle.petal_command.specs.declared.command.Command.{Command}
+use Rattle.petal_command.specs.declared.command.Command.TheVariants.{Join}
+use Rattle.petal_history.specs.Claims.{IsPrefix}
+use Rattle.petal_state.specs.Command.{after, may_join, state_after}
+use Rattle.petal_state.specs.State.{start}
+use Rattle.petal_rules.specs.Blanked.{blank_joins_from, joins_blank}
+use Rattle.petal_rules.specs.State.{State}
+use Rattle.petal_rules.proofs.Tests.{both_true, by_bool, number_itself, same_numbers, true_false}
+use Rattle.law_state.specs.Joins.{CountsJoins, HasJoinedSince}
+use Rattle.law_state.proofs.Touching.{counted}
+
+pub joins_on : (n : ℕ) (s : State) (front more : List Command)
+    → blank_joins_from s (front ++ more) n ≡ blank_joins_from s front n + blank_joins_from (fold after s front) more n
+joins_on n s [] more = omega arith
+joins_on n s (entry ∷ front) more = counted (joins_blank s entry n) _ _ _ (joins_on n (after s entry) front more)
+
+pub joins_grow : (servers : ℕ) (front whole : List Command) (n : ℕ) → IsPrefix front whole
+    → blank_joins_from (start servers) front n ≤ blank_joins_from (start servers) whole n
+joins_grow servers front whole n prefix =
+    let e : blank_joins_from (start servers) whole n
+    ≡ blank_joins_from (start servers) front n + blank_joins_from (state_after servers front) prefix.later n =
+    ap (λ log. blank_joins_from (start servers) log n) prefix.is ∙ joins_on n (start servers) front prefix.later in
+    omega arith
+
+-- what counts is a Join of the server with an empty store that acts
+counted_by : (s : State) (entry : Command) (n : ℕ) → joins_blank s entry n ≡ true
+    → (inc : ℕ) × (entry ≡ Join n inc true) × (may_join (slice_get s.view.members n) inc ≡ true)
+counted_by s (Join server inc true) n e =
+    let h = both_true (server == n) (may_join (slice_get s.view.members server) inc) e in
+    let same = same_numbers server n h.0 in
+    (inc, ap (λ k. Join k inc true) same, ap (λ k. may_join (slice_get s.view.members k) inc) (sym same) ∙ h.1)
+counted_by s _ n e = true_false e refl
+
+pub counts_joins : (servers : ℕ) (front : List Command) (entry : Command) (n : ℕ) → CountsJoins servers front entry n
+counts_joins servers front entry n =
+    let s = state_after servers front in
+    let e = joins_on n (start servers) front (entry ∷ []) in
+    by_bool (joins_blank s entry n)
+    (λ is.
+    let one : blank_joins_from s (entry ∷ []) n ≡ 1 = ap (λ b. if b then 1 else 0) is in
+    let by = counted_by s entry n is in
+    inr (record { inc = by.0; is = by.1; may = by.2; counts = omega arith }))
+    (λ no. let none : blank_joins_from s (entry ∷ []) n ≡ 0 = ap (λ b. if b then 1 else 0) no in inl (omega arith))
+
+pub joined_counts : (servers : ℕ) (front whole : List Command) (n inc : ℕ) → HasJoinedSince servers front whole n inc true
+    → blank_joins_from (start servers) front n < blank_joins_from (start servers) whole n
+joined_counts servers front whole n inc joined =
+    let s = state_after servers joined.until in
+    let before = joins_grow servers front joined.until n joined.behind in
+    let behind = joins_grow servers (joined.until ++ Join n inc true ∷ []) whole n joined.stands in
+    let e = joins_on n (start servers) joined.until (Join n inc true ∷ []) in
+    let one : blank_joins_from s (Join n inc true ∷ []) n ≡ 1 =
+    ap (λ b. if b && may_join (slice_get s.view.members n) inc then 1 else 0) (number_itself n) ∙ ap (λ b. if b then 1 else 0) joined.may in
+    omega arith

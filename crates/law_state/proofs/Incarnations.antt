@@ -1,0 +1,167 @@
+-- Who is In as an incarnation has joined as it, once: no Join of that incarnation or an earlier one acts any more.
+use Rattle.std.proofs.Common.{◌≡◌, ◌≤◌, ◌+◌, ◌++◌, ◌==◌, ℕ, List, [], ◌∷◌, Bool, true, false, not, Option, Some, None, is_some, refl, sym, ap, ◌∙◌, subst, ◌⊎◌, inl, inr, append_assoc, arith}
+use Rattle.std.specs.Prelude.{fold, slice_get, option_and_then, if◌then◌else◌}
+use Rattle.std.specs.Option.{option_map_or}
+use Rattle.std.proofs.lemmas.Grind.{fold-append}
+use Rattle.global_tables.specs.Disk.{named}
+use Rattle.global_tables.specs.View.{inc_in}
+use Rattle.global_tables.specs.declared.disk.Verdict.TheVariants as Verdict
+use Rattle.global_tables.specs.declared.fence.Member.{Member}
+use Rattle.global_tables.specs.declared.fence.Member.TheVariants as member
+use Rattle.petal_command.specs.declared.command.Command.{Command}
+use Rattle.petal_command.specs.declared.command.Command.TheVariants.{Join, Leave, Caught, MakeDisk, Witness}
+use Rattle.petal_state.specs.Command.{act, after, is_new, may_join, state_after, with_disk}
+use Rattle.petal_state.specs.State.{is_up_as, latest, start, told}
+use Rattle.petal_rules.specs.Lists.{In}
+use Rattle.petal_rules.specs.State.{State}
+use Rattle.petal_rules.proofs.ListLemmas.{in_former, in_later}
+use Rattle.petal_rules.proofs.Tests.{by_bool, by_test, number_itself, same_numbers, same_or_apart, true_false}
+use Rattle.petal_history.specs.Claims.{IsPrefix}
+use Rattle.law_state.specs.Ages.{age, age_of}
+use Rattle.law_state.specs.Disks.{HasJoined}
+use Rattle.law_state.specs.Joins.{HasJoinedSince}
+use Rattle.law_state.specs.Plain.{IsPlain, IsPlainLog}
+use Rattle.law_state.specs.Tables.{IsPlainState}
+use Rattle.law_state.proofs.Ages.{in_age, may_by}
+use Rattle.law_state.proofs.Caughts.{act_caught}
+use Rattle.law_state.proofs.Entries.{entering, in_at_start, log_plain, settled_act}
+use Rattle.law_state.proofs.Joins.{joined_by, in_now}
+use Rattle.law_state.proofs.Joins.{in_beside as joined_beside}
+use Rattle.law_state.proofs.Leaves.{left_by, in_before}
+use Rattle.law_state.proofs.Steady.{front_plain, log_below}
+
+-- the entry is the Join of this incarnation, which acts
+abbrev Joins : State → Command → (n inc : ℕ) → Type 0
+Joins s entry n inc = (blank : Bool) × (entry ≡ Join n inc blank) × (may_join (slice_get s.view.members n) inc ≡ true)
+
+-- an incarnation that an entry makes In has this very Join
+made_in : (servers : ℕ) (s : State) → IsPlainState servers s → (entry : Command) → IsPlain servers entry → (n inc : ℕ) → is_up_as s n inc ≡ false
+    → is_up_as (act entry s) n inc ≡ true → Joins s entry n inc
+made_in servers s p (Join server later blank) plain n inc out =
+    by_test (λ (t : State). is_up_as t n inc ≡ true → Joins s (Join server later blank) n inc) (may_join (slice_get s.view.members server) later)
+    (joined_by s server later blank) s
+    (λ may is. elim (same_or_apart n server) [
+      | inl e ↦ (
+          let same : later ≡ inc = same_numbers later inc
+          (sym (in_now servers s p server later blank may inc) ∙ sym (ap (λ k. is_up_as (joined_by s server later blank) k inc) e) ∙ is) in
+          (blank, λ i. Join (sym e i) (same i) blank, (λ i. may_join (slice_get s.view.members (e i)) (sym same i)) ∙ may))
+      | inr ne ↦ true_false (sym (joined_beside servers s p server later blank may n inc ne) ∙ is) out
+    ])
+    (λ no is. true_false is out)
+made_in servers s p (Leave server last) plain n inc out =
+    by_test (λ (t : State). is_up_as t n inc ≡ true → Joins s (Leave server last) n inc) (is_up_as s server last) (left_by s server) s
+    (λ now is. true_false (in_before servers s p server last now n inc is) out)
+    (λ no is. true_false is out)
+made_in servers s p (Caught of link holder holder_inc other other_inc) plain n inc out =
+    act_caught (λ (t : State). is_up_as t n inc ≡ true → Joins s (Caught of link holder holder_inc other other_inc) n inc) s
+    of link holder holder_inc other other_inc (λ acts is. true_false is out) (λ is. true_false is out)
+made_in servers s p (MakeDisk client seq name tuple) plain n inc out =
+    by_test (λ (t : State). is_up_as t n inc ≡ true → Joins s (MakeDisk client seq name tuple) n inc) (not (is_new seq (latest s client))) s _
+    (λ old is. true_false is out)
+    (λ new. by_test (λ (t : State). is_up_as t n inc ≡ true → Joins s (MakeDisk client seq name tuple) n inc) (is_some (named s.disks.rows name))
+    (told s client seq Verdict.Exists) (told (with_disk s name tuple) client seq Verdict.Ok)
+    (λ there is. true_false is out) (λ none is. true_false is out))
+made_in servers s p (Witness client seq turn) plain n inc out = λ is. true_false is out
+made_in servers s p _ plain n inc out = absurd plain
+
+-- of these entries one is such a Join
+record IsJoinAmong (s : State) (entries : List Command) (n inc : ℕ) : Type 0 where
+  before : List Command
+  blank : Bool
+  rest : List Command
+  lies : entries ≡ before ++ Join n inc blank ∷ rest
+  may : may_join (slice_get (fold after s before).view.members n) inc ≡ true
+
+in_joined : (servers : ℕ) (entries : List Command) (s : State) → IsPlainState servers s → IsPlainLog servers entries → (n inc : ℕ)
+    → is_up_as s n inc ≡ false → is_up_as (fold after s entries) n inc ≡ true → IsJoinAmong s entries n inc
+unfolding In
+in_joined servers [] s p all n inc out is = true_false is out
+in_joined servers (entry ∷ entries) s p all n inc out is =
+    let plain = all entry (inl refl) in
+    by_bool (is_up_as (after s entry) n inc)
+    (λ now.
+    let made = made_in servers s p entry plain n inc out (sym (ap (λ (t : State). is_up_as t n inc) (settled_act servers s entry p plain)) ∙ now) in
+    record { before = []; blank = made.0; rest = entries; lies = ap (λ e. e ∷ entries) made.1; may = made.2 })
+    (λ stays.
+    let c = in_joined servers entries (after s entry) (entering servers s entry p plain).plain (λ other h. all other (inr h)) n inc stays is in
+    record { before = entry ∷ c.before; blank = c.blank; rest = c.rest; lies = ap (λ es. entry ∷ es) c.lies; may = c.may })
+
+-- ### Fronts of a log
+
+module _ (servers : ℕ) (front whole : List Command) (n inc : ℕ) (all : IsPlainLog servers whole) (prefix : IsPrefix front whole) where
+  whole_is : state_after servers whole ≡ fold after (state_after servers front) prefix.later
+  whole_is = ap (state_after servers) prefix.is ∙ fold-append after (start servers) front prefix.later
+
+  since_by : IsJoinAmong (state_after servers front) prefix.later n inc → (blank : Bool) × HasJoinedSince servers front whole n inc blank
+  since_by c = (
+    c.blank,
+    record {
+      until = front ++ c.before;
+      behind = record { later = c.before; is = refl };
+      stands = record {
+        later = c.rest;
+        is = prefix.is ∙ ap (λ xs. front ++ xs) c.lies ∙ sym (append_assoc front c.before (Join n inc c.blank ∷ c.rest))
+            ∙ sym (append_assoc (front ++ c.before) (Join n inc c.blank ∷ []) c.rest);
+      };
+      may = ap (λ (t : State). may_join (slice_get t.view.members n) inc) (fold-append after (start servers) front c.before) ∙ c.may;
+    },
+  )
+
+  pub joined_since : is_up_as (state_after servers whole) n inc ≡ true
+      → (is_up_as (state_after servers front) n inc ≡ true) ⊎ ((blank : Bool) × HasJoinedSince servers front whole n inc blank)
+  joined_since is = by_bool (is_up_as (state_after servers front) n inc) inl
+      (λ out. inr (since_by (in_joined servers prefix.later (state_after servers front) (log_plain servers front (front_plain servers front whole all prefix))
+      (λ c h. all c (subst (In c) (sym prefix.is) (in_later c front prefix.later h))) n inc out (sym (ap (λ (t : State). is_up_as t n inc) whole_is) ∙ is))))
+
+  -- no Join of an incarnation that was In, or of an earlier one, acts
+  pub joined_once : (other : ℕ) → is_up_as (state_after servers front) n inc ≡ true → other ≤ inc
+      → may_join (slice_get (state_after servers whole).view.members n) other ≡ false
+  joined_once other is low = by_bool (may_join (slice_get (state_after servers whole).view.members n) other)
+      (λ may.
+      let was = may_by (slice_get (state_after servers whole).view.members n) other may in
+      let old = in_age (state_after servers front) n inc is in
+      let grown = (log_below servers front whole all prefix).ages n in
+      let now : age_of (state_after servers whole) n ≡ was.0 + was.0 + 2 = ap age was.1 in
+      let lt = was.2 in
+      absurd (omega arith))
+      (λ no. no)
+
+pub joined_in : (servers : ℕ) (front whole : List Command) (n inc : ℕ) (blank : Bool) → IsPlainLog servers whole
+    → (joined : HasJoinedSince servers front whole n inc blank)
+    → is_up_as (state_after servers (joined.until ++ Join n inc blank ∷ [])) n inc ≡ true
+unfolding In
+joined_in servers front whole n inc blank all joined =
+    let plain = front_plain servers (joined.until ++ Join n inc blank ∷ []) whole all joined.stands in
+    let s = state_after servers joined.until in
+    let p = log_plain servers joined.until (front_plain servers joined.until _ plain (record { later = Join n inc blank ∷ []; is = refl })) in
+    ap (λ (t : State). is_up_as t n inc) (fold-append after (start servers) joined.until (Join n inc blank ∷ []))
+    ∙ ap (λ (t : State). is_up_as t n inc) (settled_act servers s (Join n inc blank) p tt)
+    ∙ ap (λ b. is_up_as (if b then joined_by s n inc blank else s) n inc) joined.may
+    ∙ in_now servers s p n inc blank joined.may inc ∙ number_itself inc
+
+-- ### From the start on
+
+-- who is In at the start is so with the first incarnation
+one_at_start : (servers n inc : ℕ) → is_up_as (start servers) n inc ≡ true → inc ≡ 1
+one_at_start servers n inc e = by (slice_get (start servers).view.members n) refl e
+  where
+    by : (o : Option Member) → slice_get (start servers).view.members n ≡ o → option_map_or (λ present. present == inc) (option_and_then inc_in o) false ≡ true
+        → inc ≡ 1
+    by None is f = true_false f refl
+    by (Some m) is f =
+        let one : Some m ≡ Some (member.In 1) = ap Some (in_at_start servers n m is) in
+        sym (same_numbers 1 inc
+        (sym (ap (λ (o : Option Member). option_map_or (λ present. present == inc) (option_and_then inc_in o) false) one) ∙ f))
+
+in_log : (servers : ℕ) (log : List Command) (n inc : ℕ) (blank : Bool) → HasJoinedSince servers [] log n inc blank → In (Join n inc blank) log
+unfolding In
+in_log servers log n inc blank joined = subst (In (Join n inc blank)) (sym joined.stands.is)
+    (in_former (Join n inc blank) (joined.until ++ Join n inc blank ∷ []) joined.stands.later
+    (in_later (Join n inc blank) joined.until (Join n inc blank ∷ []) (inl refl)))
+
+pub who_is_in : (servers : ℕ) (log : List Command) (n inc : ℕ) → IsPlainLog servers log → is_up_as (state_after servers log) n inc ≡ true
+    → (inc ≡ 1) ⊎ HasJoined log n inc
+who_is_in servers log n inc all is = elim (joined_since servers [] log n inc all (record { later = log; is = refl }) is) [
+  | inl first ↦ inl (one_at_start servers n inc first)
+  | inr joined ↦ inr (joined.0, in_log servers log n inc joined.0 joined.1)
+]

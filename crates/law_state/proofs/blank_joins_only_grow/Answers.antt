@@ -1,0 +1,12 @@
+-- By induction on the log.
+use Rattle.law_state.proofs.BlankJoins.{counts_joins, joined_counts, joins_grow}
+use Rattle.law_state.proofs.blank_joins_only_grow.Goals as goal
+
+pub returns-clause-grows : goal.returns-clause-grows
+returns-clause-grows c = joins_grow
+
+pub returns-clause-entry : goal.returns-clause-entry
+returns-clause-entry c = counts_joins
+
+pub returns-clause-counts : goal.returns-clause-counts
+returns-clause-counts c = joined_counts

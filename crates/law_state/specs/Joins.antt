@@ -1,0 +1,27 @@
+-- Joins between a front of a log and the whole of it.
+use Rattle.std.specs.Prelude.{◌≡◌, ◌⊎◌, ◌+◌, ◌++◌, ℕ, Bool, List, [], ◌∷◌, true, slice_get}
+use Rattle.petal_command.specs.declared.command.Command.{Command}
+use Rattle.petal_command.specs.declared.command.Command.TheVariants.{Join}
+use Rattle.petal_history.specs.Claims.{IsPrefix}
+use Rattle.petal_state.specs.Command.{may_join, state_after}
+use Rattle.petal_state.specs.State.{start}
+use Rattle.petal_rules.specs.Blanked.{blank_joins_from}
+
+-- behind this front of the log the server, which was Out, joins as this incarnation
+pub record HasJoinedSince (servers : ℕ) (front whole : List Command) (n inc : ℕ) (blank : Bool) : Type 0 where
+  pub until : List Command
+  pub behind : IsPrefix front until
+  pub stands : IsPrefix (until ++ Join n inc blank ∷ []) whole
+  pub may : may_join (slice_get (state_after servers until).view.members n) inc ≡ true
+
+-- the entry behind these is a Join of the server with an empty store that acts: one more
+pub record IsBlankJoin (servers : ℕ) (front : List Command) (entry : Command) (n : ℕ) : Type 0 where
+  pub inc : ℕ
+  pub is : entry ≡ Join n inc true
+  pub may : may_join (slice_get (state_after servers front).view.members n) inc ≡ true
+  pub counts : blank_joins_from (start servers) (front ++ entry ∷ []) n ≡ blank_joins_from (start servers) front n + 1
+
+-- so many Joins with an empty store stand there after the entry as before it, or it is one more
+abbrev pub CountsJoins : (servers : ℕ) (front : List Command) (entry : Command) (n : ℕ) → Type 0
+CountsJoins servers front entry n =
+    (blank_joins_from (start servers) (front ++ entry ∷ []) n ≡ blank_joins_from (start servers) front n) ⊎ IsBlankJoin servers front entry n

@@ -1,0 +1,23 @@
+-- The parts of a list, as of a history's records, before its last member.
+use Rattle.std.proofs.Common.{◌≡◌, ◌⊎◌, ◌++◌, List, [], ◌∷◌, refl, ap, sym, ◌∙◌, inl, inr}
+
+heads : {A : Type 0} {x z : A} {xs zs : List A} → x ∷ xs ≡ z ∷ zs → x ≡ z
+heads e = cc
+
+tails : {A : Type 0} {x z : A} {xs zs : List A} → x ∷ xs ≡ z ∷ zs → xs ≡ zs
+tails e = cc
+
+-- nothing stands before nothing
+pub none_before_none : {A : Type 0} (xs zs : List A) → [] ≡ xs ++ zs → xs ≡ []
+none_before_none [] zs e = refl
+none_before_none (x ∷ xs) zs e = cc
+
+-- a part of a list with one element more is all of it, or a part of the list
+pub split_last : {A : Type 0} (xs : List A) (y : A) (before later : List A) → xs ++ y ∷ [] ≡ before ++ later
+    → (before ≡ xs ++ y ∷ []) ⊎ ((rest : List A) × (xs ≡ before ++ rest))
+split_last xs y [] later e = inr (xs, refl)
+split_last [] y (b ∷ before) later e = inl (ap (λ zs. b ∷ zs) (none_before_none before later (tails e)) ∙ ap (λ x. x ∷ []) (sym (heads e)))
+split_last (x ∷ xs) y (b ∷ before) later e = elim (split_last xs y before later (tails e)) [
+  | inl same ↦ inl (ap (λ zs. b ∷ zs) same ∙ ap (λ z. z ∷ (xs ++ y ∷ [])) (sym (heads e)))
+  | inr more ↦ inr (more.0, ap (λ zs. x ∷ zs) more.1 ∙ ap (λ z. z ∷ (before ++ more.0)) (heads e))
+]

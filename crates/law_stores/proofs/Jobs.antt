@@ -1,0 +1,125 @@
+-- No job makes a store wait to be filled, or takes that away; and a ballot leaves the store as it is.
+use Rattle.std.proofs.Common.{◌≡◌, refl, ◌∙◌}
+use Rattle.busy_marks.specs.Marks.{above}
+use Rattle.global_tables.specs.declared.link.LinkRow.{LinkRow}
+use Rattle.petal_base.specs.declared.cell.Cell.{Cell}
+use Rattle.petal_command.specs.declared.command.Command.{Command}
+use Rattle.petal_command.specs.declared.command.Command.TheVariants.{Caught}
+use Rattle.petal_msg.specs.declared.body.Body.{Body}
+use Rattle.petal_msg.specs.declared.copying.Copying.{Copying}
+use Rattle.petal_msg.specs.declared.copying.LastCopy.{LastCopy}
+use Rattle.petal_msg.specs.declared.operation.Far.{Far}
+use Rattle.petal_msg.specs.declared.operation.Far.TheVariants as far
+use Rattle.petal_msg.specs.declared.operation.Pending.{Pending}
+use Rattle.std.specs.Prelude.{ℕ, Bool, Option, Some, None}
+use Rattle.petal_rules.specs.Copies.{with_copied, with_page}
+use Rattle.petal_rules.specs.Progress.{progress_on, with_progress}
+use Rattle.petal_rules.specs.Returns.{holds_link, proposed}
+use Rattle.petal_rules.specs.Server.{Own, Here, Done}
+use Rattle.petal_rules.specs.State.{State, link_named}
+use Rattle.petal_rules.specs.Writes.{tells}
+use Rattle.petal_rules.proofs.Tests.{by_test}
+use Rattle.law_steps.specs.Did.{Did, Ignores, Refuses, By_read, By_lead, By_second, By_holder, By_other}
+use Rattle.law_steps.specs.DidHolder.{DidHolder, CopyStep, Asks_to_trim, Sends, Unmarks_copied, Closes_copy, TakenCopy, Copy_as_is, Copy_trimmed, Copy_synced, Asks_page, Turns_page, Begins_copy, Goes_on_copying, Finds_it_full, Tidies}
+use Rattle.law_steps.specs.DidLead.{DidLead, Asks_for, Repeats, Is_full, Opens, Marks, Puts, Gives_up, Unmarks, Closes, Opens_alone, Marks_alone, Puts_alone, Unmarks_alone, Closes_alone, Taken, As_it_is, As_told}
+use Rattle.law_steps.specs.DidOther.{DidOther, TrimStep, Is_trimmed, Drops_entry, Answers_page, Is_copied_to, Goes_on_trimming, Puts_entry, Has_entry, Has_no_slot}
+use Rattle.law_steps.specs.DidRead.{DidRead, Shows}
+use Rattle.law_steps.specs.DidSecond.{DidSecond, Sets_apart, Promises, Declines, Follows}
+
+-- whether the own part's store waits to be filled
+abbrev pub waits : Own → Bool
+waits own = own.store.fresh
+
+copied_waits : (row : Option LinkRow) (own : Own) (block : ℕ) → waits (with_copied row own block) ≡ waits own
+copied_waits None own block = refl
+copied_waits (Some row) own block =
+    by_test (λ (now : Own). waits now ≡ waits own) (above (progress_on own row).copied block)
+    (with_progress own row (record (progress_on own row) { copied = Some block })) own
+    (λ e. refl) (λ e. refl)
+
+page_waits : (own : Own) (row : LinkRow) (block : Option ℕ) → waits (with_page own row (progress_on own row) block) ≡ waits own
+page_waits own row None = refl
+page_waits own row (Some block) = refl
+
+module _ (heard : Body → Type 0) (here : Here) (own : Own) where
+  read_waits : (done : Done) → DidRead heard here own done → waits done.own ≡ waits own
+  read_waits _ (Shows client seq cell epoch h seat reads free) = refl
+
+  taken_waits : (now : Own) (op : Pending) → Taken own now op → waits now ≡ waits own
+  taken_waits _ _ (As_it_is op is) = refl
+  taken_waits _ _ (As_told op reserved paired is) = refl
+
+  lead_waits : (done : Done) → DidLead heard here own done → waits done.own ≡ waits own
+  lead_waits _ (Asks_for posts h) = refl
+  lead_waits _ (Repeats want last h lead is e) = refl
+  lead_waits _ (Is_full want new no_room) = refl
+  lead_waits _ (Gives_up op h is reserved put) = refl
+  lead_waits _ (Opens want new both) = refl
+  lead_waits _ (Marks op h is both stage) = refl
+  lead_waits _ (Puts op is both stage) = refl
+  lead_waits _ (Unmarks op h is both stage) = refl
+  lead_waits _ (Closes op is both stage) = refl
+  lead_waits _ (Opens_alone want new on) = refl
+  lead_waits _ (Marks_alone now op taken on fresh) = taken_waits now op taken
+  lead_waits _ (Puts_alone now op taken on stale put) = taken_waits now op taken
+  lead_waits _ (Unmarks_alone now op taken on stale put busy) = taken_waits now op taken
+  lead_waits _ (Closes_alone now op taken on stale put free) = taken_waits now op taken
+
+  told_waits : (cell : Cell) (number : ℕ) (how : Far) → waits (tells here own cell number how).own ≡ waits own
+  told_waits cell number far.Reserved = refl
+  told_waits cell number far.Replicated = refl
+
+  second_waits : (done : Done) → DidSecond heard here own done → waits done.own ≡ waits own
+  second_waits _ (Sets_apart number cell tickets h s le) = refl
+  second_waits _ (Promises number cell how s is) = told_waits cell number how
+  second_waits _ (Declines number cell h s no_room) = refl
+  second_waits _ (Follows number key version bytes h s is) = refl
+
+  copy_waits : (now : Own) (cell : Cell) (copy : Copying) (done : Done) → CopyStep here now cell copy done → waits done.own ≡ waits now
+  copy_waits now cell copy _ (Asks_to_trim fresh) = refl
+  copy_waits now cell copy _ (Sends row trimmed is) = refl
+  copy_waits now cell copy _ (Unmarks_copied kind synced left) = refl
+  copy_waits now cell copy _ (Closes_copy synced left) = copied_waits _ _ cell.block
+
+  copy_taken_waits : (cell : Cell) (now : Own) (copy : Copying) → TakenCopy heard own cell now copy → waits now ≡ waits own
+  copy_taken_waits cell _ _ (Copy_as_is copy is) = refl
+  copy_taken_waits cell _ _ (Copy_trimmed copy h is fresh) = refl
+  copy_taken_waits cell _ _ (Copy_synced copy h is trimmed lt) = refl
+
+  holder_waits : (done : Done) → DidHolder heard here own done → waits done.own ≡ waits own
+  holder_waits _ (Asks_page id row other held fresh) = refl
+  holder_waits _ (Turns_page id row other after block h held fresh at) = page_waits own row block
+  holder_waits done (Begins_copy id row other cell _ held next step) = copy_waits _ cell _ done step
+  holder_waits done (Goes_on_copying cell now copy _ taken step) = copy_waits now cell copy done step ∙ copy_taken_waits cell now copy taken
+  holder_waits _ (Finds_it_full cell copy h is trimmed lt) = refl
+  holder_waits _ (Tidies id row block kind is both idle left) = refl
+
+  trim_waits : (now : Own) (cell : Cell) (last : LastCopy) (holder : ℕ) (done : Done) → TrimStep now cell last holder done → waits done.own ≡ waits now
+  trim_waits now cell last holder _ (Is_trimmed none) = refl
+  trim_waits now cell last holder _ (Drops_entry epoch epochs is) = refl
+
+  other_waits : (done : Done) → DidOther heard here own done → waits done.own ≡ waits own
+  other_waits _ (Answers_page id row after h is) = refl
+  other_waits done (Is_copied_to number cell epochs holder _ h held newer step) = trim_waits _ cell _ holder done step
+  other_waits done (Goes_on_trimming cell holder last _ held is step) = trim_waits own cell last holder done step
+  other_waits _ (Puts_entry entry holder last of_copy at room) = refl
+  other_waits _ (Has_entry entry holder last of_copy lt) = refl
+  other_waits _ (Has_no_slot entry holder last of_copy at full) = refl
+
+  pub did_waits : (done : Done) → Did heard here own done → waits done.own ≡ waits own
+  did_waits _ Ignores = refl
+  did_waits _ (Refuses to said is why) = refl
+  did_waits _ (By_read done d) = read_waits done d
+  did_waits _ (By_lead done d) = lead_waits done d
+  did_waits _ (By_second done d) = second_waits done d
+  did_waits _ (By_holder done d) = holder_waits done d
+  did_waits _ (By_other done d) = other_waits done d
+
+link_store : (own : Own) (o : Option LinkRow) → (holds_link own o).store ≡ own.store
+link_store own None = refl
+link_store own (Some row) = refl
+
+pub ballot_store : (state : State) (own : Own) (o : Option Command) → (proposed state own o).store ≡ own.store
+ballot_store state own (Some (Caught of link holder holder_inc other other_inc)) = link_store own (link_named state (record { map = of; link = link }))
+ballot_store state own (Some _) = refl
+ballot_store state own None = refl

@@ -1,0 +1,68 @@
+-- What stays known of a server whose data device may be a blank one.
+use Rattle.std.proofs.Common.{◌≡◌, ◌≤◌, ℕ, ◌+◌, Bool, true, false, Option, None, Some, refl, sym, ap, subst, ◌∙◌, arith}
+use Rattle.std.specs.Prelude.{IfSome, is_some, if◌then◌else◌}
+use Rattle.log_side.specs.Done as logs
+use Rattle.pair_side.specs.Done.{HoldsAt}
+use Rattle.pair_side.specs.Side.{HasTicketsAt, Side}
+use Rattle.petal_disk.specs.declared.disk.Disk.{Ghosts}
+use Rattle.server_core.specs.Core.{Core}
+use Rattle.server_store.specs.Holdings.{Holdings}
+use Rattle.server_store.specs.Slots.{slot_start}
+use Rattle.state_store.specs.Device.{Keeping}
+use Rattle.memory_server.specs.Server.{IsKept, Mounted, Stands, store_at}
+
+pub none_there : {A : Type 0} (found : Option A) → is_some found ≡ false → found ≡ None
+none_there None is = refl
+none_there (Some x) is = absurd (cc)
+
+-- a blank device has as many slots as the store before it
+pub slots_at : {D : Type 0} (blank : Option D) (store : Holdings D) → (store_at blank store).slots ≡ store.slots
+slots_at None store = refl
+slots_at (Some disk) store = refl
+
+module _ {D : Type 0} (device : Ghosts D) {over : Bool} {blank : Option D} {core : Core} {store : Holdings D} {state : Keeping D}
+    (kept : IsKept device over blank (record { core = core; store = store; state = state })) where
+  -- while the stores are what their devices show and the device isn't blank, all stands
+  pub stands_now : over ≡ false → blank ≡ None → Stands device (record { core = core; store = store; state = state })
+  stands_now on none = kept.stands on (ap is_some none)
+
+  -- of a server that runs no less with the same slots set apart
+  pub kept_running : (new : Core) → new.running ≡ core.running → new.side ≡ core.side
+      → IsKept device over blank (record { core = new; store = store; state = state })
+  kept_running new running side = record {
+    stands = λ on none.
+        let stands = kept.stands on none in
+        record { tickets = λ runs. rw side (stands.tickets (sym running ∙ runs)); store = stands.store; state = stands.state };
+    rests = λ some. running ∙ kept.rests some;
+    room = kept.room;
+    state = kept.state;
+  }
+
+  -- of one that has stopped
+  pub kept_stopped : (new : Core) → new.running ≡ false → IsKept device over blank (record { core = new; store = store; state = state })
+  kept_stopped new off = record {
+    stands = λ on none.
+        let stands = kept.stands on none in record { tickets = λ runs. absurd (cc); store = stands.store; state = stands.state };
+    rests = λ some. off;
+    room = kept.room;
+    state = kept.state;
+  }
+
+  -- of one that gets a blank device
+  pub kept_blank : (disk : D) → core.running ≡ false → slot_start store.slots ≤ device.size disk
+      → IsKept device over (Some disk) (record { core = core; store = store; state = state })
+  kept_blank disk off room =
+      record { stands = λ on no. absurd (cc); rests = λ _. off; room = room; state = kept.state }
+
+-- of one whose devices show its stores
+pub kept_all : {D : Type 0} (device : Ghosts D) {over : Bool} {mounted : Mounted D} → Stands device mounted → IsKept device over None mounted
+kept_all device stands = record { stands = λ _ _. stands; rests = λ no. absurd (cc); room = tt; state = λ _. stands.state }
+
+-- a letter that comes changes at most the queue
+pub delivered_as : (core new : Core) (queued : Core) → new ≡ (if core.running then queued else core) → queued.running ≡ core.running → queued.side ≡ core.side
+    → (new.running ≡ core.running) × (new.side ≡ core.side)
+delivered_as core new queued is running side = by core.running is
+  where
+    by : (b : Bool) → new ≡ (if b then queued else core) → (new.running ≡ core.running) × (new.side ≡ core.side)
+    by true same = (ap (λ (it : Core). it.running) same ∙ running, ap (λ (it : Core). it.side) same ∙ side)
+    by false same = (ap (λ (it : Core). it.running) same, ap (λ (it : Core). it.side) same)
