@@ -2,7 +2,8 @@
 
 It knows nothing of servers' letters and of agreement: a disk is a map of blocks, and each block takes a slot on two
 neighbouring servers of the disk's tuple, its pair. Where one of a pair stops, the other one holds the pair's blocks alone, and
-serves them while it runs; once both run it copies to the other what that one has missed, and then both hold them again. The model
+serves them while it runs; once both run it copies to the other what that one has missed, and then both hold them again. A server that
+is blanked has nothing left: what it held alone is lost, and of all else the other one has the blocks alone. The model
 doesn't know when the others are told that a server has stopped, when a server that was started is taken in again and when it is
 up to date, but where a settle was answered: it goes by what was answered. Within a phase the clients and the operator run at once, so the model goes through a
 phase as a whole and tells for each line which answers are right in some order of them; it allows a little more than that where
@@ -66,18 +67,18 @@ class Making:
         self.tuple = [int(word) for word in words[4:]]
 
 class Order:
-    """A line that stops or starts a server, or waits until all is settled."""
+    """A line that stops, starts or blanks a server, or waits until all is settled."""
 
     def __init__(self, number, words):
         self.number, self.kind = number, words[1]
         self.server = int(words[2]) if words[2:] else None
 
 class Pair:
-    """Two servers, the primary and the secondary: whether both may hold their blocks, who may hold them alone, and who of the two
-    has stopped."""
+    """Two servers, the primary and the secondary: whether both may hold their blocks, who may hold them alone, whether nobody may
+    have them any more, and who of the two has stopped."""
 
     def __init__(self, servers):
-        self.servers, self.both, self.alone, self.gone = servers, True, set(), set()
+        self.servers, self.both, self.alone, self.lost, self.gone = servers, True, set(), False, set()
 
     def may_leave(self, server):
         """The server is out perhaps, or stops now: then the other one holds the blocks alone, where both did."""
@@ -88,18 +89,35 @@ class Pair:
         self.may_leave(server)
         self.gone |= {server} & set(self.servers)
 
+    def is_lost(self):
+        """Nobody has the blocks, for sure."""
+        return self.lost and not self.both and not self.alone
+
+    def may_lose(self, server):
+        """The server is blanked: what it may have held alone may be lost."""
+        self.lost = self.lost or server in self.alone
+
+    def lose(self, server):
+        """The server was blanked, and the other one has not left since."""
+        self.alone.discard(server)
+        self.both = self.both and bool(self.alone)
+
     def may_join(self):
         """Both run perhaps: then both may hold the blocks again."""
-        self.both = True
+        self.both = not self.is_lost()
 
     def join(self):
-        """Both hold the blocks."""
-        self.both, self.alone, self.gone = True, set(), set()
+        """Both hold the blocks, where somebody has them."""
+        self.both, self.alone, self.gone = not self.is_lost(), set(), set()
+
+    def serve(self):
+        """Somebody has the blocks."""
+        self.lost = False
 
     def narrow(self, alone, why):
-        """One of these holds the blocks alone."""
+        """One of these holds the blocks alone, or nobody where they may be lost."""
         self.both, self.alone = False, self.alone & alone
-        if not self.alone:
+        if not self.alone and not self.lost:
             raise ValueError(f"{why}, and then nobody can hold its block")
 
 class World:
@@ -138,6 +156,11 @@ class World:
             for server in pair.servers:
                 self.take_slot(server, spot, known)
 
+    def give_slots(self, server):
+        """Of the blocks that had a slot each may have one, or none."""
+        for spot in self.taken[server]:
+            self.taken[server][spot] = False
+
     def held(self, spot):
         """What a block may hold."""
         return self.contents.get(spot, {ZEROS})
@@ -150,8 +173,10 @@ class Phase:
         self.lines = lines
         self.old = set(world.disks)
         self.winners = {}
-        # Who stops in the phase, who starts, who was surely taken in again, and who has stopped at its end.
+        # Who stops in the phase, who starts, who was surely taken in again, and who has stopped at its end; who is blanked, each with
+        # those that stop afterwards.
         self.stopping, self.starting, self.back, self.resting = set(), set(), set(), set(world.stopped)
+        self.blanked = {}
         # The pairs of which a server had stopped before.
         self.left = {pair for pairs in world.disks.values() for pair in pairs if pair.gone}
         # By line: the servers that may serve it together, in each way in which it may be served; whether it may be told that nobody
@@ -168,6 +193,10 @@ class Phase:
         self.read(served)
         for use in served:
             self.learn(use)
+        for server, later in self.blanked.items():
+            for pair in self.pairs():
+                if server in pair.servers and not later & set(pair.servers):
+                    pair.lose(server)
         self.world.returning = (self.world.returning - self.back | self.starting) - self.resting
         self.world.stopped = self.resting
         self.settle()
@@ -207,15 +236,31 @@ class Phase:
                 elif line.kind == "start" and line.server in self.resting:
                     self.starting.add(line.server)
                     self.resting.remove(line.server)
+                elif line.kind == "blank":
+                    self.blank(line.server)
+                if line.kind in ("stop", "blank"):
+                    for server in self.blanked.keys() - {line.server}:
+                        self.blanked[server].add(line.server)
         for pair in self.pairs():
             if pair.gone and self.may_be_both(pair):
                 pair.may_join()
                 self.world.copy_slots(pair, False)
             for server in self.stopping:
                 pair.leave(server)
+            for server in self.blanked:
+                pair.may_lose(server)
+        for server in self.blanked:
+            self.world.give_slots(server)
         for line in self.lines:
             if isinstance(line, Order) and line.kind == "settle":
                 self.allowed[line.number] = self.settled()
+
+    def blank(self, server):
+        """It stops, and starts with nothing."""
+        self.stopping.add(server)
+        self.starting.add(server)
+        self.resting.discard(server)
+        self.blanked[server] = set()
 
     def may_run(self, server):
         """Whether it runs at some time of the phase."""
@@ -295,7 +340,7 @@ class Phase:
             pair = self.world.pair_of(use.spot)
             here = [] if pair in known[use.client] else [server for server in pair.servers if self.may_run(server)]
             self.ways[use.number] = ([here] if pair.both and here else []) + [[server] for server in here if server in pair.alone]
-            self.may_fail[use.number] = any(not self.is_firm(server) for server in pair.alone)
+            self.may_fail[use.number] = pair.lost or any(not self.is_firm(server) for server in pair.alone)
             if self.may_fail[use.number]:
                 self.allowed[use.number] |= {"unavailable"}
             if self.was_unavailable(use) and not pair.alone & (self.starting | self.world.returning):
@@ -319,6 +364,8 @@ class Phase:
         if answer is None or answer == "nodisk":
             return
         why = f"line {use.number} is answered {answer!r}"
+        if answer != "unavailable" and not set(self.blanked) & set(pair.servers):
+            pair.serve()
         if answer == "unavailable":
             pair.narrow({server for server in pair.alone if not self.is_firm(server)}, why)
         elif use.writes is not None and answer == "ok" and pair in self.left and not self.may_be_both(pair):
@@ -411,7 +458,7 @@ def phases_of(text):
         elif words[0] in CLIENTS:
             kind = Making if words[1] == "disk" else Use
             phases[-1].append(kind(number, words[0], words))
-        elif words[:2] in (["op", "stop"], ["op", "start"], ["op", "settle"]):
+        elif words[:2] in (["op", "stop"], ["op", "start"], ["op", "blank"], ["op", "settle"]):
             phases[-1].append(Order(number, words))
     return world, phases
 

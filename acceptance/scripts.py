@@ -196,7 +196,11 @@ def settles(seed, *nets):
     """The same, where the operator often waits until all is settled."""
     return starts(seed, *nets, settles=True)
 
-def starts(seed, *nets, settles=False):
+def blanks(seed, *nets):
+    """The same, where servers also come back with nothing."""
+    return starts(seed, *nets, settles=True, blanks=True)
+
+def starts(seed, *nets, settles=False, blanks=False):
     """A mixed script of few disks in which servers stop and start again, so that a majority runs: mostly in phases of their own, and
     beside writes and reads. Some are stopped that have stopped, and started that run."""
     draw = random.Random(int(seed))
@@ -211,7 +215,7 @@ def starts(seed, *nets, settles=False):
             server = draw.choice(stopped) if stopped and draw.randrange(8) else draw.randrange(servers)
             if server in stopped:
                 stopped.remove(server)
-            return f"op start {server}"
+            return f"op {'blank' if blanks and draw.randrange(3) == 0 else 'start'} {server}"
         if len(stopped) < servers - servers // 2 - 1:
             server = draw.randrange(servers)
             if server not in stopped:
@@ -229,6 +233,14 @@ def upgrade(servers, turns, *nets):
     """One server after the other stops, blocks of its are written, and it starts again and is brought up to date, before the next one
     stops: all is served at any time."""
     return rolling(servers, turns, *nets, settles=True)
+
+def renewal(servers, turns, *nets):
+    """One server after the other gets a blank device, and is filled before the next one does: all is served at any time."""
+    servers, turns = int(servers), int(turns)
+    lines = head(servers, 2 * turns, *(net.replace("_", " ") for net in nets))
+    for turn in range(turns):
+        lines += [f"a write vol {turn} fill {turn}", "wait", f"op blank {turn % servers}", "op settle", f"b write vol {turn} fill {turn + 100}", "wait"]
+    return joined(lines + [f"c read vol {block}" for block in range(turns)])
 
 def rolling(servers, turns, *nets, settles=False):
     """One server after the other stops, a block of its is written and read, and it starts again; at the end each block is read."""
@@ -264,7 +276,7 @@ def amid(slots, stopped, delay, *nets):
     lines += [f"b write vol {block} fill {block}" for block in range(2, 22, 5)] + ["wait"]
     return joined(lines + [f"c read vol {block}" for block in range(2, 22, 5)])
 
-MAKERS = {"many_disks": many_disks, "mixed": mixed, "stops": stops, "starts": starts, "settles": settles, "rolling": rolling, "upgrade": upgrade, "neighbours": neighbours, "amid": amid, "text": text, "bytes": bytes_of, "nothing": nothing, "work": work, "busy": busy,
+MAKERS = {"many_disks": many_disks, "mixed": mixed, "stops": stops, "starts": starts, "settles": settles, "blanks": blanks, "renewal": renewal, "rolling": rolling, "upgrade": upgrade, "neighbours": neighbours, "amid": amid, "text": text, "bytes": bytes_of, "nothing": nothing, "work": work, "busy": busy,
           "all_servers": all_servers, "patterns": patterns, "sized": sized, "requests": requests, "phases": phases, "large": large}
 
 def made(words):
