@@ -7,7 +7,7 @@ use Rattle.petal_rules.specs.Server.{Life}
 use Rattle.petal_rules.specs.World.{Setting, Blanks, Blanked, Boots, Deed, IsDue, MayBlank, MayBoot, MayGlance, MayStop, Stopped, Stops, World, greatest_u32}
 use Rattle.world_desks.specs.Desks.{Desk, desk_of}
 use Rattle.world_desks.proofs.Left.{left_life, left_runs}
-use Rattle.petal_world.specs.Lines.{HasBlanked, HasStarted, HasStopped, IsBlankedBy, IsSettling, IsStartedBy, IsStoppedBy, IsToBlank, IsToStart, IsToStop}
+use Rattle.petal_world.specs.Lines.{HasBlanked, HasStarted, HasStopped, IsSettling, IsToBlank, IsToStart, IsToStop}
 
 stops_is : (asked : Request) (n : ℕ) (hand : Option (ℕ × Deed)) → Stops asked n hand
     → ((asked ≡ request.Stop n) ⊎ (asked ≡ request.Blank n)) × (hand ≡ None)
@@ -23,10 +23,6 @@ blanks_is : (asked : Request) (n : ℕ) (hand : Option (ℕ × Deed)) → Blanks
     → (asked ≡ request.Blank n) × ((hand ≡ None) ⊎ (hand ≡ Some (n, Stopped)))
 blanks_is (request.Blank server) n hand is = (ap request.Blank is.0, is.1)
 blanks_is _ n hand never = absurd never
-
-is_blanks : (asked : Request) (n : ℕ) (hand : Option (ℕ × Deed)) → asked ≡ request.Blank n → (hand ≡ None) ⊎ (hand ≡ Some (n, Stopped))
-    → Blanks asked n hand
-is_blanks asked n hand is before = subst (λ (r : Request). Blanks r n hand) (sym is) (refl, before)
 
 boots_is : (asked : Request) (n : ℕ) (hand : Option (ℕ × Deed)) → Boots asked n hand
     → ((asked ≡ request.Start n) × (hand ≡ None)) ⊎ ((asked ≡ request.Blank n) × (hand ≡ Some (n, Blanked)))
@@ -50,9 +46,6 @@ inc_as setting w n desk inc is told =
     ap (λ (life : Life). life.inc) (sym (left_life (w.servers n))) ∙ ap (λ (d : Desk). d.site.server.life.inc) (sym is) ∙ sym told
 
 module _ (w : World) (n : ℕ) where
-  pub stops_empty : MayStop w n → w.control.hand ≡ None
-  stops_empty may = (stops_is may.asked.request n w.control.hand may.stops).1
-
   pub stopped_by : MayStop w n → IsToStop w n
   stopped_by may = elim ((stops_is may.asked.request n w.control.hand may.stops).0) [
     | inl is ↦ inl (may.asked.line, record { asked = may.asked; opened = may.opened; line_is = refl; request_is = is })
@@ -70,13 +63,6 @@ module _ (w : World) (n : ℕ) where
     may.asked.line,
     record { asked = may.asked; opened = may.opened; line_is = refl; request_is = (blanks_is may.asked.request n w.control.hand may.blanks).0 },
   )
-
-  pub blanks_behind : MayBlank w n → (w.control.hand ≡ None) ⊎ (w.control.hand ≡ Some (n, Stopped))
-  blanks_behind may = (blanks_is may.asked.request n w.control.hand may.blanks).1
-
-  pub may_blank_by : (w.servers n).life.running ≡ false → IsToBlank w n → (w.control.hand ≡ None) ⊎ (w.control.hand ≡ Some (n, Stopped)) → MayBlank w n
-  may_blank_by rests by before =
-      record { rests = rests; asked = by.1.asked; opened = by.1.opened; blanks = is_blanks by.1.asked.request n w.control.hand by.1.request_is before }
 
   -- what gives a server its boot: a line that starts it, or one that blanked it
   abbrev pub IsToBoot : Type 0

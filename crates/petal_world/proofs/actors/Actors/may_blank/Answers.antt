@@ -1,11 +1,7 @@
 -- The open line blanks the server, as its first step or behind its stop.
-use Rattle.std.proofs.Common.{◌≡◌, ◌⊎◌, false, None, Some, inl, inr, refl, sym, ap, subst, ◌∙◌}
-use Rattle.petal_rules.specs.World.{Control, MayBlank, Setting, Stopped, World}
 use Rattle.petal_rules.proofs.Tests.{true_false}
-use Rattle.world_desks.specs.Desks.{Desk, desk_of}
-use Rattle.petal_world.specs.Actors.{Actors, Shows}
 use Rattle.petal_world.proofs.Allowed.{hindered}
-use Rattle.petal_world.proofs.Lines.{blanked_by, blanks_behind, may_blank_by, runs_as}
+use Rattle.petal_world.proofs.Lines.{blanked_by}
 use Rattle.petal_world.proofs.actors.Actors.may_blank.Goals as goal
 
 pub returns-then-not-is_to_blank : goal.returns-then-not-is_to_blank

@@ -1,5 +1,5 @@
 -- The open line stops the server, as its first step.
-use Rattle.std.proofs.Common.{◌≡◌, None, refl, sym, ap, ◌∙◌}
+use Rattle.std.proofs.Common.{◌≡◌, None, sym, ap, ◌∙◌}
 use Rattle.petal_rules.specs.World.{Control}
 use Rattle.world_desks.specs.Desks.{Desk}
 use Rattle.petal_world.specs.Actors.{Actors}
