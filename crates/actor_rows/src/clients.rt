@@ -2,7 +2,7 @@
 
 use client_core::{ClientCore, Reaction};
 use petal_base::{Block, Name, Rev, Seq, Sequence, SharedBlock, Tuple};
-use petal_command::{ClientNumber, Command};
+use petal_command::{ClientNumber, Command, ServerNumber};
 use petal_msg::{Actor, Body, Letter};
 use script_lines::{Answer, Pattern, Request};
 use std::alloc::Global;
@@ -52,6 +52,44 @@ fn disk_of(client: u8, seq: Seq) -> Result<Command, Fail> {
         seq,
         name: vol()?,
         tuple: tuple()?,
+    })
+}
+
+fn one_name() -> Result<Name, Fail> {
+    Ok(Name::read(b"one").ok_or("a name")?)
+}
+
+fn snap_line() -> Result<Request, Fail> {
+    Ok(Request::Snap {
+        name: vol()?,
+        snap: one_name()?,
+    })
+}
+
+fn snapshot_line() -> Result<Request, Fail> {
+    Ok(Request::Read {
+        name: vol()?,
+        snap: Some(one_name()?),
+        block: 4,
+    })
+}
+
+/// The entry of the snap line of a client.
+fn snap_of(client: u8, seq: Seq) -> Result<Command, Fail> {
+    Ok(Command::Snap {
+        client: ClientNumber::checked(client).ok_or("a client")?,
+        seq,
+        disk: vol()?,
+        name: one_name()?,
+    })
+}
+
+/// The report of a server to the first fence.
+fn drained(server: u8) -> Result<Command, Fail> {
+    Ok(Command::Drained {
+        server: ServerNumber::checked(server).ok_or("a server")?,
+        inc: 1,
+        fence: 1,
     })
 }
 
@@ -311,4 +349,90 @@ fn read(rt: &impl Abort, alloc: Global, client: &mut ClientCore) -> Result<(), F
 fn a_read_goes_round(rt: HostRuntime) -> Result<(), Fail> {
     let mut client = client(rt.alloc())?;
     read(&rt, rt.alloc(), &mut client)
+}
+
+/// What the client is answered by the reports of all servers, after so many entries.
+fn told_by_reports(
+    alloc: Global,
+    client: &mut ClientCore,
+    after: Rev,
+) -> Result<Option<Answer>, Fail> {
+    let mut answer = None;
+    for server in 0..3 {
+        if answer.is_some() {
+            return Err("an answer before all have reported".into());
+        }
+        answer = told(
+            alloc,
+            client,
+            after.saturating_add(u32::from(server)),
+            drained(server)?,
+        )?;
+    }
+    Ok(answer)
+}
+
+fn takes_a_snapshot(rt: &impl Abort, alloc: Global, client: &mut ClientCore) -> Result<(), Fail> {
+    assert_eq!(rt; rev_after(alloc, client, 0, disk_of(1, 1)?)?, 1);
+    assert!(rt; call_proposes(alloc, client, snap_line()?)? == Some(snap_of(0, 1)?));
+    assert!(rt; told(alloc, client, 1, snap_of(0, 1)?)? == None);
+    assert!(rt; told_by_reports(alloc, client, 2)? == Some(Answer::Ok));
+    Ok(())
+}
+
+#[test]
+fn a_snap_line_is_answered_once_all_have_reported(rt: HostRuntime) -> Result<(), Fail> {
+    let mut client = client(rt.alloc())?;
+    takes_a_snapshot(&rt, rt.alloc(), &mut client)
+}
+
+fn finds_the_snapshot_taken(
+    rt: &impl Abort,
+    alloc: Global,
+    client: &mut ClientCore,
+) -> Result<(), Fail> {
+    assert_eq!(rt; rev_after(alloc, client, 0, disk_of(1, 1)?)?, 1);
+    assert!(rt; call_proposes(alloc, client, snap_line()?)? == Some(snap_of(0, 1)?));
+    assert!(rt; told(alloc, client, 1, snap_of(1, 2)?)? == None);
+    assert!(rt; told(alloc, client, 2, snap_of(0, 1)?)? == Some(Answer::Exists));
+    Ok(())
+}
+
+#[test]
+fn a_snapshot_that_waits_has_its_name(rt: HostRuntime) -> Result<(), Fail> {
+    let mut client = client(rt.alloc())?;
+    finds_the_snapshot_taken(&rt, rt.alloc(), &mut client)
+}
+
+#[test]
+fn a_snap_line_tells_that_there_is_no_disk(rt: HostRuntime) -> Result<(), Fail> {
+    let mut client = client(rt.alloc())?;
+    assert!(rt; call_proposes(rt.alloc(), &mut client, snap_line()?)? == Some(snap_of(0, 1)?));
+    assert!(rt; told(rt.alloc(), &mut client, 0, snap_of(0, 1)?)? == Some(Answer::NoDisk));
+    Ok(())
+}
+
+// The epoch of the read or the write that is sent.
+fn sent_epoch(reaction: &Reaction) -> Option<u32> {
+    match body_of(reaction) {
+        Some(Body::Read { epoch, .. } | Body::Write { epoch, .. }) => Some(*epoch),
+        _ => None,
+    }
+}
+
+// The epoch that a line asks for, where the snapshot of another client was taken.
+fn epoch_of(alloc: Global, line: Request) -> Result<Option<u32>, Fail> {
+    let mut client = client(alloc)?;
+    let _made = told(alloc, &mut client, 0, disk_of(1, 1)?)?;
+    let _snapped = told(alloc, &mut client, 1, snap_of(1, 2)?)?;
+    let _reported = told_by_reports(alloc, &mut client, 2)?;
+    Ok(sent_epoch(&call(alloc, &mut client, line)?))
+}
+
+#[test]
+fn a_read_asks_for_the_epoch_of_its_snapshot(rt: HostRuntime) -> Result<(), Fail> {
+    assert_eq!(rt; epoch_of(rt.alloc(), snapshot_line()?)?, Some(0));
+    assert_eq!(rt; epoch_of(rt.alloc(), read_line()?)?, Some(1));
+    assert_eq!(rt; epoch_of(rt.alloc(), write_line()?)?, Some(1));
+    Ok(())
 }

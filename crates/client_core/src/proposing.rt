@@ -22,6 +22,12 @@ pub fn command_of(client: ClientNumber, seq: Seq, request: &Request) -> Option<C
             name: name.again(),
             tuple: tuple.again(),
         }),
+        Request::Snap { name, snap } => Some(Command::Snap {
+            client,
+            seq,
+            disk: name.again(),
+            name: snap.again(),
+        }),
         _ => None,
     }
 }

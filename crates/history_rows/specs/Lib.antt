@@ -4,4 +4,5 @@ pub mod Boots
 pub mod Copies
 pub mod Returned
 pub mod Settles
+pub mod Snapshots
 pub mod Stops

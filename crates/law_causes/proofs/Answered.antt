@@ -1,11 +1,12 @@
 -- Each answer has its cause: by induction on the history, in view of the log at its end.
-use Rattle.std.proofs.Common.{◌≡◌, inl, inr, ◌<◌, ◌≤◌, ◌+◌, ◌++◌, ◌==◌, if◌then◌else◌, ℕ, zero, suc, Bool, true, false, List, [], ◌∷◌, length, take, Option, Some, None, is_some, refl, sym, ap, ◌∙◌, subst, arith, append_assoc, length-append}
-use Rattle.std.specs.Prelude.{slice_get, replicate, unwrap_or}
+use Rattle.std.proofs.Common.{◌≡◌, inl, inr, ◌<◌, ◌≤◌, ◌+◌, ◌++◌, ◌==◌, if◌then◌else◌, ℕ, zero, suc, Bool, true, false, List, [], ◌∷◌, length, take, Option, Some, None, refl, sym, ap, ◌∙◌, subst, arith, append_assoc, length-append}
+use Rattle.std.proofs.Math.Seq.{take-append_seam}
+use Rattle.std.specs.Prelude.{slice_get}
 use Rattle.global_tables.specs.Disk.{named}
 use Rattle.global_tables.specs.declared.disk.Latest.{Latest}
 use Rattle.global_tables.specs.declared.disk.Verdict.TheVariants as verdict
 use Rattle.petal_command.specs.declared.command.Command.{Command}
-use Rattle.petal_command.specs.declared.command.Command.TheVariants.{MakeDisk, Witness}
+use Rattle.petal_command.specs.declared.command.Command.TheVariants.{Witness}
 use Rattle.petal_msg.specs.declared.body.Body.{Body}
 use Rattle.petal_msg.specs.declared.operation.Ending.{Ending}
 use Rattle.petal_msg.specs.declared.operation.Ending.TheVariants as ending
@@ -16,7 +17,7 @@ use Rattle.script_lines.specs.declared.request.Request.{Request}
 use Rattle.script_lines.specs.declared.request.Request.TheVariants as request
 use Rattle.petal_state.specs.State.{start as first_state, latest}
 use Rattle.petal_state.specs.Command.{state_after}
-use Rattle.petal_history.specs.Causes.{HasWitness, HasVerdict, CauseOf, AreCaused, named_by}
+use Rattle.petal_history.specs.Causes.{HasWitness, HasVerdict, CauseOf, AreCaused}
 use Rattle.petal_history.specs.Claims.{IsPrefix}
 use Rattle.petal_history.specs.Legal.{IsLegal, IsLegalFrom, stepped, world_after}
 use Rattle.petal_history.specs.Order.{AreRising}
@@ -28,57 +29,27 @@ use Rattle.petal_rules.specs.Clients.{Client, Asked, Reaction, Sight, is_read, i
 use Rattle.petal_rules.specs.World.{Setting, World, lines_of, chosen_log, chosen_state, state_at, with_answer, setting_of, start}
 use Rattle.petal_rules.proofs.Tests.{by_test, same_some, none_some, same_numbers, both_true, all_put}
 use Rattle.law_state.specs.Plain.{IsPlainLog}
-use Rattle.law_state.proofs.Places.{get_front, in_get}
+use Rattle.law_state.proofs.Places.{in_get}
 use Rattle.law_state.proofs.Ages.{between}
 use Rattle.law_state.proofs.Disks.{first_at_start}
 use Rattle.law_state.proofs.Entries.{log_plain}
-use Rattle.law_state.proofs.Steady.{front_plain, log_below, log_steady}
+use Rattle.law_state.proofs.Steady.{log_below, log_steady}
 use Rattle.law_steps.specs.Turned.{Turned, IsSame, StaysOpen, IsReason, By_verdict, By_witness, IsJudged, Goes_on, Begins, Reads, Ends, Shown, IsSeenAs, Stops_it, Starts_it, Blanks_it, Has_no_space, Is_settled, Judges, answer_of}
 use Rattle.law_steps.specs.Happens.{Happens, Blanks, Serves, Turns}
 use Rattle.petal_rules.proofs.ListLemmas.{put_same}
 use Rattle.law_steps.specs.Ready.{AreFirm, Rests}
 use Rattle.law_steps.proofs.Fronts.{front_itself, front_on, below_itself}
 use Rattle.law_steps.proofs.Histories.{rests_next, happens, firm_now, firm_after, start_rests}
-use Rattle.law_causes.specs.Asked.{AreAsked}
+use Rattle.law_causes.specs.Asked.{AreAsked, asker}
 use Rattle.law_answers.proofs.Places.{one_client, one_place}
-use Rattle.law_causes.proofs.Folds.{Outcome, Taken, Free}
-use Rattle.law_causes.proofs.Verdicts.{Found, found, first_place, plain_front}
+use Rattle.law_causes.proofs.Verdicts.{has_at, judged_first, judged_low, placed_before, placed_first, plain_front}
 use Rattle.law_causes.proofs.Served.{never_unavailable}
 
 -- ### Fronts of a list
 
-take_all : {X : Type 0} (xs ys : List X) → take (length xs) (xs ++ ys) ≡ xs
-take_all [] ys = refl
-take_all (x ∷ xs) ys = ap (λ zs. x ∷ zs) (take_all xs ys)
-
-take_inside : {X : Type 0} (xs ys : List X) (k : ℕ) → k ≤ length xs → take k (xs ++ ys) ≡ take k xs
-take_inside xs ys zero low = refl
-take_inside [] ys (suc k) low = absurd (omega arith)
-take_inside (x ∷ xs) ys (suc k) low = ap (λ zs. x ∷ zs) (take_inside xs ys k (omega arith))
-
-get_inside : {X : Type 0} (xs ys : List X) (i : ℕ) (x : X) → i < length xs → slice_get (xs ++ ys) i ≡ Some x → slice_get xs i ≡ Some x
-get_inside [] ys i x low e = absurd (omega arith)
-get_inside (y ∷ xs) ys zero x low e = e
-get_inside (y ∷ xs) ys (suc i) x low e = get_inside xs ys i x (omega arith) e
-
 get_next : {X : Type 0} (xs : List X) (x : X) (ys : List X) → slice_get (xs ++ x ∷ ys) (length xs) ≡ Some x
 get_next [] x ys = refl
 get_next (y ∷ xs) x ys = get_next xs x ys
-
-below_length : {X : Type 0} (xs : List X) (i : ℕ) (x : X) → slice_get xs i ≡ Some x → i < length xs
-below_length [] i x e = absurd (cc)
-below_length (y ∷ xs) zero x e = omega arith
-below_length (y ∷ xs) (suc i) x e = let low = below_length xs i x e in omega arith
-
--- ### The start
-
-nobody_told : (n c : ℕ) → unwrap_or (slice_get (replicate n (let none : Option Latest = None in none)) c) None ≡ None
-nobody_told zero c = refl
-nobody_told (suc n) zero = refl
-nobody_told (suc n) (suc c) = nobody_told n c
-
-pub no_verdict : (servers c seq : ℕ) (given : Answer) → verdict_for seq (latest (first_state servers) c) ≡ Some given → ⊥
-no_verdict servers c seq given h = none_some (ap (verdict_for seq) (nobody_told 9 c)) h
 
 -- ### Entries
 
@@ -92,28 +63,13 @@ witness_is me seq _ h = absurd (cc)
 
 no_command_read : (c seq : ℕ) (asked : Request) → is_read asked ≡ true → command_of c seq asked ≡ None
 no_command_read c seq (request.Disk name tuple) h = absurd (cc)
+no_command_read c seq (request.Snap name snap) h = absurd (cc)
 no_command_read c seq _ h = refl
 
 no_command_write : (c seq : ℕ) (asked : Request) → is_write asked ≡ true → command_of c seq asked ≡ None
 no_command_write c seq (request.Disk name tuple) h = absurd (cc)
+no_command_write c seq (request.Snap name snap) h = absurd (cc)
 no_command_write c seq _ h = refl
-
-none_of : {X : Type 0} (o : Option X) → is_some o ≡ false → o ≡ None
-none_of None h = refl
-none_of (Some x) h = absurd (cc)
-
--- what a verdict says of the name
-taken_before : (s : State) (name tuple : List ℕ) (v : Rattle.global_tables.specs.declared.disk.Verdict.Verdict) (given : Answer) → Outcome s name v
-    → verdict_answer v ≡ Some given
-    → given ≡ answer.Exists → is_some (named_by s (request.Disk name tuple)) ≡ true
-taken_before s name tuple _ given (Taken is) says e = is
-taken_before s name tuple _ given (Free is) says e = let ok : answer.Ok ≡ given = same_some says in absurd (cc)
-
-free_before : (s : State) (name tuple : List ℕ) (v : Rattle.global_tables.specs.declared.disk.Verdict.Verdict) (given : Answer) → Outcome s name v
-    → verdict_answer v ≡ Some given
-    → given ≡ answer.Ok → named_by s (request.Disk name tuple) ≡ None
-free_before s name tuple _ given (Taken is) says e = let exists : answer.Exists ≡ given = same_some says in absurd (cc)
-free_before s name tuple _ given (Free is) says e = none_of (named s.disks.rows name) is
 
 -- the open request is that of a line
 pub record IsOpenFor (lines : List Line) (c : ℕ) (asked : Asked) : Type 0 where
@@ -125,7 +81,7 @@ pub record IsOpenFor (lines : List Line) (c : ℕ) (asked : Asked) : Type 0 wher
   pub request_is : asked.request ≡ line.request
 
 module _ (setting : Setting) (last : World) (plain : IsPlainLog setting.servers (chosen_log setting last))
-    (disks : AreAsked setting.lines (chosen_log setting last)) where
+    (commands : AreAsked setting.lines (chosen_log setting last)) where
   -- the answer of the line of this number has its cause
   pub record HasCause (number : ℕ) (given : Answer) : Type 0 where
     pub client : ℕ
@@ -155,58 +111,45 @@ module _ (setting : Setting) (last : World) (plain : IsPlainLog setting.servers 
   witness_causes c seq asked answer.Unavailable h = h
   witness_causes c seq asked _ h = tt
 
-  -- the log up to an entry
-  state_here : (front more : List Command) (k : ℕ) → chosen_log setting last ≡ front ++ more → k ≤ length front
-      → state_at setting last k ≡ state_after setting.servers (take k front)
-  state_here front more k is low = ap (state_after setting.servers) (ap (take k) is ∙ take_inside front more k low)
+  -- the request's verdict after so many entries comes of its own command
+  verdict_causes : (k c seq : ℕ) (asked : Request) (given : Answer) → k ≤ length (chosen_log setting last)
+      → ((i : ℕ) (command : Command) → slice_get (chosen_log setting last) i ≡ Some command → asker command ≡ Some (c, seq)
+      → command_of c seq asked ≡ Some command)
+      → verdict_for seq (latest (state_at setting last k) c) ≡ Some given → HasVerdict setting last c seq asked given
+  verdict_causes k c seq asked given low own so =
+      let log = chosen_log setting last in
+      let few = judged_low setting.servers log plain c seq k given low so in
+      let first = judged_first setting.servers log plain c seq few asked own k low given so in
+      let upto : first.0 + 1 ≤ length log = (let le = first.1 in omega arith) in
+      let was = (has_at setting.servers log plain c seq few asked own (first.0 + 1) upto).told given first.2 in
+      let placed = was.0 in
+      let before = placed_before setting.servers log plain c seq few asked own (first.0 + 1) given first.2 placed in
+      record {
+        place = placed.place;
+        judged = first.0;
+        command = placed.command;
+        own = placed.of_it;
+        is = placed.is;
+        first = placed_first setting.servers log plain c seq few asked own given placed;
+        since = omega arith;
+        within = omega arith;
+        so = first.2;
+        until = first.3;
+        taken = placed.taken;
+        unknown = placed.unknown;
+        free = placed.free;
+        known = placed.known;
+        made = was.1;
+      }
 
-  verdict_causes : (front more : List Command) (c seq : ℕ) (asked : Request) (given : Answer) → chosen_log setting last ≡ front ++ more
-      → ((name tuple : List ℕ) → In (MakeDisk c seq name tuple) (chosen_log setting last) → asked ≡ request.Disk name tuple)
-      → verdict_for seq (latest (state_after setting.servers front) c) ≡ Some given → HasVerdict setting last c seq asked given
-  verdict_causes front more c seq asked given is own so =
-      let part : IsPrefix front (chosen_log setting last) = record { later = more; is = is } in
-      let proper = front_plain setting.servers front (chosen_log setting last) plain part in
-      elim (found setting.servers front (first_state setting.servers) c seq given proper refl so) [
-        | inl early ↦ absurd (no_verdict setting.servers c seq given early)
-        | inr f ↦ by f proper
-      ]
-    where
-      by : (f : Found (first_state setting.servers) front c seq given) → IsPlainLog setting.servers front → HasVerdict setting last c seq asked given
-      by f proper =
-          let there : slice_get (chosen_log setting last) f.place ≡ Some (MakeDisk c seq f.name f.tuple) =
-          ap (λ log. slice_get log f.place) is ∙ get_front front more f.place (MakeDisk c seq f.name f.tuple) f.is in
-          let low : f.place < length front = below_length front f.place (MakeDisk c seq f.name f.tuple) f.is in
-          let at : asked ≡ request.Disk f.name f.tuple = own f.name f.tuple (in_get (chosen_log setting last) f.place (MakeDisk c seq f.name f.tuple) there) in
-          let now = state_here front more f.place is (omega arith) in
-          let next : state_at setting last (f.place + 1) ≡ state_after setting.servers (take (suc f.place) front) =
-          state_here front more (f.place + 1) is (omega arith)
-          ∙ ap (λ k. state_after setting.servers (take k front)) (let e : f.place + 1 ≡ suc f.place = omega arith in e) in
-          record {
-            place = f.place;
-            command = MakeDisk c seq f.name f.tuple;
-            own = ap (command_of c seq) at;
-            is = there;
-            first = λ i below e.
-                first_place setting.servers front (first_state setting.servers) c seq given f proper refl i f.name f.tuple below
-                (get_inside front more i (MakeDisk c seq f.name f.tuple) (omega arith) (ap (λ log. slice_get log i) (sym is) ∙ e));
-            so = ap (λ (s : State). verdict_for seq (latest s c)) next ∙ f.so;
-            taken = λ e.
-                ap is_some (ap (λ (s : State). named_by s asked) now ∙ ap (named_by (state_after setting.servers (take f.place front))) at)
-                ∙ taken_before (state_after setting.servers (take f.place front)) f.name f.tuple f.verdict given f.outcome f.says e;
-            free = λ e.
-                ap (λ (s : State). named_by s asked) now ∙ ap (named_by (state_after setting.servers (take f.place front))) at
-                ∙ free_before (state_after setting.servers (take f.place front)) f.name f.tuple f.verdict given f.outcome f.says e;
-          }
-
-  -- a disk of the open request's number is the one that it asks for
-  own_disk : (c : ℕ) (asked : Asked) → IsOpenFor setting.lines c asked → (name tuple : List ℕ)
-      → In (MakeDisk c asked.seq name tuple) (chosen_log setting last)
-      → asked.request ≡ request.Disk name tuple
-  own_disk c asked o name tuple there =
-      let a = disks c asked.seq name tuple there in
+  -- a command of the open request's number is its own
+  own_command : (c : ℕ) (asked : Asked) → IsOpenFor setting.lines c asked → (i : ℕ) (command : Command) → slice_get (chosen_log setting last) i ≡ Some command
+      → asker command ≡ Some (c, asked.seq) → command_of c asked.seq asked.request ≡ Some command
+  own_command c asked o i command there named =
+      let a = commands c asked.seq command named (in_get (chosen_log setting last) i command there) in
       let same : a.before ≡ o.before = (let e = a.seq_is in let f = o.seq_is in omega arith) in
       let line : o.line ≡ a.line = same_some (sym o.is ∙ ap (slice_get (lines_of setting.lines c)) (sym same) ∙ a.is) in
-      o.request_is ∙ ap (λ (l : Line). l.request) line ∙ a.request
+      ap (command_of c asked.seq) (o.request_is ∙ ap (λ (l : Line). l.request) line) ∙ a.own
 
   judged_cause : (c : ℕ) (before after : List Command) (asked : Asked) (given : Answer) → IsOpenFor setting.lines c asked
       → IsPrefix after (chosen_log setting last)
@@ -221,17 +164,21 @@ module _ (setting : Setting) (last : World) (plain : IsPlainLog setting.servers 
           part.is ∙ ap (λ log. log ++ part.later) judged.lies ∙ append_assoc judged.front (judged.entry ∷ judged.rest) part.later
           ∙ sym (append_assoc judged.front (judged.entry ∷ []) (judged.rest ++ part.later))
 
+      upto_state : state_at setting last (length upto) ≡ state_after setting.servers upto
+      upto_state = ap (state_after setting.servers) (ap (take (length upto)) whole ∙ take-append_seam upto (judged.rest ++ part.later))
+
       by : IsReason c asked given (state_after setting.servers upto) judged.entry
           → CauseOf setting last c asked.seq asked.request (command_of c asked.seq asked.request) given
       by (By_verdict command own so) =
+          let many = ap length whole ∙ length-append upto (judged.rest ++ part.later) in
           subst (λ k. CauseOf setting last c asked.seq asked.request k given) (sym own)
-          (verdict_causes upto (judged.rest ++ part.later) c asked.seq asked.request given whole (own_disk c asked o) so)
+          (verdict_causes (length upto) c asked.seq asked.request given (omega arith)
+          (own_command c asked o) (ap (λ (s : State). verdict_for asked.seq (latest s c)) upto_state ∙ so))
       by (By_witness none is so) =
           let w = witness_is c asked.seq judged.entry is in
           let many : length upto ≡ length judged.front + 1 = length-append judged.front (judged.entry ∷ []) in
           let state : state_at setting last (length judged.front + 1) ≡ state_after setting.servers upto =
-          ap (state_at setting last) (sym many) ∙ ap (state_after setting.servers)
-          (ap (take (length upto)) whole ∙ take_all upto (judged.rest ++ part.later)) in
+          ap (state_at setting last) (sym many) ∙ upto_state in
           let there : slice_get (chosen_log setting last) (length judged.front) ≡ Some judged.entry =
           ap (λ log. slice_get log (length judged.front)) (whole ∙ append_assoc judged.front (judged.entry ∷ []) (judged.rest ++ part.later))
           ∙ get_next judged.front judged.entry (judged.rest ++ part.later) in
@@ -395,17 +342,17 @@ clients_on setting w records firm c =
     (log_on setting w records firm)
 
 kept_after : (setting : Setting) (last : World) (plain : IsPlainLog setting.servers (chosen_log setting last))
-    (disks : AreAsked setting.lines (chosen_log setting last))
+    (commands : AreAsked setting.lines (chosen_log setting last))
     (w : World) (records : List Record) → AreFirm setting w records → Rests setting w → IsLegalFrom setting w records
-    → IsPrefix (chosen_log setting (world_after setting w records)) (chosen_log setting last) → Kept setting last plain disks w
-    → Kept setting last plain disks (world_after setting w records)
-kept_after setting last plain disks w [] firm rests legal upto kept = kept
-kept_after setting last plain disks w (own ∷ later) firm rests legal upto kept =
+    → IsPrefix (chosen_log setting (world_after setting w records)) (chosen_log setting last) → Kept setting last plain commands w
+    → Kept setting last plain commands (world_after setting w records)
+kept_after setting last plain commands w [] firm rests legal upto kept = kept
+kept_after setting last plain commands w (own ∷ later) firm rests legal upto kept =
     let v = (stepped setting w own).world in
     let next = firm_now setting v later firm.2 in
     let state = chosen_state setting v in
-    kept_after setting last plain disks v later firm.2 (rests_next setting w own rests firm.0 legal.0 next) legal.1 upto
-    (step_keeps setting last plain disks state w v kept
+    kept_after setting last plain commands v later firm.2 (rests_next setting w own rests firm.0 legal.0 next) legal.1 upto
+    (step_keeps setting last plain commands state w v kept
     (λ c. front_on (v.clients c).applied (chosen_log setting (world_after setting v later)) (chosen_log setting last)
     (clients_on setting v later firm.2 c) upto)
     (happens setting w own rests firm.0 legal.0 next state (below_itself state)))
@@ -418,7 +365,7 @@ take_front (e ∷ log) (suc k) = let rest = take_front log k in record { later =
 
 -- in view of the log at a history's end
 module _ (script : Script) (records : List Record) (firm : AreFirm (setting_of script) (start (setting_of script)) records) (legal : IsLegal script records)
-    (disks : AreAsked script.lines (chosen_log (setting_of script) (world_after (setting_of script) (start (setting_of script)) records))) where
+    (commands : AreAsked script.lines (chosen_log (setting_of script) (world_after (setting_of script) (start (setting_of script)) records))) where
   abbrev setting : Setting
   setting = setting_of script
 
@@ -428,10 +375,10 @@ module _ (script : Script) (records : List Record) (firm : AreFirm (setting_of s
   plain_end : IsPlainLog script.servers (chosen_log setting last)
   plain_end = (firm_after setting (start setting) records firm).plain
 
-  kept_end : Kept setting last plain_end disks last
+  kept_end : Kept setting last plain_end commands last
   unfolding In
   kept_end =
-      kept_after setting last plain_end disks (start setting) records firm (start_rests script) legal (front_itself (chosen_log setting last))
+      kept_after setting last plain_end commands (start setting) records firm (start_rests script) legal (front_itself (chosen_log setting last))
       (record { answers = λ number told h. absurd h; open_for = λ c asked e. none_some refl e })
 
   -- an open request is that of a line
@@ -441,7 +388,7 @@ module _ (script : Script) (records : List Record) (firm : AreFirm (setting_of s
   pub causes_after : AreRising script.lines → AreCaused setting last
   causes_after rise line before given there told = by (kept_end.answers line.number given told)
     where
-      by : HasCause setting last plain_end disks line.number given
+      by : HasCause setting last plain_end commands line.number given
           → CauseOf setting last line.client (before + 1) line.request (command_of line.client (before + 1) line.request) given
       by h =
           let client : h.client ≡ line.client = one_client script.lines rise h.client line.client h.before before h.line line h.is there h.number_is in
@@ -474,7 +421,7 @@ module _ (script : Script) (records : List Record) (firm : AreFirm (setting_of s
           test false e = absurd (cc)
 
       cause_never : (c seq : ℕ) (asked : Request) (o : Option Command) → CauseOf setting last c seq asked o answer.Unavailable → ⊥
-      cause_never c seq asked (Some command) h = verdict_never seq (latest (state_at setting last (h.place + 1)) c) h.so
+      cause_never c seq asked (Some command) h = verdict_never seq (latest (state_at setting last (h.judged + 1)) c) h.so
       cause_never c seq asked None h =
           let whole = chosen_log setting last in
           let front = take (h.place + 1) whole in
@@ -488,5 +435,5 @@ module _ (script : Script) (records : List Record) (firm : AreFirm (setting_of s
           between (first_state script.servers) (state_at setting last (h.place + 1)) (chosen_state setting last) n 1 (upto.ages n) (below.ages n)
           (first_at_start script.servers n one) (ins n one)) asked h.so
 
-      by : HasCause setting last plain_end disks number answer.Unavailable → ⊥
+      by : HasCause setting last plain_end commands number answer.Unavailable → ⊥
       by h = cause_never h.client (h.before + 1) h.line.request (command_of h.client (h.before + 1) h.line.request) h.cause

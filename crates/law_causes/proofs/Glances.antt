@@ -32,7 +32,7 @@ use Rattle.petal_rules.specs.Server.{Here, Server}
 use Rattle.petal_rules.specs.State.{State, find, lead}
 use Rattle.petal_rules.specs.World.{Blanked, Booted, Control, Deed, IsDone, IsDue, IsFree, MayActor, MayGlance, MayServer, Setting, Stopped, World, acts, client_state, client_step, controls, lines_of, next_line, reacts, server_state, server_step, setting_of, start, step, with_answer}
 use Rattle.petal_rules.specs.declared.step.Step.{Step}
-use Rattle.petal_rules.specs.declared.step.Step.TheVariants.{Call, Deliver, Tick, Work, Stop, Blank, Boot, Glance}
+use Rattle.petal_rules.specs.declared.step.Step.TheVariants.{Call, Deliver, Tick, Work, StopIn, Stop, Blank, Boot, Arm, Glance}
 use Rattle.petal_rules.specs.declared.step.WorkEnd.{WorkEnd}
 use Rattle.petal_rules.specs.declared.step.WorkEnd.TheVariants as work_end
 use Rattle.petal_rules.proofs.ListLemmas.{in-append, put_apart, put_same}
@@ -126,6 +126,7 @@ not_written _ n named write = true_false write refl
 
 no_command : (c seq : ℕ) (asked : Request) (n : ℕ) (command : Command) → (names asked).server ≡ Some n → command_of c seq asked ≡ Some command → ⊥
 no_command c seq (request.Disk name tuple) n command named own = none_some refl named
+no_command c seq (request.Snap name snap) n command named own = none_some refl named
 no_command c seq _ n command named own = none_some refl own
 
 no_refusal : (state : State) (asked : Request) (n : ℕ) (given : Answer) → (names asked).server ≡ Some n → refusal state asked ≡ Some given → ⊥
@@ -384,6 +385,21 @@ module _ (script : Script) (records : List Record) (sound : IsSound script) (ris
           fails = λ rests. b.fails (sym (ap (λ (x : Server). x.life.running) (put_apart w.servers n _ m apart)) ∙ rests);
         }
 
+    -- a step that leaves its server as it is, which may be the one at the operator's hand
+    hand_left : (n : ℕ) (what : Step) → controls what n w.control ≡ w.control
+        → (server_step what (server_state setting w n) n (w.servers n)).server ≡ w.servers n → (m : ℕ) → w.control.hand ≡ Some (m, Booted)
+        → IsBooted (served n what) m
+    hand_left n what same left m e =
+        let b = kept.hand m e in
+        record {
+          asked = b.asked;
+          is = b.is;
+          boots = b.boots;
+          fresh = λ g. b.fresh (sym (ap (λ (control : Control). control.glanced) same) ∙ g);
+          fails = λ rests. b.fails (sym (all_put w.servers n _ (λ k (x : Server). x.life.running ≡ (w.servers k).life.running)
+              (λ k. refl) (ap (λ (x : Server). x.life.running) left) m) ∙ rests);
+        }
+
     -- a boot puts its server there
     booted : (n : ℕ) (end : WorkEnd) → own.actor ≡ actor.Server n → own.step ≡ Boot end → MayServer (Boot end) w n
         → IsBooted (served n (Boot end)) n
@@ -419,12 +435,14 @@ module _ (script : Script) (records : List Record) (sound : IsSound script) (ris
     server_hand n (Deliver letter) who does may m e = hand_on n (Deliver letter) refl may.free m e
     server_hand n Tick who does may m e = hand_on n Tick refl may.free m e
     server_hand n (Work end) who does may m e = hand_on n (Work end) refl may.acts.free m e
+    server_hand n (StopIn end) who does may m e = hand_on n (StopIn end) refl may.acts.free m e
     server_hand n Stop who does may m e =
         let f : Stopped ≡ Booted = ap (λ (x : ℕ × Deed). x.1) (same_some e) in absurd (cc)
     server_hand n Blank who does may m e =
         let f : Blanked ≡ Booted = ap (λ (x : ℕ × Deed). x.1) (same_some e) in absurd (cc)
     server_hand n (Boot end) who does may m e =
         subst (IsBooted (served n (Boot end))) (ap (λ (x : ℕ × Deed). x.0) (same_some e)) (booted n end who does may)
+    server_hand n (Arm which plan) who does may m e = hand_left n (Arm which plan) refl refl m e
     server_hand n (Glance line round) who does may m e = none_some refl e
 
     server_keeps : (n : ℕ) (what : Step) → own.actor ≡ actor.Server n → own.step ≡ what → MayServer what w n → Kept (served n what)

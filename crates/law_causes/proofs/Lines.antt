@@ -14,14 +14,14 @@ use Rattle.law_answers.proofs.Places.{line_at}
 use Rattle.law_steps.proofs.Firms.{always_firm}
 use Rattle.law_causes.specs.Lines.{AsksToBoot, AsksToStop, IsLineOf}
 use Rattle.law_causes.proofs.Answered.{IsOpenFor, open_after}
-use Rattle.law_causes.proofs.Asked.{disks_are_asked}
+use Rattle.law_causes.proofs.Asked.{commands_are_asked}
 
 -- an open request is that of a line
 pub open_for : (script : Script) (records : List Record) → IsSound script → IsLegal script records → (c : ℕ) (asked : Asked)
     → ((world_after (setting_of script) (start (setting_of script)) records).clients c).asked ≡ Some asked
     → IsOpenFor script.lines c asked
 open_for script records sound legal =
-    open_after script records (always_firm script records sound legal) legal (disks_are_asked script records sound legal)
+    open_after script records (always_firm script records sound legal) legal (commands_are_asked script records sound legal)
 
 pub line_of : (lines : List Line) (w : World) (asked : Asked) (o : IsOpenFor lines operator asked) → IsOpenLine w asked
     → IsLineOf lines w asked o.line

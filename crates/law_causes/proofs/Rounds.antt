@@ -19,7 +19,7 @@ use Rattle.petal_rules.specs.State.{State}
 use Rattle.petal_rules.specs.Clients.{Client, Asked, Reaction, Learning, Sight, rests, to_propose, sends_or_proposes, goes_out, goes_out_where, asks_and_sends, replies, is_read, is_write, settles, sees_for, sees, sees_from, answers, hears, hears_of, heard, hears_any, command_of, refusal, verdict_for, answered_where, witnessed, is_witness, judged, judged_by, takes_entry, takes_all, then_goes_out, takes_entries, next_entries, ticked}
 use Rattle.petal_rules.specs.World.{Setting, World, MayClient, client_state, client_step, calls, next_line}
 use Rattle.petal_rules.specs.declared.step.Step.{Step}
-use Rattle.petal_rules.specs.declared.step.Step.TheVariants.{Call, Deliver, Tick, Work, Stop, Blank, Boot, Glance}
+use Rattle.petal_rules.specs.declared.step.Step.TheVariants.{Call, Deliver, Tick, Work, StopIn, Stop, Blank, Boot, Arm, Glance}
 use Rattle.petal_rules.proofs.Tests.{by_test, both_true, none_some, same_numbers, same_some, true_false}
 
 -- the request is open as before, in the same round
@@ -269,7 +269,9 @@ client_rounds setting w c (Deliver letter) may = letter_rounds w (client_state s
 client_rounds setting w c Tick may =
     let r = where_rounded (client_state setting w c) c (w.clients c) (w.clients c).asked refl in Quiet r.0 (λ asked is settle. r.1)
 client_rounds setting w c (Work end) may = absurd may
+client_rounds setting w c (StopIn end) may = absurd may
 client_rounds setting w c Stop may = absurd may
 client_rounds setting w c Blank may = absurd may
 client_rounds setting w c (Boot end) may = absurd may
+client_rounds setting w c (Arm which plan) may = absurd may
 client_rounds setting w c (Glance line round) may = absurd may

@@ -47,14 +47,15 @@ use Rattle.petal_rules.specs.Ballots.{post_of, starts}
 use Rattle.petal_rules.specs.Boots.{awake, boots, raised, stays, wakes}
 use Rattle.petal_rules.specs.Entries.{applies}
 use Rattle.petal_rules.specs.Log.{LogDone, known, next_place, rev_of}
-use Rattle.petal_rules.specs.Jobs.{Acted, handles, wrong_rev, at_other_rev, is_from_in, does, here_of, works, job_done, worked, entered, stops, is_overfull, down_posts, glances, glance_sender, shown, operator, voter_of, wanted_by, is_log_job, sent_anew, awaited, copies_anew, stages, tick_posts}
+use Rattle.petal_rules.specs.Jobs.{Acted, handles, wrong_rev, at_other_rev, is_from_in, does, here_of, works, job_done, worked, entered, stops, is_overfull, down_posts, glances, glance_sender, shown, operator, voter_of, wanted_by, is_log_job, faults, sent_anew, awaited, copies_anew, stages, tick_posts}
 use Rattle.petal_rules.specs.Clients.{Client, Asked, Reaction, client_sender}
 use Rattle.petal_rules.specs.World.{Setting, World, stamped, server_state, server_step, client_state, client_step, next_line, MayClient, MayServer}
 use Rattle.petal_rules.specs.declared.job.Job.{Job}
 use Rattle.petal_rules.specs.declared.job.Job.TheVariants as job
+use Rattle.petal_rules.specs.declared.step.CommitEnd.{CommitEnd}
 use Rattle.petal_rules.specs.declared.step.CommitEnd.TheVariants.{Before, After}
 use Rattle.petal_rules.specs.declared.step.Step.{Step}
-use Rattle.petal_rules.specs.declared.step.Step.TheVariants.{Call, Deliver, Tick, Work, Stop, Blank, Boot, Glance}
+use Rattle.petal_rules.specs.declared.step.Step.TheVariants.{Call, Deliver, Tick, Work, StopIn, Stop, Blank, Boot, Arm, Glance}
 use Rattle.petal_rules.specs.declared.step.WorkEnd.{WorkEnd}
 use Rattle.petal_rules.specs.declared.step.WorkEnd.TheVariants as work_end
 use Rattle.petal_rules.proofs.ListLemmas.{in-append}
@@ -512,6 +513,12 @@ stops_mute here server stamp letter h =
     sent_mute (record { from = actor.Server here.me; inc = here.inc; rev = 0 }) stamp (down_posts here.me here.inc (servers_of here.state))
     (downs_mute here.me here.inc _) letter h
 
+-- and one whose job met a device's fault
+faults_mute : (here : Here) (server : Server) (end : CommitEnd) (stamp : ℕ) (letter : Letter)
+    → In letter (stamped stamp (faults here server server.queue end).letters) → IsMute letter.body
+faults_mute here server Before stamp letter h = stops_mute here server stamp letter h
+faults_mute here server After stamp letter h = stops_mute here (works here server server.queue).server stamp letter h
+
 -- and one that boots
 boots_mute : (here : Here) (server : Server) (end : WorkEnd) (stamp : ℕ) (letter : Letter) → In letter (stamped stamp (boots here server end).letters)
     → IsMute letter.body
@@ -594,16 +601,16 @@ server_says setting w n Tick stamp may letter h =
     Mute (sent_mute (sender here) stamp (tick_posts here (w.servers n)) (tick_mute here (w.servers n)) letter h)
 server_says setting w n (Work work_end.Done) stamp may letter h =
     works_tells (here_of (server_state setting w n) n (w.servers n)) (w.servers n) stamp letter (w.servers n).queue refl h
-server_says setting w n (Work (work_end.Fault Before)) stamp may letter h =
-    Mute (stops_mute (here_of (server_state setting w n) n (w.servers n)) (w.servers n) stamp letter h)
-server_says setting w n (Work (work_end.Fault After)) stamp may letter h =
-    let here = here_of (server_state setting w n) n (w.servers n) in
-    Mute (stops_mute here (works here (w.servers n) (w.servers n).queue).server stamp letter h)
+server_says setting w n (Work (work_end.Fault end)) stamp may letter h =
+    Mute (faults_mute (here_of (server_state setting w n) n (w.servers n)) (w.servers n) end stamp letter h)
+server_says setting w n (StopIn end) stamp may letter h =
+    Mute (faults_mute (here_of (server_state setting w n) n (w.servers n)) (w.servers n) end stamp letter h)
 server_says setting w n Stop stamp may letter h =
     Mute (stops_mute (here_of (server_state setting w n) n (w.servers n)) (w.servers n) stamp letter h)
 server_says setting w n Blank stamp may letter h = no_letter stamp letter h
 server_says setting w n (Boot end) stamp may letter h =
     Mute (boots_mute (here_of (server_state setting w n) n (w.servers n)) (w.servers n) end stamp letter h)
+server_says setting w n (Arm which plan) stamp may letter h = no_letter stamp letter h
 server_says setting w n (Glance line round) stamp may letter h =
     glance_says (here_of (server_state setting w n) n (w.servers n)) line round (w.servers n) stamp letter h
 

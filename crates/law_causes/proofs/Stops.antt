@@ -16,7 +16,7 @@ use Rattle.petal_rules.specs.World.{Setting, World, MayStop, MayServer, MayActor
 use Rattle.petal_rules.specs.declared.job.Job.{Job}
 use Rattle.petal_rules.specs.declared.job.Job.TheVariants as job
 use Rattle.petal_rules.specs.declared.step.Step.{Step}
-use Rattle.petal_rules.specs.declared.step.Step.TheVariants.{Call, Deliver, Tick, Work, Stop, Blank, Boot, Glance}
+use Rattle.petal_rules.specs.declared.step.Step.TheVariants.{Call, Deliver, Tick, Work, StopIn, Stop, Blank, Boot, Arm, Glance}
 use Rattle.petal_rules.specs.declared.step.WorkEnd.{WorkEnd}
 use Rattle.petal_rules.specs.declared.step.WorkEnd.TheVariants as work_end
 use Rattle.petal_rules.proofs.ListLemmas.{put_same, put_apart}
@@ -31,7 +31,7 @@ use Rattle.law_log.proofs.Unbooted.{unbooted}
 use Rattle.law_steps.specs.Happens.{own_place}
 use Rattle.law_steps.proofs.Histories.{front_legal}
 use Rattle.law_causes.specs.Lines.{AsksToStop}
-use Rattle.law_causes.specs.Stops.{IsReasonToStop, Was_told, Device_failed, Journal_full, HasReasonToStop, NoneIsStopped, NoneStopsByItself, StaysDown, stops_a_server}
+use Rattle.law_causes.specs.Stops.{IsReasonToStop, Was_told, Device_failed, Device_stopped, Journal_full, HasReasonToStop, NoneIsStopped, NoneStopsByItself, StaysDown, is_of_a_job, stops_a_server}
 use Rattle.law_causes.proofs.Lines.{asks_to_stop, line_of, open_for}
 
 -- ### One step
@@ -70,9 +70,11 @@ module _ (setting : Setting) (w : World) (n : ℕ) (told : MayStop w n → IsRea
   server_why Tick may = true_false ran
   server_why (Work work_end.Done) may = works_why server.queue refl
   server_why (Work (work_end.Fault end)) may = λ rests. Device_failed end refl
+  server_why (StopIn end) may = λ rests. Device_stopped end refl
   server_why Stop may = λ rests. told may
   server_why Blank may = true_false ran may.rests
   server_why (Boot end) may = true_false ran may.rests
+  server_why (Arm which plan) may = true_false ran
   server_why (Glance line round) may = true_false ran
 
   -- a server stops in a step of its own
@@ -187,8 +189,9 @@ all_run script records sound legal lines itself n low = by_bool (last.servers n)
     by : HasReasonToStop setting (start setting) records n → ⊥
     by h = elim h.why [
       | Was_told asked line step asks given ↦ no_line_stops line.request n asks (lines line given.there)
-      | Device_failed end step ↦ itself h.front h.own h.behind n h.is (record { stops = h.stops; end = work_end.Fault end; works = step })
-      | Journal_full first rest step queue full ↦ itself h.front h.own h.behind n h.is (record { stops = h.stops; end = work_end.Done; works = step })
+      | Device_failed end step ↦ itself h.front h.own h.behind n h.is (record { stops = h.stops; works = ap is_of_a_job step })
+      | Device_stopped end step ↦ itself h.front h.own h.behind n h.is (record { stops = h.stops; works = ap is_of_a_job step })
+      | Journal_full first rest step queue full ↦ itself h.front h.own h.behind n h.is (record { stops = h.stops; works = ap is_of_a_job step })
     ]
 
 -- ### Where no server stops, none boots

@@ -1,30 +1,47 @@
--- Where a plain log gives a client its verdict: at the first place of the client's own command.
-use Rattle.std.proofs.Common.{◌≡◌, ◌≢◌, ◌⊎◌, inl, inr, ◌<◌, ◌==◌, ℕ, zero, suc, Bool, true, false, not, if◌then◌else◌, List, [], ◌∷◌, length, take, fold, Option, Some, None, is_some, refl, sym, ap, ◌∙◌, subst, arith}
-use Rattle.std.proofs.lemmas.Bool.Decides.{nat_tests}
-use Rattle.std.specs.Prelude.{slice_get}
-use Rattle.global_tables.specs.Disk.{named}
+-- Where a plain log gives a client its verdict: by the client's own command, of which the state before its place says what the verdict says;
+-- and a snapshot that waits there is taken once its fence passes.
+use Rattle.std.proofs.Common.{◌≡◌, ◌≢◌, ◌⊎◌, inl, inr, ◌<◌, ◌≤◌, ◌+◌, ◌++◌, if◌then◌else◌, ℕ, zero, suc, Bool, true, false, List, [], ◌∷◌, length, take, Option, Some, None, is_some, refl, sym, ap, ◌∙◌, subst, arith}
+use Rattle.std.proofs.lemmas.Bool.{cases_lt}
+use Rattle.std.proofs.lemmas.Grind.{fold-append}
+use Rattle.std.specs.Option.{option_map_or}
+use Rattle.std.proofs.lemmas.Option.{slice_get_within}
+use Rattle.std.specs.Prelude.{find, is_none, replicate, slice_get, unwrap_or}
+use Rattle.global_tables.specs.Disk.{named, row_frozen, same_name, snapshot_named}
+use Rattle.global_tables.specs.View.{behind, servers_in}
+use Rattle.global_tables.specs.declared.disk.DiskRow.{DiskRow}
 use Rattle.global_tables.specs.declared.disk.Latest.{Latest}
+use Rattle.global_tables.specs.declared.disk.Snapshot.{Snapshot}
 use Rattle.global_tables.specs.declared.disk.Verdict.{Verdict}
 use Rattle.global_tables.specs.declared.disk.Verdict.TheVariants as verdict
+use Rattle.global_tables.specs.declared.fence.Fence.{Fence}
+use Rattle.global_tables.specs.declared.fence.FenceKind.TheVariants.{Whole}
 use Rattle.script_lines.specs.declared.answer.Answer.{Answer}
+use Rattle.script_lines.specs.declared.answer.Answer.TheVariants as answer
+use Rattle.script_lines.specs.declared.request.Request.{Request}
+use Rattle.script_lines.specs.declared.request.Request.TheVariants as request
 use Rattle.petal_command.specs.declared.command.Command.{Command}
-use Rattle.petal_command.specs.declared.command.Command.TheVariants.{Caught, Join, Leave, MakeDisk, Witness}
-use Rattle.petal_state.specs.State.{State, is_up_as, latest, told}
-use Rattle.petal_state.specs.Command.{is_new, may_join, with_disk, make_disk, act, after}
-use Rattle.petal_rules.specs.Clients.{verdict_answer, verdict_for}
+use Rattle.petal_command.specs.declared.command.Command.TheVariants.{Caught, Drained, Join, Leave, MakeDisk, Snap, Witness}
+use Rattle.petal_history.specs.Causes.{has_made, is_name_taken, lacks_disk}
+use Rattle.petal_state.specs.State.{State, start, is_up_as, latest, told}
+use Rattle.petal_state.specs.Command.{act, after, is_new, is_taken, may_join, state_after, with_disk, with_fence}
+use Rattle.petal_state.specs.Fence.{settled}
+use Rattle.petal_state.proofs.Passing.{view-effect}
+use Rattle.petal_rules.specs.Clients.{command_of, verdict_answer, verdict_for}
 use Rattle.petal_rules.specs.Lists.{In}
-use Rattle.petal_rules.proofs.Tests.{by_test, same_some, true_false, same_numbers}
-use Rattle.law_state.proofs.Caughts.{act_caught}
+use Rattle.petal_rules.proofs.Tests.{by_test, nat_lists_same, none_some, same_some, some_or_none, true_false}
 use Rattle.law_state.specs.Plain.{IsPlain, IsPlainLog}
-use Rattle.law_causes.proofs.Folds.{Same, Told, Outcome, telling, after_is, after_quiet, set_length, client_is}
+use Rattle.law_state.specs.Tables.{IsGrown, IsLaterDisk, IsPlainState}
+use Rattle.law_state.proofs.Caughts.{act_caught}
+use Rattle.law_state.proofs.Entries.{acting, log_plain}
+use Rattle.law_state.proofs.Fences.{Acted, IsRequeued, IsUnsettled, get_behind, head_get, ready_by, requeued_awaiting, requeued_itself, requeued_reported, unsettled}
+use Rattle.law_state.proofs.Passing.{one_passed, passed_here, passing, settled_keeps}
+use Rattle.law_state.proofs.Places.{find_behind, find_front, find_here, found_at, get_last, get_within, in_get, text_itself}
+use Rattle.law_state.proofs.Snaps.{act_drained, act_snap}
+use Rattle.law_causes.specs.Asked.{asker}
+use Rattle.law_causes.proofs.Asked.{asker_of}
+use Rattle.law_causes.proofs.Folds.{act_make, judged_last, judged_old, many_after, none_past, old_after, old_behind, old_now, onward_new, passed_old, passed_or, passed_stays, settled_old, told_old, told_or, told_stays}
 
--- ### Lists
-
-get_take : {X : Type 0} (xs : List X) (k i : ℕ) (x : X) → i < k → slice_get xs i ≡ Some x → slice_get (take k xs) i ≡ Some x
-get_take [] k i x low e = absurd (cc)
-get_take (y ∷ xs) zero i x low e = absurd (omega arith)
-get_take (y ∷ xs) (suc k) zero x low e = e
-get_take (y ∷ xs) (suc k) (suc i) x low e = get_take xs k i x (omega arith) e
+-- ### Fronts of a log
 
 in_take : {X : Type 0} (x : X) (xs : List X) (k : ℕ) → In x (take k xs) → In x xs
 unfolding In
@@ -37,163 +54,590 @@ in_take x (y ∷ xs) (suc k) (inr later) = inr (in_take x xs k later)
 pub plain_front : (servers : ℕ) (log : List Command) (k : ℕ) → IsPlainLog servers log → IsPlainLog servers (take k log)
 plain_front servers log k plain command h = plain command (in_take command log k h)
 
-plain_first : (servers : ℕ) (e : Command) (log : List Command) → IsPlainLog servers (e ∷ log) → IsPlain servers e
-unfolding In
-plain_first servers e log plain = plain e (inl refl)
+take_next : {X : Type 0} (xs : List X) (k : ℕ) (x : X) → slice_get xs k ≡ Some x → take (suc k) xs ≡ take k xs ++ x ∷ []
+take_next [] k x e = none_some refl e
+take_next (y ∷ xs) zero x e = ap (λ z. z ∷ []) (same_some e)
+take_next (y ∷ xs) (suc k) x e = ap (λ zs. y ∷ zs) (take_next xs k x e)
 
-plain_later : (servers : ℕ) (e : Command) (log : List Command) → IsPlainLog servers (e ∷ log) → IsPlainLog servers log
-unfolding In
-plain_later servers e log plain command h = plain command (inr h)
+-- at the start nobody was told anything
+nobody_told : (n c : ℕ) → unwrap_or (slice_get (replicate n (let none : Option Latest = None in none)) c) None ≡ None
+nobody_told zero c = refl
+nobody_told (suc n) zero = refl
+nobody_told (suc n) (suc c) = nobody_told n c
 
--- ### How many clients there are
+-- ### Disks
 
-make_length : (s : State) (client seq : ℕ) (name tuple : List ℕ) → length (make_disk s client seq name tuple).verdicts ≡ length s.verdicts
-make_length s client seq name tuple =
-    by_test (λ (t : State). length t.verdicts ≡ length s.verdicts) (not (is_new seq (latest s client))) s
-    (if is_some (named s.disks.rows name) then told s client seq verdict.Exists else told (with_disk s name tuple) client seq verdict.Ok)
-    (λ old. refl)
-    (λ new. by_test (λ (t : State). length t.verdicts ≡ length s.verdicts) (is_some (named s.disks.rows name))
-    (told s client seq verdict.Exists) (told (with_disk s name tuple) client seq verdict.Ok)
-    (λ there. set_length s.verdicts client (Some (record { seq = seq; verdict = verdict.Exists })))
-    (λ none. set_length s.verdicts client (Some (record { seq = seq; verdict = verdict.Ok }))))
+-- a disk that is found by its name is found so later, at the place of its number
+named_on : (servers : ℕ) (s t : State) → IsUnsettled servers s → IsUnsettled servers t → IsGrown s t → (name : List ℕ) (row : DiskRow)
+    → named s.disks.rows name ≡ Some row
+    → (now : DiskRow) × (named t.disks.rows name ≡ Some now) × IsLaterDisk row now × (slice_get t.disks.rows row.id ≡ Some now)
+named_on servers s t p q g name row e =
+    let at = found_at (λ (r : DiskRow). same_name r.name name) s.disks.rows row e in
+    let later = g.rows at.0 row at.1 in
+    let text : row.name ≡ name = nat_lists_same row.name name at.2 in
+    let now_text : later.now.name ≡ name = later.so.name ∙ text in (
+      later.now,
+      find_here (λ (r : DiskRow). same_name r.name name) t.disks.rows at.0 later.now later.is
+          (ap (λ n. same_name n name) now_text ∙ text_itself name)
+          (λ j other f same. q.names j at.0 other later.now f later.is (nat_lists_same other.name name same ∙ sym now_text)),
+      later.so,
+      ap (slice_get t.disks.rows) (p.rows at.0 row at.1).id ∙ later.is,
+    )
 
-act_length : (servers : ℕ) (e : Command) (s : State) → IsPlain servers e → length (act e s).verdicts ≡ length s.verdicts
-act_length servers (MakeDisk client seq name tuple) s plain = make_length s client seq name tuple
-act_length servers (Witness client seq turn) s plain = refl
-act_length servers (Join server inc blank) s plain =
-    by_test (λ (t : State). length t.verdicts ≡ length s.verdicts) (may_join (slice_get s.view.members server) inc) _ s (λ may. refl) (λ no. refl)
-act_length servers (Leave server inc) s plain =
-    by_test (λ (t : State). length t.verdicts ≡ length s.verdicts) (is_up_as s server inc) _ s (λ up. refl) (λ out. refl)
-act_length servers (Caught of link holder holder_inc other other_inc) s plain =
-    act_caught (λ (t : State). length t.verdicts ≡ length s.verdicts) s of link holder holder_inc other other_inc (λ acts. refl) refl
-act_length servers _ s plain = absurd plain
-
-after_length : (servers : ℕ) (e : Command) (s : State) → IsPlain servers e → s.view.queue ≡ [] → length (after s e).verdicts ≡ length s.verdicts
-after_length servers e s plain quiet = ap (λ (t : State). length t.verdicts) (after_is servers e s plain quiet) ∙ act_length servers e s plain
-
-pub fold_length : (servers : ℕ) (log : List Command) (s : State) → IsPlainLog servers log → s.view.queue ≡ []
-    → length (fold after s log).verdicts ≡ length s.verdicts
-fold_length servers [] s plain quiet = refl
-fold_length servers (e ∷ log) s plain quiet =
-    fold_length servers log (after s e) (plain_later servers e log plain) (after_quiet servers e s (plain_first servers e log plain) quiet)
-    ∙ after_length servers e s (plain_first servers e log plain) quiet
-
--- ### A command that is not new
-
-older : (seq q : ℕ) (v : Verdict) (o : Option Latest) → is_new seq o ≡ false → is_new q o ≡ true → is_new seq (Some (record { seq = q; verdict = v })) ≡ false
-older seq q v None old new = absurd (cc)
-older seq q v (Some last) old new = grind (arith, nat_tests)
-
-not_below : (seq q : ℕ) (v : Verdict) → q ≡ seq → is_new seq (Some (record { seq = q; verdict = v })) ≡ false
-not_below seq q v e = grind (arith, nat_tests)
-
-still_old : (servers : ℕ) (e : Command) (s : State) (c seq : ℕ) → IsPlain servers e → s.view.queue ≡ [] → is_new seq (latest s c) ≡ false
-    → is_new seq (latest (after s e) c) ≡ false
-still_old servers e s c seq plain quiet old = elim (telling servers s e c plain quiet) [
-  | Same is why ↦ ap (is_new seq) is ∙ old
-  | Told q n t v own new low is outcome ↦ ap (is_new seq) is ∙ older seq q v (latest s c) old new
+last_found : {A : Type 0} (p : A → Bool) (xs : List A) (y : A) → p y ≡ true → is_some (find p (xs ++ y ∷ [])) ≡ true
+last_found p xs y is = elim (some_or_none (find p xs)) [
+  | inl found ↦ ap is_some (find_front p xs (y ∷ []) found.0 found.1)
+  | inr none ↦ ap is_some (find_behind p xs (y ∷ []) none) ∙ ap (λ (b : Bool). is_some (if b then Some y else None)) is
 ]
 
-old_then : (servers : ℕ) (e : Command) (s : State) (c seq : ℕ) (name tuple : List ℕ) → IsPlain servers e → s.view.queue ≡ [] → c < length s.verdicts
-    → e ≡ MakeDisk c seq name tuple
-    → is_new seq (latest (after s e) c) ≡ false
-old_then servers e s c seq name tuple plain quiet low own = elim (telling servers s e c plain quiet) [
-  | Same is why ↦ ap (is_new seq) is ∙ why seq name tuple own low
-  | Told q n t v other new there is outcome ↦ ap (is_new seq) is ∙ not_below seq q v (client_is c c q seq n name t tuple (sym other ∙ own)).1
+still_found : {A : Type 0} (p : A → Bool) (xs ys : List A) → is_some (find p xs) ≡ true → is_some (find p (xs ++ ys)) ≡ true
+still_found p xs ys h = elim (some_or_none (find p xs)) [
+  | inl found ↦ ap is_some (find_front p xs ys found.0 found.1)
+  | inr none ↦ true_false h (ap is_some none)
 ]
 
-stays_old : (servers : ℕ) (log : List Command) (s : State) (c seq : ℕ) → IsPlainLog servers log → s.view.queue ≡ [] → is_new seq (latest s c) ≡ false
-    → is_new seq (latest (fold after s log) c) ≡ false
-stays_old servers [] s c seq plain quiet old = old
-stays_old servers (e ∷ log) s c seq plain quiet old =
-    let first = plain_first servers e log plain in
-    stays_old servers log (after s e) c seq (plain_later servers e log plain) (after_quiet servers e s first quiet)
-    (still_old servers e s c seq first quiet old)
+-- what a request asked for is there still
+made_on : (servers : ℕ) (s t : State) → IsUnsettled servers s → IsUnsettled servers t → IsGrown s t → (asked : Request) → has_made s asked ≡ true
+    → has_made t asked ≡ true
+made_on servers s t p q g (request.Disk name tuple) h = elim (some_or_none (named s.disks.rows name)) [
+  | inl found ↦ ap is_some (named_on servers s t p q g name found.0 found.1).1
+  | inr none ↦ true_false h (ap is_some none)
+]
+made_on servers s t p q g (request.Snap name snap) h = elim (some_or_none (named s.disks.rows name)) [
+  | inl found ↦
+      let later = named_on servers s t p q g name found.0 found.1 in
+      let had : is_some (snapshot_named found.0.snaps snap) ≡ true =
+      sym (ap (λ o. option_map_or (λ (row : DiskRow). is_some (snapshot_named row.snaps snap)) o false) found.1) ∙ h in
+      ap (λ o. option_map_or (λ (row : DiskRow). is_some (snapshot_named row.snaps snap)) o false) later.1
+      ∙ ap (λ snaps. is_some (snapshot_named snaps snap)) later.2.snaps
+      ∙ still_found (λ (x : Snapshot). same_name x.name snap) found.0.snaps later.2.more had
+  | inr none ↦ true_false h (ap (λ o. option_map_or (λ (row : DiskRow). is_some (snapshot_named row.snaps snap)) o false) none)
+]
+made_on servers s t p q g _ h = true_false h refl
 
-reached : (servers : ℕ) (log : List Command) (s : State) (c seq i : ℕ) (name tuple : List ℕ) → IsPlainLog servers log → s.view.queue ≡ []
-    → c < length s.verdicts
-    → slice_get log i ≡ Some (MakeDisk c seq name tuple) → is_new seq (latest (fold after s log) c) ≡ false
-reached servers [] s c seq i name tuple plain quiet low there = absurd (cc)
-reached servers (e ∷ log) s c seq zero name tuple plain quiet low there =
-    let first = plain_first servers e log plain in
-    stays_old servers log (after s e) c seq (plain_later servers e log plain) (after_quiet servers e s first quiet)
-    (old_then servers e s c seq name tuple first quiet low (same_some there))
-reached servers (e ∷ log) s c seq (suc i) name tuple plain quiet low there =
-    let first = plain_first servers e log plain in
-    let many = after_length servers e s first quiet in
-    reached servers log (after s e) c seq i name tuple (plain_later servers e log plain) (after_quiet servers e s first quiet) (omega arith) there
+-- ### Requests that have commands
 
--- ### Where the verdict comes from
+asks_disk : (c seq d q : ℕ) (name tuple : List ℕ) (asked : Request) → command_of c seq asked ≡ Some (MakeDisk d q name tuple) → asked ≡ request.Disk name tuple
+asks_disk c seq d q name tuple (request.Disk n t) e =
+    let f : MakeDisk c seq n t ≡ MakeDisk d q name tuple = same_some e in
+    let one : n ≡ name = cc in
+    let two : t ≡ tuple = cc in
+    (λ i. request.Disk (one i) (two i))
+asks_disk c seq d q name tuple (request.Snap n snap) e =
+    let f : Snap c seq n snap ≡ MakeDisk d q name tuple = same_some e in absurd cc
+asks_disk c seq d q name tuple _ e = none_some refl e
 
--- the client's command stands at this place, and is new in the state before: what that state says of its name is the verdict
-pub record Found (s : State) (log : List Command) (c seq : ℕ) (given : Answer) : Type 0 where
-  pub place : ℕ
-  pub name : List ℕ
-  pub tuple : List ℕ
-  pub is : slice_get log place ≡ Some (MakeDisk c seq name tuple)
-  pub so : verdict_for seq (latest (fold after s (take (suc place) log)) c) ≡ Some given
-  pub new : is_new seq (latest (fold after s (take place log)) c) ≡ true
-  pub low : c < length (fold after s (take place log)).verdicts
-  pub verdict : Verdict
-  pub outcome : Outcome (fold after s (take place log)) name verdict
-  pub says : verdict_answer verdict ≡ Some given
+asks_snap : (c seq d q : ℕ) (name snap : List ℕ) (asked : Request) → command_of c seq asked ≡ Some (Snap d q name snap) → asked ≡ request.Snap name snap
+asks_snap c seq d q name snap (request.Snap n t) e =
+    let f : Snap c seq n t ≡ Snap d q name snap = same_some e in
+    let one : n ≡ name = cc in
+    let two : t ≡ snap = cc in
+    (λ i. request.Snap (one i) (two i))
+asks_snap c seq d q name snap (request.Disk n tuple) e =
+    let f : MakeDisk c seq n tuple ≡ Snap d q name snap = same_some e in absurd cc
+asks_snap c seq d q name snap _ e = none_some refl e
 
-told_now : (q seq : ℕ) (v : Verdict) (given : Answer) → verdict_for seq (Some (record { seq = q; verdict = v })) ≡ Some given
-    → (q ≡ seq) × (verdict_answer v ≡ Some given)
-told_now q seq v given h = by (q == seq) refl h
-  where
-    by : (b : Bool) → (q == seq) ≡ b → (if b then verdict_answer v else None) ≡ Some given → (q ≡ seq) × (verdict_answer v ≡ Some given)
-    by true e is = (same_numbers q seq e, is)
-    by false e is = absurd (cc)
+-- two fences that are for one snapshot of one client
+same_whole : (disk other d c q seq : ℕ) (name text : List ℕ) → Whole disk name d q ≡ Whole other text c seq
+    → (disk ≡ other) × (name ≡ text) × (d ≡ c) × (q ≡ seq)
+same_whole disk other d c q seq name text e = (cc, cc, cc, cc)
 
-later_found : (s : State) (e : Command) (log : List Command) (c seq : ℕ) (given : Answer) → Found (after s e) log c seq given → Found s (e ∷ log) c seq given
-later_found s e log c seq given f = record {
-  place = suc f.place;
-  name = f.name;
-  tuple = f.tuple;
-  is = f.is;
-  so = f.so;
-  new = f.new;
-  low = f.low;
-  verdict = f.verdict;
-  outcome = f.outcome;
-  says = f.says;
-}
+-- ### Along a log
 
-pub found : (servers : ℕ) (log : List Command) (s : State) (c seq : ℕ) (given : Answer) → IsPlainLog servers log → s.view.queue ≡ []
-    → verdict_for seq (latest (fold after s log) c) ≡ Some given
-    → (verdict_for seq (latest s c) ≡ Some given) ⊎ Found s log c seq given
-found servers [] s c seq given plain quiet h = inl h
-found servers (e ∷ log) s c seq given plain quiet h =
-    let first = plain_first servers e log plain in
-    elim (found servers log (after s e) c seq given (plain_later servers e log plain) (after_quiet servers e s first quiet) h) [
-      | inl now ↦ elim (telling servers s e c first quiet) [
-        | Same is why ↦ inl (ap (verdict_for seq) (sym is) ∙ now)
-        | Told q n t v own new low is outcome ↦
-            (let both = told_now q seq v given (ap (verdict_for seq) (sym is) ∙ now) in
-            inr (record {
-              place = 0;
-              name = n;
-              tuple = t;
-              is = ap Some (own ∙ ap (λ k. MakeDisk c k n t) both.0);
-              so = now;
-              new = subst (λ k. is_new k (latest s c) ≡ true) both.0 new;
-              low = low;
-              verdict = v;
-              outcome = outcome;
-              says = both.1;
-            }))
+module _ (servers : ℕ) (log : List Command) (plain : IsPlainLog servers log) where
+  -- the state before a place
+  abbrev at : ℕ → State
+  at k = state_after servers (take k log)
+
+  at_next : (k : ℕ) (e : Command) → slice_get log k ≡ Some e → at (suc k) ≡ after (at k) e
+  at_next k e is = ap (state_after servers) (take_next log k e is) ∙ fold-append after (start servers) (take k log) (e ∷ [])
+
+  plain_at : (k : ℕ) → IsPlainState servers (at k)
+  plain_at k = log_plain servers (take k log) (plain_front servers log k plain)
+
+  entry_plain : (k : ℕ) (e : Command) → slice_get log k ≡ Some e → IsPlain servers e
+  entry_plain k e is = plain e (in_get log k e is)
+
+  -- each state tells as many clients
+  many_at : (k : ℕ) → k ≤ length log → length (at k).verdicts ≡ 9
+  many_at zero low = refl
+  many_at (suc k) low =
+      let e = get_within log k (omega arith) in
+      ap (λ (s : State). length s.verdicts) (at_next k e.0 e.1) ∙ many_after servers e.0 (at k) (entry_plain k e.0 e.1) ∙ many_at k (omega arith)
+
+  -- a number that is old stays so
+  old_on : (c seq i k : ℕ) → i ≤ k → k ≤ length log → is_new seq (latest (at i) c) ≡ false → is_new seq (latest (at k) c) ≡ false
+  old_on c seq i zero le low old = let same : i ≡ 0 = omega arith in subst (λ j. is_new seq (latest (at j) c) ≡ false) same old
+  old_on c seq i (suc k) le low old = elim (cases_lt i (suc k)) [
+    | inr past ↦ (let same : i ≡ suc k = omega arith in subst (λ j. is_new seq (latest (at j) c) ≡ false) same old)
+    | inl before ↦
+        let e = get_within log k (omega arith) in
+        ap (λ (s : State). is_new seq (latest s c)) (at_next k e.0 e.1)
+        ∙ old_after servers e.0 (at k) c seq (entry_plain k e.0 e.1) (old_on c seq i k (omega arith) (omega arith) old)
+  ]
+
+  -- behind a client's own command its number is old
+  own_old : (c seq i : ℕ) (e : Command) → slice_get log i ≡ Some e → i < length log → asker e ≡ Some (c, seq) → c < 9
+      → is_new seq (latest (at (suc i)) c) ≡ false
+  own_old c seq i e is low own few =
+      ap (λ (s : State). is_new seq (latest s c)) (at_next i e is)
+      ∙ old_behind e (at i) c seq own (let many = many_at i (omega arith) in omega arith)
+
+  -- who is answered is one of the clients
+  pub judged_low : (c seq k : ℕ) (given : Answer) → k ≤ length log → verdict_for seq (latest (at k) c) ≡ Some given → c < 9
+  judged_low c seq k given low h = elim (cases_lt c 9) [
+    | inl few ↦ few
+    | inr high ↦ none_some (ap (verdict_for seq) (none_past (at k) c (let many = many_at k low in omega arith))) h
+  ]
+
+  -- ### One request
+
+  module _ (c seq : ℕ) (few : c < 9) (asked : Request)
+      (own : (k : ℕ) (e : Command) → slice_get log k ≡ Some e → asker e ≡ Some (c, seq) → command_of c seq asked ≡ Some e) where
+    -- the request's own command stands at this place, and is new there; what it is answered, the state before says
+    pub record Placed (given : Answer) : Type 0 where
+      pub place : ℕ
+      pub command : Command
+      pub of_it : command_of c seq asked ≡ Some command
+      pub is : slice_get log place ≡ Some command
+      pub new : is_new seq (latest (at place) c) ≡ true
+      pub taken : given ≡ answer.Exists → is_name_taken (at place) asked ≡ true
+      pub unknown : given ≡ answer.NoDisk → lacks_disk (at place) asked ≡ true
+      pub free : given ≡ answer.Ok → is_name_taken (at place) asked ≡ false
+      pub known : given ≡ answer.Ok → lacks_disk (at place) asked ≡ false
+
+    -- what the request is answered so far
+    abbrev says : State → Option Answer
+    says t = verdict_for seq (latest t c)
+
+    -- what it is answered it is answered still, until the client is told of a later command
+    abbrev Stays : (s t : State) → Type 0
+    Stays s t = (given : Answer) → says s ≡ Some given → (says t ≡ Some given) ⊎ (is_new (suc seq) (latest t c) ≡ false)
+
+    -- the fence of this disk and name is for the request's snapshot, of which nothing is said before it is taken
+    pub record Waits (t : State) (disk : ℕ) (name : List ℕ) : Type 0 where
+      pub placed : Placed answer.Ok
+      pub of : List ℕ
+      pub asks : asked ≡ request.Snap of name
+      pub row : DiskRow
+      pub found : named t.disks.rows of ≡ Some row
+      pub id : row.id ≡ disk
+      pub old : is_new seq (latest t c) ≡ false
+      pub quiet : (given : Answer) → says t ≡ Some given → given ≡ answer.Ok
+
+    -- what is answered was placed, and what it asked for is there; and so waits each fence of this client and number
+    pub record Has (t : State) : Type 0 where
+      pub told : (given : Answer) → says t ≡ Some given → Placed given × (given ≡ answer.Ok → has_made t asked ≡ true)
+      pub waits : (i : ℕ) (fence : Fence) (disk : ℕ) (name : List ℕ) → slice_get t.view.queue i ≡ Some fence → fence.kind ≡ Whole disk name c seq
+          → Waits t disk name
+
+    -- what a step tells of the request: what was told before; or that its command, which was new, stands there, or that its snapshot is taken
+    abbrev OldOrTold : (s t : State) → Answer → Type 0
+    OldOrTold s t given =
+        (says s ≡ Some given)
+        ⊎ Placed given × (given ≡ answer.Ok → has_made t asked ≡ true) × ((is_new seq (latest s c) ≡ true) ⊎ (given ≡ answer.Ok))
+
+    record Tells (s t : State) : Type 0 where
+      tells : (given : Answer) → says t ≡ Some given → OldOrTold s t given
+      old : is_new seq (latest s c) ≡ false → is_new seq (latest t c) ≡ false
+      stays : Stays s t
+
+    waits_on : (s t : State) → IsUnsettled servers s → Acted servers s t → Tells s t → (disk : ℕ) (name : List ℕ) → Waits s disk name → Waits t disk name
+    waits_on s t p acted tells disk name w =
+        let later = named_on servers s t p acted.plain acted.grown w.of w.row w.found in
+        record {
+          placed = w.placed;
+          of = w.of;
+          asks = w.asks;
+          row = later.0;
+          found = later.1;
+          id = later.2.id ∙ w.id;
+          old = tells.old w.old;
+          quiet = λ given e. elim (tells.tells given e) [
+            | inl before ↦ w.quiet given before
+            | inr told ↦ elim told.2 [ inl new ↦ true_false new w.old | inr ok ↦ ok ]
+          ];
+        }
+
+    -- a fence that stood before, or waits for the request's snapshot
+    abbrev OldOrWaits : (s t : State) → Fence → Type 0
+    OldOrWaits s t fence =
+        ((i : ℕ) × (before : Fence) × (slice_get s.view.queue i ≡ Some before) × (fence.kind ≡ before.kind))
+        ⊎ ((disk : ℕ) (name : List ℕ) → fence.kind ≡ Whole disk name c seq → Waits t disk name)
+
+    has_next : (s t : State) → IsUnsettled servers s → Has s → Acted servers s t → Tells s t
+        → ((i : ℕ) (fence : Fence) → slice_get t.view.queue i ≡ Some fence → OldOrWaits s t fence) → Has t × Stays s t
+    has_next s t p h acted tells queue = (
+      record {
+        told = λ given e. elim (tells.tells given e) [
+          | inl old ↦ (let was = h.told given old in (was.0, λ ok. made_on servers s t p acted.plain acted.grown asked (was.1 ok)))
+          | inr new ↦ (new.0, new.1)
+        ];
+        waits = λ i fence disk name e kind. elim (queue i fence e) [
+          | inl old ↦ waits_on s t p acted tells disk name (h.waits old.0 old.1 disk name old.2 (sym old.3 ∙ kind))
+          | inr new ↦ new disk name kind
+        ];
+      },
+      tells.stays,
+    )
+
+    old_queue : (s t : State) → IsRequeued s.view.queue t.view.queue → (i : ℕ) (fence : Fence) → slice_get t.view.queue i ≡ Some fence → OldOrWaits s t fence
+    old_queue s t was i fence e = let before = was i fence e in inl (i, before.0, before.1, before.2)
+
+    -- a step that tells no client anything
+    has_still : (s t : State) → IsUnsettled servers s → Has s → IsRequeued s.view.queue t.view.queue → latest t c ≡ latest s c → Acted servers s t
+        → Has t × Stays s t
+    has_still s t p h queue same acted =
+        has_next s t p h acted
+        (record {
+          tells = λ given e. inl (ap (verdict_for seq) (sym same) ∙ e);
+          old = λ old. ap (is_new seq) same ∙ old;
+          stays = λ given e. inl (ap (verdict_for seq) same ∙ e);
+        }) (old_queue s t queue)
+
+    -- ### A fence that passes
+
+    passing_made : (s : State) (p : IsUnsettled servers s) (fence : Fence) (first : slice_get s.view.queue 0 ≡ Some fence)
+        → Waits s (p.fences.each 0 fence first).disk (p.fences.each 0 fence first).name → has_made (one_passed s fence) asked ≡ true
+    passing_made s p fence first w =
+        let active = p.fences.each 0 fence first in
+        let t = one_passed s fence in
+        let acted = passing servers s p fence first in
+        let later = named_on servers s t p acted.plain acted.grown w.of w.row w.found in
+        let now : later.0 ≡ row_frozen active.name active.row =
+        same_some (sym later.3 ∙ ap (slice_get t.disks.rows) w.id ∙ passed_here servers s p fence first) in
+        ap (has_made t) w.asks ∙ ap (λ o. option_map_or (λ (row : DiskRow). is_some (snapshot_named row.snaps active.name)) o false) later.1
+        ∙ ap (λ (row : DiskRow). is_some (snapshot_named row.snaps active.name)) now
+        ∙ last_found (λ (x : Snapshot). same_name x.name active.name) active.row.snaps (record { name = active.name; epoch = active.row.epoch })
+        (text_itself active.name)
+
+    passes_by : (s : State) → IsUnsettled servers s → Has s → (fence : Fence) → slice_get s.view.queue 0 ≡ Some fence
+        → IsUnsettled servers (one_passed s fence) × Has (one_passed s fence) × Stays s (one_passed s fence)
+    passes_by s p h fence first =
+        let active = p.fences.each 0 fence first in
+        let t = one_passed s fence in
+        let acted = passing servers s p fence first in
+        let waiting = λ (same : active.client ≡ c) (number : active.seq ≡ seq). h.waits 0 fence active.disk active.name first
+        (active.kind ∙ (λ i. Whole active.disk active.name (same i) (number i))) in
+        let next = has_next s t p h acted
+        (record {
+          tells = λ given e. elim (passed_or s fence active.disk active.name active.client c active.seq seq given active.kind e) [
+            | inl old ↦ inl old
+            | inr hit ↦
+                let w = waiting hit.0 hit.1 in
+                inr (subst Placed (same_some hit.2) w.placed, λ ok. passing_made s p fence first w, inr (sym (same_some hit.2)))
+          ];
+          old = passed_old s fence c seq;
+          stays = λ given e. inl (passed_stays s fence active.disk active.name active.client c active.seq seq given active.kind
+              (λ same number. (waiting same number).quiet given e) e);
+        })
+        (λ i other e.
+        let there : slice_get (behind (servers_in s.view.members) s.view.queue) i ≡ Some other =
+        sym (ap (λ (v : Rattle.global_tables.specs.View.View). slice_get v.queue i) (view-effect fence.kind _)) ∙ e in
+        let before = get_behind (servers_in s.view.members) s.view.queue i other there in
+        inl (suc i, before.0, before.1, before.2)) in
+        (acted.plain, next.0, next.1)
+
+    stays_then : (s t u : State) → Stays s t → Stays t u → (is_new (suc seq) (latest t c) ≡ false → is_new (suc seq) (latest u c) ≡ false) → Stays s u
+    stays_then s t u first second gone given e = elim (first given e) [ inl still ↦ second given still | inr later ↦ inr (gone later) ]
+
+    settles : (s : State) → IsUnsettled servers s → Has s → Has (settled s) × Stays s (settled s)
+    settles s p h =
+        let all = settled_keeps (λ t. IsUnsettled servers t × Has t × Stays s t)
+        (λ t fence ready now.
+        let passed = passes_by t now.0 now.1 fence (head_get t.view.queue fence (ready_by t.view.queue fence ready).first) in
+        (passed.0, passed.1, stays_then s t (one_passed t fence) now.2 passed.2 (passed_old t fence c (suc seq)))) s
+        (p, h, λ given e. inl e) in
+        (all.1, all.2)
+
+    -- ### The command of an entry
+
+    module _ (k : ℕ) (low : k ≤ length log) (h : Has (at k)) where
+      abbrev s : State
+      s = at k
+
+      p : IsUnsettled servers s
+      p = unsettled servers s (plain_at k)
+
+      still : (t : State) → IsRequeued s.view.queue t.view.queue → latest t c ≡ latest s c → Acted servers s t → Has t × Stays s t
+      still t queue same acted = has_still s t p h queue same acted
+
+      unmoved : Has s × Stays s s
+      unmoved = (h, λ given e. inl e)
+
+      new_at : (d q : ℕ) → d ≡ c → q ≡ seq → is_new q (latest s d) ≡ true → is_new seq (latest s c) ≡ true
+      new_at d q one two new = (λ i. is_new (sym two i) (latest s (sym one i))) ∙ new
+
+      -- what a new command tells
+      telling : (u : State) (d q : ℕ) (v : Verdict) → u.verdicts ≡ s.verdicts → is_new q (latest s d) ≡ true
+          → (d ≡ c → q ≡ seq → (given : Answer) → verdict_answer v ≡ Some given
+          → Placed given × (given ≡ answer.Ok → has_made (told u d q v) asked ≡ true)) → Tells s (told u d q v)
+      telling u d q v same new placed =
+          let at_u : (n : ℕ) → latest u n ≡ latest s n = λ n. ap (λ verdicts. unwrap_or (slice_get verdicts n) None) same in
+          record {
+            tells = λ given e. elim (told_or u d c q seq v given e) [
+              | inl old ↦ inl (ap (verdict_for seq) (sym (at_u c)) ∙ old)
+              | inr hit ↦ (let r = placed hit.0 hit.1 given hit.2 in inr (r.0, r.1, inl (new_at d q hit.0 hit.1 new)))
+            ];
+            old = λ old. told_old u d c q seq v (λ r is. onward_new q (latest s d) new r (ap (is_new r) (sym (at_u d)) ∙ is)) (ap (is_new seq) (at_u c) ∙ old);
+            stays = λ given e. told_stays u d c q seq v given (ap (is_new q) (at_u d) ∙ new) (ap (verdict_for seq) (at_u c) ∙ e);
+          }
+
+      -- a disk that is made, or not
+      module _ (d q : ℕ) (name tuple : List ℕ) (there : slice_get log k ≡ Some (MakeDisk d q name tuple)) (new : is_new q (latest s d) ≡ true) where
+        asks : d ≡ c → q ≡ seq → (command_of c seq asked ≡ Some (MakeDisk d q name tuple)) × (asked ≡ request.Disk name tuple)
+        asks one two =
+            let mine = own k (MakeDisk d q name tuple) there (λ i. Some (one i, two i)) in (mine, asks_disk c seq d q name tuple asked mine)
+
+        exists : is_some (named s.disks.rows name) ≡ true → Acted servers s (told s d q verdict.Exists)
+            → Has (told s d q verdict.Exists) × Stays s (told s d q verdict.Exists)
+        exists taken acted =
+            has_next s (told s d q verdict.Exists) p h acted
+            (telling s d q verdict.Exists refl new
+            (λ one two given e.
+            let a = asks one two in
+            let is_so : answer.Exists ≡ given = same_some e in (
+              record {
+                place = k;
+                command = MakeDisk d q name tuple;
+                of_it = a.0;
+                is = there;
+                new = new_at d q one two new;
+                taken = λ is. ap (is_name_taken s) a.1 ∙ taken;
+                unknown = λ is. (let f : answer.Exists ≡ answer.NoDisk = is_so ∙ is in absurd cc);
+                free = λ is. (let f : answer.Exists ≡ answer.Ok = is_so ∙ is in absurd cc);
+                known = λ is. (let f : answer.Exists ≡ answer.Ok = is_so ∙ is in absurd cc);
+              },
+              λ is. (let f : answer.Exists ≡ answer.Ok = is_so ∙ is in absurd cc),
+            )))
+            (old_queue s (told s d q verdict.Exists) (requeued_itself s.view.queue))
+
+        makes : named s.disks.rows name ≡ None → Acted servers s (told (with_disk s name tuple) d q verdict.Ok)
+            → Has (told (with_disk s name tuple) d q verdict.Ok) × Stays s (told (with_disk s name tuple) d q verdict.Ok)
+        makes none acted =
+            let t = told (with_disk s name tuple) d q verdict.Ok in
+            has_next s t p h acted
+            (telling (with_disk s name tuple) d q verdict.Ok refl new
+            (λ one two given e.
+            let a = asks one two in
+            let is_so : answer.Ok ≡ given = same_some e in (
+              record {
+                place = k;
+                command = MakeDisk d q name tuple;
+                of_it = a.0;
+                is = there;
+                new = new_at d q one two new;
+                taken = λ is. (let f : answer.Ok ≡ answer.Exists = is_so ∙ is in absurd cc);
+                unknown = λ is. (let f : answer.Ok ≡ answer.NoDisk = is_so ∙ is in absurd cc);
+                free = λ is. ap (is_name_taken s) a.1 ∙ ap is_some none;
+                known = λ is. ap (lacks_disk s) a.1;
+              },
+              λ is. ap (has_made t) a.1 ∙ last_found (λ (row : DiskRow). same_name row.name name) s.disks.rows _ (text_itself name),
+            )))
+            (old_queue s t (requeued_itself s.view.queue))
+
+      -- a snapshot that is asked for
+      module _ (d q : ℕ) (of name : List ℕ) (there : slice_get log k ≡ Some (Snap d q of name)) (new : is_new q (latest s d) ≡ true) where
+        wants : d ≡ c → q ≡ seq → (command_of c seq asked ≡ Some (Snap d q of name)) × (asked ≡ request.Snap of name)
+        wants one two = let mine = own k (Snap d q of name) there (λ i. Some (one i, two i)) in (mine, asks_snap c seq d q of name asked mine)
+
+        unknown : named s.disks.rows of ≡ None → Acted servers s (told s d q verdict.NoDisk)
+            → Has (told s d q verdict.NoDisk) × Stays s (told s d q verdict.NoDisk)
+        unknown none acted =
+            has_next s (told s d q verdict.NoDisk) p h acted
+            (telling s d q verdict.NoDisk refl new
+            (λ one two given e.
+            let a = wants one two in
+            let is_so : answer.NoDisk ≡ given = same_some e in (
+              record {
+                place = k;
+                command = Snap d q of name;
+                of_it = a.0;
+                is = there;
+                new = new_at d q one two new;
+                taken = λ is. (let f : answer.NoDisk ≡ answer.Exists = is_so ∙ is in absurd cc);
+                unknown = λ is. ap (lacks_disk s) a.1 ∙ ap is_none none;
+                free = λ is. (let f : answer.NoDisk ≡ answer.Ok = is_so ∙ is in absurd cc);
+                known = λ is. (let f : answer.NoDisk ≡ answer.Ok = is_so ∙ is in absurd cc);
+              },
+              λ is. (let f : answer.NoDisk ≡ answer.Ok = is_so ∙ is in absurd cc),
+            )))
+            (old_queue s (told s d q verdict.NoDisk) (requeued_itself s.view.queue))
+
+        name_taken : (row : DiskRow) → named s.disks.rows of ≡ Some row → is_taken s name row ≡ true → Acted servers s (told s d q verdict.Exists)
+            → Has (told s d q verdict.Exists) × Stays s (told s d q verdict.Exists)
+        name_taken row found taken acted =
+            has_next s (told s d q verdict.Exists) p h acted
+            (telling s d q verdict.Exists refl new
+            (λ one two given e.
+            let a = wants one two in
+            let is_so : answer.Exists ≡ given = same_some e in (
+              record {
+                place = k;
+                command = Snap d q of name;
+                of_it = a.0;
+                is = there;
+                new = new_at d q one two new;
+                taken = λ is. ap (is_name_taken s) a.1 ∙ ap (λ o. option_map_or (is_taken s name) o false) found ∙ taken;
+                unknown = λ is. (let f : answer.Exists ≡ answer.NoDisk = is_so ∙ is in absurd cc);
+                free = λ is. (let f : answer.Exists ≡ answer.Ok = is_so ∙ is in absurd cc);
+                known = λ is. (let f : answer.Exists ≡ answer.Ok = is_so ∙ is in absurd cc);
+              },
+              λ is. (let f : answer.Exists ≡ answer.Ok = is_so ∙ is in absurd cc),
+            )))
+            (old_queue s (told s d q verdict.Exists) (requeued_itself s.view.queue))
+
+        -- the state in which its fence waits
+        module _ (row : DiskRow) (found : named s.disks.rows of ≡ Some row) (free : is_taken s name row ≡ false) where
+          abbrev queued : State
+          queued = with_fence s (Whole row.id name d q)
+
+          abbrev waiting : State
+          waiting = told queued d q verdict.Waiting
+
+          late_waits : (disk : ℕ) (text : List ℕ) → Whole row.id name d q ≡ Whole disk text c seq → Waits waiting disk text
+          late_waits disk text kind =
+              let same = same_whole row.id disk d c q seq name text kind in
+              let a = wants same.2 same.3 in
+              let is_new_here = new_at d q same.2 same.3 new in
+              record {
+                placed = record {
+                  place = k;
+                  command = Snap d q of name;
+                  of_it = a.0;
+                  is = there;
+                  new = is_new_here;
+                  taken = λ is. (let f : answer.Ok ≡ answer.Exists = is in absurd cc);
+                  unknown = λ is. (let f : answer.Ok ≡ answer.NoDisk = is in absurd cc);
+                  free = λ is. ap (is_name_taken s) a.1 ∙ ap (λ o. option_map_or (is_taken s name) o false) found ∙ free;
+                  known = λ is. ap (lacks_disk s) a.1 ∙ ap is_none found;
+                };
+                of = of;
+                asks = a.1 ∙ ap (request.Snap of) same.1;
+                row = row;
+                found = found;
+                id = same.0;
+                old = old_now queued d c q seq verdict.Waiting same.2 same.3 (let many = many_at k low in omega arith);
+                quiet = λ given e. elim (told_or queued d c q seq verdict.Waiting given e) [
+                  | inl before ↦ true_false is_new_here (judged_old seq (latest s c) given before)
+                  | inr hit ↦ none_some refl hit.2
+                ];
+              }
+
+          queues : Acted servers s waiting → Has waiting × Stays s waiting
+          queues acted =
+              has_next s waiting p h acted
+              (telling queued d q verdict.Waiting refl new (λ one two given e. none_some refl e))
+              (λ i fence e. elim (get_last s.view.queue _ i fence e) [
+                | inl old ↦ inl (i, fence, old, refl)
+                | inr late ↦ inr (λ disk text kind. late_waits disk text (sym (ap (λ (f : Fence). f.kind) late.1) ∙ kind))
+              ])
+
+      acts : (e : Command) → slice_get log k ≡ Some e → Acted servers s (act e s) → Has (act e s) × Stays s (act e s)
+      acts (MakeDisk d q name tuple) there acted =
+          act_make (λ (t : State). Acted servers s t → Has t × Stays s t) s d q name tuple (λ old acted. unmoved)
+          (λ new taken. exists d q name tuple there new taken) (λ new none. makes d q name tuple there new none) acted
+      acts (Snap d q of name) there acted =
+          act_snap (λ (t : State). Acted servers s t → Has t × Stays s t) s d q of name (λ old acted. unmoved)
+          (λ new none. unknown d q of name there new none) (λ new row found taken. name_taken d q of name there new row found taken)
+          (λ new row found free. queues d q of name there new row found free) acted
+      acts (Join server inc blank) there acted =
+          by_test (λ (t : State). Acted servers s t → Has t × Stays s t) (may_join (slice_get s.view.members server) inc) _ s
+          (λ may. still _ (requeued_itself s.view.queue) refl) (λ no acted. unmoved) acted
+      acts (Leave server inc) there acted =
+          by_test (λ (t : State). Acted servers s t → Has t × Stays s t) (is_up_as s server inc) _ s
+          (λ up. still _ (requeued_awaiting _ s.view.queue) refl) (λ out acted. unmoved) acted
+      acts (Caught of link holder holder_inc other other_inc) there acted =
+          act_caught (λ (t : State). Acted servers s t → Has t × Stays s t) s of link holder holder_inc other other_inc
+          (λ acts. still _ (requeued_itself s.view.queue) refl) (λ acted. unmoved) acted
+      acts (Drained server inc fence) there acted =
+          act_drained (λ (t : State). Acted servers s t → Has t × Stays s t) s server inc fence (λ acted. unmoved)
+          (λ is up. still _ (requeued_reported server s.view.queue) refl) acted
+      acts (Witness client number turn) there acted = unmoved
+      acts e there acted = absurd (entry_plain k e there)
+
+    has_renumbered : (t : State) (rev : ℕ) → Has t → Has (record t { rev = rev })
+    has_renumbered t rev h = record {
+      told = λ given e. let was = h.told given e in (was.0, λ ok. renumbered_made asked (was.1 ok));
+      waits = λ i fence disk name e kind. let w = h.waits i fence disk name e kind in
+          record { placed = w.placed; of = w.of; asks = w.asks; row = w.row; found = w.found; id = w.id; old = w.old; quiet = w.quiet };
+    }
+      where
+        renumbered_made : (what : Request) → has_made t what ≡ true → has_made (record t { rev = rev }) what ≡ true
+        renumbered_made (request.Disk name tuple) h = h
+        renumbered_made (request.Snap name snap) h = h
+        renumbered_made _ h = h
+
+    has_start : Has (at 0)
+    has_start = record {
+      told = λ given e. none_some (ap (verdict_for seq) (nobody_told 9 c)) e;
+      waits = λ i fence disk name e kind. none_some refl e;
+    }
+
+    next_by : (k : ℕ) → k + 1 ≤ length log → Has (at k) → Has (at (suc k)) × Stays (at k) (at (suc k))
+    next_by k low h =
+        let e = get_within log k (omega arith) in
+        let acted = acting servers (at k) e.0 (plain_at k) (entry_plain k e.0 e.1) in
+        let acts_so = acts k (omega arith) h e.0 e.1 acted in
+        let settled_so = settles (act e.0 (at k)) acted.plain acts_so.0 in
+        subst (λ (t : State). Has t × Stays (at k) t) (sym (at_next k e.0 e.1)) (
+          has_renumbered _ _ settled_so.0,
+          stays_then (at k) (act e.0 (at k)) (after (at k) e.0) acts_so.1 settled_so.1 (settled_old (act e.0 (at k)) c (suc seq)),
+        )
+
+    pub has_at : (k : ℕ) → k ≤ length log → Has (at k)
+    has_at zero low = has_start
+    has_at (suc k) low = (next_by k (omega arith) (has_at k (omega arith))).0
+
+    stays_on : (i k : ℕ) → i ≤ k → k ≤ length log → Stays (at i) (at k)
+    stays_on i zero le low given h = let same : i ≡ 0 = omega arith in inl (subst (λ j. says (at j) ≡ Some given) same h)
+    stays_on i (suc k) le low given h = elim (cases_lt i (suc k)) [
+      | inr past ↦ (let same : i ≡ suc k = omega arith in inl (subst (λ j. says (at j) ≡ Some given) same h))
+      | inl before ↦ elim (stays_on i k (omega arith) (omega arith) given h) [
+        | inl still ↦ (next_by k (omega arith) (has_at k (omega arith))).1 given still
+        | inr later ↦ inr (old_on c (suc seq) k (suc k) (omega arith) low later)
       ]
-      | inr f ↦ inr (later_found s e log c seq given f)
     ]
 
--- no earlier place has the command
-pub first_place : (servers : ℕ) (log : List Command) (s : State) (c seq : ℕ) (given : Answer) (f : Found s log c seq given) → IsPlainLog servers log
-    → s.view.queue ≡ []
-    → (i : ℕ) (name tuple : List ℕ) → i < f.place → slice_get log i ≢ Some (MakeDisk c seq name tuple)
-first_place servers log s c seq given f plain quiet i name tuple below there =
-    let front = plain_front servers log f.place plain in
-    let many = fold_length servers (take f.place log) s front quiet in
-    let low = f.low in
-    true_false f.new (reached servers (take f.place log) s c seq i name tuple front quiet (omega arith)
-    (get_take log f.place i (MakeDisk c seq name tuple) below there))
+    -- ### The place of the verdict
+
+    -- the first state that answers the request, behind so many entries and one more, answers it so
+    pub judged_first : (k : ℕ) → k ≤ length log → (given : Answer) → says (at k) ≡ Some given
+        → (j : ℕ) × (j + 1 ≤ k) × (says (at (j + 1)) ≡ Some given) × ((i : ℕ) → i ≤ j → says (at i) ≡ None)
+    judged_first zero low given h = none_some (ap (verdict_for seq) (nobody_told 9 c)) h
+    judged_first (suc m) low given h = elim (some_or_none (says (at m))) [
+      | inl some ↦ elim ((next_by m (omega arith) (has_at m (omega arith))).1 some.0 some.1) [
+        | inl still ↦
+            (let one : some.0 ≡ given = same_some (sym still ∙ h) in
+            let r = judged_first m (omega arith) given (some.1 ∙ ap Some one) in
+            (r.0, (let le = r.1 in omega arith), r.2, r.3))
+        | inr later ↦ judged_last seq (latest (at (suc m)) c) given h later
+      ]
+      | inr none ↦ (
+        m,
+        omega arith,
+        subst (λ n. says (at n) ≡ Some given) (let e : suc m ≡ m + 1 = omega arith in e) h,
+        λ i below. elim (some_or_none (says (at i))) [
+          | inr silent ↦ silent
+          | inl some ↦ elim (stays_on i m below (omega arith) some.0 some.1) [
+            | inl still ↦ none_some none still
+            | inr later ↦ judged_last seq (latest (at (suc m)) c) given h (old_on c (suc seq) m (suc m) (omega arith) low later)
+          ]
+        ],
+      )
+    ]
+
+    -- the place of its command is the first one of that, and lies before
+    pub placed_first : (given : Answer) (p : Placed given) (i : ℕ) → i < p.place → slice_get log i ≢ Some p.command
+    placed_first given p i below there =
+        let here = slice_get_within log p.place p.command p.is in
+        true_false p.new (old_on c seq (suc i) p.place (omega arith) (omega arith)
+        (own_old c seq i p.command there (omega arith) (asker_of c seq asked p.command p.of_it) few))
+
+    pub placed_before : (k : ℕ) (given : Answer) → says (at k) ≡ Some given → (p : Placed given) → p.place < k
+    placed_before k given h p = elim (cases_lt p.place k) [
+      | inl lt ↦ lt
+      | inr le ↦
+          let here = slice_get_within log p.place p.command p.is in
+          true_false p.new (old_on c seq k p.place le (omega arith) (judged_old seq (latest (at k) c) given h))
+    ]

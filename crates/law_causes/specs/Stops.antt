@@ -11,8 +11,7 @@ use Rattle.petal_rules.specs.World.{Setting, World}
 use Rattle.petal_rules.specs.declared.job.Job.{Job}
 use Rattle.petal_rules.specs.declared.step.CommitEnd.{CommitEnd}
 use Rattle.petal_rules.specs.declared.step.Step.{Step}
-use Rattle.petal_rules.specs.declared.step.Step.TheVariants.{Work, Stop}
-use Rattle.petal_rules.specs.declared.step.WorkEnd.{WorkEnd}
+use Rattle.petal_rules.specs.declared.step.Step.TheVariants.{Work, StopIn, Stop}
 use Rattle.petal_rules.specs.declared.step.WorkEnd.TheVariants as work_end
 use Rattle.petal_history.specs.Legal.{stepped, world_after}
 use Rattle.petal_history.specs.declared.record.Record.{Record}
@@ -25,12 +24,13 @@ pub record Stops (setting : Setting) (w : World) (own : Record) (n : ℕ) : Type
   pub ran : (w.servers n).life.running ≡ true
   pub rests : ((stepped setting w own).world.servers n).life.running ≡ false
 
--- why it stops in such a step: a line of the script that the operator has open tells it to; a device failed; or what the first
--- job of its queue leaves has a journal with more records than there is room for
+-- why it stops in such a step: a line of the script that the operator has open tells it to; a device failed; a device's plan stops the
+-- server at a call; or what the first job of its queue leaves has a journal with more records than there is room for
 pub data IsReasonToStop (setting : Setting) (w : World) (n : ℕ) (what : Step) : Type 0 where
   Was_told : (asked : Asked) (line : Line) → what ≡ Stop → AsksToStop line.request n → IsLineOf setting.lines w asked line
       → IsReasonToStop setting w n what
   Device_failed : (end : CommitEnd) → what ≡ Work (work_end.Fault end) → IsReasonToStop setting w n what
+  Device_stopped : (end : CommitEnd) → what ≡ StopIn end → IsReasonToStop setting w n what
   Journal_full : (first : Job) (rest : List Job) → what ≡ Work work_end.Done → (w.servers n).queue ≡ first ∷ rest
       → is_overfull (job_done (own_place setting w n) (w.servers n) first rest).server ≡ true → IsReasonToStop setting w n what
 
@@ -61,11 +61,16 @@ stops_a_server _ = false
 abbrev pub NoneIsStopped : List Line → Type 0
 NoneIsStopped lines = (line : Line) → In line lines → stops_a_server line.request ≡ false
 
+-- the step is of a job, which may have met a device's fault
+abbrev pub is_of_a_job : Step → Bool
+is_of_a_job (Work end) = true
+is_of_a_job (StopIn end) = true
+is_of_a_job _ = false
+
 -- the server stops in a job: nobody told it to
 pub record StopsByItself (setting : Setting) (w : World) (own : Record) (n : ℕ) : Type 0 where
   pub stops : Stops setting w own n
-  pub end : WorkEnd
-  pub works : own.step ≡ Work end
+  pub works : is_of_a_job own.step ≡ true
 
 -- in none of these steps does a server stop by itself
 abbrev pub NoneStopsByItself : Setting → World → List Record → Type 0

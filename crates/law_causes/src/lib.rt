@@ -1,5 +1,5 @@
 //! Why each request is answered so: over every legal history of a sound script, each answer that says what is not there, and
-//! each answer of a `disk` line, comes by its own entry of the chosen log, with a state at its place that says so; and each
+//! each answer of a `disk` or a `snap` line, comes by its own entry of the chosen log, with states that say so; and each
 //! answer of a line that names a server comes by that line's one glance, and that of a settle by its glances, round by round. And
 //! why a server does not run, or a boot of it fails.
 //!
@@ -35,7 +35,7 @@ pub fn answers_are_caused()
 {}
 
 /// A server of the script that does not run at the end stopped in a step of its own, and has not run since, for a reason: the
-/// operator's open line told it to, a device failed, or a journal was full.
+/// operator's open line told it to, a device failed, a device's plan stopped it, or a journal was full.
 pub fn a_server_stops_for_a_reason()
     ensures { (script : Script) (records : List Record) → IsSound script → IsLegal script records → (n : ℕ) → n < script.servers → ((world_after (setting_of script) (start (setting_of script)) records).servers n).life.running ≡ false → HasReasonToStop (setting_of script) (start (setting_of script)) records n }
 {}

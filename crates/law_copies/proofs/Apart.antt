@@ -67,7 +67,7 @@ module _ (heard : Body → Type 0) (here : Here) (own : Own) (fit : IsFit heard 
 
     pub did_keeps : (done : Done) → Did heard here own done → KeepsCell q own done.own
     did_keeps _ Ignores = keeps_itself q own
-    did_keeps _ (Refuses to said is why) = keeps_itself q own
+    did_keeps _ (Refuses to said is why because) = keeps_itself q own
     did_keeps _ (By_read done d) = read_keeps done (of_read heard here own done d).same
     did_keeps _ (By_lead done d) = lead_keeps done d
     did_keeps _ (By_second done d) = second_keeps done d
@@ -97,7 +97,7 @@ module _ (heard : Body → Type 0) (here : Here) (own : Own) (fit : IsFit heard 
 
   pub did_rest : (done : Done) → Did heard here own done → KeepsRest q own done.own
   did_rest _ Ignores = (keeps_itself q own).rest
-  did_rest _ (Refuses to said is why) = (keeps_itself q own).rest
+  did_rest _ (Refuses to said is why because) = (keeps_itself q own).rest
   did_rest _ (By_read done d) = (read_keeps done (of_read heard here own done d).same).rest
   did_rest _ (By_lead done d) = (lead_keeps done d).rest
   did_rest _ (By_second done d) = (second_keeps done d).rest

@@ -753,6 +753,7 @@ module _ (setting : Setting) (records : List Record) (top : List Command) (entry
     now = next_store;
     here = here_next;
     been = λ n place cell own visit. let b = good.been n place cell own visit in record { row = b.row; linked = b.linked; past = b.past };
+    came = good.came;
     born = λ cell none. born_then cell (none_before cell none);
     unheard = λ n cell none. let h = good.unheard n cell none in record { last = h.last; pages = h.pages };
     rising = rising_next;

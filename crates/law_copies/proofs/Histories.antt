@@ -491,6 +491,7 @@ start_good setting =
       now = λ n. refl;
       here = λ n cell row is seat. none_some (start_unlinked setting.servers cell) is;
       been = λ n place cell own visit. none_some refl visit;
+      came = λ n place cell own visit. none_some refl visit;
       born = λ cell none n. no_chain setting.slots cell;
       unheard = λ n cell none. record {
         last = at-empty cell_cmp cell;

@@ -563,7 +563,7 @@ module _ (heard : Body → Type 0) (here : Here) (links : ℕ) (row : LinkRow) (
 
     did_step : (done : Done) → Did heard here own done → Step done × Says cell done
     did_step _ Ignores = (itself cell own f.old, (λ post i. none_in post i))
-    did_step _ (Refuses to said is why) = (
+    did_step _ (Refuses to said is why because) = (
       itself cell own f.old,
       (λ post i e. untold row (Some own) vo post.body (refused_not post.body (ap subject_of (one_post to said post i).1 ∙ is))),
     )

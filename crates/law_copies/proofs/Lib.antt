@@ -39,6 +39,7 @@ pub mod Between
 pub mod Twins
 pub mod Covering
 pub mod Visited
+pub mod Came
 pub mod Framed
 pub mod Stepping
 pub mod Quiet

@@ -381,7 +381,7 @@ module _ (heard : Body → Type 0) (here : Here) (own : Own) (steady : IsSteady 
 
   pub job_marked : (done : Done) → Did heard here own done → M done.own
   job_marked _ Ignores = same_store own have refl refl
-  job_marked _ (Refuses to said is why) = same_store own have refl refl
+  job_marked _ (Refuses to said is why because) = same_store own have refl refl
   job_marked _ (By_read done d) = still done.own (of_read heard here own done d).same
   job_marked _ (By_lead done d) = lead_marked done d
   job_marked _ (By_second done d) = second_marked done d

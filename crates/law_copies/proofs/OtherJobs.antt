@@ -237,7 +237,7 @@ module _ (heard : Body → Type 0) (here : Here) (links : ℕ) (row : LinkRow) (
 
     here_by : (done : Done) → Did heard here own done → KeepsHere links row cell vh own done
     here_by _ Ignores = beside _ (keeps_itself cell own) (λ post i. none_in post i)
-    here_by _ (Refuses to said is why) = beside _ (keeps_itself cell own)
+    here_by _ (Refuses to said is why because) = beside _ (keeps_itself cell own)
         (λ post i e. untold row vh (Some own) post.body (refused_not post.body (ap subject_of (one_post to said post i).1 ∙ is)))
     here_by done (By_read _ d) =
         let r = of_read heard here own done d in

@@ -90,7 +90,7 @@ module _ (P : Table Cell Chain → Type 0)
 
   pub did_keeps : (done : Done) → Did heard here own done → P done.own.store.chains
   did_keeps _ Ignores = all
-  did_keeps _ (Refuses to said is why) = all
+  did_keeps _ (Refuses to said is why because) = all
   did_keeps _ (By_read done d) = same done.own (ap (λ (o : Own). o.store.chains) (of_read heard here own done d).same)
   did_keeps _ (By_lead done d) = lead_keeps done d
   did_keeps _ (By_second done d) = second_keeps done d

@@ -255,7 +255,7 @@ module _ (heard : Body → Type 0) (here : Here) (own : Own) where
   page_answered : (done : Done) → Did heard here own done → (post : Post) → In post done.posts → is_page post.body ≡ true
       → IsAnswered done post.body
   page_answered _ Ignores post i f = none_in post i
-  page_answered _ (Refuses to said is why) post i f = copied_page post
+  page_answered _ (Refuses to said is why because) post i f = copied_page post
       (refused_not post.body (ap subject_of (one_post _ _ post i).1 ∙ is)) f
   page_answered _ (By_read done d) post i f =
       let r = (of_read heard here own done d).says post i in

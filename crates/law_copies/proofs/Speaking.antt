@@ -121,7 +121,7 @@ module _ (heard : Body → Type 0) (here : Here) (own : Own) (fit : IsFit heard 
 
   pub idle_silent : (done : Done) → Did heard here own done → Silent done.posts
   idle_silent _ Ignores post i e = none_in post i
-  idle_silent _ (Refuses to said is why) post i e = ap (λ (b : Body). is_between (subject_of b)) (one_post _ _ post i).1 ∙ ap is_between is
+  idle_silent _ (Refuses to said is why because) post i e = ap (λ (b : Body). is_between (subject_of b)) (one_post _ _ post i).1 ∙ ap is_between is
   idle_silent _ (By_read done d) post i e = let r = (of_read heard here own done d).says post i in ap (λ (b : Body). is_between (subject_of b)) r.is
   idle_silent _ (By_lead done d) post i e = lead_silent done d post i e
   idle_silent _ (By_second done d) post i e = second_silent done d post i e

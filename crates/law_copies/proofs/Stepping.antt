@@ -1,5 +1,5 @@
 -- What is kept after a step of one server, from what the step keeps at each front, and of what it sends.
-use Rattle.std.proofs.Common.{◌≡◌, ◌≤◌, ◌++◌, ℕ, List, [], ◌∷◌, length, Bool, true, Option, Some, None, sym, subst, ◌⊎◌, inl, inr}
+use Rattle.std.proofs.Common.{◌≡◌, ◌≤◌, ◌++◌, ℕ, List, [], ◌∷◌, length, Bool, true, Option, Some, None, sym, ◌∙◌, subst, ◌⊎◌, inl, inr}
 use Rattle.std.specs.Ordering.{nat_cmp}
 use Rattle.global_tables.specs.declared.link.LinkRow.{LinkRow}
 use Rattle.global_tables.specs.declared.link.LinkState.TheVariants.{Both, Only}
@@ -25,6 +25,7 @@ use Rattle.law_copies.specs.Good.{AloneOk, BothOk, Good, IsUnheard, SaidOk}
 use Rattle.law_copies.specs.Pair.{HaveMarks}
 use Rattle.law_copies.specs.Steps.{AreFilled}
 use Rattle.law_copies.specs.Visits.{IsLinked}
+use Rattle.law_copies.proofs.Came.{came_then}
 use Rattle.law_copies.proofs.Visited.{IsStep, IsThen, KeepsFlags, all_visited, been_now, counted, counted_up, ever_then, here_now, later, now_then, reaching_now, seen, started_now, stored}
 
 -- a letter that is sent tells what is so, by the link at the front of its sender
@@ -91,6 +92,8 @@ module _ (setting : Setting) (records : List Record) (top : List Command) (w v :
     now = now_then setting records top w v k server good step;
     here = here_now setting records top w v k server good step;
     been = been_now setting records top w v k server good step;
+    came = λ n place cell o visit. came_then setting records own v then_is n place cell good.visits (good.came n place cell) o
+        (sym (all_visited setting records top w v k server good step n place cell) ∙ visit);
     born = λ cell none. all_servers (λ n (s : Server). chain_in s.own.store.chains cell ≡ []) (good.born cell none) (sound.born cell none);
     unheard = all_servers (λ n (s : Server). (cell : Cell) → cell_link (state_in setting.servers s.log) cell ≡ None → IsUnheard s.own cell) good.unheard sound.unheard;
     rising = all_servers (λ n (s : Server). (cell : Cell) → IsRising nat_cmp (chain_in s.own.store.chains cell)) good.rising sound.rising;

@@ -189,7 +189,7 @@ module _ (heard : Body → Type 0) (here : Here) (own : Own) (steady : IsSteady 
 
       step_kept : (done : Done) → Did heard here own done → lead.IsKept own done.own done.posts second cell
       step_kept _ Ignores = record { keeps = kept_off own refl refl (omega arith); says = none_says own second }
-      step_kept _ (Refuses to said is why) = record { keeps = kept_off own refl refl (omega arith); says = refusal_says own second to said is }
+      step_kept _ (Refuses to said is why because) = record { keeps = kept_off own refl refl (omega arith); says = refusal_says own second to said is }
       step_kept _ (By_read done d) =
           let same = (of_read heard here own done d).same in
           let next : done.own.pairs.next ≡ own.pairs.next = ap (λ (o : Own). o.pairs.next) same in
@@ -311,7 +311,7 @@ module _ (heard : Body → Type 0) (here : Here) (own : Own) (steady : IsSteady 
 
       step_follows : (done : Done) → Did heard here own done → follow.IsSecondKept first own done.own done.posts cell
       step_follows _ Ignores = record { keeps = follow_off own refl refl; says = none_says first own }
-      step_follows _ (Refuses to said is why) = record { keeps = follow_off own refl refl; says = refusal_says first own to said is }
+      step_follows _ (Refuses to said is why because) = record { keeps = follow_off own refl refl; says = refusal_says first own to said is }
       step_follows _ (By_read done d) =
           let same = (of_read heard here own done d).same in
           record {

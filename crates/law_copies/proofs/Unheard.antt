@@ -107,7 +107,7 @@ module _ (heard : Body → Type 0) (here : Here) (own : Own) (row : LinkRow)
 
   pub did_pages : (done : Done) → Did heard here own done → P done.own
   did_pages _ Ignores = refl
-  did_pages _ (Refuses to said is why) = refl
+  did_pages _ (Refuses to said is why because) = refl
   did_pages _ (By_read done d) = ap (λ (o : Own). progress_on o row) (of_read heard here own done d).same
   did_pages _ (By_lead done d) = table_same done.own (of_lead heard here own done d).copies
   did_pages _ (By_second done d) = table_same done.own (of_second heard here own done d).copies
@@ -135,7 +135,7 @@ module _ (heard : Body → Type 0) (here : Here) (own : Own) where
 
   pub did_next : (done : Done) → Did heard here own done → own.pairs.next ≤ done.own.pairs.next
   did_next _ Ignores = omega arith
-  did_next _ (Refuses to said is why) = omega arith
+  did_next _ (Refuses to said is why because) = omega arith
   did_next _ (By_read done d) = let e = ap (λ (o : Own). o.pairs.next) (of_read heard here own done d).same in omega arith
   did_next _ (By_lead done d) = lead_next done d
   did_next _ (By_second done d) = let e = (of_second heard here own done d).next in omega arith

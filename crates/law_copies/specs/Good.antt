@@ -29,7 +29,7 @@ use Rattle.law_steps.specs.Ready.{IsRising}
 use Rattle.law_copies.specs.Copied.{AreAlike, AreCopying, IsOfLink, IsPage, IsTold, NotCopied, links_of}
 use Rattle.law_copies.specs.Pair.{HaveMarks, IsRecalled, Known, Pair, PairOk, pair_of}
 use Rattle.law_copies.specs.Steps.{AreFilled}
-use Rattle.law_copies.specs.Visits.{AreReached, HasBeen, HasFilled, IsHere, IsLast, IsLinked, Visits, half, place_by, store_by}
+use Rattle.law_copies.specs.Visits.{AreReached, HasBeen, HasFilled, IsHere, IsLast, IsLinked, Visits, WasThere, half, place_by, store_by}
 
 abbrev pub store_of : World → ℕ → Store
 store_of w n = (w.servers n).own.store
@@ -105,6 +105,7 @@ pub record Good (setting : Setting) (records : List Record) (top : List Command)
   pub here : (n : ℕ) (cell : Cell) (row : LinkRow) → IsLinked setting (w.servers n).log.applied cell row
       → is_in (server_state setting w n) n (w.servers n).life.inc ≡ true → IsHere setting w visits n cell row
   pub been : (n place : ℕ) (cell : Cell) (own : Own) → visits n place cell ≡ Some own → HasBeen setting w n place cell
+  pub came : (n place : ℕ) (cell : Cell) (own : Own) → visits n place cell ≡ Some own → WasThere setting records n place cell own.pairs
   pub born : (cell : Cell) → cell_link (state_after setting.servers top) cell ≡ None → (n : ℕ) → chain_in (store_of w n).chains cell ≡ []
   pub unheard : (n : ℕ) (cell : Cell) → cell_link (server_state setting w n) cell ≡ None → IsUnheard (w.servers n).own cell
   pub rising : (n : ℕ) (cell : Cell) → IsRising nat_cmp (chain_in (store_of w n).chains cell)

@@ -1,6 +1,6 @@
 -- What servers were at the places of a link. What two servers of a link tell each other belongs to one place of it; so a server's
 -- own part is kept here as it last was at each place, and is there while the other server is still at that place.
-use Rattle.std.specs.Prelude.{◌≡◌, ◌≤◌, ◌⊎◌, ◌==◌, ◌&&◌, ℕ, Bool, true, false, List, if◌then◌else◌, nat_eq, Option, Some, None, option_map}
+use Rattle.std.specs.Prelude.{◌≡◌, ◌≤◌, ◌⊎◌, ◌==◌, ◌&&◌, ℕ, Bool, true, false, List, ◌++◌, if◌then◌else◌, nat_eq, Option, Some, None, option_map}
 use Rattle.std.specs.Option.{option_map_or}
 use Rattle.global_tables.specs.declared.link.LinkRow.{LinkRow}
 use Rattle.petal_base.specs.declared.cell.Cell.{Cell}
@@ -11,10 +11,13 @@ use Rattle.petal_state.specs.Command.{state_after}
 use Rattle.petal_state.specs.Place.{places_from}
 use Rattle.petal_state.specs.State.{start}
 use Rattle.petal_rules.specs.Log.{state_in}
-use Rattle.petal_rules.specs.Server.{Own, Server, no_copies, no_pairs}
+use Rattle.petal_rules.specs.Server.{Own, Pairs, Server, no_copies, no_pairs}
 use Rattle.petal_rules.specs.State.{is_in}
 use Rattle.petal_rules.specs.Store.{Store}
 use Rattle.petal_rules.specs.World.{Setting, World, blank_joins_in, with_store}
+use Rattle.petal_rules.specs.World.{start as start_world}
+use Rattle.petal_history.specs.Legal.{world_after}
+use Rattle.petal_history.specs.declared.record.Record.{Record}
 
 -- of each server and each place of a cell's link, the server's own part as it last was while the server was there and was In as
 -- itself
@@ -54,6 +57,18 @@ is_at setting n server place cell =
 -- the visits once a server is so
 abbrev pub visited : Setting → Visits → (k : ℕ) → Server → Visits
 visited setting visits k server n place cell = if (n == k) && is_at setting k server place cell then Some server.own else visits n place cell
+
+-- after some of these records the server was at this place, and In as itself, with these operations; and as often as it was so since, it had
+-- the same
+pub record WasThere (setting : Setting) (records : List Record) (n place : ℕ) (cell : Cell) (pairs : Pairs) : Type 0 where
+  pub before : List Record
+  pub later : List Record
+  pub is : records ≡ before ++ later
+  pub there : is_at setting n ((world_after setting (start_world setting) before).servers n) place cell ≡ true
+  pub had : ((world_after setting (start_world setting) before).servers n).own.pairs ≡ pairs
+  pub since : (front back : List Record) → later ≡ front ++ back
+      → is_at setting n ((world_after setting (start_world setting) (before ++ front)).servers n) place cell ≡ true
+      → ((world_after setting (start_world setting) (before ++ front)).servers n).own.pairs ≡ pairs
 
 -- the server was at the place that the link has by its own entries, and as it is now
 pub record IsHere (setting : Setting) (w : World) (visits : Visits) (n : ℕ) (cell : Cell) (row : LinkRow) : Type 0 where

@@ -33,7 +33,8 @@ pub fn an_unequal_block_is_marked()
 /// last was at that place of the cell's link: in Both the second server is no further than the lead has given numbers out; where one server
 /// holds the link alone, a block that is not equal is marked at the holder, or at the other server before the holder's pages have passed it,
 /// or is one of all that the holder is to copy and has not copied, and none is once the holder has started a ballot for the link's Caught;
-/// and each letter that was ever sent between the two tells what is so, or what is past.
+/// and each letter that was ever sent between the two tells what is so, or what is past. What a server had pending when it last was at a
+/// place it had after some of the records, and whenever it was there since.
 pub fn letters_between_two_servers()
     ensures { (script : Script) (records : List Record) → IsSound script → IsLegal script records → Good (setting_of script) records (chosen_log (setting_of script) (world_after (setting_of script) (start (setting_of script)) records)) (counted (setting_of script) (world_after (setting_of script) (start (setting_of script)) records)) }
 {}

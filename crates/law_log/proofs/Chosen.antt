@@ -3,7 +3,7 @@ use Rattle.std.proofs.Common.{◌≡◌, ◌<◌, ◌≤◌, ◌+◌, ◌⊎◌,
 use Rattle.std.specs.Prelude.{slice_get}
 use Rattle.std.proofs.lemmas.Bool.Decides.{nat_tests}
 use Rattle.petal_command.specs.declared.command.Command.{Command}
-use Rattle.petal_command.specs.declared.command.Command.TheVariants.{Join, Leave, Caught}
+use Rattle.petal_command.specs.declared.command.Command.TheVariants.{Join, Leave, Caught, Drained}
 use Rattle.petal_paxos.specs.Chosen.{IsChosenBy, chosen_at}
 use Rattle.petal_paxos.specs.Schedule.{run, begin, IsChosen}
 use Rattle.petal_paxos.specs.Schedule as schedule
@@ -23,9 +23,9 @@ use Rattle.law_state.specs.Firm.{Firm}
 use Rattle.law_state.specs.Plain.{IsPlainLog}
 use Rattle.law_state.proofs.Disks.{who_is_out}
 use Rattle.law_state.proofs.Incarnations.{who_is_in}
-use Rattle.law_log.specs.Logged.{Catches, IsBacked, IsCalledAnywhere, IsJoinAt, IsSaidBy, Logged, Minded, Returns, Waits, WasMinded}
-use Rattle.law_log.specs.Requested.{HasBegun, HasCaughtUp, HasStopped, IsCalledFor, IsCaughtAt}
-use Rattle.law_log.proofs.Facts.{IsFair, told_chosen, chosen_wanted, chosen_once, told_wanted, leave_stopped, no_join, not_called, uncaught, wanted_plain}
+use Rattle.law_log.specs.Logged.{Catches, Drains, IsBacked, IsCalledAnywhere, IsJoinAt, IsSaidBy, Logged, Minded, Returns, Waits, WasMinded}
+use Rattle.law_log.specs.Requested.{HasBegun, HasStopped, IsCalledFor, IsCaughtAt, IsReportAt, WasWanted}
+use Rattle.law_log.proofs.Facts.{IsFair, told_chosen, chosen_wanted, chosen_once, told_wanted, leave_stopped, no_join, no_report, not_called, uncaught, wanted_plain}
 use Rattle.law_log.proofs.Lists.{at_among, at_next, next_at, one_front, parted}
 use Rattle.law_log.proofs.Worlds.{IsGrown}
 
@@ -88,7 +88,7 @@ module _ {Was : Minded} (setting : Setting) (w : World) (fair : IsFair setting) 
         record { later = front.0; is = front.1 };
   }
 
-  -- a chosen command is called for, or a Caught or a Join that acts behind the entries before it
+  -- a chosen command is called for, or it acts behind the entries before it as a Caught, a Join or a report
   called_at : (i : ℕ) (c : Command) → slice_get (chosen_log setting w) i ≡ Some c
       → IsCalledAnywhere setting w c
       ⊎ ((front : List Command) × IsPrefix front (chosen_log setting w) × (length front ≡ i) × Returns setting.servers w.servers front c
@@ -134,6 +134,17 @@ module _ {Was : Minded} (setting : Setting) (w : World) (fair : IsFair setting) 
       → Was server inc front (Waits blank)
   join_was front server inc blank prefix = (returns_at front (Join server inc blank) (no_join setting w server inc blank) prefix).1
 
+  -- a report counts there, and its server had drained
+  pub report_at : (front : List Command) (server inc fence : ℕ) → IsPrefix (front ++ Drained server inc fence ∷ []) (chosen_log setting w)
+      → IsReportAt setting.servers front server inc fence
+  report_at front server inc fence prefix =
+      (returns_at front (Drained server inc fence) (λ called. no_report setting w server inc fence called.0) prefix).0
+
+  pub report_was : (front : List Command) (server inc fence : ℕ) → IsPrefix (front ++ Drained server inc fence ∷ []) (chosen_log setting w)
+      → Was server inc front Drains
+  report_was front server inc fence prefix =
+      (returns_at front (Drained server inc fence) (λ called. no_report setting w server inc fence called.0) prefix).1
+
   -- each chosen command stands behind a front
   stands_at : (c : Command) → Among c (chosen_log setting w) → (front : List Command) × IsPrefix (front ++ c ∷ []) (chosen_log setting w)
   stands_at c i =
@@ -144,18 +155,19 @@ module _ {Was : Minded} (setting : Setting) (w : World) (fair : IsFair setting) 
       → (front : List Command) × Was server inc front (Waits blank)
   join_waited server inc blank i = let at = stands_at (Join server inc blank) i in (at.0, join_was at.0 server inc blank at.1)
 
-  caught_or_join : (c : Command) (front : List Command) → IsPrefix (front ++ c ∷ []) (chosen_log setting w) → Returns setting.servers w.servers front c
-      → IsCalledFor setting w c ⊎ HasCaughtUp setting w c
-  caught_or_join (Caught of link holder inc other other_inc) front stands h = inr (record { front = front; stands = stands; is = h })
-  caught_or_join (Join server inc blank) front stands h = inl (inr (h.later, h.begun))
-  caught_or_join _ front stands h = absurd h
+  wanted_or_join : (c : Command) (front : List Command) → IsPrefix (front ++ c ∷ []) (chosen_log setting w) → Returns setting.servers w.servers front c
+      → IsCalledFor setting w c ⊎ WasWanted setting w c
+  wanted_or_join (Caught of link holder inc other other_inc) front stands h = inr (record { front = front; stands = stands; is = h })
+  wanted_or_join (Drained server inc fence) front stands h = inr (record { front = front; stands = stands; is = h })
+  wanted_or_join (Join server inc blank) front stands h = inl (inr (h.later, h.begun))
+  wanted_or_join _ front stands h = absurd h
 
-  pub called_for : (c : Command) → Among c (chosen_log setting w) → IsCalledFor setting w c ⊎ HasCaughtUp setting w c
+  pub called_for : (c : Command) → Among c (chosen_log setting w) → IsCalledFor setting w c ⊎ WasWanted setting w c
   called_for c i =
       let at = at_among c (chosen_log setting w) i in
       elim (called_at at.0 c at.1) [
         | inl called ↦ inl called.0
-        | inr returns ↦ caught_or_join c returns.0 (next_stands returns.0 (chosen_log setting w) c at.0 returns.1 returns.2 at.1) returns.3
+        | inr returns ↦ wanted_or_join c returns.0 (next_stands returns.0 (chosen_log setting w) c at.0 returns.1 returns.2 at.1) returns.3
       ]
 
   plain : IsPlainLog setting.servers (chosen_log setting w)

@@ -3,7 +3,7 @@ use Rattle.std.proofs.Common.{◌≡◌, ◌≤◌, ◌+◌, inl, inr, ℕ, Bool
 use Rattle.std.specs.Prelude.{slice_get, ◌==◌}
 use Rattle.petal_base.specs.Tuple.{is_tuple}
 use Rattle.petal_command.specs.declared.command.Command.{Command}
-use Rattle.petal_command.specs.declared.command.Command.TheVariants.{Join, Leave, Caught, MakeDisk, Witness}
+use Rattle.petal_command.specs.declared.command.Command.TheVariants.{Join, Leave, Caught, Drained, MakeDisk, Snap, Witness}
 use Rattle.petal_command.specs.declared.pax.Pax.TheVariants.{Chosen}
 use Rattle.petal_paxos.specs.Schedule.{run, begin, IsChosen}
 use Rattle.petal_paxos.specs.Schedule as schedule
@@ -67,6 +67,7 @@ made_plain : (servers client seq : ℕ) (asked : Request) (c : Command)
     → ((name tuple : List ℕ) → asked ≡ request.Disk name tuple → is_tuple servers tuple ≡ true)
     → command_of client seq asked ≡ Some c → IsPlain servers c
 made_plain servers client seq (request.Disk name tuple) c spread e = subst (IsPlain servers) (same_some e) (spread name tuple refl)
+made_plain servers client seq (request.Snap name snap) c spread e = subst (IsPlain servers) (same_some e) tt
 made_plain servers client seq _ c spread e = none_some refl e
 
 pub scripted_plain : (setting : Setting) (w : World) → IsFair setting → (c : Command) → IsScripted setting w c → IsPlain setting.servers c
@@ -88,6 +89,7 @@ called_plain setting w fair c (inr h) = lives_plain setting.servers w c h
 returns_plain : (servers : ℕ) (actors : ℕ → Server) (front : List Command) (c : Command) → Returns servers actors front c → IsPlain servers c
 returns_plain servers actors front (Caught of link holder inc other other_inc) h = tt
 returns_plain servers actors front (Join server inc blank) h = tt
+returns_plain servers actors front (Drained server inc fence) h = tt
 returns_plain servers actors front _ h = absurd h
 
 pub wanted_plain : {Was : Minded} (setting : Setting) (w : World) (p : schedule.World) → IsFair setting → (place : ℕ) (c : Command)
@@ -101,6 +103,7 @@ wanted_plain setting w p fair place c h = elim h.0 [
 not_asked : {B : Type 0} (client seq server inc : ℕ) (asked : Request) → command_of client seq asked ≡ Some (Leave server inc) → B
 not_asked client seq server inc (request.Disk name tuple) e =
     let f : MakeDisk client seq name tuple ≡ Leave server inc = same_some e in absurd cc
+not_asked client seq server inc (request.Snap name snap) e = let f : Snap client seq name snap ≡ Leave server inc = same_some e in absurd cc
 not_asked client seq server inc _ e = none_some refl e
 
 pub leave_stopped : (setting : Setting) (w : World) (server inc : ℕ) → IsCalledFor setting w (Leave server inc) → HasStopped w server inc
@@ -115,6 +118,8 @@ not_asked_caught : {B : Type 0} (client seq of link holder inc other other_inc :
     → command_of client seq asked ≡ Some (Caught of link holder inc other other_inc) → B
 not_asked_caught client seq of link holder inc other other_inc (request.Disk name tuple) e =
     let f : MakeDisk client seq name tuple ≡ Caught of link holder inc other other_inc = same_some e in absurd cc
+not_asked_caught client seq of link holder inc other other_inc (request.Snap name snap) e =
+    let f : Snap client seq name snap ≡ Caught of link holder inc other other_inc = same_some e in absurd cc
 not_asked_caught client seq of link holder inc other other_inc _ e = none_some refl e
 
 pub not_called : {B : Type 0} (setting : Setting) (w : World) (of link holder inc other other_inc : ℕ)
@@ -129,9 +134,25 @@ pub uncaught : (setting : Setting) (w : World) (c : Command) → IsCalledFor set
 uncaught setting w (Caught of link holder inc other other_inc) h = not_called setting w of link holder inc other other_inc h
 uncaught setting w _ h = refl
 
+-- nor for a report to a fence
+not_asked_report : {B : Type 0} (client seq server inc fence : ℕ) (asked : Request) → command_of client seq asked ≡ Some (Drained server inc fence) → B
+not_asked_report client seq server inc fence (request.Disk name tuple) e =
+    let f : MakeDisk client seq name tuple ≡ Drained server inc fence = same_some e in absurd cc
+not_asked_report client seq server inc fence (request.Snap name snap) e =
+    let f : Snap client seq name snap ≡ Drained server inc fence = same_some e in absurd cc
+not_asked_report client seq server inc fence _ e = none_some refl e
+
+pub no_report : {B : Type 0} (setting : Setting) (w : World) (server inc fence : ℕ) → IsCalledFor setting w (Drained server inc fence) → B
+no_report setting w server inc fence (inl s) = elim s.so [
+  | inl e ↦ not_asked_report s.client (s.before + 1) server inc fence s.line.request e
+  | inr e ↦ (let f : Drained server inc fence ≡ Witness s.client (s.before + 1) e.0 = e.1 in absurd cc)
+]
+no_report setting w server inc fence (inr h) = absurd h
+
 -- nor for a Join
 asked_no_join : (client seq : ℕ) (asked : Request) (c : Command) → command_of client seq asked ≡ Some c → is_join c ≡ false
 asked_no_join client seq (request.Disk name tuple) c e = ap is_join (sym (same_some e))
+asked_no_join client seq (request.Snap name snap) c e = ap is_join (sym (same_some e))
 asked_no_join client seq _ c e = none_some refl e
 
 pub scripted_anywhere : (setting : Setting) (w : World) (c : Command) → IsScripted setting w c → IsCalledAnywhere setting w c

@@ -2,7 +2,7 @@
 use Rattle.std.proofs.Common.{◌≡◌, ◌<◌, ◌≤◌, ◌++◌, ◌⊎◌, ℕ, Bool, true, false, List, [], ◌∷◌, refl, sym, ap, ◌∙◌, subst, append_assoc}
 use Rattle.std.specs.Prelude.{⊤, slice_get}
 use Rattle.petal_command.specs.declared.command.Command.{Command}
-use Rattle.petal_command.specs.declared.command.Command.TheVariants.{Join, Leave, Caught}
+use Rattle.petal_command.specs.declared.command.Command.TheVariants.{Join, Leave, Caught, Drained}
 use Rattle.petal_msg.specs.declared.body.Body.TheVariants as body
 use Rattle.petal_msg.specs.declared.letter.Letter.{Letter}
 use Rattle.petal_paxos.specs.Schedule.{run, begin}
@@ -19,9 +19,9 @@ use Rattle.petal_paxos.specs.Kept.{inc_of}
 use Rattle.petal_state.specs.Command.{may_join, state_after}
 use Rattle.petal_rules.specs.Server.{Server}
 use Rattle.law_state.specs.Firm.{Firm}
-use Rattle.law_log.specs.Logged.{Catches, IsBacked, IsCalledAnywhere, IsSaidBy, Logged, Minded, Waits}
-use Rattle.law_log.specs.Requested.{HasBegun, HasCaughtUp, HasStopped, IsCalledFor, IsCaughtAt, WasReturning, WasStarted}
-use Rattle.law_log.proofs.Chosen.{agrees, caught_at, caught_was, firm, called_for, join_at, join_chosen, join_waited, in_begun, leave_chosen, out_stopped, runs_in, has_schedule, grown_log}
+use Rattle.law_log.specs.Logged.{Catches, Drains, IsBacked, IsCalledAnywhere, IsSaidBy, Logged, Minded, Waits}
+use Rattle.law_log.specs.Requested.{HasBegun, HasStopped, IsCalledFor, IsCaughtAt, IsReportAt, WasDraining, WasReturning, WasStarted, WasWanted}
+use Rattle.law_log.proofs.Chosen.{agrees, caught_at, caught_was, firm, called_for, join_at, join_chosen, join_waited, report_at, report_was, in_begun, leave_chosen, out_stopped, runs_in, has_schedule, grown_log}
 use Rattle.law_log.proofs.Facts.{IsFair, leave_stopped}
 use Rattle.law_log.proofs.Steps.{history_goes, start_logged}
 use Rattle.law_log.proofs.Worlds.{Remembers}
@@ -36,6 +36,7 @@ At script records = world_after (setting_of script) (start (setting_of script)) 
 abbrev pub Past : Script → List Record → Minded
 Past script records server inc front (Catches id) = WasStarted (setting_of script) records server inc front id
 Past script records server inc front (Waits blank) = WasReturning (setting_of script) records server inc blank
+Past script records server inc front Drains = WasDraining (setting_of script) records server inc front
 
 pub logged : (script : Script) (records : List Record) → IsSound script → IsLegal script records
     → Logged (Past script records) (setting_of script) (At script records)
@@ -43,6 +44,7 @@ logged script records sound legal =
     (history_goes (setting_of script) (sound_fair script sound) records (start (setting_of script)) (start_logged (setting_of script)) legal
     (λ before own later is n. record {
       waits = λ runs. record { before = before; own = own; later = later; is = is; lives = refl; runs = runs; waits = refl };
+      drains = λ runs drained. record { before = before; own = own; later = later; is = is; lives = refl; runs = runs; at = refl; drained = drained };
       catches = λ id minded. record {
         before = before ++ own ∷ [];
         later = later;
@@ -65,7 +67,7 @@ history_has_schedule script records sound legal = has_schedule (setting_of scrip
 
 pub chosen_is_called_for : (script : Script) (records : List Record) → IsSound script → IsLegal script records → (command : Command)
     → In command (chosen_log (setting_of script) (At script records))
-    → IsCalledFor (setting_of script) (At script records) command ⊎ HasCaughtUp (setting_of script) (At script records) command
+    → IsCalledFor (setting_of script) (At script records) command ⊎ WasWanted (setting_of script) (At script records) command
 chosen_is_called_for script records sound legal command i =
     called_for (setting_of script) (At script records) (sound_fair script sound) (logged script records sound legal) command i
 
@@ -84,6 +86,20 @@ pub chosen_caught_was : (script : Script) (records : List Record) → IsSound sc
 chosen_caught_was script records sound legal front of link holder inc other other_inc prefix =
     caught_was (setting_of script) (At script records) (sound_fair script sound) (logged script records sound legal)
     front of link holder inc other other_inc prefix
+
+-- a report that is chosen counts there
+pub report_counts : (script : Script) (records : List Record) → IsSound script → IsLegal script records → (front : List Command)
+    (server inc fence : ℕ) → IsPrefix (front ++ Drained server inc fence ∷ []) (chosen_log (setting_of script) (At script records))
+    → IsReportAt script.servers front server inc fence
+report_counts script records sound legal front server inc fence prefix =
+    report_at (setting_of script) (At script records) (sound_fair script sound) (logged script records sound legal) front server inc fence prefix
+
+-- and its server had drained, on the way
+pub report_was_made : (script : Script) (records : List Record) → IsSound script → IsLegal script records → (front : List Command)
+    (server inc fence : ℕ) → IsPrefix (front ++ Drained server inc fence ∷ []) (chosen_log (setting_of script) (At script records))
+    → WasDraining (setting_of script) records server inc front
+report_was_made script records sound legal front server inc fence prefix =
+    report_was (setting_of script) (At script records) (sound_fair script sound) (logged script records sound legal) front server inc fence prefix
 
 -- a Join that is chosen acts there, and was wanted on the way
 pub chosen_join_acts : (script : Script) (records : List Record) → IsSound script → IsLegal script records → (front : List Command) (server inc : ℕ)
@@ -169,8 +185,8 @@ latter setting w (own ∷ front) back h = latter setting (stepped setting w own)
 abbrev nothing_minded : Minded
 nothing_minded server inc front mind = ⊤
 
-nothing_remembered : (n : ℕ) (before later : Server) → Remembers nothing_minded n before later
-nothing_remembered n before later = record { waits = λ runs. tt; catches = λ id minded. tt }
+nothing_remembered : (servers n : ℕ) (before later : Server) → Remembers nothing_minded servers n before later
+nothing_remembered servers n before later = record { waits = λ runs. tt; drains = λ runs drained. tt; catches = λ id minded. tt }
 
 pub history_grows : (script : Script) (records : List Record) → IsSound script → IsLegal script records → Grows script records
 history_grows script records sound legal front back is =
@@ -178,9 +194,9 @@ history_grows script records sound legal front back is =
     let fair = sound_fair script sound in
     let whole : IsLegalFrom setting (start setting) (front ++ back) = subst (IsLegalFrom setting (start setting)) is legal in
     let earlier = history_goes {Was = nothing_minded} setting fair front (start setting) (start_logged setting)
-    (former setting (start setting) front back whole) (λ before own later split n. nothing_remembered n _ _) in
+    (former setting (start setting) front back whole) (λ before own later split n. nothing_remembered setting.servers n _ _) in
     let rest = history_goes {Was = nothing_minded} setting fair back (At script front) earlier.logged
-    (latter setting (start setting) front back whole) (λ before own later split n. nothing_remembered n _ _) in
+    (latter setting (start setting) front back whole) (λ before own later split n. nothing_remembered setting.servers n _ _) in
     let grown = grown_log setting (At script front) (world_after setting (At script front) back) fair rest.logged rest.grown in
     let same : world_after setting (At script front) back ≡ At script records =
     sym (ap (world_after setting (start setting)) is ∙ world_joins setting (start setting) front back) in

@@ -12,6 +12,7 @@ pub mod Flags
 pub mod Copying
 pub mod Handling
 pub mod Catching
+pub mod Draining
 pub mod Worlds
 pub mod Facts
 pub mod Servers

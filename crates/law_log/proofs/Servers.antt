@@ -26,12 +26,13 @@ use Rattle.petal_paxos.specs.declared.record.StateRecord.TheVariants.{Inc}
 use Rattle.petal_rules.specs.Ballots.{ballot_posts, ask_posts, first_wanted, start_jobs, starts, wanted}
 use Rattle.petal_rules.specs.Boots.{awake, blanked, boots, raised, stays, wakes}
 use Rattle.petal_rules.specs.Copies.{mend_jobs, waits_for_job}
+use Rattle.petal_rules.specs.Draining.{draining}
 use Rattle.petal_rules.specs.Returns.{caught_links, own_join, proposed, returning}
 use Rattle.petal_state.specs.Command.{after, may_join}
 use Rattle.petal_state.specs.Place.{touches}
 use Rattle.petal_rules.specs.Crossing.{crossed_by, is_mended, jobs_by, link_jobs, stage_jobs, touches_cell}
 use Rattle.petal_rules.specs.Entries.{applies, applies_known}
-use Rattle.petal_rules.specs.Jobs.{Acted, is_log_job, voter_of, here_of, worked, entered, crossing, job_done, down_posts, stops, is_overfull, works, faults, glances, glance_sender, delivered, tick_jobs, tick_posts, ticks, log_does, does, sent_anew, copies_anew, starting, wanted_by}
+use Rattle.petal_rules.specs.Jobs.{Acted, is_log_job, voter_of, here_of, worked, entered, crossing, job_done, down_posts, stops, is_overfull, works, faults, glances, glance_sender, delivered, tick_jobs, tick_posts, ticks, log_does, does, sent_anew, copies_anew, starting, own_wants, wanted_by}
 use Rattle.petal_rules.specs.Lists.{In as Among, put_at}
 use Rattle.petal_rules.specs.Log.{Log, LogDone, Voter, known, next_place, rev_of}
 use Rattle.petal_rules.specs.Posts.{Post, Sender, letters_of}
@@ -44,7 +45,7 @@ use Rattle.petal_rules.specs.declared.job.Job.TheVariants as job
 use Rattle.petal_rules.specs.declared.step.CommitEnd.{CommitEnd}
 use Rattle.petal_rules.specs.declared.step.CommitEnd.TheVariants.{Before, After}
 use Rattle.petal_rules.specs.declared.step.Step.{Step}
-use Rattle.petal_rules.specs.declared.step.Step.TheVariants.{Call, Deliver, Tick, Work, Stop, Blank, Boot, Glance}
+use Rattle.petal_rules.specs.declared.step.Step.TheVariants.{Call, Deliver, Tick, Work, StopIn, Stop, Blank, Boot, Arm, Glance}
 use Rattle.petal_rules.specs.declared.step.WorkEnd.{WorkEnd}
 use Rattle.petal_rules.specs.declared.step.WorkEnd.TheVariants as work_end
 use Rattle.petal_rules.proofs.ListLemmas.{in-append, put_apart, put_same}
@@ -59,6 +60,7 @@ use Rattle.law_log.proofs.Facts.{IsFair, applied_plain, as_many, told_once}
 use Rattle.law_log.proofs.Boots.{fail_turn, no_proposer, wake_turn}
 use Rattle.law_log.proofs.Catching.{caught_among, caught_may, caught_minded, kept_proposed}
 use Rattle.law_log.proofs.Copying.{IsCalm, IsKept, kept_itself}
+use Rattle.law_log.proofs.Draining.{IsReport, report_among}
 use Rattle.law_log.proofs.Handling.{calm_job, other_copies_anew}
 use Rattle.law_log.proofs.Jobs.{Outcome, applied_next, fine_wanted, one_longer, start_wants, started}
 use Rattle.law_log.proofs.Jobs.{job_done as log_job_done}
@@ -315,6 +317,10 @@ module _ {Was : Minded} (setting : Setting) (fair : IsFair setting) (w : World) 
   stops_now : Runs → GoesBy (stops here (w.servers n))
   stops_now runs = stops_after (w.servers n) [] runs unchanged
 
+  -- a server that takes no step of its own
+  rests_on : GoesBy (stays (w.servers n))
+  rests_on = did_goes _ (record { posts = []; letters = refl; by = unchanged })
+
   -- the server's log is as before, and it has nothing else in mind
   blanks_on : GoesBy (stays (blanked (w.servers n)))
   blanks_on = did_goes _ (record {
@@ -472,7 +478,7 @@ module _ {Was : Minded} (setting : Setting) (fair : IsFair setting) (w : World) 
 
     -- what is wanted, by how many servers there are
     abbrev wants_of : ℕ → List Command
-    wants_of k = wanted (record { me = n; inc = here.inc; servers = k }) (w.servers n).log (returning here (w.servers n).own)
+    wants_of k = wanted (record { me = n; inc = here.inc; servers = k }) (w.servers n).log (own_wants here (w.servers n).own)
 
     abbrev With : ℕ → LogDone
     With k = starts (record { me = n; inc = here.inc; servers = k }) (w.servers n).log (wants_of k)
@@ -492,7 +498,7 @@ module _ {Was : Minded} (setting : Setting) (fair : IsFair setting) (w : World) 
     applied_told = record { many = refl; told = λ i d e. (l.is.servers n).told (i + 1) d ((l.is.servers n).applied i d e) }
 
     -- a Caught is behind the entries that it has applied, and it has it in mind
-    good_caught : Remembers Was n (w.servers n) starts_to → seated here.state n here.inc ≡ true → (c : Command) → started_for ≡ Some c
+    good_caught : Remembers Was setting.servers n (w.servers n) starts_to → seated here.state n here.inc ≡ true → (c : Command) → started_for ≡ Some c
         → Among c (caught_links here (w.servers n).own) → Good starts_to (next_place (w.servers n).log) c
     good_caught remembers seat c first_is h =
         let caught = caught_among here (w.servers n).own c h in
@@ -517,7 +523,7 @@ module _ {Was : Minded} (setting : Setting) (fair : IsFair setting) (w : World) 
         )
 
     -- a Join acts behind the entries that it has applied
-    good_join : Remembers Was n (w.servers n) starts_to → (c : Command) → may_join (slice_get here.state.view.members n) here.inc ≡ true
+    good_join : Remembers Was setting.servers n (w.servers n) starts_to → (c : Command) → may_join (slice_get here.state.view.members n) here.inc ≡ true
         → c ≡ Join n here.inc (w.servers n).own.store.fresh → Good starts_to (next_place (w.servers n).log) c
     good_join remembers c may is = (
       inr (record {
@@ -534,7 +540,7 @@ module _ {Was : Minded} (setting : Setting) (fair : IsFair setting) (w : World) 
     )
 
     -- what it wants so that it, or its links, return
-    good_return : Remembers Was n (w.servers n) starts_to → (c : Command) → started_for ≡ Some c → Among c (returning here (w.servers n).own)
+    good_return : Remembers Was setting.servers n (w.servers n) starts_to → (c : Command) → started_for ≡ Some c → Among c (returning here (w.servers n).own)
         → Good starts_to (next_place (w.servers n).log) c
     good_return remembers c first_is h =
         by_test (λ (xs : List Command). Among c xs → Good starts_to (next_place (w.servers n).log) c) (seated here.state here.me here.inc)
@@ -542,7 +548,29 @@ module _ {Was : Minded} (setting : Setting) (fair : IsFair setting) (w : World) 
         (λ seat. good_caught remembers seat c first_is)
         (λ out i. join_only here.state n here.inc (w.servers n).own.store.fresh c (λ may is. good_join remembers c may is) i) h
 
-    start_outcome : Remembers Was n (w.servers n) starts_to
+    -- a report counts behind the entries that it has applied
+    good_report : Remembers Was setting.servers n (w.servers n) starts_to → (c : Command) → IsReport here (w.servers n).own c
+        → Good starts_to (next_place (w.servers n).log) c
+    good_report remembers c report = (
+      inr (record {
+        front = (w.servers n).log.applied;
+        told = applied_told;
+        is = subst (Returns setting.servers (put_at w.servers n starts_to) (w.servers n).log.applied) (sym report.is)
+            (record { seated = report.seated; active = report.active; is = report.heads; number = refl; awaited = report.awaited });
+        was = subst (WasMinded Was (w.servers n).log.applied) (sym report.is) (remembers.drains runs report.drained);
+      }),
+      reached_next setting w l n,
+    )
+
+    -- what it wants by its own part
+    good_own : Remembers Was setting.servers n (w.servers n) starts_to → (c : Command) → started_for ≡ Some c → Among c (own_wants here (w.servers n).own)
+        → Good starts_to (next_place (w.servers n).log) c
+    good_own remembers c first_is h = elim (in-append c (returning here (w.servers n).own) (draining here (w.servers n).own) h) [
+      | inl returns ↦ good_return remembers c first_is returns
+      | inr drains ↦ good_report remembers c (report_among here (w.servers n).own c drains)
+    ]
+
+    start_outcome : Remembers Was setting.servers n (w.servers n) starts_to
         → AnyOutcome starts_to (starts (voter_of here) (w.servers n).log (wanted_by here (w.servers n)))
     start_outcome remembers =
         subst (λ k. AnyOutcome starts_to (With k)) (sym (as_many setting w fair l n))
@@ -551,13 +579,13 @@ module _ {Was : Minded} (setting : Setting) (fair : IsFair setting) (w : World) 
         (wants_of setting.servers)
         (λ c e. elim (fine_wanted setting.servers n here.inc fair.small member (w.servers n).log P l.is.low (l.is.servers n) busy_now (told_once setting w fair.small l)
         (Good starts_to) (IsCalledAnywhere setting w) (l.is.wants n) (l.is.leaves n) (λ earlier lt. (inr (inr lt), refl)) (called_good starts_to)
-        (returning here (w.servers n).own) c (first_among (w.servers n).log.phase (rev_of (w.servers n).log) (wants_of setting.servers) c e)) [
+        (own_wants here (w.servers n).own) c (first_among (w.servers n).log.phase (rev_of (w.servers n).log) (wants_of setting.servers) c e)) [
           | inl called ↦ called_good starts_to c called
-          | inr returns ↦ good_return remembers c
-              (ap (λ k. first_wanted (w.servers n).log.phase (rev_of (w.servers n).log) (wants_of k)) (as_many setting w fair l n) ∙ e) returns
+          | inr owns ↦ good_own remembers c
+              (ap (λ k. first_wanted (w.servers n).log.phase (rev_of (w.servers n).log) (wants_of k)) (as_many setting w fair l n) ∙ e) owns
         ]))
 
-    starts_one : Remembers Was n (w.servers n) starts_to → Did (starting here (w.servers n) rest (wanted_by here (w.servers n)))
+    starts_one : Remembers Was setting.servers n (w.servers n) starts_to → Did (starting here (w.servers n) rest (wanted_by here (w.servers n)))
     starts_one remembers =
         let done = starts (voter_of here) (w.servers n).log (wanted_by here (w.servers n)) in
         let kept = kept_proposed here.state (w.servers n).own started_for in
@@ -569,7 +597,7 @@ module _ {Was : Minded} (setting : Setting) (fair : IsFair setting) (w : World) 
         }
 
   does_job : Runs → (first : Job) (rest : List Job) → (w.servers n).queue ≡ first ∷ rest
-      → Remembers Was n (w.servers n) (job_done here (w.servers n) first rest).server → Did (job_done here (w.servers n) first rest)
+      → Remembers Was setting.servers n (w.servers n) (job_done here (w.servers n) first rest).server → Did (job_done here (w.servers n) first rest)
   does_job runs job.Apply rest is remembers = crosses runs job.Apply rest is
   does_job runs (job.Letter letter) rest is remembers = either runs (job.Letter letter) rest is
   does_job runs (job.Stage cell) rest is remembers = either runs (job.Stage cell) rest is
@@ -583,23 +611,23 @@ module _ {Was : Minded} (setting : Setting) (fair : IsFair setting) (w : World) 
   life_kept runs (job.Mend link) rest = runs
   life_kept runs job.Start rest = runs
 
-  works_on : Runs → (jobs : List Job) → (w.servers n).queue ≡ jobs → Remembers Was n (w.servers n) (works here (w.servers n) jobs).server
+  works_on : Runs → (jobs : List Job) → (w.servers n).queue ≡ jobs → Remembers Was setting.servers n (w.servers n) (works here (w.servers n) jobs).server
       → GoesBy (works here (w.servers n) jobs)
   works_on runs [] is remembers = did_goes _ (record { posts = []; letters = refl; by = unchanged })
   works_on runs (first ∷ rest) is remembers =
-      by_test (λ (acted : Acted). Remembers Was n (w.servers n) acted.server → GoesBy acted) (is_overfull (job_done here (w.servers n) first rest).server) _ _
+      by_test (λ (acted : Acted). Remembers Was setting.servers n (w.servers n) acted.server → GoesBy acted) (is_overfull (job_done here (w.servers n) first rest).server) _ _
       (λ full kept. stops_now runs) (λ room kept. did_goes (job_done here (w.servers n) first rest) (does_job runs first rest is kept)) remembers
 
   -- a fault behind the commit leaves what the job commits, and one before it nothing
   faults_on : Runs → (end : CommitEnd) (jobs : List Job) → (w.servers n).queue ≡ jobs
-      → Remembers Was n (w.servers n) (faults here (w.servers n) jobs end).server → GoesBy (faults here (w.servers n) jobs end)
+      → Remembers Was setting.servers n (w.servers n) (faults here (w.servers n) jobs end).server → GoesBy (faults here (w.servers n) jobs end)
   faults_on runs Before jobs is remembers = stops_now runs
   faults_on runs After [] is remembers = stops_now runs
   faults_on runs After (first ∷ rest) is remembers =
-      by_test (λ (acted : Acted). Remembers Was n (w.servers n) (stopped acted.server) → GoesBy (stops here acted.server))
+      by_test (λ (acted : Acted). Remembers Was setting.servers n (w.servers n) (stopped acted.server) → GoesBy (stops here acted.server))
       (is_overfull (job_done here (w.servers n) first rest).server) _ _
       (λ full kept. stops_now runs)
-      (λ room kept. let did = does_job runs first rest is (record { waits = kept.waits; catches = kept.catches }) in
+      (λ room kept. let did = does_job runs first rest is (record { waits = kept.waits; drains = kept.drains; catches = kept.catches }) in
       stops_after (job_done here (w.servers n) first rest).server did.posts (life_kept runs first rest) did.by) remembers
 
   -- ### A boot
@@ -628,9 +656,6 @@ module _ {Was : Minded} (setting : Setting) (fair : IsFair setting) (w : World) 
         (down_posts n here.inc (servers_of here.state)) [] did
         (λ post i. down_backed to (inr (omega arith)) (wakes here to).letters _ post i)
 
-    stays_on : GoesBy (stays (w.servers n))
-    stays_on = did_goes _ (record { posts = []; letters = refl; by = unchanged })
-
     fails_on : GoesBy (stays (raised (w.servers n)))
     fails_on = did_goes _ (record {
       posts = [];
@@ -649,14 +674,14 @@ module _ {Was : Minded} (setting : Setting) (fair : IsFair setting) (w : World) 
     })
 
     boots_on : (end : WorkEnd) → GoesBy (boots here (w.servers n) end)
-    boots_on work_end.Done = by_test GoesBy (is_overfull (raised (w.servers n))) _ _ (λ full. stays_on) (λ room. wakes_on)
-    boots_on (work_end.Fault Before) = stays_on
+    boots_on work_end.Done = by_test GoesBy (is_overfull (raised (w.servers n))) _ _ (λ full. rests_on) (λ room. wakes_on)
+    boots_on (work_end.Fault Before) = rests_on
     boots_on (work_end.Fault After) =
-        by_test (λ (to : Server). GoesBy (stays to)) (is_overfull (raised (w.servers n))) _ _ (λ full. stays_on) (λ room. fails_on)
+        by_test (λ (to : Server). GoesBy (stays to)) (is_overfull (raised (w.servers n))) _ _ (λ full. rests_on) (λ room. fails_on)
 
 pub server_steps : {Was : Minded} (setting : Setting) (fair : IsFair setting) (w : World) (l : Logged Was setting w) (n stamp : ℕ)
     (member : n < setting.servers) (what : Step)
-    → MayServer what w n → Remembers Was n (w.servers n) (server_step what (server_state setting w n) n (w.servers n)).server
+    → MayServer what w n → Remembers Was setting.servers n (w.servers n) (server_step what (server_state setting w n) n (w.servers n)).server
     → Goes Was setting w (acts setting w n what stamp (server_step what (server_state setting w n) n (w.servers n))).world
 server_steps setting fair w l n stamp member (Call line) may remembers = absurd may
 server_steps setting fair w l n stamp member (Deliver letter) may remembers =
@@ -666,8 +691,11 @@ server_steps setting fair w l n stamp member (Work work_end.Done) may remembers 
     works_on setting fair w l n stamp (Work work_end.Done) member may.acts.runs (w.servers n).queue refl remembers
 server_steps setting fair w l n stamp member (Work (work_end.Fault end)) may remembers =
     faults_on setting fair w l n stamp (Work (work_end.Fault end)) member may.acts.runs end (w.servers n).queue refl remembers
+server_steps setting fair w l n stamp member (StopIn end) may remembers =
+    faults_on setting fair w l n stamp (StopIn end) member may.acts.runs end (w.servers n).queue refl remembers
 server_steps setting fair w l n stamp member Stop may remembers = stops_now setting fair w l n stamp Stop member may.runs
 server_steps setting fair w l n stamp member Blank may remembers = blanks_on setting fair w l n stamp Blank member
 server_steps setting fair w l n stamp member (Boot end) may remembers = boots_on setting fair w l n stamp (Boot end) member may.rests end
+server_steps setting fair w l n stamp member (Arm which plan) may remembers = rests_on setting fair w l n stamp (Arm which plan) member
 server_steps setting fair w l n stamp member (Glance line round) may remembers =
     glances_on setting fair w l n stamp (Glance line round) member line round

@@ -21,7 +21,7 @@ use Rattle.petal_rules.specs.Lists.{In as Among}
 use Rattle.petal_rules.specs.Server.{letters_of}
 use Rattle.petal_rules.specs.World.{Setting, World, start, stamped, reacts, step, MayActor, MayClient, client_step, client_state, calls, next_line, server_state, server_step}
 use Rattle.petal_rules.specs.declared.step.Step.{Step}
-use Rattle.petal_rules.specs.declared.step.Step.TheVariants.{Call, Deliver, Tick, Work, Stop, Blank, Boot, Glance}
+use Rattle.petal_rules.specs.declared.step.Step.TheVariants.{Call, Deliver, Tick, Work, StopIn, Stop, Blank, Boot, Arm, Glance}
 use Rattle.petal_rules.proofs.ListLemmas.{in-append, in_later, put_same}
 use Rattle.petal_rules.proofs.Tests.{all_put_apart, none_some}
 use Rattle.petal_history.specs.Legal.{IsLegalFrom, stepped, world_after}
@@ -131,25 +131,27 @@ module _ {Was : Minded} (setting : Setting) (w : World) (l : Logged Was setting 
       client_goes _ (hears_so Told setting.lines c (client_state setting w c) (w.clients c) fine_now letter (news_told letter may.sent))
   client_steps Tick may = client_goes _ (ticks_so Told setting.lines c (client_state setting w c) (w.clients c) fine_now)
   client_steps (Work end) may = absurd may
+  client_steps (StopIn end) may = absurd may
   client_steps Stop may = absurd may
   client_steps Blank may = absurd may
   client_steps (Boot end) may = absurd may
+  client_steps (Arm which plan) may = absurd may
   client_steps (Glance line round) may = absurd may
 
 -- ### A step, and a history
 
 pub step_goes : {Was : Minded} (setting : Setting) → IsFair setting → (w : World) → Logged Was setting w → (who : Actor) (what : Step) (stamp : ℕ)
-    → MayActor who what setting w → AllRemember Was w (step who what setting w stamp).world → Goes Was setting w (step who what setting w stamp).world
+    → MayActor who what setting w → AllRemember Was setting.servers w (step who what setting w stamp).world → Goes Was setting w (step who what setting w stamp).world
 unfolding step
 step_goes {Was} setting fair w l (actor.Server n) what stamp may remember =
     server_steps setting fair w l n stamp may.0 what may.1
-    (subst (Remembers Was n (w.servers n)) (put_same w.servers n (server_step what (server_state setting w n) n (w.servers n)).server) (remember n))
+    (subst (Remembers Was setting.servers n (w.servers n)) (put_same w.servers n (server_step what (server_state setting w n) n (w.servers n)).server) (remember n))
 step_goes setting fair w l (actor.Client c) what stamp may remember = client_steps setting w l c stamp what may.1
 
 -- each step remembers
 pub history_goes : {Was : Minded} (setting : Setting) → IsFair setting → (records : List Record) (w : World) → Logged Was setting w
     → IsLegalFrom setting w records → ((before : List Record) (own : Record) (later : List Record) → records ≡ before ++ own ∷ later
-    → AllRemember Was (world_after setting w before) (world_after setting w (before ++ own ∷ []))) → Goes Was setting w (world_after setting w records)
+    → AllRemember Was setting.servers (world_after setting w before) (world_after setting w (before ++ own ∷ []))) → Goes Was setting w (world_after setting w records)
 history_goes setting fair [] w l legal remember = record { logged = l; grown = λ s place ballot command i. i }
 history_goes setting fair (own ∷ later) w l legal remember =
     let first = step_goes setting fair w l own.actor own.step own.stamp legal.0.may.may (remember [] own later refl) in

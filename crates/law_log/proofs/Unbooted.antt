@@ -14,7 +14,7 @@ use Rattle.petal_rules.specs.declared.job.Job.{Job}
 use Rattle.petal_rules.specs.declared.job.Job.TheVariants as job
 use Rattle.petal_rules.specs.declared.step.CommitEnd.TheVariants.{Before, After}
 use Rattle.petal_rules.specs.declared.step.Step.{Step}
-use Rattle.petal_rules.specs.declared.step.Step.TheVariants.{Call, Deliver, Tick, Work, Stop, Blank, Boot, Glance}
+use Rattle.petal_rules.specs.declared.step.Step.TheVariants.{Call, Deliver, Tick, Work, StopIn, Stop, Blank, Boot, Arm, Glance}
 use Rattle.petal_rules.specs.declared.step.WorkEnd.{WorkEnd}
 use Rattle.petal_rules.specs.declared.step.WorkEnd.TheVariants as work_end
 use Rattle.petal_rules.proofs.Tests.{all_put, by_test}
@@ -43,9 +43,12 @@ server_inc Tick other state me server = refl
 server_inc (Work work_end.Done) other state me server = works_inc (here_of state me server) server server.queue
 server_inc (Work (work_end.Fault Before)) other state me server = refl
 server_inc (Work (work_end.Fault After)) other state me server = works_inc (here_of state me server) server server.queue
+server_inc (StopIn Before) other state me server = refl
+server_inc (StopIn After) other state me server = works_inc (here_of state me server) server server.queue
 server_inc Stop other state me server = refl
 server_inc Blank other state me server = refl
 server_inc (Boot end) other state me server = absurd (other end refl)
+server_inc (Arm which plan) other state me server = refl
 server_inc (Glance line round) other state me server = refl
 
 step_inc : (setting : Setting) (w : World) (who : Actor) (what : Step) (stamp : ℕ) → ((end : WorkEnd) → what ≢ Boot end) → (n : ℕ)

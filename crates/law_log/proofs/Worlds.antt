@@ -2,7 +2,7 @@
 use Rattle.std.proofs.Common.{◌≡◌, ◌<◌, ◌≤◌, ◌+◌, ◌⊎◌, inl, inr, ℕ, true, false, List, [], ◌∷◌, ◌++◌, length, refl, sym, ap, ◌∙◌, subst, arith}
 use Rattle.petal_command.specs.declared.ballot.Ballot.{Ballot}
 use Rattle.petal_command.specs.declared.command.Command.{Command}
-use Rattle.petal_command.specs.declared.command.Command.TheVariants.{Join, Leave, Caught}
+use Rattle.petal_command.specs.declared.command.Command.TheVariants.{Join, Leave, Caught, Drained}
 use Rattle.petal_command.specs.declared.pax.Pax.{Pax}
 use Rattle.petal_msg.specs.declared.letter.Actor.{Actor}
 use Rattle.petal_msg.specs.declared.letter.Actor.TheVariants as actor
@@ -14,6 +14,8 @@ use Rattle.petal_paxos.specs.Schedule as schedule
 use Rattle.petal_paxos.specs.declared.record.StateRecord.TheVariants.{Accepted}
 use Rattle.petal_rules.specs.Lists.{In as Among, put_at}
 use Rattle.petal_msg.specs.declared.copying.LinkId.{LinkId}
+use Rattle.petal_state.specs.Command.{state_after}
+use Rattle.petal_rules.specs.Draining.{has_held_write}
 use Rattle.petal_rules.specs.Posts.{Post, Sender, letters_of}
 use Rattle.petal_rules.specs.Server.{Life, Server}
 use Rattle.petal_rules.specs.declared.step.Step.{Step}
@@ -21,7 +23,7 @@ use Rattle.petal_rules.specs.World.{Setting, World, devices, stamped, acts}
 use Rattle.petal_rules.specs.declared.job.Job.TheVariants as job
 use Rattle.petal_rules.proofs.ListLemmas.{in-append, in_later}
 use Rattle.petal_rules.proofs.Tests.{all_put_apart}
-use Rattle.law_log.specs.Logged.{Catches, IsCalledAnywhere, IsSeenAt, IsBusyAs, IsBacked, IsSaidBy, IsLogged, Logged, MayWant, Minded, Returns, Waits}
+use Rattle.law_log.specs.Logged.{Catches, IsCalledAnywhere, IsSeenAt, IsBusyAs, IsBacked, IsSaidBy, IsLogged, Logged, MayWant, Minded, Drains, Returns, Waits}
 use Rattle.law_log.specs.Requested.{HasStopped, IsCalledFor, IsOfLives, IsScripted}
 use Rattle.law_state.specs.Started.{HasFlag, is_flagged}
 use Rattle.law_log.proofs.Turns.{Turns, HasTurn, seen_apart, busy_same, told_more, reached_more, backed_more, run_on, wanted_on}
@@ -105,6 +107,7 @@ returns_more servers actors later keeps front (Caught of link holder inc other o
   joins = h.joins;
   started = started_by (actors holder) (later holder) (keeps holder) inc (length front) (record { map = of; link = link }) h.started;
 }
+returns_more servers actors later keeps front (Drained server inc fence) h = h
 returns_more servers actors later keeps front _ h = absurd h
 
 pub may_more : {Was : Minded} (setting : Setting) (w v : World) (actors later : ℕ → Server) (p q : schedule.World)
@@ -124,14 +127,16 @@ may_more setting w v actors later p q more keeps letters place c h = (
   reached_more p q letters place h.1,
 )
 
--- of a step of the server it is remembered whether its store waited to be filled before, and each ballot for a Caught that it has in mind
--- after
-pub record Remembers (Was : Minded) (n : ℕ) (before later : Server) : Type 0 where
+-- of a step of the server it is remembered whether its store waited to be filled before, that nothing was under way before that the active
+-- fence held, and each ballot for a Caught that it has in mind after
+pub record Remembers (Was : Minded) (servers n : ℕ) (before later : Server) : Type 0 where
   pub waits : before.life.running ≡ true → Was n before.life.inc before.log.applied (Waits before.own.store.fresh)
+  pub drains : before.life.running ≡ true → has_held_write (state_after servers before.log.applied) before.own ≡ false
+      → Was n before.life.inc before.log.applied Drains
   pub catches : (id : LinkId) → is_flagged later.own id ≡ true → Was n later.life.inc later.log.applied (Catches id)
 
-abbrev pub AllRemember : Minded → (before later : World) → Type 0
-AllRemember Was w v = (n : ℕ) → Remembers Was n (w.servers n) (v.servers n)
+abbrev pub AllRemember : Minded → (servers : ℕ) → (before later : World) → Type 0
+AllRemember Was servers w v = (n : ℕ) → Remembers Was servers n (w.servers n) (v.servers n)
 
 pub same_life : (life : Life) → IsLaterLife life life
 same_life life = record { inc = omega arith; over = λ e. inl e }

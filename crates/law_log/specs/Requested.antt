@@ -1,9 +1,12 @@
 -- Which commands a run proposes: those of requests that clients have called, Leaves of incarnations that have stopped, Joins of
--- incarnations that have begun, and each Caught at its place, of the holder that found nothing left to copy.
+-- incarnations that have begun, and at its place each Caught, of the holder that found nothing left to copy, and each report to the active
+-- fence, of a server that had drained.
 use Rattle.std.specs.Prelude.{◌≡◌, ◌≢◌, ◌⊎◌, ◌+◌, ◌<◌, ◌≤◌, ◌++◌, ℕ, Bool, List, [], ◌∷◌, true, false, length, slice_get, Some}
 use Rattle.global_tables.specs.Link.{link_at}
+use Rattle.global_tables.specs.View.{head}
+use Rattle.global_tables.specs.declared.fence.Fence.{Fence}
 use Rattle.petal_command.specs.declared.command.Command.{Command}
-use Rattle.petal_command.specs.declared.command.Command.TheVariants.{Join, Leave, Caught, Witness}
+use Rattle.petal_command.specs.declared.command.Command.TheVariants.{Join, Leave, Caught, Drained, Witness}
 use Rattle.script_lines.specs.declared.request.Line.{Line}
 use Rattle.petal_msg.specs.declared.copying.LinkId.{LinkId}
 use Rattle.petal_history.specs.Claims.{IsPrefix}
@@ -15,6 +18,7 @@ use Rattle.petal_rules.specs.Lists.{In}
 use Rattle.petal_rules.specs.declared.step.Step.TheVariants.{Boot}
 use Rattle.petal_rules.specs.declared.step.WorkEnd.{WorkEnd}
 use Rattle.petal_rules.specs.Clients.{command_of}
+use Rattle.petal_rules.specs.Draining.{awaits, has_held_write}
 use Rattle.petal_rules.specs.Server.{Server}
 use Rattle.petal_rules.specs.State.{is_in}
 use Rattle.petal_rules.specs.World.{Setting, World, chosen_log, lines_of, start}
@@ -64,16 +68,41 @@ pub record IsCaughtAt (servers : ℕ) (actors : ℕ → Server) (front : List Co
   pub joins : is_in (state_after servers front) other other_inc ≡ true
   pub started : HasStarted actors holder inc (length front) (record { map = of; link = link })
 
--- the command is a Caught behind these entries
-abbrev pub CatchesUp : (servers : ℕ) → (actors : ℕ → Server) → (front : List Command) → Command → Type 0
-CatchesUp servers actors front (Caught of link holder inc other other_inc) = IsCaughtAt servers actors front of link holder inc other other_inc
-CatchesUp servers actors front _ = ⊥
+-- ### Reports to fences
 
--- the command stands in the chosen log as a Caught behind the entries before it
-pub record HasCaughtUp (setting : Setting) (w : World) (command : Command) : Type 0 where
+-- behind these entries the report counts: the server is In, and the active fence has this number and awaits it
+pub record IsReportAt (servers : ℕ) (front : List Command) (server inc fence : ℕ) : Type 0 where
+  pub seated : is_in (state_after servers front) server inc ≡ true
+  pub active : Fence
+  pub is : head (state_after servers front).view.queue ≡ Some active
+  pub number : active.number ≡ fence
+  pub awaited : awaits active server ≡ true
+
+-- on the way the server ran as this incarnation, with these entries applied, and none of its clients' writes was under way on a cell of
+-- which the active fence held the writes; and then it took one step more
+pub record WasDraining (setting : Setting) (records : List Record) (server inc : ℕ) (front : List Command) : Type 0 where
+  pub before : List Record
+  pub own : Record
+  pub later : List Record
+  pub is : records ≡ before ++ own ∷ later
+  pub lives : ((world_after setting (start setting) before).servers server).life.inc ≡ inc
+  pub runs : ((world_after setting (start setting) before).servers server).life.running ≡ true
+  pub at : ((world_after setting (start setting) before).servers server).log.applied ≡ front
+  pub drained : has_held_write (state_after setting.servers front) ((world_after setting (start setting) before).servers server).own ≡ false
+
+-- ### What servers want of themselves
+
+-- the command is a Caught, or a report to a fence, that counts behind these entries
+abbrev pub IsWantedAt : (servers : ℕ) → (actors : ℕ → Server) → (front : List Command) → Command → Type 0
+IsWantedAt servers actors front (Caught of link holder inc other other_inc) = IsCaughtAt servers actors front of link holder inc other other_inc
+IsWantedAt servers actors front (Drained server inc fence) = IsReportAt servers front server inc fence
+IsWantedAt servers actors front _ = ⊥
+
+-- the command stands in the chosen log as such a one behind the entries before it
+pub record WasWanted (setting : Setting) (w : World) (command : Command) : Type 0 where
   pub front : List Command
   pub stands : IsPrefix (front ++ command ∷ []) (chosen_log setting w)
-  pub is : CatchesUp setting.servers w.servers front command
+  pub is : IsWantedAt setting.servers w.servers front command
 
 -- on the way the holder, as this incarnation and with these entries applied, had in mind that it had started a ballot for the link's
 -- Caught

@@ -486,7 +486,7 @@ module _ (R S : ℕ → ℕ → Type 0) (scene : Scene R S) where
     pub job_refuses : (done : Done) → Did hears here own done → IsSeated here own done → J done.own done.posts
     unfolding In
     job_refuses _ Ignores seat = speaks _ (λ post i. absurd i)
-    job_refuses _ (Refuses to what is why) seat = speaks _ (λ post i. ap is_of_slots (one_post to what post i).1 ∙ refusal_not_full what is)
+    job_refuses _ (Refuses to what is busy held) seat = speaks _ (λ post i. ap is_of_slots (one_post to what post i).1 ∙ refusal_not_full what is)
     job_refuses _ (By_read done d) seat = read_refuses done d
     job_refuses _ (By_lead done d) seat = lead_refuses done d seat
     job_refuses _ (By_second done d) seat = second_refuses done d

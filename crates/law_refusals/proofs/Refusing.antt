@@ -1,6 +1,5 @@
--- Over every legal history, each refusal has a reason.
+-- Over every legal history, each answer that there was no space has a reason.
 use Rattle.std.proofs.Common.{◌≡◌, ◌≤◌, ◌<◌, arith, ℕ, List, [], ◌∷◌, ◌++◌, Bool, true, false, Option, Some, None, refl, sym, ap, ◌∙◌, subst, ◌⊎◌, inl, inr, append_assoc}
-use Rattle.std.proofs.lemmas.List.{append-nil}
 use Rattle.std.specs.Prelude.{if◌then◌else◌, is_some, length, ◌==◌, map}
 use Rattle.std.specs.Ordering.{nat_cmp}
 use Rattle.petal_base.specs.declared.cell.Cell.{Cell}
@@ -10,7 +9,7 @@ use Rattle.petal_table.proofs.Rows.{at-empty}
 use Rattle.global_tables.specs.declared.disk.Latest.{Latest}
 use Rattle.global_tables.specs.declared.disk.Verdict.{Verdict}
 use Rattle.global_tables.specs.declared.disk.Verdict.TheVariants as verdict
-use Rattle.petal_msg.specs.Kinds.{Subject, Answered, Paired, Logged, Glanced, is_logged, is_refused, subject_of}
+use Rattle.petal_msg.specs.Kinds.{Answered, Paired, Glanced, is_logged, subject_of}
 use Rattle.petal_msg.specs.declared.body.Body.{Body}
 use Rattle.petal_msg.specs.declared.body.Body.TheVariants as body
 use Rattle.petal_msg.specs.declared.letter.Actor.{Actor}
@@ -46,24 +45,25 @@ use Rattle.petal_rules.proofs.ListLemmas.{in-append}
 use Rattle.petal_rules.proofs.Settled.{by_settled}
 use Rattle.petal_rules.proofs.Tests.{same_some, none_some, true_false, by_test}
 use Rattle.petal_history.specs.Claims.{IsPrefix}
-use Rattle.petal_history.specs.Legal.{Follows, IsLegal, IsLegalFrom, stepped, world_after}
+use Rattle.petal_history.specs.Legal.{IsLegal, IsLegalFrom, world_after}
 use Rattle.petal_history.specs.Sound.{IsSound}
 use Rattle.petal_history.specs.declared.record.Record.{Record}
 use Rattle.law_state.specs.Firm.{Firm}
 use Rattle.law_state.proofs.Steady.{log_rev}
-use Rattle.law_steps.specs.Happens.{Heard, Handled, IsIdle, Worked, By_job, By_ballot, By_entry, Serving, Goes as Serves_on, Ends as Stops_so, Stays, Wakes, Fails, own_place, without_rev, served, served_so, stopped_so, shown_so}
+use Rattle.law_steps.specs.Happens.{Heard, IsIdle, Worked, By_job, By_ballot, By_entry, Serving, Goes as Serves_on, Ends as Stops_so, Stays, Wakes, Fails, own_place, without_rev, served, served_so, stopped_so, shown_so}
 use Rattle.law_steps.specs.Ready.{AreFirm, Rests}
 use Rattle.law_steps.specs.Turned.{Turned, Goes_on, Begins, Reads, Ends, Shown, Judges, IsReason, By_verdict, By_witness, IsSeenAs, Stops_it, Starts_it, Blanks_it, Has_no_space, Is_settled}
-use Rattle.law_steps.proofs.Histories.{firm_now, front_firm, front_legal, own_steady, proposed_pairs, rests_next, start_rests, world_more}
+use Rattle.law_steps.proofs.Histories.{front_firm, front_legal, own_steady, proposed_pairs, rests_next, start_rests, world_more}
 use Rattle.law_steps.proofs.Letters.{said}
 use Rattle.law_steps.proofs.Restages.{was_same}
 use Rattle.law_steps.proofs.Sending.{is_ask, turned_asks}
 use Rattle.law_steps.proofs.Serving.{server_serves}
 use Rattle.law_steps.proofs.Turning.{client_turns, is_call}
-use Rattle.law_causes.specs.Settles.{HasFoundFull}
 use Rattle.law_causes.proofs.Settled.{shown_full}
-use Rattle.law_refusals.specs.Reasons.{HadNoSlot, WasRefused, HasReason, FoundBusy, Refusals}
-use Rattle.law_refusals.proofs.Busy.{did_busy, is_busy, not_refused}
+use Rattle.law_refusals.specs.Reasons.{HadNoSlot, WasRefused, HasReason, Refusals}
+use Rattle.law_refusals.proofs.Along.{IsNext, along}
+use Rattle.law_refusals.specs.Full.{HasFullCopy}
+use Rattle.law_refusals.proofs.Copies.{ended_full}
 use Rattle.law_refusals.proofs.Frames.{GoesOn, StepRefuses, still_declined, still_numbered, still_on, step_refusals}
 use Rattle.law_refusals.proofs.Jobs.{JobRefuses, Scene, asks_refuses, is_of_slots, job_refuses, kept_refuses}
 
@@ -361,35 +361,18 @@ module _ (setting : Setting) where
     pub rests : Rests setting (W done)
     pub refusals : Refusals (WasRefused setting done) setting (W done)
 
-  kept_more : (done : List Record) (own : Record) → Kept done → Firm setting (W done) → Firm setting (stepped setting (W done) own).world
-      → IsPrefix (chosen_log setting (W done)) (chosen_log setting (stepped setting (W done) own).world) → Follows setting (W done) own
-      → Kept (done ++ own ∷ [])
-  kept_more done own kept firm later grows follows =
+  kept_more : (done : List Record) (own : Record) → Kept done → IsNext setting done own → Kept (done ++ own ∷ [])
+  kept_more done own kept on =
       let w = W done in
-      let v = (stepped setting w own).world in
       let e = sym (world_more setting (start setting) done own) in
       record {
-        rests = subst (Rests setting) e (rests_next setting w own kept.rests firm follows later);
+        rests = subst (Rests setting) e (rests_next setting w own kept.rests on.firm on.follows on.later);
         refusals = subst (Refusals (WasRefused setting (done ++ own ∷ [])) setting) e
             (step_kept (WasRefused setting done)
-            (WasRefused setting (done ++ own ∷ [])) w firm kept.rests own.actor own.step own.stamp follows.may.may later
-            grows (refused_more done own)
+            (WasRefused setting (done ++ own ∷ [])) w on.firm kept.rests own.actor own.step own.stamp on.follows.may.may on.later
+            on.grows (refused_more done own)
             (refused_now done own) kept.refusals);
       }
-
-  kept_all : (done later : List Record) → Kept done → AreFirm setting (W done) later → IsLegalFrom setting (W done) later
-      → Kept (done ++ later)
-  kept_all done [] kept firm legal = subst Kept (sym (append-nil done)) kept
-  kept_all done (own ∷ later) kept firm legal =
-      let e = sym (world_more setting (start setting) done own) in
-      subst Kept (append_assoc done (own ∷ []) later)
-      (kept_all (done ++ own ∷ []) later
-      (kept_more done own kept firm.0 (firm_now setting _ later firm.2) firm.1 legal.0)
-      (subst (λ w. AreFirm setting w later) e firm.2) (subst (λ w. IsLegalFrom setting w later) e legal.1))
-
-  pub kept_from : Kept [] → (records : List Record) → AreFirm setting (start setting) records
-      → IsLegalFrom setting (start setting) records → Kept records
-  kept_from kept records firm legal = kept_all [] records kept firm legal
 
   -- ### A refused write
 
@@ -510,7 +493,7 @@ module _ (setting : Setting) where
   abbrev pub ShowsFull : List Record → Type 0
   ShowsFull records =
       (letter : Letter) (line round : ℕ) (running : Bool) (inc : ℕ) (full : Bool) → In letter (W records).sent
-      → letter.body ≡ body.Seen line round running inc full → full ≡ true → HasFoundFull setting (start setting) records line
+      → letter.body ≡ body.Seen line round running inc full → full ≡ true → HasFullCopy setting records line
 
   pub no_space : Kept [] → (front : List Record) (own : Record) → ShowsFull front → AreFirm setting (start setting) (front ++ own ∷ [])
       → IsLegalFrom setting (start setting) (front ++ own ∷ []) → (c number : ℕ)
@@ -518,7 +501,7 @@ module _ (setting : Setting) where
   no_space begun front own shows firm legal c number who given =
       let parts = front_legal setting (start setting) front (own ∷ []) legal in
       let firms = front_firm setting (start setting) front (own ∷ []) firm in
-      let kept = kept_from begun front firms.0 parts.0 in
+      let kept = along setting Kept kept_more begun front firms.0 parts.0 in
       let follows = parts.1.0 in
       let h = answer_heard (W front) own.actor own.step own.stamp c number who follows.may.may (sym follows.answer ∙ given) in
       record {
@@ -527,87 +510,12 @@ module _ (setting : Setting) where
           | inl full ↦ inl (kept.refusals.letters full.letter c h.asked.seq full.sent full.own full.is)
           | inr seen ↦ inr (
             seen.settles,
-            subst (HasFoundFull setting (start setting) front) h.line
+            subst (HasFullCopy setting front) h.line
                 (shows seen.heard.letter h.asked.line seen.sight.round seen.sight.running seen.sight.inc seen.sight.full seen.heard.sent
                 seen.heard.is seen.full),
           )
         ];
       }
-
-  -- ### A busy block
-
-  -- a server that says so found it
-  no_posts : (post : Post) → In post [] → ⊥
-  unfolding In
-  no_posts post i = i
-
-  all_logged : (me inc : ℕ) (others : List ℕ) (post : Post) → In post (map (post_of (body.Down me inc)) others) → subject_of post.body ≡ Logged
-  unfolding In
-  all_logged me inc [] post i = absurd i
-  all_logged me inc (k ∷ others) post (inl e) = ap (λ (p : Post). subject_of p.body) e
-  all_logged me inc (k ∷ others) post (inr i) = all_logged me inc others post i
-
-  -- who stops, or boots, says nothing of a busy block
-  downs_quiet : {B : Type 0} (w : World) (n : ℕ) (who : Sender) (stamp servers : ℕ) (letter : Letter) (seq : ℕ)
-      → In letter (stamped stamp (letters_of who 0 (down_posts n (w.servers n).life.inc servers))) → letter.body ≡ body.BlockBusy seq → B
-  downs_quiet w n who stamp servers letter seq h says =
-      let sent = said who stamp 0 (down_posts n (w.servers n).life.inc servers) letter h in
-      true_false (ap is_busy (sym sent.body ∙ says)) (not_refused sent.post.body
-      (ap is_refused (all_logged n (w.servers n).life.inc _ sent.post sent.there)))
-
-  logged_refused : (subject : Subject) → is_logged subject ≡ true → is_refused subject ≡ false
-  logged_refused Logged e = refl
-  logged_refused _ e = true_false e refl
-
-  serves_busy : (w : World) (n stamp : ℕ) (what : Step) (acted : Acted) → Serving setting w n what acted → (letter : Letter) (seq : ℕ)
-      → In letter (stamped stamp acted.letters) → letter.body ≡ body.BlockBusy seq → FoundBusy setting w (actor.Server n) seq
-  unfolding In
-  serves_busy w n stamp what _ (Serves_on _ _ queue runs (By_job log done same did seat) queued works) letter seq h says =
-      let sent = said (sender (own_place setting w n)) stamp 0 done.posts letter h in
-      record {
-        server = n;
-        is = refl;
-        busy = did_busy (Handled w n) (own_place setting w n) (w.servers n).own done did sent.post seq sent.there (sym sent.body ∙ says);
-      }
-  serves_busy w n stamp what _ (Serves_on _ _ queue runs (By_ballot log started posts same starts logged) queued works) letter seq h says =
-      let sent = said (sender (own_place setting w n)) stamp 0 posts letter h in
-      true_false (ap is_busy (sym sent.body ∙ says))
-      (not_refused sent.post.body (logged_refused (subject_of sent.post.body) (logged sent.post sent.there)))
-  serves_busy w n stamp what _ (Serves_on _ _ queue runs (By_entry log entry plus front) queued works) letter seq h says =
-      let sent = said (sender (own_place setting w n)) stamp 0 [] letter h in absurd (no_posts sent.post sent.there)
-  serves_busy w n stamp what _ (Stops_so log done runs worked) letter seq h says =
-      downs_quiet w n (without_rev (own_place setting w n)) stamp (servers_of (server_state setting w n)) letter seq h says
-  serves_busy w n stamp what _ (Wakes booted asleep) letter seq h says =
-      downs_quiet w n _ stamp (servers_of (server_state setting w n)) letter seq h says
-  serves_busy w n stamp what _ (Fails booted asleep) letter seq h says = absurd h
-  serves_busy w n stamp what _ (Stays who posts from shown) letter seq h says =
-      let sent = said who stamp 0 posts letter h in
-      true_false (ap is_busy (sym sent.body ∙ says)) (not_refused sent.post.body (ap is_refused (shown sent.post sent.there)))
-
-  busy_step : (w : World) → Firm setting w → Rests setting w → (who : Actor) (what : Step) (stamp : ℕ) → MayActor who what setting w
-      → Firm setting (step who what setting w stamp).world
-      → (letter : Letter) (seq : ℕ) → In letter (step who what setting w stamp).letters → letter.body ≡ body.BlockBusy seq → FoundBusy setting w who seq
-  unfolding step In
-  busy_step w firm rests (actor.Server n) Blank stamp may later letter seq h says = absurd h
-  busy_step w firm rests (actor.Server n) what stamp may later letter seq h says =
-      serves_busy w n stamp what _
-      (server_serves setting w rests firm n (own_steady setting w firm n) stamp what refl may.1 later) letter seq h says
-  busy_step w firm rests (actor.Client c) what stamp may later letter seq h says =
-      let reacted = client_step what (client_state setting w c) c (w.clients c) (next_line setting.lines c (w.clients c)) in
-      let s = said (client_sender c reacted.client) stamp 0 reacted.posts letter h in
-      true_false (ap is_ask s.body ∙ turned_asks _ setting.servers setting.lines c (w.clients c) (is_call what) reacted
-      (client_turns setting w c what may.1).turned s.post s.there) (ap is_ask says)
-
-  pub found_busy : Kept [] → (front : List Record) (own : Record) → AreFirm setting (start setting) (front ++ own ∷ [])
-      → IsLegalFrom setting (start setting) (front ++ own ∷ [])
-      → (letter : Letter) (seq : ℕ) → In letter own.sent → letter.body ≡ body.BlockBusy seq → FoundBusy setting (W front) own.actor seq
-  found_busy begun front own firm legal letter seq h says =
-      let parts = front_legal setting (start setting) front (own ∷ []) legal in
-      let firms = front_firm setting (start setting) front (own ∷ []) firm in
-      let kept = kept_from begun front firms.0 parts.0 in
-      let follows = parts.1.0 in
-      busy_step (W front) (firm_now setting (W front) (own ∷ []) firms.1) kept.rests own.actor own.step own.stamp follows.may.may firms.1.2 letter seq
-      (subst (In letter) follows.sent h) says
 
 -- ### From the start
 
@@ -627,15 +535,25 @@ start_kept script = record {
   refusals = start_refusals (WasRefused (setting_of script) []) script;
 }
 
+-- a glance that showed a full copy, and the copy before it
+full_copy : (script : Script) (records : List Record) → AreFirm (setting_of script) (start (setting_of script)) records → IsSound script
+    → IsLegal script records → ShowsFull (setting_of script) records
+full_copy script records firm sound legal letter line round running inc full h says so =
+    let setting = setting_of script in
+    let found = shown_full script sound records legal letter line round running inc full h says so in
+    let at = found.at in
+    record {
+      found = found;
+      copied = ended_full script at.front
+          (front_firm setting (start setting) at.front (at.own ∷ at.behind) (subst (AreFirm setting (start setting)) at.is firm)).0
+          (front_legal setting (start setting) at.front (at.own ∷ at.behind) (subst (IsLegal script) at.is legal)).0
+          found.server found.runs found.full;
+    }
+
 pub no_space_reason : (script : Script) (front : List Record) (own : Record) → IsSound script
     → AreFirm (setting_of script) (start (setting_of script)) (front ++ own ∷ []) → IsLegal script (front ++ own ∷ []) → (client line : ℕ)
     → own.actor ≡ actor.Client client → own.answer ≡ Some (line, answer.NoSpace) → HasReason (setting_of script) front client line
 no_space_reason script front own sound firm legal =
     no_space (setting_of script) (start_kept script) front own
-    (shown_full script sound front (front_legal (setting_of script) (start (setting_of script)) front (own ∷ []) legal).0) firm legal
-
-pub busy_reason : (script : Script) (front : List Record) (own : Record) → IsSound script
-    → AreFirm (setting_of script) (start (setting_of script)) (front ++ own ∷ []) → IsLegal script (front ++ own ∷ [])
-    → (letter : Letter) (seq : ℕ) → In letter own.sent → letter.body ≡ body.BlockBusy seq
-    → FoundBusy (setting_of script) (world_after (setting_of script) (start (setting_of script)) front) own.actor seq
-busy_reason script front own sound firm legal = found_busy (setting_of script) (start_kept script) front own firm legal
+    (full_copy script front (front_firm (setting_of script) (start (setting_of script)) front (own ∷ []) firm).0 sound
+    (front_legal (setting_of script) (start (setting_of script)) front (own ∷ []) legal).0) firm legal

@@ -25,11 +25,11 @@ use Rattle.petal_rules.specs.declared.step.WorkEnd.TheVariants as work_end
 use Rattle.petal_history.specs.Claims.{IsPrefix}
 use Rattle.petal_history.specs.Legal.{world_after}
 use Rattle.petal_history.specs.declared.record.Record.{Record}
-use Rattle.law_causes.specs.Settles.{HasFoundFull}
 use Rattle.law_steps.specs.Operations.{done_to}
 use Rattle.law_steps.specs.DidSecond.{FoundNoSlot}
-use Rattle.law_steps.specs.Did.{IsBusy}
+use Rattle.law_steps.specs.Did.{IsBusy, IsHeldBack}
 use Rattle.law_steps.specs.Happens.{Handled, own_place}
+use Rattle.law_refusals.specs.Full.{HasFullCopy}
 
 -- ### No slot
 
@@ -61,10 +61,10 @@ pub record IsOpenFor (w : World) (client line : ℕ) : Type 0 where
   pub is : (w.clients client).asked ≡ Some asked
   pub number : asked.line ≡ line
 
--- it was refused for want of a slot; or it is a settle, and one of its glances found a server whose last copy had found no slot
+-- it was refused for want of a slot; or it is a settle, and one of its glances found a server of which a copy had found no slot
 abbrev pub HasNoSpace : Setting → List Record → (client line : ℕ) → Asked → Type 0
 HasNoSpace setting records client line asked =
-    WasRefused setting records client asked.seq ⊎ ((asked.request ≡ Settle) × HasFoundFull setting (start setting) records line)
+    WasRefused setting records client asked.seq ⊎ ((asked.request ≡ Settle) × HasFullCopy setting records line)
 
 -- the answer has a reason
 pub record HasReason (setting : Setting) (records : List Record) (client line : ℕ) : Type 0 where
@@ -78,6 +78,14 @@ pub record FoundBusy (setting : Setting) (w : World) (who : Actor) (seq : ℕ) :
   pub server : ℕ
   pub is : who ≡ actor.Server server
   pub busy : IsBusy (Handled w server) (own_place setting w server) (w.servers server).own seq
+
+-- ### A request that is held back
+
+-- a server's step found that a fence, or a ballot of its own for the link's Caught, holds back the request that it handled
+pub record FoundHeld (setting : Setting) (w : World) (who : Actor) (seq : ℕ) : Type 0 where
+  pub server : ℕ
+  pub is : who ≡ actor.Server server
+  pub held : IsHeldBack (Handled w server) (own_place setting w server) (w.servers server).own seq
 
 -- ### What is kept
 

@@ -61,10 +61,10 @@ module _ (scene : Scene) (n : ℕ) (new : Own) (tells : JobTells scene.setting s
         let still = open_running setting w scene.firm scene.lives state n (asked_for cell op) op.rev p
         (asking.lived.ran n ends.runs) ends.runs in
         let seq : op.seq ≡ ends.seq = one_open (w.clients op.client) op.seq ends.seq still ends.still in
-        let write : IsWrite state setting.lines op.client op.seq ends.cell ends.epoch ends.bytes =
-        subst (λ i. IsWrite state setting.lines op.client i ends.cell ends.epoch ends.bytes) (sym seq) ends.write in
+        let write : IsWrite state setting.lines op.client op.seq ends.cell ends.bytes =
+        subst (λ i. IsWrite state setting.lines op.client i ends.cell ends.bytes) (sym seq) ends.write in
         let same : cell ≡ ends.cell =
-        one_cell state setting.lines op.client op.seq cell ends.cell op.key.epoch ends.epoch op.bytes ends.bytes p.known.known.sent.write
+        one_cell state setting.lines op.client op.seq cell ends.cell op.bytes ends.bytes p.known.known.sent.write
         write in
         none_some ends.gone (subst (λ (q : Cell). at cell_cmp new.pairs.pending q ≡ Some op) same is)
   ]

@@ -38,9 +38,8 @@ use Rattle.law_requests.proofs.Running.{PendingHere}
 pub record Ends (state : State) (lines : List Line) (w : World) (n : ℕ) (new : Own) (c : ℕ) : Type 0 where
   pub seq : ℕ
   pub cell : Cell
-  pub epoch : ℕ
   pub bytes : List ℕ
-  pub write : IsWrite state lines c seq cell epoch bytes
+  pub write : IsWrite state lines c seq cell bytes
   pub runs : (w.servers n).life.running ≡ true
   pub still : IsOpen (w.clients c) seq
   pub old : seq ≤ (w.clients c).seq
@@ -51,9 +50,8 @@ pub record Ends (state : State) (lines : List Line) (w : World) (n : ℕ) (new :
 -- a reply that ends a write tells of one that this server, which leads the cell, is past
 pub record Tells (setting : Setting) (state : State) (w : World) (n : ℕ) (new : Own) (client seq : ℕ) : Type 0 where
   pub cell : Cell
-  pub epoch : ℕ
   pub bytes : List ℕ
-  pub write : IsWrite state setting.lines client seq cell epoch bytes
+  pub write : IsWrite state setting.lines client seq cell bytes
   pub led : LedBy (server_state setting w n) n (w.servers n).life.inc cell
   pub old : seq ≤ (w.clients client).seq
   pub past : seq < done_by new client
@@ -253,7 +251,6 @@ module _ (scene : Scene) (n stamp : ℕ) (what : Step) (acted : Acted) (step : I
         record {
           inc = (w.servers n).life.inc;
           cell = t.cell;
-          epoch = t.epoch;
           bytes = t.bytes;
           write = t.write;
           old = t.old;

@@ -19,10 +19,10 @@ use Rattle.petal_history.specs.Claims.{IsPrefix}
 use Rattle.petal_state.specs.Command.{state_after}
 use Rattle.petal_rules.specs.Lists.{In}
 use Rattle.petal_rules.specs.Log.{rev_of}
-use Rattle.petal_rules.specs.State.{State, is_in, is_lead}
+use Rattle.petal_rules.specs.State.{State, held, is_in, is_lead}
 use Rattle.petal_rules.specs.Store.{cell_cmp}
 use Rattle.petal_rules.specs.Server.{Own, Here, Post, Done}
-use Rattle.petal_rules.specs.Writes.{Wanted, operation, ended, finishes, pending_on, with_mark_at}
+use Rattle.petal_rules.specs.Writes.{Wanted, is_writes_held, operation, ended, finishes, pending_on, with_mark_at}
 use Rattle.petal_rules.specs.World.{Setting, World}
 use Rattle.petal_rules.proofs.CellTables.{cell_same, cell_apart, cell_gone}
 use Rattle.petal_rules.proofs.Tests.{none_some, same_or_apart, same_some, true_false}
@@ -180,6 +180,7 @@ module _ (setting : Setting) (state : State) (w : World) (lives : Lives) (firm :
       record {
         known = record {
           known = k;
+          unfenced = subst (λ log. is_writes_held (held (state_after setting.servers log) want.cell) ≡ false) at new.unfenced;
           upto = own_log;
           opened = front_same k.sent.at.front own_log at;
           applied = front_itself own_log;
@@ -194,19 +195,18 @@ module _ (setting : Setting) (state : State) (w : World) (lives : Lives) (firm :
       }
 
   -- the server finishes a request
-  finish_tells : (new : Own) (c seq : ℕ) (cell : Cell) (epoch : ℕ) (bytes : List ℕ) (how : Ending)
+  finish_tells : (new : Own) (c seq : ℕ) (cell : Cell) (bytes : List ℕ) (how : Ending)
       → new.pairs.finished ≡ put nat_cmp own.pairs.finished c (record { seq = seq; ending = how }) → LedBy here.state n here.inc cell
-      → IsWrite state setting.lines c seq cell epoch bytes → seq ≤ (w.clients c).seq → IsOpen (w.clients c) seq
+      → IsWrite state setting.lines c seq cell bytes → seq ≤ (w.clients c).seq → IsOpen (w.clients c) seq
       → done_by own c ≤ seq → at cell_cmp new.pairs.pending cell ≡ None
       → ((q : Cell) (op : Pending) → at cell_cmp new.pairs.pending q ≡ Some op → Was own q op)
       → J new (record { to = actor.Client c; body = ended seq how } ∷ [])
-  finish_tells new c seq cell epoch bytes how finished led write old still before gone pending =
+  finish_tells new c seq cell bytes how finished led write old still before gone pending =
       let last : Finished = record { seq = seq; ending = how } in
       let after : done_by new c ≡ seq + 1 = ap (λ t. done_to (at nat_cmp t c)) finished ∙ ap done_to (at_same own.pairs.finished c last) in
       let ends : Ends state setting.lines w n new c = record {
         seq = seq;
         cell = cell;
-        epoch = epoch;
         bytes = bytes;
         write = write;
         runs = runs;
@@ -227,7 +227,6 @@ module _ (setting : Setting) (state : State) (w : World) (lives : Lives) (firm :
         says = λ post i. says_as new _ _ post (one_post _ _ post i)
             (ended_says new c seq how (record {
               cell = cell;
-              epoch = epoch;
               bytes = bytes;
               write = write;
               led = led;
@@ -281,7 +280,7 @@ module _ (setting : Setting) (state : State) (w : World) (lives : Lives) (firm :
         leads = ((rests.pending n).staged op.cell old was.is).lead;
       } in
       let un : done_by own old.client ≤ old.seq = (let u = p.unfinished in let t = asking.lived.tied n old.client in omega arith) in
-      finish_tells new op.client op.seq op.cell old.key.epoch old.bytes how finished led (rw (← e.client, ← e.seq) p.known.sent.write)
+      finish_tells new op.client op.seq op.cell old.bytes how finished led (rw (← e.client, ← e.seq) p.known.sent.write)
       (rw (← e.client, ← e.seq) p.known.sent.old) (rw (← e.client, ← e.seq) still) (rw (← e.client, ← e.seq) un) gone others
 
   pub finished_here : (op : Pending) (now : Own) (t : Table Cell Pending) → t ≡ without cell_cmp now.pairs.pending op.cell
@@ -322,7 +321,6 @@ module _ (setting : Setting) (state : State) (w : World) (lives : Lives) (firm :
       let above : done_by own want.client ≡ last.seq + 1 = ap done_to is in
       speaks _ (λ post i. says_as own _ _ post (one_post _ _ post i) (ended_says own want.client want.seq last.ending (record {
         cell = want.cell;
-        epoch = want.epoch;
         bytes = want.bytes;
         write = k.sent.write;
         led = record { seated = used_seat (Has_finished want.client (omega arith)); leads = lead };
@@ -332,7 +330,7 @@ module _ (setting : Setting) (state : State) (w : World) (lives : Lives) (firm :
   lead_tells _ seat (Is_full want new no_room) =
       let k = wanted_known want new.wanted in
       let seated = full_seat want new seat in
-      finish_tells _ want.client want.seq want.cell want.epoch want.bytes ending.Full refl (record { seated = seated; leads = new.lead }) k.sent.write k.sent.old
+      finish_tells _ want.client want.seq want.cell want.bytes ending.Full refl (record { seated = seated; leads = new.lead }) k.sent.write k.sent.old
       (new_open want seated new) new.newer new.none
       (λ q op is. was_same own q op is)
   lead_tells _ seat (Gives_up op h is reserved put) = closed_tells op _ own ending.Full (was_same own op.cell op is) (was_same own) refl refl refl
@@ -379,7 +377,7 @@ module _ (setting : Setting) (state : State) (w : World) (lives : Lives) (firm :
   pub job_tells : (done : Done) → IsSeated here own done → Did hears here own done → J done.own done.posts
   unfolding In
   job_tells _ seat Ignores = speaks _ (λ post i. absurd i)
-  job_tells _ seat (Refuses to said is why) =
+  job_tells _ seat (Refuses to said is why kept) =
       speaks _ (λ post i. says_as own to said post (one_post to said post i) (nothing_said own to said (ap tells_request is)))
   job_tells _ seat (By_read done d) = read_tells done d
   job_tells _ seat (By_lead done d) = lead_tells done seat d

@@ -18,8 +18,9 @@ use Rattle.petal_rules.specs.State.{State, find}
 use Rattle.petal_rules.specs.Writes.{Wanted}
 use Rattle.petal_rules.specs.Clients.{Client, Asked, cell_on}
 use Rattle.petal_rules.specs.World.{Setting}
+use Rattle.petal_state.specs.declared.answer.DiskView.{DiskView}
 use Rattle.petal_rules.proofs.Tests.{same_some, true_false}
-use Rattle.law_state.specs.Below.{IsBelow}
+use Rattle.law_state.specs.Below.{HasLaterView, IsBelow}
 use Rattle.law_state.specs.Plain.{IsPlainLog}
 use Rattle.law_steps.proofs.Fronts.{front_itself, front_long, front_on, front_within, one_front}
 use Rattle.law_requests.specs.Asked.{IsWrite, IsOpen, IsOpenFrom}
@@ -44,10 +45,10 @@ block_named : Request → Option ℕ
 block_named asked = (names asked).block
 
 -- a write of one number is of one cell
-pub one_cell : (state : State) (lines : List Line) (client seq : ℕ) (cell other : Cell) (epoch epoch' : ℕ) (bytes bytes' : List ℕ)
-    → IsWrite state lines client seq cell epoch bytes → IsWrite state lines client seq other epoch' bytes' → cell ≡ other
+pub one_cell : (state : State) (lines : List Line) (client seq : ℕ) (cell other : Cell) (bytes bytes' : List ℕ)
+    → IsWrite state lines client seq cell bytes → IsWrite state lines client seq other bytes' → cell ≡ other
 unfolding disk_named block_named
-one_cell state lines client seq cell other epoch epoch' bytes bytes' one two =
+one_cell state lines client seq cell other bytes bytes' one two =
     let line : one.line ≡ two.line = same_some (sym one.is ∙ two.is) in
     let asks : request.Write one.name one.block one.pattern ≡ request.Write two.name two.block two.pattern =
     sym one.asks ∙ ap (λ (l : Line). l.request) line ∙ two.asks in
@@ -60,22 +61,28 @@ one_cell state lines client seq cell other epoch epoch' bytes bytes' one two =
 pub one_open : (client : Client) (seq seq' : ℕ) → IsOpen client seq → IsOpen client seq' → seq ≡ seq'
 one_open client seq seq' one two = sym one.same ∙ ap (λ (a : Asked). a.seq) (same_some (sym one.is ∙ two.is)) ∙ two.same
 
+-- a disk's block is in the same cell at each later state
+pub same_cell : (later : State) (name : List ℕ) (disk : DiskView) (block : ℕ) (found : HasLaterView later name disk)
+    → cell_on found.now block ≡ cell_on disk block
+same_cell later name disk block found = λ i. record { map = found.map_is i; block = block }
+
 -- a write is so at each later state
-pub write_up : (earlier later : State) → IsBelow earlier later → (lines : List Line) (client seq : ℕ) (cell : Cell) (epoch : ℕ) (bytes : List ℕ)
-    → IsWrite earlier lines client seq cell epoch bytes → IsWrite later lines client seq cell epoch bytes
-write_up earlier later below lines client seq cell epoch bytes one = record {
-  line = one.line;
-  is = one.is;
-  name = one.name;
-  block = one.block;
-  pattern = one.pattern;
-  asks = one.asks;
-  disk = one.disk;
-  found = below.finds one.name one.disk one.found;
-  cell_is = one.cell_is;
-  epoch_is = one.epoch_is;
-  bytes_is = one.bytes_is;
-}
+pub write_up : (earlier later : State) → IsBelow earlier later → (lines : List Line) (client seq : ℕ) (cell : Cell) (bytes : List ℕ)
+    → IsWrite earlier lines client seq cell bytes → IsWrite later lines client seq cell bytes
+write_up earlier later below lines client seq cell bytes one =
+    let found = below.finds one.name one.disk one.found in
+    record {
+      line = one.line;
+      is = one.is;
+      name = one.name;
+      block = one.block;
+      pattern = one.pattern;
+      asks = one.asks;
+      disk = found.now;
+      found = found.is;
+      cell_is = one.cell_is ∙ sym (same_cell later one.name one.disk one.block found);
+      bytes_is = one.bytes_is;
+    }
 
 -- ### Letters that tell of no request
 
@@ -126,6 +133,7 @@ module _ (setting : Setting) (state : State) (v u : Seen) (later : Later setting
         write = s.write;
         at = record { front = s.at.front; lies = front_on s.at.front _ _ s.at.lies (later.clients want.client); long = s.at.long };
         served = s.served;
+        epoch = s.epoch;
         old = omega arith;
       }
 
@@ -144,6 +152,7 @@ module _ (setting : Setting) (state : State) (v u : Seen) (later : Later setting
   unfolding write_later sent_later
   pending_later n inc want rev p le = record {
     known = write_later want rev p.known;
+    unfenced = p.unfenced;
     upto = p.upto;
     opened = p.opened;
     applied = front_on p.upto _ _ p.applied (later.logs n);
@@ -160,6 +169,7 @@ module _ (setting : Setting) (state : State) (v u : Seen) (later : Later setting
   pending_further n inc want rev p le more on applied along = (
     record {
       known = write_later want rev p.known;
+      unfenced = p.unfenced;
       upto = more;
       opened = front_on p.known.sent.at.front p.upto more p.opened on;
       applied = applied;
@@ -181,7 +191,6 @@ module _ (setting : Setting) (state : State) (v u : Seen) (later : Later setting
       record {
         inc = h.inc;
         cell = h.cell;
-        epoch = h.epoch;
         bytes = h.bytes;
         write = h.write;
         old = omega arith;
@@ -196,7 +205,10 @@ module _ (setting : Setting) (state : State) (v u : Seen) (later : Later setting
   pub known_later : (from to : Actor) (rev : ℕ) (said : Body) → Known setting state v from to rev said → Known setting state u from to rev said
   known_later from to rev (body.Write client seq cell epoch bytes) h =
       write_later (record { client = client; seq = seq; cell = cell; epoch = epoch; bytes = bytes }) rev h
-  known_later from to rev (body.Read client seq cell epoch) h = h
+  known_later from to rev (body.Read client seq cell epoch) h = record {
+    at = record { front = h.at.front; lies = front_on h.at.front _ _ h.at.lies (later.clients client); long = h.at.long };
+    read = h.read;
+  }
   known_later from to rev (body.Written seq) h = end_later seq rev from to h
   known_later from to rev (body.Full seq) h = end_later seq rev from to h
   known_later from to rev _ h = tt

@@ -24,7 +24,7 @@ module _ (heard : Body → Type 0) (here : Here) (own : Own) where
   -- a job starts no ballot, and forgets none
   did_caught : (done : Done) → Did heard here own done → (row : LinkRow) → (progress_on done.own row).caught ≡ (progress_on own row).caught
   did_caught _ Ignores row = refl
-  did_caught _ (Refuses to said is why) row = refl
+  did_caught _ (Refuses to said is why kept) row = refl
   did_caught _ (By_read done d) row = ap (λ (o : Own). (progress_on o row).caught) (of_read heard here own done d).same
   did_caught _ (By_lead done d) row = by_copies done.own row (of_lead heard here own done d).copies
   did_caught _ (By_second done d) row = by_copies done.own row (of_second heard here own done d).copies

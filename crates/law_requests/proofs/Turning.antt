@@ -1,6 +1,9 @@
 -- Each kind of step of a client keeps what is known of requests.
 use Rattle.std.proofs.Common.{◌≡◌, ◌≤◌, ◌<◌, ◌+◌, ◌-◌, ◌++◌, ℕ, List, [], ◌∷◌, Bool, true, false, Option, Some, None, length, refl, ap, sym, ◌∙◌, subst, inl, inr, arith, append_assoc}
-use Rattle.std.specs.Prelude.{slice_get, if◌then◌else◌, is_some}
+use Rattle.std.specs.Prelude.{slice_get, if◌then◌else◌, is_some, option_map}
+use Rattle.std.specs.Option.{option_map_or}
+use Rattle.global_tables.specs.Disk.{named, same_name}
+use Rattle.global_tables.specs.declared.disk.DiskRow.{DiskRow}
 use Rattle.petal_base.specs.declared.cell.Cell.{Cell}
 use Rattle.petal_msg.specs.Kinds.{subject_of}
 use Rattle.petal_msg.specs.declared.body.Body.{Body}
@@ -14,6 +17,7 @@ use Rattle.script_lines.specs.declared.answer.Answer.TheVariants as answer
 use Rattle.script_lines.specs.declared.request.Line.{Line}
 use Rattle.script_lines.specs.declared.request.Pattern.{Pattern}
 use Rattle.script_lines.specs.declared.request.Request.TheVariants as request
+use Rattle.petal_state.specs.CellState.{view_of}
 use Rattle.petal_state.specs.Command.{state_after}
 use Rattle.petal_state.specs.declared.answer.DiskView.{DiskView}
 use Rattle.petal_history.specs.Claims.{IsPrefix}
@@ -22,30 +26,41 @@ use Rattle.petal_command.specs.declared.command.Command.{Command}
 use Rattle.petal_rules.specs.State.{State, find, lead, is_in, is_lead}
 use Rattle.petal_rules.specs.Server.{Post}
 use Rattle.petal_rules.specs.Writes.{ended}
-use Rattle.petal_rules.specs.Clients.{Client, Asked, Reaction, Sight, epoch_for, cell_on, is_read, is_write, command_of, refusal, write_refusal}
+use Rattle.petal_rules.specs.Clients.{Client, Asked, Reaction, Sight, cell_on, is_read, is_write, command_of, refusal, write_refusal}
 use Rattle.petal_rules.specs.World.{Setting, World, lines_of, chosen_log}
 use Rattle.petal_rules.proofs.ListLemmas.{put_same}
 use Rattle.petal_rules.proofs.Tests.{by_bool, same_or_apart, same_some, some_or_none, none_some, true_false}
+use Rattle.law_state.specs.Disks.{AreDisks}
+use Rattle.law_state.specs.Epochs.{epoch_at}
 use Rattle.law_state.specs.Firm.{Firm}
-use Rattle.law_state.specs.Steady.{IsSteady}
 use Rattle.law_state.proofs.Ages.{in_once}
-use Rattle.law_state.proofs.Steady.{log_below, log_rev, log_steady, front_plain}
+use Rattle.law_state.proofs.Disks.{log_disks}
+use Rattle.law_state.proofs.Places.{found_at, in_get}
+use Rattle.law_state.proofs.Steady.{log_below, log_rev, front_plain}
 use Rattle.law_steps.specs.Happens.{Heard, IsOnward}
 use Rattle.law_steps.specs.Turned.{Turned, Says, Of_the_log, A_write, A_read, OnlySays, IsSame, StaysOpen, IsCalled, IsReason, By_verdict, By_witness, IsJudged, IsSeenAs, Stops_it, Starts_it, Blanks_it, Has_no_space, Is_settled, Goes_on, Begins, Reads, Shown, Judges, line_by}
 use Rattle.law_steps.specs.Turned as turns
 use Rattle.law_steps.proofs.Fronts.{front_itself, front_long, front_more, front_on, front_within}
 use Rattle.law_requests.specs.Asked.{IsWrite, IsAsked, IsOpenFrom}
 use Rattle.law_requests.specs.Known.{Lives, Seen, seen, Is_past, Had_no_lead, Had_another, IsSent, EndKnown, EndKnownAt, Known, AskingBy}
-use Rattle.law_requests.proofs.Later.{one_cell, write_up, logged_untold, untold}
+use Rattle.law_requests.proofs.Later.{one_cell, same_cell, write_up, logged_untold, untold}
 use Rattle.law_requests.proofs.Lives.{dones_rise, lives_still}
 use Rattle.law_requests.proofs.Running.{chosen_front}
 use Rattle.law_requests.proofs.Turns.{Closed, TurnOk, seen_with}
 
--- a state without snapshots reads a disk at its own epoch alone
-epoch_up : (earlier later : State) → IsSteady earlier → (disk : DiskView) (snap : Option (List ℕ)) (epoch : ℕ)
-    → epoch_for earlier disk snap ≡ Some epoch → epoch_for later disk snap ≡ Some epoch
-epoch_up earlier later steady disk None epoch e = e
-epoch_up earlier later steady disk (Some snap) epoch e = none_some (steady.no_snapshots disk.disk snap) e
+-- the epoch of a disk that is found is that of its cells
+found_epoch : (state : State) → AreDisks state → (name : List ℕ) (disk : DiskView) (block : ℕ) → find state name ≡ Some disk
+    → disk.epoch ≡ epoch_at state (cell_on disk block)
+found_epoch state disks name disk block found =
+    elim (some_or_none (named state.disks.rows name)) [
+      | inl row ↦ (
+          let view : view_of row.0 ≡ disk = same_some (ap (option_map view_of) (sym row.1) ∙ found) in
+          let place = found_at (λ (other : DiskRow). same_name other.name name) state.disks.rows row.0 row.1 in
+          let owned = disks.owned row.0 (in_get state.disks.rows place.0 row.0 place.1) in
+          subst (λ (d : DiskView). d.epoch ≡ epoch_at state (cell_on d block)) view
+          (sym (ap (λ o. option_map_or (λ (r : DiskRow). r.epoch) o 0) owned)))
+      | inr none ↦ none_some (ap (option_map view_of) none) found
+    ]
 
 -- a write of a disk that is found is refused only where its cell has no lead
 refused_unled : (state : State) (name : List ℕ) (block : ℕ) (pattern : Pattern) (disk : DiskView) (given : Answer) → find state name ≡ Some disk
@@ -90,7 +105,7 @@ module _ (setting : Setting) (state : State) (w : World) (lives : Lives) (firm :
     says_known known from _ (Of_the_log post e) = untold setting state after from post.to (length to.applied) post.body (logged_untold (subject_of post.body) e)
     says_known known from _ (A_write asked name block pattern disk who is asks found rev) =
         let a = known asked is in
-        let write : IsWrite own lines c asked.seq (cell_on disk block) disk.epoch (pattern_block pattern) = record {
+        let write : IsWrite own lines c asked.seq (cell_on disk block) (pattern_block pattern) = record {
           line = a.line;
           is = a.is;
           name = name;
@@ -100,7 +115,6 @@ module _ (setting : Setting) (state : State) (w : World) (lives : Lives) (firm :
           disk = disk;
           found = found;
           cell_is = refl;
-          epoch_is = refl;
           bytes_is = refl;
         } in
         let long : asked.rev ≡ length to.applied = rev ∙ log_rev setting.servers to.applied in
@@ -108,13 +122,14 @@ module _ (setting : Setting) (state : State) (w : World) (lives : Lives) (firm :
         record { now = record { asked = asked; is = is; same = refl }; sent = omega arith } in
         record {
           sent = record {
-            write = write_up own state onward.below lines c asked.seq _ _ _ write;
+            write = write_up own state onward.below lines c asked.seq _ _ write;
             at = record {
               front = to.applied;
               lies = subst (λ (x : Client). IsPrefix to.applied x.applied) (sym now) (front_itself to.applied);
               long = refl;
             };
             served = write;
+            epoch = found_epoch own (log_disks setting.servers to.applied onward.plain) name disk block found;
             old = subst (λ (x : Client). asked.seq ≤ x.seq) (sym now) (let last = a.last in omega arith);
           };
           still = inl (subst (λ (x : Client). IsOpenFrom x asked.seq (length to.applied)) (sym now) still);
@@ -122,16 +137,23 @@ module _ (setting : Setting) (state : State) (w : World) (lives : Lives) (firm :
     says_known known from _ (A_read asked name snap block disk epoch who is asks found e) =
         let a = known asked is in
         record {
-          line = a.line;
-          is = a.is;
-          name = name;
-          snap = snap;
-          block = block;
-          asks = sym a.asks ∙ asks;
-          disk = disk;
-          found = onward.below.finds name disk found;
-          cell_is = refl;
-          epoch_is = epoch_up own state (log_steady setting.servers to.applied onward.plain) disk snap epoch e;
+          at = record {
+            front = to.applied;
+            lies = subst (λ (x : Client). IsPrefix to.applied x.applied) (sym now) (front_itself to.applied);
+            long = refl;
+          };
+          read = record {
+            line = a.line;
+            is = a.is;
+            name = name;
+            snap = snap;
+            block = block;
+            asks = sym a.asks ∙ asks;
+            disk = disk;
+            found = found;
+            cell_is = refl;
+            epoch_is = e;
+          };
         }
 
   same_known : (to : Client) (rev : ℕ) (old new : Asked) → client.asked ≡ Some old → IsSame rev old new → to.seq ≡ client.seq → IsAsked lines c to new
@@ -218,20 +240,20 @@ module _ (setting : Setting) (state : State) (w : World) (lives : Lives) (firm :
   }
 
   -- the open request is the one that its line asks for
-  write_asked : (asked : Asked) → client.asked ≡ Some asked → (at : State) (cell : Cell) (epoch : ℕ) (bytes : List ℕ)
-      → (write : IsWrite at lines c asked.seq cell epoch bytes) → asked.request ≡ request.Write write.name write.block write.pattern
-  write_asked asked is at cell epoch bytes write =
+  write_asked : (asked : Asked) → client.asked ≡ Some asked → (at : State) (cell : Cell) (bytes : List ℕ)
+      → (write : IsWrite at lines c asked.seq cell bytes) → asked.request ≡ request.Write write.name write.block write.pattern
+  write_asked asked is at cell bytes write =
       let a = asking.asked c asked is in a.asks ∙ ap (λ (l : Line). l.request) (same_some (sym a.is ∙ write.is)) ∙ write.asks
 
   -- one that is no write has sent none
   read_closed : (to : Client) (asked : Asked) → client.asked ≡ Some asked → is_read asked.request ≡ true → Closes to asked
   read_closed to asked is reads rev le cell epoch bytes sent =
-      true_false reads (ap is_read (write_asked asked is state cell epoch bytes sent.write))
+      true_false reads (ap is_read (write_asked asked is state cell bytes sent.write))
 
   seen_closed : (to : Client) (asked : Asked) → client.asked ≡ Some asked → (sight : Sight) (given : Answer)
       → IsSeenAs own_state asked sight given → Closes to asked
   seen_closed to asked is sight given shown rev le cell epoch bytes sent =
-      true_false (ap is_write (write_asked asked is state cell epoch bytes sent.write)) (no_write shown)
+      true_false (ap is_write (write_asked asked is state cell bytes sent.write)) (no_write shown)
     where
       no_write : IsSeenAs own_state asked sight given → is_write asked.request ≡ false
       no_write (Stops_it server so e) = ap is_write so
@@ -257,10 +279,10 @@ module _ (setting : Setting) (state : State) (w : World) (lives : Lives) (firm :
       by : IsReason c asked given (state_after setting.servers (judged.front ++ judged.entry ∷ [])) judged.entry
           → HadNoLead sent.at.front to.applied cell
       by (By_verdict command its so) =
-          none_some (ap (command_of c asked.seq) (write_asked asked is (state_after setting.servers sent.at.front) cell epoch bytes sent.served)) its
+          none_some (ap (command_of c asked.seq) (write_asked asked is (state_after setting.servers sent.at.front) cell bytes sent.served)) its
       by (By_witness none witness so) =
           let served = sent.served in
-          let asks = write_asked asked is (state_after setting.servers sent.at.front) cell epoch bytes served in
+          let asks = write_asked asked is (state_after setting.servers sent.at.front) cell bytes served in
           let log = judged.front ++ judged.entry ∷ [] in
           let lies : IsPrefix log to.applied =
           record { later = judged.rest; is = judged.lies ∙ sym (append_assoc judged.front (judged.entry ∷ []) judged.rest) } in
@@ -272,8 +294,9 @@ module _ (setting : Setting) (state : State) (w : World) (lives : Lives) (firm :
             log = log;
             more = before;
             lies = lies;
-            unled = ap (lead (state_after setting.servers log)) served.cell_is
-                ∙ refused_unled (state_after setting.servers log) served.name served.block served.pattern served.disk given found
+            unled = ap (lead (state_after setting.servers log))
+                (served.cell_is ∙ sym (same_cell (state_after setting.servers log) served.name served.disk served.block found))
+                ∙ refused_unled (state_after setting.servers log) served.name served.block served.pattern found.now given found.is
                 (ap (refusal (state_after setting.servers log)) (sym asks) ∙ so);
           }
 
@@ -286,7 +309,7 @@ module _ (setting : Setting) (state : State) (w : World) (lives : Lives) (firm :
   -- by a reply: its sender is past the write as the incarnation that it was then, and led the cell as none but that one
   end_closed : (to : Client) (asked : Asked) (server : ℕ) → EndKnown setting state (seen lives w) c asked.seq server asked.rev → Closes to asked
   end_closed to asked server end rev le cell epoch bytes sent n inc led =
-      let same : end.cell ≡ cell = one_cell state lines c asked.seq end.cell cell end.epoch epoch end.bytes bytes end.write sent.write in
+      let same : end.cell ≡ cell = one_cell state lines c asked.seq end.cell cell end.bytes bytes end.write sent.write in
       let own = (w.servers server).log.applied in
       let end_leads : is_lead (state_after setting.servers end.at.front) server cell ≡ true =
       subst (λ (q : Cell). is_lead (state_after setting.servers end.at.front) server q ≡ true) same end.led.leads in

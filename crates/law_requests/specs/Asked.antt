@@ -10,8 +10,8 @@ use Rattle.petal_rules.specs.State.{State, find}
 use Rattle.petal_rules.specs.Clients.{Client, Asked, cell_on, epoch_for}
 use Rattle.law_steps.specs.Turned.{line_by}
 
--- the client's request of this number is a write of this cell, at this epoch and with these bytes
-pub record IsWrite (state : State) (lines : List Line) (client seq : ℕ) (cell : Cell) (epoch : ℕ) (bytes : List ℕ) : Type 0 where
+-- the client's request of this number is a write of this cell with these bytes
+pub record IsWrite (state : State) (lines : List Line) (client seq : ℕ) (cell : Cell) (bytes : List ℕ) : Type 0 where
   pub line : Line
   pub is : line_by lines client seq ≡ Some line
   pub name : List ℕ
@@ -21,7 +21,6 @@ pub record IsWrite (state : State) (lines : List Line) (client seq : ℕ) (cell 
   pub disk : DiskView
   pub found : find state name ≡ Some disk
   pub cell_is : cell ≡ cell_on disk block
-  pub epoch_is : epoch ≡ disk.epoch
   pub bytes_is : bytes ≡ pattern_block pattern
 
 -- it is a read of this cell at this epoch

@@ -13,12 +13,13 @@ use Rattle.petal_msg.specs.declared.operation.Pending.{Pending}
 use Rattle.petal_history.specs.Claims.{IsPrefix}
 use Rattle.petal_state.specs.Command.{state_after}
 use Rattle.petal_rules.specs.Lists.{In}
-use Rattle.petal_rules.specs.State.{State, lead, is_in, is_lead}
+use Rattle.petal_rules.specs.State.{State, held, lead, is_in, is_lead}
 use Rattle.petal_rules.specs.Store.{cell_cmp}
 use Rattle.petal_rules.specs.Server.{Own}
-use Rattle.petal_rules.specs.Writes.{Wanted}
+use Rattle.petal_rules.specs.Writes.{Wanted, is_writes_held}
 use Rattle.petal_rules.specs.Clients.{Client, Asked}
 use Rattle.petal_rules.specs.World.{Setting, World, server_state}
+use Rattle.law_state.specs.Epochs.{epoch_at}
 use Rattle.law_steps.specs.Operations.{done_to}
 use Rattle.law_requests.specs.Asked.{IsWrite, IsRead, IsAsked, IsOpenFrom}
 
@@ -85,11 +86,13 @@ abbrev pub AreLate : (servers : ℕ) → Seen → Wanted → List Command → Ty
 AreLate servers v want front =
     (n inc : ℕ) → LedBy (state_after servers front) n inc want.cell → IsLate servers v front want.client want.seq want.cell n inc
 
--- a write that its client has sent at this revision: its request is a write of this cell, by the state of that revision too
+-- a write that its client has sent at this revision: its request is a write of this cell, by the state of that revision too, and it is of
+-- the epoch that the cell's disk has by that state
 pub record IsSent (setting : Setting) (state : State) (v : Seen) (want : Wanted) (rev : ℕ) : Type 0 where
-  pub write : IsWrite state setting.lines want.client want.seq want.cell want.epoch want.bytes
+  pub write : IsWrite state setting.lines want.client want.seq want.cell want.bytes
   pub at : IsAt (v.clients want.client).applied rev
-  pub served : IsWrite (state_after setting.servers at.front) setting.lines want.client want.seq want.cell want.epoch want.bytes
+  pub served : IsWrite (state_after setting.servers at.front) setting.lines want.client want.seq want.cell want.bytes
+  pub epoch : want.epoch ≡ epoch_at (state_after setting.servers at.front) want.cell
   pub old : want.seq ≤ (v.clients want.client).seq
 
 -- and its request is open, or the server that leads the cell at that revision can't take it any more
@@ -97,13 +100,17 @@ pub record WriteKnown (setting : Setting) (state : State) (v : Seen) (want : Wan
   pub sent : IsSent setting state v want rev
   pub still : IsOpenFrom (v.clients want.client) want.seq rev ⊎ AreLate setting.servers v want sent.at.front
 
+-- a read that its client has sent at this revision, by the state of that revision
+pub record ReadKnown (setting : Setting) (v : Seen) (client seq : ℕ) (cell : Cell) (epoch rev : ℕ) : Type 0 where
+  pub at : IsAt (v.clients client).applied rev
+  pub read : IsRead (state_after setting.servers at.front) setting.lines client seq cell epoch
+
 -- of a reply that ends a write: its sender led the cell at its revision, and is past the write
 pub record EndKnown (setting : Setting) (state : State) (v : Seen) (client seq server rev : ℕ) : Type 0 where
   pub inc : ℕ
   pub cell : Cell
-  pub epoch : ℕ
   pub bytes : List ℕ
-  pub write : IsWrite state setting.lines client seq cell epoch bytes
+  pub write : IsWrite state setting.lines client seq cell bytes
   pub old : seq ≤ (v.clients client).seq
   pub at : IsAt (v.logs server) rev
   pub led : LedBy (state_after setting.servers at.front) server inc cell
@@ -119,7 +126,7 @@ EndKnownAt setting state v seq rev _ _ = ⊥
 abbrev pub Known : Setting → State → Seen → (from to : Actor) → (rev : ℕ) → Body → Type 0
 Known setting state v from to rev (body.Write client seq cell epoch bytes) =
     WriteKnown setting state v (record { client = client; seq = seq; cell = cell; epoch = epoch; bytes = bytes }) rev
-Known setting state v from to rev (body.Read client seq cell epoch) = IsRead state setting.lines client seq cell epoch
+Known setting state v from to rev (body.Read client seq cell epoch) = ReadKnown setting v client seq cell epoch rev
 Known setting state v from to rev (body.Written seq) = EndKnownAt setting state v seq rev from to
 Known setting state v from to rev (body.Full seq) = EndKnownAt setting state v seq rev from to
 Known setting state v from to rev _ = Unit {0}
@@ -138,10 +145,11 @@ abbrev pub IsLedAlong : (servers : ℕ) → (front whole : List Command) → (n 
 IsLedAlong servers front whole n inc cell = (log : List Command) → IsPrefix front log → IsPrefix log whole
     → LedBy (state_after servers log) n inc cell
 
--- a write that is pending at this incarnation was sent at the revision at which it was opened; from there on the incarnation has led the
--- cell, as far as it had come while the write was pending; and it is not past it
+-- a write that is pending at this incarnation was sent at the revision at which it was opened, and no fence held the cell's writes there;
+-- from there on the incarnation has led the cell, as far as it had come while the write was pending; and it is not past it
 pub record PendingFor (setting : Setting) (state : State) (v : Seen) (n inc : ℕ) (want : Wanted) (rev : ℕ) : Type 0 where
   pub known : WriteKnown setting state v want rev
+  pub unfenced : is_writes_held (held (state_after setting.servers known.sent.at.front) want.cell) ≡ false
   pub upto : List Command
   pub opened : IsPrefix known.sent.at.front upto
   pub applied : IsPrefix upto (v.logs n)

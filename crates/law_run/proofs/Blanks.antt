@@ -1,5 +1,6 @@
 -- A stopped server's device is made blank: the store from before counts on, so that the machine is told nothing.
 use Rattle.std.proofs.Common.{◌≡◌, ◌==◌, ◌++◌, ℕ, [], true, false, Option, Some, None, refl, sym, ap, ◌∙◌, subst, inl, inr}
+use Rattle.std.specs.List.{flat_map}
 use Rattle.std.specs.Prelude.{drop, if◌then◌else◌, length, map, unwrap_or}
 use Rattle.std.specs.Ordering.{nat_cmp}
 use Rattle.petal_base.specs.declared.cell.Cell.{Cell}
@@ -21,16 +22,18 @@ use Rattle.petal_rules.specs.World.{Setting, World, acts, blank_joins_in, chosen
 use Rattle.petal_rules.specs.declared.step.Step.TheVariants.{Blank}
 use Rattle.petal_rules.proofs.ListLemmas.{put_apart, put_same}
 use Rattle.petal_rules.proofs.Tests.{all_put, all_put_apart, number_itself, same_or_apart, true_false}
-use Rattle.petal_history.specs.Contents.{cell_of_block, content_by, content_where, has_content}
-use Rattle.petal_history.specs.Events.{change_by, makes, make_of, takes, told_with}
+use Rattle.petal_history.specs.Contents.{cell_of_block, content_by, content_in, content_where, has_content}
+use Rattle.petal_history.specs.Events.{change_by, freezes, freezes_on, makes, make_of, takes, told_with}
 use Rattle.law_state.specs.Firm.{Firm}
 use Rattle.law_steps.proofs.Serving.{chosen_same}
 use Rattle.law_copies.specs.Visits.{IsLinked}
-use Rattle.law_run.specs.Follow.{Follow, HasCounted, HasOnlyKnown, Is_counted, Is_followed, Is_told, OfStores, kept_at}
+use Rattle.law_run.specs.Follow.{Follow, HasCounted, HasOnlyKnown, Is_counted, Is_followed, Is_told, OfStores}
 use Rattle.law_run.proofs.Along.{disks_now, rows_in}
 use Rattle.law_run.proofs.Counted.{of_stores}
 use Rattle.law_run.proofs.Grounds.{before_after}
+use Rattle.law_run.proofs.Freezes.{no_freezes}
 use Rattle.law_run.proofs.Makes.{drop_all}
+use Rattle.law_run.proofs.Snapshots.{snapshots_on}
 use Rattle.law_run.proofs.Takes.{no_takes}
 
 module _ (setting : Setting) (w : World) (n stamp : ℕ) where
@@ -75,11 +78,11 @@ module _ (setting : Setting) (w : World) (n stamp : ℕ) where
   held_same cell epoch None = refl
   held_same cell epoch (Some i) = ap (λ (s : Store). bytes_of (entry_at (chain_in s.chains cell) epoch)) (blank_kept i)
 
-  content_same : (row : DiskRow) (b : ℕ)
-      → kept_at (chosen_state setting v) (counted setting v) row b ≡ kept_at (chosen_state setting w) (counted setting w) row b
-  content_same row b =
-      ap (λ s. content_by (counted setting v) (cell_of_block row b) 0 (authority s (cell_of_block row b))) state_same
-      ∙ held_same (cell_of_block row b) 0 (authority (chosen_state setting w) (cell_of_block row b))
+  content_same : (row : DiskRow) (epoch b : ℕ)
+      → content_in (chosen_state setting v) (counted setting v) row epoch b ≡ content_in (chosen_state setting w) (counted setting w) row epoch b
+  content_same row epoch b =
+      ap (λ s. content_by (counted setting v) (cell_of_block row b) epoch (authority s (cell_of_block row b))) state_same
+      ∙ held_same (cell_of_block row b) epoch (authority (chosen_state setting w) (cell_of_block row b))
 
   -- ### Stores
 
@@ -110,8 +113,13 @@ module _ (setting : Setting) (w : World) (n stamp : ℕ) where
     blank_makes : makes (change_by setting w v) ≡ []
     blank_makes = ap (λ s. map make_of (drop (length (rows_in setting w)) s.disks.rows)) state_same ∙ ap (map make_of) (drop_all (rows_in setting w))
 
-    pub blank_told : told_with [] (takes (change_by setting w v)) (makes (change_by setting w v) ++ [] ++ []) ≡ Some []
-    blank_told = (λ i. told_with [] (blank_takes i) (blank_makes i ++ [] ++ []))
+    blank_freezes : freezes (change_by setting w v) ≡ []
+    blank_freezes =
+        ap (λ s. flat_map (freezes_on (change_by setting w v)) s.disks.rows) state_same
+        ∙ no_freezes (rows_in setting w) (rows_in setting w) (λ row h. (disks_now setting w firm).at row h)
+
+    pub blank_told : told_with [] (takes (change_by setting w v)) (makes (change_by setting w v) ++ freezes (change_by setting w v) ++ [] ++ []) ≡ Some []
+    blank_told = (λ i. told_with [] (blank_takes i) (blank_makes i ++ blank_freezes i ++ [] ++ []))
 
   -- ### Servers and clients stay tied to the machine
 
@@ -140,7 +148,10 @@ module _ (setting : Setting) (w : World) (n stamp : ℕ) where
             record {
               disk = k.disk;
               is = k.is;
-              same = λ b has. k.same b (ap (λ s. has_content s row b) (sym state_same) ∙ has) ∙ sym (content_same row b);
+              same = λ b has. k.same b (ap (λ s. has_content s row b) (sym state_same) ∙ has) ∙ sym (content_same row row.epoch b);
+              snapshots = snapshots_on k.disk.snaps row.snaps (has_content (chosen_state setting w) row) (has_content (chosen_state setting v) row)
+                  (content_in (chosen_state setting w) (counted setting w) row) (content_in (chosen_state setting v) (counted setting v) row)
+                  (λ b has. ap (λ s. has_content s row b) (sym state_same) ∙ has) (λ snap i b has. sym (content_same row snap.epoch b)) k.snapshots;
             };
         unknown = follow.stores.unknown;
         mindful = follow.stores.mindful;

@@ -214,7 +214,7 @@ module _ (heard : Body → Type 0) (here : Here) (own : Own) where
 
   abbrev pub did_stores : (done : Done) → IsSeated here own done → Did heard here own done → S done.own
   did_stores _ seated Ignores = Nothing_new refl
-  did_stores _ seated (Refuses to said is why) = Nothing_new refl
+  did_stores _ seated (Refuses to said is why back) = Nothing_new refl
   did_stores _ seated (By_read done d) = Nothing_new (ap (λ (o : Own). o.store.chains) (of_read heard here own done d).same)
   did_stores _ seated (By_lead done d) = lead_stores done d
   did_stores _ seated (By_second done d) = second_stores done seated d

@@ -23,7 +23,7 @@ use Rattle.petal_rules.specs.Clients.{Client, Reaction, client_sender}
 use Rattle.petal_rules.specs.World.{Setting, World, reacts, stamped, chosen_state, counted, kept}
 use Rattle.petal_rules.proofs.ListLemmas.{in-append}
 use Rattle.petal_history.specs.Contents.{content_where}
-use Rattle.petal_history.specs.Events.{open_write, write_asked, change_by, takes, makes, make_of, looks, look_of}
+use Rattle.petal_history.specs.Events.{open_write, write_asked, change_by, freezes, takes, makes, make_of, looks, look_of}
 use Rattle.petal_history.specs.declared.record.Record.{Record}
 use Rattle.law_steps.specs.Operations.{done_to}
 use Rattle.law_steps.specs.Happens.{Heard}
@@ -37,6 +37,7 @@ use Rattle.law_requests.specs.Known.{Known, EndKnownAt, seen}
 use Rattle.law_run.specs.Onward.{IsMindful, held_in, is_held, Seat}
 use Rattle.law_run.specs.Follow.{Ground, HasCounted, Is_told, Is_followed, Is_counted, Follow}
 use Rattle.law_run.proofs.Along.{Along, rows_in, disks_now}
+use Rattle.law_run.proofs.Freezes.{no_freezes}
 use Rattle.law_run.proofs.Looks.{is_data, no_look}
 use Rattle.law_run.proofs.Makes.{drop_all}
 use Rattle.law_run.proofs.Members.{all_empty}
@@ -115,6 +116,9 @@ module _ (this : ClientStep) where
   pub nothing_made : (reacted : Reaction) → makes (change_by this.setting this.w (after_turn reacted)) ≡ []
   nothing_made reacted = ap (map make_of) (drop_all rows)
 
+  pub nothing_frozen : (reacted : Reaction) → freezes (change_by this.setting this.w (after_turn reacted)) ≡ []
+  nothing_frozen reacted = no_freezes rows rows (λ row h. (disks_now this.setting this.w this.along.firm).at row h)
+
   -- ### The frame
 
   -- a reply was to a request of a number that the client had reached
@@ -182,7 +186,7 @@ module _ (this : ClientStep) where
       stores = record {
         known = λ row h.
             let own = this.follow.stores.known row h in
-            record { disk = own.disk; is = ap (λ ds. disk_of ds row.name) turn.disks ∙ own.is; same = own.same };
+            record { disk = own.disk; is = ap (λ ds. disk_of ds row.name) turn.disks ∙ own.is; same = own.same; snapshots = own.snapshots };
         unknown = λ name none. ap (λ ds. disk_of ds name) turn.disks ∙ this.follow.stores.unknown name none;
         mindful = turn.mindful;
       };

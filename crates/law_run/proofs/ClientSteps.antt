@@ -25,7 +25,7 @@ use Rattle.petal_rules.specs.Clients.{Client, Asked, Reaction, answers, Sight, i
 use Rattle.petal_rules.specs.World.{World, reacts, next_line}
 use Rattle.petal_rules.proofs.ListLemmas.{put_same}
 use Rattle.petal_history.specs.Events as events
-use Rattle.petal_history.specs.Events.{open_write, write_asked, write_by, begun, end_of, change_by, takes, makes, looks, told_with}
+use Rattle.petal_history.specs.Events.{open_write, write_asked, write_by, begun, end_of, change_by, freezes, takes, makes, looks, told_with}
 use Rattle.law_steps.specs.Happens.{Heard}
 use Rattle.law_steps.specs.Turned.{StaysOpen, IsCalled, OnlySays, IsReason, By_verdict, By_witness, IsJudged, Goes_on, Begins, Reads, Ends, Shown, Judges, IsSeenAs, Stops_it, Starts_it, Blanks_it, Has_no_space, Is_settled, answer_of}
 use Rattle.petal_rules.proofs.Tests.{by_bool, same_some, none_some}
@@ -35,7 +35,7 @@ use Rattle.law_run.specs.Follow.{Follow}
 use Rattle.law_run.proofs.Along.{rows_in}
 use Rattle.law_run.proofs.Machine.{disks_after, after_mindful, begin_seat, begin_others, end_seat, end_others}
 use Rattle.law_run.proofs.Takes.{open_own}
-use Rattle.law_run.proofs.ClientFrames.{ClientStep, TurnFollow, Turn, after_turn, no_looks, unwritten, nothing_taken, nothing_made, turn_follow}
+use Rattle.law_run.proofs.ClientFrames.{ClientStep, TurnFollow, Turn, after_turn, no_looks, unwritten, nothing_taken, nothing_made, nothing_frozen, turn_follow}
 
 -- no write of this request
 not_write : (c seq : ℕ) (asked : Request) → is_read asked ≡ true → write_by c seq asked ≡ None
@@ -107,7 +107,8 @@ module _ (this : ClientStep) where
   pub record ClientTold (in_call : Bool) (reacted : Reaction) : Type 0 where
     pub es : List Event
     pub is : told_with (begins_by this.c in_call (after_turn this reacted)) (takes (change_by this.setting this.w (after_turn this reacted)))
-        (makes (change_by this.setting this.w (after_turn this reacted)) ++ looks lines this.later (reacts this.w this.c this.stamp reacted).letters
+        (makes (change_by this.setting this.w (after_turn this reacted)) ++ freezes (change_by this.setting this.w (after_turn this reacted))
+        ++ looks lines this.later (reacts this.w this.c this.stamp reacted).letters
         ++ events.ended (open_write this.w this.c) reacted.answer) ≡ Some es
     pub may : Obeys this.m es
     pub follows : Follow this.setting (rows_in this.setting this.w) (after_turn this reacted) (replay this.m es)
@@ -122,7 +123,8 @@ module _ (this : ClientStep) where
       → events.ended (open_write this.w this.c) reacted.answer ≡ [] → TurnFollow this.w this.m this.m this.c reacted.client → ClientTold in_call reacted
   silent in_call reacted turned begins ends turn = record {
     es = [];
-    is = (λ i. told_with (begins i) (nothing_taken this reacted i) (nothing_made this reacted i ++ no_looks this in_call reacted turned i ++ ends i));
+    is = (λ i. told_with (begins i) (nothing_taken this reacted i)
+        (nothing_made this reacted i ++ nothing_frozen this reacted i ++ no_looks this in_call reacted turned i ++ ends i));
     may = tt;
     follows = turn_follow this this.m reacted turn (unwritten this in_call reacted turned);
   }
@@ -135,12 +137,14 @@ module _ (this : ClientStep) where
   unanswered : (reacted : Reaction) → OnlySays this.setting.servers this.c reacted → events.ended (open_write this.w this.c) reacted.answer ≡ []
   unanswered reacted only = ap (events.ended (open_write this.w this.c)) only.unanswered ∙ ended_none (open_write this.w this.c)
 
-  goes_on_told : (reacted : Reaction) (seq : reacted.client.seq ≡ client.seq) (stays : StaysOpen (length reacted.client.applied) client.asked reacted.client.asked)
+  goes_on_told : (reacted : Reaction) (seq : reacted.client.seq ≡ client.seq)
+      (stays : StaysOpen (length reacted.client.applied) client.asked reacted.client.asked)
       (only : OnlySays this.setting.servers this.c reacted) → ClientTold false reacted
   goes_on_told reacted seq stays only =
       silent false reacted (Goes_on reacted seq stays only) refl (unanswered reacted only)
       (quiet_turn reacted.client
-      (subst (λ o. Seat o (open_of this.m.opened this.c)) (sym (stays_write (length reacted.client.applied) this.c client.asked reacted.client.asked stays)) (this.follow.seats this.c))
+      (subst (λ o. Seat o (open_of this.m.opened this.c))
+      (sym (stays_write (length reacted.client.applied) this.c client.asked reacted.client.asked stays)) (this.follow.seats this.c))
       (λ seq h. inl (stays_back (length reacted.client.applied) client reacted.client seq stays h, λ t. t)))
 
   -- nothing was open
@@ -180,7 +184,7 @@ module _ (this : ClientStep) where
           record {
             es = Begin write ∷ [];
             is = (λ i. told_with (begun ((open_now reacted ∙ asked_is ∙ e) i)) (nothing_taken this reacted i)
-                (nothing_made this reacted i ++ no_looks this true reacted turned i ++ unanswered reacted only i));
+                (nothing_made this reacted i ++ nothing_frozen this reacted i ++ no_looks this true reacted turned i ++ unanswered reacted only i));
             may = (none, tt);
             follows = turn_follow this k reacted (record {
               disks = disks_after this.m (Begin write);
@@ -237,7 +241,7 @@ module _ (this : ClientStep) where
       record {
         es = e ∷ [];
         is = (λ i. told_with [] (nothing_taken this reacted i)
-            (nothing_made this reacted i ++ no_looks this false reacted (Ends asked how h is writes) i
+            (nothing_made this reacted i ++ nothing_frozen this reacted i ++ no_looks this false reacted (Ends asked how h is writes) i
             ++ events.ended (there i) (Some (asked.line, answer_of how))));
         may = (may_end wr.0 how asked own there is h, tt);
         follows = turn_follow this k reacted (record {
@@ -284,7 +288,8 @@ module _ (this : ClientStep) where
           record {
             es = event ∷ [];
             is = (λ i. told_with [] (nothing_taken this reacted i)
-                (nothing_made this reacted i ++ no_looks this false reacted turned i ++ events.ended (there i) (Some (asked.line, given))));
+                (nothing_made this reacted i ++ nothing_frozen this reacted i ++ no_looks this false reacted turned i
+                ++ events.ended (there i) (Some (asked.line, given))));
             may = (may_so write e under_way _ _ judged.reason, tt);
             follows = turn_follow this k reacted (record {
               disks = disks_after this.m event;

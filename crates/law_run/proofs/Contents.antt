@@ -9,14 +9,15 @@ use Rattle.petal_machine.specs.Run.{IsOpen as IsUnderWay, Obeys, replay}
 use Rattle.petal_rules.specs.Lists.{In}
 use Rattle.petal_rules.specs.World.{World, chosen_state, counted}
 use Rattle.petal_rules.proofs.Tests.{none_some, same_some}
-use Rattle.petal_history.specs.Contents.{has_content}
+use Rattle.petal_history.specs.Contents.{content_in, has_content}
 use Rattle.petal_history.specs.Events.{Change, change_by, before_step, after_step, blocks_in, open_write, takes}
 use Rattle.law_state.proofs.Steady.{log_below}
 use Rattle.law_run.specs.Onward.{held_in, Onward, Seat}
-use Rattle.law_run.specs.Follow.{Stores, kept_at}
-use Rattle.law_run.proofs.Along.{rows_in, disks_now, before_is, after_is, had_content, has_is}
+use Rattle.law_run.specs.Follow.{Stores}
+use Rattle.law_run.proofs.Along.{rows_in, disks_now, after_is, had_content, has_is}
 use Rattle.law_run.proofs.Frames.{OwnFollow, SaysOk, CountsOk, own_follow}
 use Rattle.law_run.proofs.Machine.{IsTake, Nearly, AllTaken, all_taken, seat_onward, stands_held}
+use Rattle.law_run.proofs.Snapshots.{snapshots_on}
 use Rattle.law_run.proofs.Steps.{ServerStep, TakesTold, new, later_world}
 use Rattle.law_run.proofs.Takes.{Gives, AreTold, has_then, takes_told}
 
@@ -31,28 +32,30 @@ module _ (this : ServerStep) where
   change = change_by this.setting this.w v
 
   -- what counts before the step, and after it
-  abbrev pub was_kept : DiskRow → ℕ → List ℕ
-  was_kept = kept_at (chosen_state this.setting this.w) (counted this.setting this.w)
+  abbrev pub was_kept : DiskRow → (epoch block : ℕ) → List ℕ
+  was_kept = content_in (chosen_state this.setting this.w) (counted this.setting this.w)
 
-  abbrev pub now_kept : DiskRow → ℕ → List ℕ
-  now_kept = kept_at (chosen_state this.setting v) (counted this.setting v)
+  abbrev pub now_kept : DiskRow → (epoch block : ℕ) → List ℕ
+  now_kept = content_in (chosen_state this.setting v) (counted this.setting v)
 
   -- the block has a content after the step
   abbrev pub now_has : DiskRow → ℕ → Bool
   now_has = has_content (chosen_state this.setting v)
 
-  -- a write under way gives a block its new content, and a server has an entry of the block
+  -- a write under way gives a block its new content at the disk's epoch, and a server has an entry of the block; its contents at epochs below
+  -- stay
   pub record IsGiven (row : DiskRow) (block : ℕ) : Type 0 where
     pub write : Write
     pub within : write.client < 9
     pub under_way : open_write this.w write.client ≡ Some write
     pub disk_is : write.disk ≡ row.name
     pub block_is : write.block ≡ block
-    pub bytes_is : write.bytes ≡ now_kept row block
+    pub bytes_is : write.bytes ≡ now_kept row row.epoch block
+    pub below : (epoch : ℕ) → epoch < row.epoch → was_kept row epoch block ≡ now_kept row epoch block
     pub looked : In block (blocks_in this.setting (counted this.setting v))
 
   abbrev pub AreGiven : Type 0
-  AreGiven = (row : DiskRow) → In row rows → (b : ℕ) → now_has row b ≡ true → (was_kept row b ≡ now_kept row b) ⊎ IsGiven row b
+  AreGiven = (row : DiskRow) → In row rows → (b : ℕ) → now_has row b ≡ true → ((epoch : ℕ) → was_kept row epoch b ≡ now_kept row epoch b) ⊎ IsGiven row b
 
   -- the machine after the takes
   pub record Taken : Type 0 where
@@ -69,10 +72,7 @@ module _ (this : ServerStep) where
   apart one other h g e = same_some (sym (is_named one h) ∙ ap (named rows) e ∙ is_named other g)
 
   module _ (given : AreGiven) where
-    before : (row : DiskRow) → In row rows → (b : ℕ) → before_step change row b ≡ was_kept row b
-    before = before_is this.setting this.w v this.along.firm this.next.firm this.grown
-
-    after : (row : DiskRow) → In row rows → (b : ℕ) → after_step change row b ≡ now_kept row b
+    after : (row : DiskRow) → In row rows → (b : ℕ) → after_step change row b ≡ now_kept row row.epoch b
     after = after_is this.setting this.w v this.along.firm this.next.firm this.grown
 
     has : (row : DiskRow) → In row rows → (b : ℕ) → has_then change row b ≡ now_has row b
@@ -81,7 +81,7 @@ module _ (this : ServerStep) where
     gives : (row : DiskRow) → In row rows → (b : ℕ) → has_then change row b ≡ true
         → (before_step change row b ≡ after_step change row b) ⊎ Gives change row b
     gives row h b there = elim (given row h b (sym (has row h b) ∙ there)) [
-      | inl same ↦ inl (before row h b ∙ same ∙ sym (after row h b))
+      | inl same ↦ inl (same row.epoch ∙ sym (after row h b))
       | inr g ↦ inr (record {
         write = g.write;
         within = g.within;
@@ -121,6 +121,11 @@ module _ (this : ServerStep) where
     had = had_content this.setting this.w v this.along.firm this.next.firm
         (log_below this.setting.servers _ _ this.next.firm.plain this.grows)
 
+    -- the contents at epochs below that of the disk stay
+    below : (row : DiskRow) → In row rows → (b : ℕ) → now_has row b ≡ true → (epoch : ℕ) → epoch < row.epoch
+        → was_kept row epoch b ≡ now_kept row epoch b
+    below row h b there epoch lt = elim (given row h b there) [ inl same ↦ same epoch | inr g ↦ g.below epoch lt ]
+
     near : (row : DiskRow) → In row rows → Nearly rows apart now_has now_kept this.m told.es row
     near row h =
         let k = this.follow.stores.known row h in
@@ -128,7 +133,7 @@ module _ (this : ServerStep) where
           disk = k.disk;
           is = k.is;
           same = λ b there. elim (told.all row h b (has row h b ∙ there)) [
-            | inl same ↦ inl (k.same b (had row h b there) ∙ sym (before row h b) ∙ same ∙ after row h b)
+            | inl same ↦ inl (k.same b (had row h b there) ∙ same ∙ after row h b)
             | inr come ↦ inr (record {
               write = come.2.write;
               there = subst (λ e. In e told.es) come.2.is come.1;
@@ -136,6 +141,9 @@ module _ (this : ServerStep) where
               block_is = come.2.block_is;
             })
           ];
+          snapshots = snapshots_on k.disk.snaps row.snaps (has_content (chosen_state this.setting this.w) row) (now_has row) (was_kept row) (now_kept row)
+              (had row h)
+              (λ snap i b there. below row h b there snap.epoch ((disks_now this.setting this.w this.along.firm).before row snap h i)) k.snapshots;
         }
 
     pub all_given : Taken
@@ -157,7 +165,7 @@ module _ (this : ServerStep) where
   -- a write of what its block then has has had its bytes
   pub given_held : (k : Plain) → Onward this.m k → Stores (chosen_state this.setting v) rows (counted this.setting v) k → (row : DiskRow)
       → In row rows → (block c : ℕ) (write : Write) → now_has row block ≡ true
-      → open_write this.w c ≡ Some write → write.disk ≡ row.name → write.block ≡ block → write.bytes ≡ now_kept row block
+      → open_write this.w c ≡ Some write → write.disk ≡ row.name → write.block ≡ block → write.bytes ≡ now_kept row row.epoch block
       → held_in (open_of k.opened c) ≡ true
   given_held k onward stores row h block c write has is disk_is block_is bytes_is =
       let known = stores.known row h in

@@ -81,7 +81,8 @@ module _ (this : ServerStep) (k : Plain) where
 
   -- an operation that is put where the copy counts after the step was put where it counted before, or has had its bytes
   abbrev pub CountsOk : Type 0
-  CountsOk = (i : ℕ) (cell : Cell) (op : Pending) → (v.servers i).life.running ≡ true → at cell_cmp (owns_of v i).pairs.pending cell ≡ Some op → op.stage.put ≡ true
+  CountsOk = (i : ℕ) (cell : Cell) (op : Pending) → (v.servers i).life.running ≡ true
+      → at cell_cmp (owns_of v i).pairs.pending cell ≡ Some op → op.stage.put ≡ true
       → authority (chosen_state this.setting v) cell ≡ Some i → IsOpen (this.w.clients op.client) op.seq
       → (authority (chosen_state this.setting this.w) cell ≡ Some i) ⊎ (is_held k op.client ≡ true)
 

@@ -18,7 +18,7 @@ use Rattle.petal_rules.specs.declared.job.Job.{Job}
 use Rattle.petal_rules.specs.declared.job.Job.TheVariants as job
 use Rattle.petal_rules.specs.declared.step.CommitEnd.TheVariants.{Before, After}
 use Rattle.petal_rules.specs.declared.step.Step.{Step}
-use Rattle.petal_rules.specs.declared.step.Step.TheVariants.{Call, Deliver, Tick, Work, Stop, Blank, Boot, Glance}
+use Rattle.petal_rules.specs.declared.step.Step.TheVariants.{Call, Deliver, Tick, Work, StopIn, Stop, Blank, Boot, Arm, Glance}
 use Rattle.petal_rules.specs.declared.step.WorkEnd.{WorkEnd}
 use Rattle.petal_rules.specs.declared.step.WorkEnd.TheVariants as work_end
 use Rattle.petal_rules.proofs.Tests.{by_test}
@@ -101,12 +101,16 @@ module _ (state : State) (me : ℕ) (server : Server) where
 
   pub step_kind : (what : Step) → K (server_step what state me server)
   step_kind (Call line) = Of_the_rest refl
-  step_kind (Deliver letter) = by_test (λ (x : Server). K (record { server = x; letters = [] })) server.life.running _ server (λ t. Of_the_rest refl) (λ t. Of_the_rest refl)
+  step_kind (Deliver letter) = by_test (λ (x : Server). K (record { server = x; letters = [] })) server.life.running _ server
+      (λ t. Of_the_rest refl) (λ t. Of_the_rest refl)
   step_kind Tick = Of_the_rest refl
   step_kind (Work work_end.Done) = works_kind server.queue
   step_kind (Work (work_end.Fault Before)) = Of_the_rest refl
   step_kind (Work (work_end.Fault After)) = stopped_kind (works here server server.queue) (works_kind server.queue)
+  step_kind (StopIn Before) = Of_the_rest refl
+  step_kind (StopIn After) = stopped_kind (works here server server.queue) (works_kind server.queue)
   step_kind Stop = Of_the_rest refl
   step_kind Blank = Of_the_rest refl
   step_kind (Boot end) = boots_kind end
+  step_kind (Arm which plan) = Of_the_rest refl
   step_kind (Glance line round) = Of_the_rest refl

@@ -1,11 +1,10 @@
 -- A read looks where its data are sent: whoever accepts them later had asked for this.
 use Rattle.std.proofs.Common.{◌≡◌, ◌==◌, ◌&&◌, ℕ, zero, suc, List, [], ◌∷◌, Bool, true, false, Option, Some, None, refl, sym, ap, ◌∙◌, subst, ◌⊎◌, inl, inr}
 use Rattle.std.specs.Prelude.{slice_get, if◌then◌else◌}
-use Rattle.petal_machine.specs.declared.state.Disk.{Disk}
 use Rattle.petal_machine.specs.declared.event.Event.{Event}
 use Rattle.petal_machine.specs.declared.event.Event.TheVariants.{Look}
-use Rattle.petal_machine.specs.Machine.{Plain, content, disk_of}
-use Rattle.petal_machine.specs.Run.{Obeys, after, replay}
+use Rattle.petal_machine.specs.Machine.{Plain}
+use Rattle.petal_machine.specs.Run.{MayLook, Obeys, after, replay}
 use Rattle.petal_msg.specs.declared.body.Body.{Body}
 use Rattle.petal_msg.specs.declared.body.Body.TheVariants as body
 use Rattle.petal_msg.specs.declared.letter.Actor.{Actor}
@@ -35,8 +34,8 @@ use Rattle.law_run.proofs.Members.{of_filter}
 -- ### Looks
 
 -- each event is a look at this block with these bytes
-abbrev pub AllLooks : List ℕ → ℕ → List ℕ → List Event → Type 0
-AllLooks name block bytes es = (e : Event) → In e es → e ≡ Look name None block bytes
+abbrev pub AllLooks : List ℕ → Option (List ℕ) → ℕ → List ℕ → List Event → Type 0
+AllLooks name snap block bytes es = (e : Event) → In e es → e ≡ Look name snap block bytes
 
 pub record Looked (m : Plain) (es : List Event) : Type 0 where
   pub may : Obeys m es
@@ -44,20 +43,21 @@ pub record Looked (m : Plain) (es : List Event) : Type 0 where
   pub mindful : IsMindful (replay m es)
   pub onward : Onward m (replay m es)
 
-pub looked : (m : Plain) (name : List ℕ) (disk : Disk) (block : ℕ) (bytes : List ℕ) → disk_of m.disks name ≡ Some disk → IsMindful m
-    → content disk.now block ≡ bytes → (es : List Event) → AllLooks name block bytes es → Looked m es
+pub looked : (m : Plain) (name : List ℕ) (snap : Option (List ℕ)) (block : ℕ) (bytes : List ℕ) → MayLook m.disks name snap block bytes → IsMindful m
+    → (es : List Event) → AllLooks name snap block bytes es → Looked m es
 unfolding In
-looked m name disk block bytes is mindful has [] all = record { may = tt; disks = refl; mindful = mindful; onward = onward_itself m }
-looked m name disk block bytes is mindful has (e ∷ es) all =
-    let k = after m (Look name None block bytes) in
-    let same : k.disks ≡ m.disks = disks_after m (Look name None block bytes) in
-    let rest = looked k name disk block bytes (ap (λ ds. disk_of ds name) same ∙ is) (after_mindful m (Look name None block bytes)) has es
+looked m name snap block bytes may mindful [] all = record { may = tt; disks = refl; mindful = mindful; onward = onward_itself m }
+looked m name snap block bytes may mindful (e ∷ es) all =
+    let look = Look name snap block bytes in
+    let k = after m look in
+    let same : k.disks ≡ m.disks = disks_after m look in
+    let rest = looked k name snap block bytes (subst (λ ds. MayLook ds name snap block bytes) (sym same) may) (after_mindful m look) es
     (λ x h. all x (inr h)) in
     subst (λ x. Looked m (x ∷ es)) (sym (all e (inl refl))) (record {
-      may = (record { known = record { disk = disk; is = is }; blocks = disk.now; is = refl; has = has }, rest.may);
+      may = (may, rest.may);
       disks = rest.disks ∙ same;
       mindful = rest.mindful;
-      onward = onward_joined m k (replay k es) (look_onward m name None block bytes mindful) rest.onward;
+      onward = onward_joined m k (replay k es) (look_onward m name snap block bytes mindful) rest.onward;
     })
 
 -- ### Who accepts a letter
@@ -181,26 +181,27 @@ in_looks (line ∷ lines) number bytes e h =
       | inr later ↦ let found = in_looks lines number bytes e later in (found.0, inr found.1, found.2, found.3)
     ]
 
-look_is : (asked : Request) (name : List ℕ) (block : ℕ) (bytes : List ℕ) (e : Event) → asked ≡ request.Read name None block
-    → In e (look_by asked bytes) → e ≡ Look name None block bytes
+look_is : (asked : Request) (name : List ℕ) (snap : Option (List ℕ)) (block : ℕ) (bytes : List ℕ) (e : Event) → asked ≡ request.Read name snap block
+    → In e (look_by asked bytes) → e ≡ Look name snap block bytes
 unfolding In
-look_is asked name block bytes e is h = elim (subst (λ r. In e (look_by r bytes)) is h) [ inl same ↦ same | inr none ↦ absurd none ]
+look_is asked name snap block bytes e is h = elim (subst (λ r. In e (look_by r bytes)) is h) [ inl same ↦ same | inr none ↦ absurd none ]
 
 -- a letter with data that is accepted, or not
 pub letter_looks : (lines : List Line) → ((one other : Line) → In one lines → In other lines → one.number ≡ other.number → one ≡ other)
-    → (letter : Letter) (seq client : ℕ) (name : List ℕ) (block : ℕ) (bytes : List ℕ) (line : Line) → letter.to ≡ actor.Client client
-    → line_by lines client seq ≡ Some line → line.request ≡ request.Read name None block
-    → (o : Option ℕ) → ((number : ℕ) → o ≡ Some number → Accepts lines letter seq number) → AllLooks name block bytes (look_for lines o bytes)
+    → (letter : Letter) (seq client : ℕ) (name : List ℕ) (snap : Option (List ℕ)) (block : ℕ) (bytes : List ℕ) (line : Line)
+    → letter.to ≡ actor.Client client
+    → line_by lines client seq ≡ Some line → line.request ≡ request.Read name snap block
+    → (o : Option ℕ) → ((number : ℕ) → o ≡ Some number → Accepts lines letter seq number) → AllLooks name snap block bytes (look_for lines o bytes)
 unfolding In
-letter_looks lines numbered letter seq client name block bytes line to is asks None accepts e h = absurd h
-letter_looks lines numbered letter seq client name block bytes line to is asks (Some number) accepts e h =
+letter_looks lines numbered letter seq client name snap block bytes line to is asks None accepts e h = absurd h
+letter_looks lines numbered letter seq client name snap block bytes line to is asks (Some number) accepts e h =
     let a = accepts number refl in
     let found = in_looks lines number bytes e h in
     let same_client : a.client ≡ client = one_client (sym a.to ∙ to) in
     let same_line : a.line ≡ line = same_some (sym a.is ∙ ap (λ c. line_by lines c seq) same_client ∙ is) in
     let the_line : found.0 ≡ line =
     numbered found.0 line found.1 (line_in lines client seq line is) (found.2 ∙ sym a.number_is ∙ ap (λ (l : Line). l.number) same_line) in
-    look_is found.0.request name block bytes e (ap (λ (l : Line). l.request) the_line ∙ asks) found.3
+    look_is found.0.request name snap block bytes e (ap (λ (l : Line). l.request) the_line ∙ asks) found.3
   where
     one_client : {c d : ℕ} → actor.Client c ≡ actor.Client d → c ≡ d
     one_client e = cc

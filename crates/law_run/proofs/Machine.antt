@@ -19,7 +19,7 @@ use Rattle.petal_machine.specs.Machine.{Plain, same_bytes, is_named, content, di
 use Rattle.petal_machine.specs.Run.{IsOpen, Obeys, after, changed, written, replay}
 use Rattle.petal_rules.specs.Lists.{In}
 use Rattle.petal_rules.proofs.Tests.{by_bool, same_or_apart, same_some, none_some, some_or_none, same_numbers, number_itself, nat_lists_same, true_false}
-use Rattle.petal_history.specs.Claims.{Holds}
+use Rattle.petal_history.specs.Claims.{AreSnapshots, Holds}
 use Rattle.law_run.specs.Onward.{IsMindful, held_in, Onward, Seat}
 
 pub Obeys-append : (m : Plain) (es fs : List Event) → Obeys m es → Obeys (replay m es) fs → Obeys m (es ++ fs)
@@ -40,7 +40,7 @@ unnamed : (name other : List ℕ) (disk : Disk) → disk.name ≡ name → other
 unnamed name other disk is ne = by_bool (is_named other disk) (λ t. absurd (ne (sym (nat_lists_same disk.name other t) ∙ is))) (λ f. f)
 
 -- a disk that was changed, and the others
-with_same : (ds : List Disk) (name : List ℕ) (f : Disk → Disk) (disk : Disk) → ((d : Disk) → (f d).name ≡ d.name) → disk_of ds name ≡ Some disk
+pub with_same : (ds : List Disk) (name : List ℕ) (f : Disk → Disk) (disk : Disk) → ((d : Disk) → (f d).name ≡ d.name) → disk_of ds name ≡ Some disk
     → disk_of (with_disk ds name f) name ≡ Some (f disk)
 with_same [] name f disk keeps e = none_some refl e
 with_same (d ∷ ds) name f disk keeps e = by_bool (is_named name d)
@@ -53,7 +53,7 @@ with_same (d ∷ ds) name f disk keeps e = by_bool (is_named name d)
     ∙ ap (λ b. cond b (Some d) (disk_of (with_disk ds name f) name)) no
     ∙ with_same ds name f disk keeps (sym (ap (λ b. cond b (Some d) (disk_of ds name)) no) ∙ e))
 
-with_apart : (ds : List Disk) (name : List ℕ) (f : Disk → Disk) (other : List ℕ) → ((d : Disk) → (f d).name ≡ d.name) → other ≢ name
+pub with_apart : (ds : List Disk) (name : List ℕ) (f : Disk → Disk) (other : List ℕ) → ((d : Disk) → (f d).name ≡ d.name) → other ≢ name
     → disk_of (with_disk ds name f) other ≡ disk_of ds other
 with_apart [] name f other keeps ne = refl
 with_apart (d ∷ ds) name f other keeps ne = by_bool (is_named name d)
@@ -272,7 +272,7 @@ take_onward m w = onward_by m (after m (Take w)) (changed m (Take w)).disks (ope
 
 -- takes that give blocks of these disks the contents that they are to have, where they are to have one
 module _ (rows : List DiskRow) (apart : (one other : DiskRow) → In one rows → In other rows → one.name ≡ other.name → one ≡ other)
-    (has : DiskRow → ℕ → Bool) (to : DiskRow → ℕ → List ℕ) where
+    (has : DiskRow → ℕ → Bool) (to : DiskRow → (epoch block : ℕ) → List ℕ) where
   -- the event takes a write under way of what the block is to have
   pub record IsTake (m : Plain) (e : Event) : Type 0 where
     pub row : DiskRow
@@ -283,7 +283,7 @@ module _ (rows : List DiskRow) (apart : (one other : DiskRow) → In one rows �
     pub seat : IsOpen m.opened write
     pub disk_is : write.disk ≡ row.name
     pub block_is : write.block ≡ block
-    pub bytes_is : write.bytes ≡ to row block
+    pub bytes_is : write.bytes ≡ to row row.epoch block
 
   -- a take of the block is among these
   pub record IsToCome (es : List Event) (row : DiskRow) (block : ℕ) : Type 0 where
@@ -292,16 +292,17 @@ module _ (rows : List DiskRow) (apart : (one other : DiskRow) → In one rows �
     pub disk_is : write.disk ≡ row.name
     pub block_is : write.block ≡ block
 
-  -- each block of the disk has what it is to have, or a take of it is to come
+  -- each block of the disk has what it is to have, or a take of it is to come; and its snapshots have it
   pub record Nearly (m : Plain) (es : List Event) (row : DiskRow) : Type 0 where
     pub disk : Disk
     pub is : disk_of m.disks row.name ≡ Some disk
-    pub same : (b : ℕ) → has row b ≡ true → (content disk.now b ≡ to row b) ⊎ IsToCome es row b
+    pub same : (b : ℕ) → has row b ≡ true → (content disk.now b ≡ to row row.epoch b) ⊎ IsToCome es row b
+    pub snapshots : AreSnapshots disk.snaps row.snaps (has row) (to row)
 
   -- the machine after the takes
   pub record AllTaken (m : Plain) (es : List Event) : Type 0 where
     pub may : Obeys m es
-    pub known : (row : DiskRow) → In row rows → Holds (replay m es).disks row.name (has row) (to row)
+    pub known : (row : DiskRow) → In row rows → Holds (replay m es).disks row (has row) (to row)
     pub others : (name : List ℕ) → ((row : DiskRow) → In row rows → name ≢ row.name) → disk_of (replay m es).disks name ≡ disk_of m.disks name
     pub mindful : IsMindful (replay m es)
     pub onward : Onward m (replay m es)
@@ -334,12 +335,13 @@ module _ (rows : List DiskRow) (apart : (one other : DiskRow) → In one rows �
           is = ap (disk_of k.disks) e' ∙ take_same m old.disk t.write (ap (disk_of m.disks) (sym e') ∙ old.is);
           same = λ b there. elim (same_or_apart b t.write.block) [
             | inl here ↦ inl (ap (content (put nat_cmp old.disk.now t.write.block t.write.bytes)) here
-                ∙ content_same old.disk.now t.write.block t.write.bytes ∙ t.bytes_is ∙ (λ i. to (sym one i) ((sym t.block_is ∙ sym here) i)))
+                ∙ content_same old.disk.now t.write.block t.write.bytes ∙ t.bytes_is ∙ (λ i. to (sym one i) (sym one i).epoch ((sym t.block_is ∙ sym here) i)))
             | inr ne ↦ elim (old.same b there) [
               | inl so ↦ inl (content_apart old.disk.now t.write.block t.write.bytes b ne ∙ so)
               | inr come ↦ inr (left es row b e t.write t.is (λ d f. ne (sym f)) come)
             ]
           ];
+          snapshots = old.snapshots;
         }
 
     beside : (row : DiskRow) → In row rows → row.name ≢ t.write.disk → Nearly k es row
@@ -352,6 +354,7 @@ module _ (rows : List DiskRow) (apart : (one other : DiskRow) → In one rows �
             | inl so ↦ inl so
             | inr come ↦ inr (left es row b e t.write t.is (λ d f. ne (sym d)) come)
           ];
+          snapshots = old.snapshots;
         }
 
     nearer : (row : DiskRow) → In row rows → Nearly k es row
@@ -386,7 +389,12 @@ module _ (rows : List DiskRow) (apart : (one other : DiskRow) → In one rows �
     may = tt;
     known = λ row h.
         let n = near row h in
-        record { disk = n.disk; is = n.is; same = λ b there. elim (n.same b there) [ inl so ↦ so | inr come ↦ absurd (none_left row b come) ] };
+        record {
+          disk = n.disk;
+          is = n.is;
+          same = λ b there. elim (n.same b there) [ inl so ↦ so | inr come ↦ absurd (none_left row b come) ];
+          snapshots = n.snapshots;
+        };
     others = λ name ne. refl;
     mindful = mindful;
     onward = onward_itself m;

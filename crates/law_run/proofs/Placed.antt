@@ -35,7 +35,7 @@ module _ (this : ServerStep) where
     pub bytes_is : write.bytes ≡ op.bytes
 
   pub placed : (cell : Cell) (op : Pending) (link : LinkRow) → cell_link (chosen_state this.setting this.w) cell ≡ Some link
-      → IsWrite this.state this.setting.lines op.client op.seq cell op.key.epoch op.bytes → IsOpen (this.w.clients op.client) op.seq → Placed op cell
+      → IsWrite this.state this.setting.lines op.client op.seq cell op.bytes → IsOpen (this.w.clients op.client) op.seq → Placed op cell
   placed cell op link is wr still =
       let a = this.ground.asking.asked op.client still.asked still.is in
       let under : wr.disk.map ≡ cell.map = sym (ap (λ (c : Cell). c.map) wr.cell_is) in

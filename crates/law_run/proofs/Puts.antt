@@ -19,13 +19,15 @@ use Rattle.petal_rules.specs.Server.{Own, Here}
 use Rattle.petal_rules.specs.World.{World, blank_joins_in, chosen_log, chosen_state, counted, kept}
 use Rattle.petal_rules.proofs.CellTables.{cell_same}
 use Rattle.petal_rules.proofs.Tests.{same_or_apart, same_some, some_or_none, none_some, is_the_one}
-use Rattle.petal_history.specs.Contents.{cell_of_block, content_by}
+use Rattle.petal_history.specs.Contents.{cell_of_block, content_by, content_in}
 use Rattle.petal_history.specs.Events.{change_by, open_write}
 use Rattle.law_state.specs.Below.{HoldsAlone}
+use Rattle.law_state.specs.Epochs.{epoch_at}
 use Rattle.law_state.proofs.Alone.{led_row}
 use Rattle.law_state.proofs.Cells.{both_authority, alone_authority, second_by}
 use Rattle.law_state.proofs.Roles.{log_roles}
 use Rattle.law_steps.specs.Happens.{Handled, own_place}
+use Rattle.law_steps.specs.Ready.{IsRising}
 use Rattle.law_steps.proofs.Fronts.{front_on}
 use Rattle.law_steps.proofs.Histories.{chosen_steady, own_steady, runs_now}
 use Rattle.law_stores.specs.Waiting.{IsOwn}
@@ -38,13 +40,13 @@ use Rattle.law_requests.specs.Known.{asked_for}
 use Rattle.law_requests.proofs.Beside.{open_beside}
 use Rattle.law_requests.proofs.Running.{open_running, pending_here}
 use Rattle.law_run.specs.Onward.{is_held, Onward}
-use Rattle.law_run.specs.Follow.{kept_at}
-use Rattle.law_run.proofs.Along.{own_link, same_row}
+use Rattle.law_run.proofs.Along.{own_link, row_epoch, same_row}
 use Rattle.law_run.proofs.Chains.{StoresSo, Nothing_new, An_own, An_asked, A_copy, PutsAsked, PutsCopy, copied_apart}
 use Rattle.law_run.proofs.Copies.{copied_uncounted}
 use Rattle.law_run.proofs.Contents.{IsGiven, AreGiven, Taken, all_given, given_held, takes_of, was_kept, now_has, now_kept}
+use Rattle.law_run.proofs.Entries.{entry_below, entry_put}
 use Rattle.law_run.proofs.Frames.{OwnFollow, SaysOk, CountsOk}
-use Rattle.law_run.proofs.Grounds.{Followed, followed, followed_epoch, followed_recalled, pending_epoch, put_first, remembered, write_of}
+use Rattle.law_run.proofs.Grounds.{Followed, followed, followed_epoch, followed_recalled, pending_epoch, remembered, write_of}
 use Rattle.law_run.proofs.Placed.{Placed, placed}
 use Rattle.law_run.proofs.ServerJobs.{PutHeld}
 use Rattle.law_run.proofs.Seats.{op_seat}
@@ -78,16 +80,16 @@ module _ (this : ServerStep) (same : chosen_log this.setting (later_world this) 
   pub unchanged : (row : DiskRow) (b : ℕ)
       → (authority chosen (cell_of_block row b) ≡ Some this.n
       → chain_in (kept this.setting v this.n).chains (cell_of_block row b) ≡ chain_in (kept this.setting this.w this.n).chains (cell_of_block row b))
-      → was_kept this row b ≡ now_kept this row b
-  unchanged row b h =
-      same_content this same (cell_of_block row b) (authority chosen (cell_of_block row b)) h
-      ∙ ap (λ s. kept_at s (counted this.setting v) row b) (sym chosen_is)
+      → (epoch : ℕ) → was_kept this row epoch b ≡ now_kept this row epoch b
+  unchanged row b h epoch =
+      same_content this same (cell_of_block row b) epoch (authority chosen (cell_of_block row b)) h
+      ∙ ap (λ s. content_in s (counted this.setting v) row epoch b) (sym chosen_is)
 
   -- by the server's own store, where that counts
   own_unchanged : IsOwn this.setting this.w this.n → (row : DiskRow) (b : ℕ)
       → (authority chosen (cell_of_block row b) ≡ Some this.n
       → chain_in (new this).store.chains (cell_of_block row b) ≡ chain_in own.store.chains (cell_of_block row b))
-      → was_kept this row b ≡ now_kept this row b
+      → (epoch : ℕ) → was_kept this row epoch b ≡ now_kept this row epoch b
   own_unchanged counts row b h = unchanged row b (λ mine.
       ap (λ (s : Store). chain_in s.chains (cell_of_block row b)) (own_after this counts (joined_same this.n))
       ∙ h mine ∙ ap (λ (s : Store). chain_in s.chains (cell_of_block row b)) (sym (counts own.store)))
@@ -97,7 +99,7 @@ module _ (this : ServerStep) (same : chosen_log this.setting (later_world this) 
   counts k i cell op on is put now still = inl (ap (λ s. authority s cell) (sym chosen_is) ∙ now)
 
   -- no content changes
-  calm_given : ((row : DiskRow) (b : ℕ) → was_kept this row b ≡ now_kept this row b) → AreGiven this
+  calm_given : ((row : DiskRow) (b epoch : ℕ) → was_kept this row epoch b ≡ now_kept this row epoch b) → AreGiven this
   calm_given h row there b has = inl (h row b)
 
   -- a step that changes no chain
@@ -111,23 +113,50 @@ module _ (this : ServerStep) (same : chosen_log this.setting (later_world this) 
 
   -- ### A put of the copy that counts
 
-  module _ (key : Key) (entry : Stored) (epoch : key.epoch ≡ 0) (chains : (new this).store.chains ≡ chains_with own.store.chains key entry)
+  module _ (key : Key) (entry : Stored) (epoch : epoch_at chosen (cell_of key) ≡ key.epoch)
+      (chains : (new this).store.chains ≡ chains_with own.store.chains key entry)
       (own_counts : IsOwn this.setting this.w this.n) (mine : authority chosen (cell_of key) ≡ Some this.n) (op : Pending)
       (bytes : entry.bytes ≡ op.bytes) (place : Placed this op (cell_of key)) where
     abbrev chain : Chain
     chain = put nat_cmp (chain_in own.store.chains (cell_of key)) key.epoch entry
 
-    put_here : now_kept this place.row place.block ≡ op.bytes
+    -- the key's epoch is the disk's
+    at_epoch : place.row.epoch ≡ key.epoch
+    at_epoch =
+        sym (row_epoch this.setting this.w this.along.firm place.row place.there (cell_of key) (ap (λ (c : Cell). c.map) place.at_block)) ∙ epoch
+
+    -- the content of the block at an epoch, by the server's own chain
+    now_here : (e : ℕ) → now_kept this place.row e place.block ≡ bytes_of (entry_at chain e)
+    now_here e =
+        ap (λ (c : Cell). content_by (counted this.setting v) c e (authority (chosen_state this.setting v) c)) (sym place.at_block)
+        ∙ ap (content_by (counted this.setting v) (cell_of key) e) (ap (λ s. authority s (cell_of key)) chosen_is ∙ mine)
+        ∙ ap (λ (s : Store). bytes_of (entry_at (chain_in s.chains (cell_of key)) e)) (own_after this own_counts (joined_same this.n))
+        ∙ ap (λ c. bytes_of (entry_at (chain_in c (cell_of key)) e)) chains
+        ∙ ap (λ c. bytes_of (entry_at c e)) (chain_put own.store.chains (cell_of key) chain)
+
+    was_here : (e : ℕ) → was_kept this place.row e place.block ≡ bytes_of (entry_at (chain_in own.store.chains (cell_of key)) e)
+    was_here e =
+        ap (λ (c : Cell). content_by (counted this.setting this.w) c e (authority chosen c)) (sym place.at_block)
+        ∙ ap (content_by (counted this.setting this.w) (cell_of key) e) mine
+        ∙ ap (λ (s : Store). bytes_of (entry_at (chain_in s.chains (cell_of key)) e)) (own_counts own.store)
+
+    rising : IsRising nat_cmp (chain_in own.store.chains (cell_of key))
+    rising = subst (λ (s : Store). IsRising nat_cmp (chain_in s.chains (cell_of key))) (own_counts own.store)
+        (this.ground.good.rising this.n (cell_of key))
+
+    put_here : now_kept this place.row place.row.epoch place.block ≡ op.bytes
     put_here =
-        ap (λ (c : Cell). content_by (counted this.setting v) c 0 (authority (chosen_state this.setting v) c)) (sym place.at_block)
-        ∙ ap (content_by (counted this.setting v) (cell_of key) 0) (ap (λ s. authority s (cell_of key)) chosen_is ∙ mine)
-        ∙ ap (λ (s : Store). bytes_of (entry_at (chain_in s.chains (cell_of key)) 0)) (own_after this own_counts (joined_same this.n))
-        ∙ ap (λ c. bytes_of (entry_at (chain_in c (cell_of key)) 0)) chains
-        ∙ ap (λ c. bytes_of (entry_at c 0)) (chain_put own.store.chains (cell_of key) chain)
-        ∙ ap bytes_of (put_first (chain_in own.store.chains (cell_of key)) key.epoch entry epoch (this.ground.short.now this.n (cell_of key)))
+        ap (λ e. now_kept this place.row e place.block) at_epoch ∙ now_here key.epoch
+        ∙ ap bytes_of (entry_put (chain_in own.store.chains (cell_of key)) key.epoch entry rising)
         ∙ bytes
 
-    beside : (row : DiskRow) (b : ℕ) → cell_of_block row b ≢ cell_of key → was_kept this row b ≡ now_kept this row b
+    put_below : (e : ℕ) → e < place.row.epoch → was_kept this place.row e place.block ≡ now_kept this place.row e place.block
+    put_below e lt =
+        was_here e
+        ∙ ap bytes_of (sym (entry_below (chain_in own.store.chains (cell_of key)) key.epoch entry e (subst (λ k. e < k) at_epoch lt)))
+        ∙ sym (now_here e)
+
+    beside : (row : DiskRow) (b : ℕ) → cell_of_block row b ≢ cell_of key → (e : ℕ) → was_kept this row e b ≡ now_kept this row e b
     beside row b ne = own_unchanged own_counts row b (λ mine. ap (λ c. chain_in c (cell_of_block row b)) chains
         ∙ chain_apart own.store.chains (cell_of key) chain (cell_of_block row b) ne)
 
@@ -144,6 +173,7 @@ module _ (this : ServerStep) (same : chosen_log this.setting (later_world this) 
           disk_is = place.disk_is;
           block_is = place.block_is;
           bytes_is = place.bytes_is ∙ sym put_here;
+          below = put_below;
           looked = block_there (change_by this.setting this.w v) this.n place.row place.block chain this.within stored;
         }
 
@@ -269,7 +299,8 @@ module _ (this : ServerStep) (same : chosen_log this.setting (later_world this) 
             let firm = this.along.firm in
             let row = led_row here.state (own_steady this.setting this.w firm this.n) this.n op.cell staged.lead in
             let link = own_link this.setting this.w firm this.n op.cell row.0 row.1 in
-            let epoch = pending_epoch this.setting this.state this.along.steady this.w firm this.ground this.n this.n op.cell op is in
+            let epoch : epoch_at chosen (cell_of op.key) ≡ op.key.epoch =
+            ap (epoch_at chosen) keyed ∙ pending_epoch this.setting this.state this.along.steady this.w firm this.ground this.n this.n op.cell op runs is in
             let known = this.ground.asking.pending this.n op.cell op is in
             let still = open_running this.setting this.w firm lives this.state this.n (asked_for op.cell op) op.rev
             (pending_here this.setting this.w firm lives this.state this.ground.ready.rests this.ground.asking this.n op.cell op is)

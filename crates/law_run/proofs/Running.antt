@@ -24,8 +24,9 @@ use Rattle.petal_rules.specs.World.{Setting, World, acts, blank_joins_in, counte
 use Rattle.petal_rules.specs.declared.step.Step.{Step}
 use Rattle.petal_rules.specs.declared.step.Step.TheVariants.{Blank, Call}
 use Rattle.petal_rules.proofs.Tests.{by_test, none_some, same_some}
-use Rattle.petal_history.specs.Claims.{AreHeld, IsPrefix, Law, Requests, machine_after}
-use Rattle.petal_history.specs.Events.{begins, ended, ends, open_write, change_by, takes, makes, looks, told, told_from, told_with, joined, events_of, IsRunOf}
+use Rattle.petal_history.specs.Claims.{AreHeld, IsPrefix, IsStill, Law, Requests, SnapshotsStay, machine_after}
+use Rattle.petal_history.specs.Contents.{content_at, content_in, has_content}
+use Rattle.petal_history.specs.Events.{begins, ended, ends, open_write, change_by, freezes, takes, makes, looks, told, told_from, told_with, joined, events_of, IsRunOf}
 use Rattle.petal_history.specs.Legal.{Follows, IsLegal, IsLegalFrom, stepped, world_after}
 use Rattle.petal_history.specs.Sound.{IsSound}
 use Rattle.petal_history.specs.declared.record.Record.{Record}
@@ -57,11 +58,11 @@ use Rattle.law_requests.specs.Known.{lives_after}
 use Rattle.law_requests.proofs.Histories.{first_lives, requests_after, start_asking}
 use Rattle.law_requests.proofs.Stepping.{happens_asking, happens_later}
 use Rattle.law_log.proofs.Histories.{chosen_caught_was, history_agrees, history_is_firm, history_grows}
-use Rattle.law_run.specs.Follow.{Follow, Ground, HasOnlyKnown, OfStores}
+use Rattle.law_epochs.proofs.Histories.{early_after, pending_epoch, place_epoch, second_epoch}
+use Rattle.law_run.specs.Follow.{Follow, Ground, HasOnlyKnown, KnowEpochs, OfStores}
 use Rattle.law_run.proofs.Along.{Along, rows_in, content_number}
 use Rattle.law_run.proofs.ClientFrames.{ClientStep}
 use Rattle.law_run.proofs.ClientSteps.{begins_by, turn_told}
-use Rattle.law_run.proofs.Grounds.{short_later}
 use Rattle.law_run.proofs.Leaving.{happens_leaves}
 use Rattle.law_run.proofs.LogSteps.{step_kind}
 use Rattle.law_run.proofs.Looks.{AreGrounded, who_accepts}
@@ -70,8 +71,19 @@ use Rattle.law_run.proofs.Names.{happens_named, start_named}
 use Rattle.law_run.proofs.Recalled.{GoesOnFrom, IsVisit, remembered_next}
 use Rattle.law_run.proofs.ServerSteps.{ServesAt, step_told}
 use Rattle.law_run.proofs.Blanks.{blank_born, blank_follow, blank_told}
+use Rattle.law_run.proofs.Snapshots.{snapshots_on}
 use Rattle.law_run.proofs.Steps.{IsMiddle, born_kept}
-use Rattle.law_run.proofs.Synced.{happens_short}
+use Rattle.law_run.proofs.Still.{contents_still}
+
+-- what is known of epochs after each legal history
+epochs_after : (script : Script) (records : List Record) → IsSound script → IsLegal script records
+    → KnowEpochs (setting_of script) records (world_after (setting_of script) (start (setting_of script)) records)
+epochs_after script records sound legal = record {
+  pending = pending_epoch script records sound legal;
+  place = place_epoch script records sound legal;
+  second = second_epoch script records sound legal;
+  early = early_after script records sound legal;
+}
 
 -- ### Steps, where the chosen logs are fronts of one
 
@@ -183,8 +195,7 @@ module _ (script : Script) (sound : IsSound script) (whole : List Command) (all 
             recalled = remembered_next setting state w along.firm ground v next.firm grows records goes_from.good from_there on rests asking
                 (happens_leaves setting state w v h);
             named = happens_named setting state w ground.named v h;
-            short = short_later setting state steady w v along.firm ground h;
-            copied = happens_short setting state w ground v h;
+            epochs = subst (λ u. KnowEpochs setting records u) then_is (epochs_after script records sound legal);
             born = born_at w along ground own.actor own.step own.stamp follows.may.may next;
           }
 
@@ -268,8 +279,8 @@ module _ (script : Script) (sound : IsSound script) (whole : List Command) (all 
     step_tells : (who : Actor) (what : Step) → MayActor who what setting w → Onwards (step who what setting w stamp).world
         → Tells m (step who what setting w stamp).world
         (told_with (begins what who (step who what setting w stamp).world) (takes (change_by setting w (step who what setting w stamp).world))
-        (makes (change_by setting w (step who what setting w stamp).world) ++ looks setting.lines later (step who what setting w stamp).letters
-        ++ ends who w (step who what setting w stamp).answer))
+        (makes (change_by setting w (step who what setting w stamp).world) ++ freezes (change_by setting w (step who what setting w stamp).world)
+        ++ looks setting.lines later (step who what setting w stamp).letters ++ ends who w (step who what setting w stamp).answer))
     unfolding step
     step_tells (actor.Server n) Blank may next = record {
       es = [];
@@ -309,7 +320,8 @@ module _ (script : Script) (sound : IsSound script) (whole : List Command) (all 
         record {
           es = t.es;
           is = ap (λ b. told_with b (takes (change_by setting w v))
-              (makes (change_by setting w v) ++ looks setting.lines later (acts setting w n what stamp acted).letters ++ []))
+              (makes (change_by setting w v) ++ freezes (change_by setting w v) ++ looks setting.lines later (acts setting w n what stamp acted).letters
+              ++ []))
               (server_begins what n v) ∙ t.is;
           may = t.may;
           follows = t.follows;
@@ -322,8 +334,8 @@ module _ (script : Script) (sound : IsSound script) (whole : List Command) (all 
         record {
           es = t.es;
           is = ap (λ b. told_with b (takes (change_by setting w (reacts w c stamp reacted).world))
-              (makes (change_by setting w (reacts w c stamp reacted).world) ++ looks setting.lines later (reacts w c stamp reacted).letters
-              ++ ended (open_write w c) reacted.answer))
+              (makes (change_by setting w (reacts w c stamp reacted).world) ++ freezes (change_by setting w (reacts w c stamp reacted).world)
+              ++ looks setting.lines later (reacts w c stamp reacted).letters ++ ended (open_write w c) reacted.answer))
               (client_begins c what (reacts w c stamp reacted).world) ∙ t.is;
           may = t.may;
           follows = t.follows;
@@ -344,9 +356,35 @@ module _ (script : Script) (sound : IsSound script) (whole : List Command) (all 
       record {
         es = t.es;
         is = (λ i. told_with (begins own.step own.actor v) (takes (change_by setting w v))
-            (makes (change_by setting w v) ++ looks setting.lines later (follows.sent i) ++ ends own.actor w (follows.answer i))) ∙ t.is;
+            (makes (change_by setting w v) ++ freezes (change_by setting w v) ++ looks setting.lines later (follows.sent i)
+            ++ ends own.actor w (follows.answer i))) ∙ t.is;
         may = t.may;
         follows = t.follows;
+      }
+
+  -- after the first of these records
+  record IsStepped (w : World) (m : Plain) (own : Record) (later : List Record) : Type 0 where
+    ground : Ground setting state (stepped setting w own).world
+    legal : IsLegal script (ground.records ++ later)
+    tells : Tells m (stepped setting w own).world (told setting w own later)
+
+  first_step : (w : World) (m : Plain) (own : Record) (later : List Record) → AreFirm setting w (own ∷ later) → WakeAlong setting w (own ∷ later)
+      → IsPrefix (chosen_log setting (world_after setting w (own ∷ later))) whole → (ground : Ground setting state w)
+      → IsLegal script (ground.records ++ own ∷ later)
+      → Follow setting (rows_in setting w) w m → IsLegalFrom setting w (own ∷ later) → IsStepped w m own later
+  first_step w m own later firm wakes end ground all_legal follow legal =
+      let v = (stepped setting w own).world in
+      let then = firm_now setting v later firm.2 in
+      let front = reaches v later firm.2 end in
+      let along = along_at w firm.0 (front_on _ _ _ firm.1 front) in
+      let next = next_ground w own ground (one_more ground.records later own all_legal) along (along_at v then front) firm.1
+      (wake_now v later wakes.1) legal.0 in
+      let on = legal_on ground.records next.now.records later own next.records_are all_legal in
+      record {
+        ground = next.now;
+        legal = on;
+        tells = record_tells w m along ground follow own later legal.0 (along_at v then front)
+            firm.1 next.now next.middle (grounded v later firm.2 wakes.1 end next.now on legal.1) legal.1;
       }
 
   pub history_tells : (w : World) (m : Plain) (records : List Record) → AreFirm setting w records → WakeAlong setting w records
@@ -357,15 +395,9 @@ module _ (script : Script) (sound : IsSound script) (whole : List Command) (all 
   history_tells w m [] firm wakes end ground all_legal follow legal = record { es = []; is = refl; may = tt; follows = follow }
   history_tells w m (own ∷ later) firm wakes end ground all_legal follow legal =
       let v = (stepped setting w own).world in
-      let then = firm_now setting v later firm.2 in
-      let front = reaches v later firm.2 end in
-      let along = along_at w firm.0 (front_on _ _ _ firm.1 front) in
-      let next = next_ground w own ground (one_more ground.records later own all_legal) along (along_at v then front) firm.1
-      (wake_now v later wakes.1) legal.0 in
-      let on = legal_on ground.records next.now.records later own next.records_are all_legal in
-      let now = record_tells w m along ground follow own later legal.0 (along_at v then front)
-      firm.1 next.now next.middle (grounded v later firm.2 wakes.1 end next.now on legal.1) legal.1 in
-      let rest = history_tells v (replay m now.es) later firm.2 wakes.1 end next.now on now.follows legal.1 in
+      let first = first_step w m own later firm wakes end ground all_legal follow legal in
+      let now = first.tells in
+      let rest = history_tells v (replay m now.es) later firm.2 wakes.1 end first.ground first.legal now.follows legal.1 in
       record {
         es = now.es ++ rest.es;
         is = (λ i. joined (now.is i) (rest.is i));
@@ -373,6 +405,25 @@ module _ (script : Script) (sound : IsSound script) (whole : List Command) (all 
         follows = subst (λ k. Follow setting (rows_in setting (world_after setting v later)) (world_after setting v later) k)
             (sym (replay-append m now.es rest.es)) rest.follows;
       }
+
+  -- the machine on the way, and that it goes on from there by events alone
+  pub record IsOnTheWay (middle last : World) : Type 0 where
+    pub m : Plain
+    pub then : Follow setting (rows_in setting middle) middle m
+    pub es : List Event
+    pub now : Follow setting (rows_in setting last) last (replay m es)
+
+  pub on_the_way : (w : World) (m : Plain) (front back : List Record) → AreFirm setting w (front ++ back) → WakeAlong setting w (front ++ back)
+      → IsPrefix (chosen_log setting (world_after setting w (front ++ back))) whole → (ground : Ground setting state w)
+      → IsLegal script (ground.records ++ (front ++ back))
+      → Follow setting (rows_in setting w) w m → IsLegalFrom setting w (front ++ back)
+      → IsOnTheWay (world_after setting w front) (world_after setting w (front ++ back))
+  on_the_way w m [] back firm wakes end ground all_legal follow legal =
+      let t = history_tells w m back firm wakes end ground all_legal follow legal in record { m = m; then = follow; es = t.es; now = t.follows }
+  on_the_way w m (own ∷ front) back firm wakes end ground all_legal follow legal =
+      let first = first_step w m own (front ++ back) firm wakes end ground all_legal follow legal in
+      on_the_way (stepped setting w own).world (replay m first.tells.es) front back firm.2 wakes.1 end first.ground first.legal
+      first.tells.follows legal.1
 
 -- ### The beginning
 
@@ -399,10 +450,10 @@ start_follow script =
     })
 
 -- nothing has happened
-start_ground : (state : State) (script : Script) → Ready (setting_of script) state (start (setting_of script))
+start_ground : (state : State) (script : Script) → IsSound script → Ready (setting_of script) state (start (setting_of script))
     → AllMayWake (setting_of script) (start (setting_of script)) → Ground (setting_of script) state (start (setting_of script))
 unfolding In
-start_ground state script ready wake =
+start_ground state script sound ready wake =
     let setting = setting_of script in
     record {
       ready = ready;
@@ -421,8 +472,7 @@ start_ground state script ready wake =
       joined = λ n front prefix seat.
           ap (λ log. blank_joins_in setting log n) (no_front front (subst (IsPrefix front) (none_chosen setting) prefix)
           ∙ sym (none_chosen setting));
-      short = record { now = λ n cell. inl (none_stored cell); before = λ n before is. none_some refl is };
-      copied = λ letter i. absurd i;
+      epochs = epochs_after script [] sound tt;
       born = record { now = λ n cell none. none_stored cell; before = λ n before is. none_some refl is };
     }
   where
@@ -442,10 +492,10 @@ record FirstGround (state : State) (script : Script) : Type 0 where
   now : Ground (setting_of script) state (start (setting_of script))
   records_are : now.records ≡ []
 
-first_ground : (state : State) (script : Script) → Ready (setting_of script) state (start (setting_of script))
+first_ground : (state : State) (script : Script) → IsSound script → Ready (setting_of script) state (start (setting_of script))
     → AllMayWake (setting_of script) (start (setting_of script)) → FirstGround state script
 unfolding start_ground
-first_ground state script ready wake = record { now = start_ground state script ready wake; records_are = refl }
+first_ground state script sound ready wake = record { now = start_ground state script sound ready wake; records_are = refl }
 
 -- ### The law
 
@@ -472,20 +522,25 @@ module _ (script : Script) (records : List Record) (sound : IsSound script) (leg
   abbrev whole : List Command
   whole = chosen_log of_script last_world
 
+  front : IsPrefix (chosen_log of_script begun) whole
+  front = reaches script sound whole last_firm.plain begun records firm (front_itself whole)
+
+  first : FirstGround (state_after script.servers whole) script
+  first =
+      let first_along = along_at script sound whole last_firm.plain begun (firm_now of_script begun records firm) front in
+      first_ground (state_after script.servers whole) script sound
+      (record { rests = start_rests script; firm = first_along.firm; below = first_along.below })
+      (wake_now script sound whole last_firm.plain begun records wakes)
+
+  first_legal : IsLegal script (first.now.records ++ records)
+  first_legal = subst (λ done. IsLegal script (done ++ records)) (sym first.records_are) legal
+
   abbrev T : Type 0
   T = Tells script sound whole last_firm.plain blank last_world (events_of script records)
 
   tells : T
-  tells =
-      let end = front_itself whole in
-      let front = reaches script sound whole last_firm.plain begun records firm end in
-      let first_along = along_at script sound whole last_firm.plain begun (firm_now of_script begun records firm) front in
-      let ready : Ready of_script (state_after script.servers whole) begun =
-      record { rests = start_rests script; firm = first_along.firm; below = first_along.below } in
-      let first = first_ground (state_after script.servers whole) script ready
-      (wake_now script sound whole last_firm.plain begun records wakes) in
-      history_tells script sound whole last_firm.plain begun blank records firm wakes end first.now
-      (subst (λ done. IsLegal script (done ++ records)) (sym first.records_are) legal) (start_follow script) legal
+  tells = history_tells script sound whole last_firm.plain begun blank records firm wakes (front_itself whole) first.now first_legal
+      (start_follow script) legal
 
   pub run_after : IsRunOf (events_of script records)
   run_after = subst IsRunOf (sym tells.is) tells.may
@@ -493,16 +548,43 @@ module _ (script : Script) (records : List Record) (sound : IsSound script) (leg
   pub held_after : AreHeld of_script last_world (machine_after (events_of script records)).disks
   held_after =
       let stores = tells.follows.stores in
+      let chosen = chosen_state of_script last_world in
       subst (λ o. AreHeld of_script last_world (machine_after o).disks) (sym tells.is) (record {
         known = λ row h.
             let k = stores.known row h in
             record {
               disk = k.disk;
               is = k.is;
-              same = λ b has. k.same b has ∙ sym (content_number of_script last_world last_firm row h b);
+              same = λ b has. k.same b has ∙ sym (content_number of_script last_world last_firm row h row.epoch b);
+              snapshots = snapshots_on k.disk.snaps row.snaps (has_content chosen row) (has_content chosen row)
+                  (content_in chosen (counted of_script last_world) row) (content_at of_script last_world row.id) (λ b has. has)
+                  (λ snap i b has. sym (content_number of_script last_world last_firm row h snap.epoch b)) k.snapshots;
             };
         unknown = stores.unknown;
       })
+
+-- snapshots never change on the way
+still_after : (script : Script) (front back : List Record) → IsSound script → IsLegal script (front ++ back)
+    → IsStill (setting_of script) (world_after (setting_of script) (start (setting_of script)) front)
+    (world_after (setting_of script) (start (setting_of script)) (front ++ back))
+still_after script front back sound legal =
+    let setting = setting_of script in
+    let records = front ++ back in
+    let begun = start setting in
+    let middle = world_after setting begun front in
+    let last = last_firm script records sound legal in
+    let log = whole script records sound legal in
+    let way = on_the_way script sound log last.plain begun blank front back (firm script records sound legal) (wakes script records sound legal)
+    (front_itself log) (first script records sound legal).now (first_legal script records sound legal) (start_follow script) legal in
+    contents_still setting middle (world_after setting begun records)
+    (history_is_firm script front sound (front_legal setting begun front back legal).0) last
+    (history_grows script records sound legal front back refl) way.m way.es way.then.stores way.now.stores
+
+snapshots_after : (script : Script) (records : List Record) → IsSound script → IsLegal script records → SnapshotsStay script records
+snapshots_after script records sound legal front back e =
+    subst (λ rs. IsStill (setting_of script) (world_after (setting_of script) (start (setting_of script)) front)
+    (world_after (setting_of script) (start (setting_of script)) rs)) (sym e)
+    (still_after script front back sound (subst (IsLegal script) e legal))
 
 -- the rule of requests, after each legal history
 abbrev pub KeepsRequests : Type 0
@@ -523,6 +605,7 @@ law_with requests script records sound legal = record {
   marks = marks_first script records sound legal;
   run = run_after script records sound legal;
   holds = held_after script records sound legal;
+  snapshots = snapshots_after script records sound legal;
 }
 
 pub law : Law

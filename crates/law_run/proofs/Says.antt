@@ -129,7 +129,7 @@ module _ (heard : Body → Type 0) (here : Here) (own : Own) where
   pub quiet_data : (done : Done) (d : Did heard here own done) → IsQuiet d → (post : Post) → In post done.posts → is_data post.body ≡ false
   unfolding In
   quiet_data _ Ignores quiet post i = absurd i
-  quiet_data _ (Refuses to what is why) quiet post i = ap is_data (one_post to what post i).1 ∙ unended_data what (ap is_ending is)
+  quiet_data _ (Refuses to what is why back) quiet post i = ap is_data (one_post to what post i).1 ∙ unended_data what (ap is_ending is)
   quiet_data _ (By_read done d) quiet post i = absurd quiet
   quiet_data _ (By_lead done d) quiet post i = lead_data done d post i
   quiet_data _ (By_second done d) quiet post i = unended_data post.body (second_unended done d post i)
@@ -209,7 +209,7 @@ module _ (this : ServerStep) (k : Plain) (runs : (this.w.servers this.n).life.ru
 
   pub did_says : (done : Done) → Did hears here own done → PostsOk done.posts
   did_says _ Ignores = none_says
-  did_says _ (Refuses to what is why) = one_unwritten to what (unended_written what (ap is_ending is))
+  did_says _ (Refuses to what is why back) = one_unwritten to what (unended_written what (ap is_ending is))
   did_says _ (By_read done d) =
       unwritten done.posts (λ post i. ap is_written ((of_read hears here own done d).says post i).is)
   did_says _ (By_lead done d) = lead_says done d

@@ -52,7 +52,8 @@ use Rattle.law_run.specs.Follow.{HasCounted, Is_told, Is_followed, Is_counted}
 use Rattle.law_run.proofs.Chains.{StoresSo, Nothing_new, An_own, An_asked, A_copy, OtherStores, PutsAsked, PutsCopy, PutsOwn, copied_apart, did_stores, holder_chains, lead_stores, other_changes, second_stores}
 use Rattle.law_run.proofs.Copies.{copied_unfollowed}
 use Rattle.law_run.proofs.Frames.{OwnFollow, kept_finished, own_counted}
-use Rattle.law_run.proofs.Grounds.{Followed, followed, not_ahead, pending_epoch}
+use Rattle.law_run.proofs.Entries.{not_ahead}
+use Rattle.law_run.proofs.Grounds.{Followed, followed}
 use Rattle.law_run.proofs.Machine.{held_onward}
 use Rattle.law_run.proofs.Seats.{IsSharing, first_ok, heard_shared, one_place_of, op_alone, op_leads, op_seat, op_shared, peer, place_of, shared_or_alone, shared_store, store_there, visit_here}
 use Rattle.law_run.proofs.Steps.{ServerStep, joined_now, joined_then, kept_here, later_world, new as own_left, own_after}
@@ -257,9 +258,7 @@ module _ (this : ServerStep) (k : Plain) where
         sym new ∙ ap (chain_in (puts own op).own.store.chains) keyed ∙ same
         ∙ sym (put_now op there both (ap (λ (s : Stage). s.put) stage) row linked shared) ∙ ap mine (sym keyed) in
         let next : entry.version ≡ version_of (mine cell) + 1 = ap (λ (c : Cell). version_of (mine c) + 1) (sym keyed) in
-        absurd (not_ahead (mine cell) op.key.epoch entry
-        (pending_epoch this.setting this.state this.along.steady this.w this.along.firm this.ground this.n this.n op.cell op there)
-        (this.ground.short.now this.n cell) next equal)
+        absurd (not_ahead (mine cell) op.key.epoch entry next equal)
 
     lead_pending : (done : Done) (d : DidLead hears here own done) → PutHeld (lead_stores hears here own done d) → (cell : Cell) (o : Pending)
         → at cell_cmp done.own.pairs.pending cell ≡ Some o → Counted cell o (chain_in done.own.store.chains cell) → Held o
@@ -299,7 +298,8 @@ module _ (this : ServerStep) (k : Plain) where
         let keyed = taken_keyed now op taken in
         put_lead now.pairs.pending (puts now op).own.store.chains op.cell
         (record op { version = version_of (chain_in now.store.chains op.cell) + 1; stage = record op.stage { put = true } }) (others_taken now op taken)
-        (λ q ne. put_beside now.store.chains op.key (record { version = version_of (chain_in now.store.chains op.cell) + 1; bytes = op.bytes }) op.cell keyed q ne
+        (λ q ne.
+        put_beside now.store.chains op.key (record { version = version_of (chain_in now.store.chains op.cell) + 1; bytes = op.bytes }) op.cell keyed q ne
         ∙ still_taken now op taken q ne)
         (λ counted still. elim counted [
           | Is_told both e ↦ not_both op.cell alone both
@@ -508,7 +508,7 @@ module _ (this : ServerStep) (k : Plain) where
     did_finished : (done : Done) → Did hears here own done → (c : ℕ) (last : Finished) → at nat_cmp done.own.pairs.finished c ≡ Some last
         → last.ending ≡ ending.Written → IsOpen (this.w.clients c) last.seq → is_held k c ≡ true
     did_finished _ Ignores = old_finished
-    did_finished _ (Refuses to said is why) = old_finished
+    did_finished _ (Refuses to said is why back) = old_finished
     did_finished _ (By_read done d) =
         kept_finished this k onward runs done.own (ap (λ (o : Own). o.pairs.finished) (of_read hears here own done d).same)
     did_finished _ (By_lead done d) = lead_finished done d
@@ -534,7 +534,7 @@ module _ (this : ServerStep) (k : Plain) where
         → (cell : Cell) (o : Pending)
         → at cell_cmp done.own.pairs.pending cell ≡ Some o → Counted cell o (chain_in done.own.store.chains cell) → Held o
     did_pending _ seated Ignores held = λ cell o is. was_held cell o is
-    did_pending _ seated (Refuses to said is why) held = λ cell o is. was_held cell o is
+    did_pending _ seated (Refuses to said is why back) held = λ cell o is. was_held cell o is
     did_pending _ seated (By_read done d) held =
         let same = (of_read hears here own done d).same in
         stays_pending done.own (Nothing_new (ap (λ (x : Own). x.store.chains) same)) tt (ap (λ (x : Own). x.pairs.pending) same)

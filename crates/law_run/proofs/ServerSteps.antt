@@ -50,7 +50,8 @@ use Rattle.law_run.proofs.Grounds.{proposed_store}
 use Rattle.law_run.proofs.Says.{IsUnended, is_written, did_says, downs_unended, glances_unended, logged_unended, quiet_data, unended_no_data, unended_no_end}
 use Rattle.law_run.proofs.ServerJobs.{did_job}
 use Rattle.law_run.proofs.Shows.{data_of, show_told}
-use Rattle.law_run.proofs.Steps.{IsMiddle, ServerStep, ServerTold, LooksTold, letters, assembled, kept_here, quiet_looks}
+use Rattle.law_run.proofs.Freezing.{assembled}
+use Rattle.law_run.proofs.Steps.{IsMiddle, ServerStep, ServerTold, LooksTold, letters, kept_here, quiet_looks}
 use Rattle.law_run.proofs.Votes.{votes_told}
 
 -- letters that end no request
@@ -273,7 +274,8 @@ module _ (at : ServesAt) where
         who posts refl (λ post i. glances_unended post (shown post i))
     rest_told _ (Wakes booted asleep) of_it next same accepts =
         calm_step _ of_it next same refl (λ k onward. kept_own (step_of _ of_it next) k onward refl (λ on. Anew refl))
-        (record { from = actor.Server at.n; inc = (at.w.servers at.n).life.inc + 1; rev = rev_of (awake (raised (at.w.servers at.n))).log }) downs refl downs_end
+        (record { from = actor.Server at.n; inc = (at.w.servers at.n).life.inc + 1; rev = rev_of (awake (raised (at.w.servers at.n))).log })
+        downs refl downs_end
     rest_told _ (Fails booted asleep) of_it next same accepts =
         calm_step _ of_it next same refl (λ k onward. kept_own (step_of _ of_it next) k onward refl (λ on. true_false on asleep))
         (without_rev here) [] refl no_posts

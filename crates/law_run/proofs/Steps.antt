@@ -1,11 +1,10 @@
--- What the machine is told of a server's step: takes, disks that are made, and looks.
+-- What the machine is told of a server's step: takes, disks that are made, snapshots that are taken, and looks.
 use Rattle.std.proofs.Common.{◌≡◌, ◌≢◌, ◌<◌, ℕ, List, [], ◌++◌, ◌∷◌, false, Option, Some, None, refl, sym, ap, ◌∙◌, subst, inl, inr}
-use Rattle.std.specs.Prelude.{drop, length, map}
 use Rattle.petal_base.specs.Block.{zero_block}
 use Rattle.petal_base.specs.declared.cell.Cell.{Cell}
 use Rattle.global_tables.specs.declared.disk.DiskRow.{DiskRow}
 use Rattle.petal_machine.specs.declared.event.Event.{Event}
-use Rattle.petal_machine.specs.Machine.{Plain, disk_of}
+use Rattle.petal_machine.specs.Machine.{Plain}
 use Rattle.petal_machine.specs.Run.{Obeys, replay}
 use Rattle.petal_msg.specs.declared.letter.Letter.{Letter}
 use Rattle.petal_command.specs.declared.command.Command.{Command}
@@ -14,7 +13,7 @@ use Rattle.petal_state.specs.Command.{state_after}
 use Rattle.petal_rules.specs.Blanked.{BeforeBlank, kept_store}
 use Rattle.petal_rules.specs.Lists.{In}
 use Rattle.petal_rules.specs.Log.{Log, state_in}
-use Rattle.petal_rules.specs.State.{State, authority}
+use Rattle.petal_rules.specs.State.{State}
 use Rattle.petal_rules.specs.Store.{Store, chain_in, entry_at, bytes_of}
 use Rattle.petal_rules.specs.Server.{Server, Own, Done}
 use Rattle.petal_rules.specs.Jobs.{Acted}
@@ -23,13 +22,12 @@ use Rattle.petal_rules.specs.declared.step.Step.{Step}
 use Rattle.petal_rules.proofs.ListLemmas.{put_same, put_apart}
 use Rattle.petal_rules.proofs.Tests.{all_put, none_some, same_or_apart, some_or_none}
 use Rattle.petal_history.specs.Claims.{IsPrefix}
-use Rattle.petal_history.specs.Contents.{cell_of_block, content_by}
-use Rattle.petal_history.specs.Events.{change_by, takes, makes, make_of, looks, look_of, told_with}
+use Rattle.petal_history.specs.Contents.{content_by}
+use Rattle.petal_history.specs.Events.{change_by, freezes, takes, makes, looks, look_of, told_with}
 use Rattle.petal_history.specs.declared.record.Record.{Record}
 use Rattle.law_state.specs.Below.{IsBelow}
 use Rattle.law_state.specs.Firm.{Firm}
 use Rattle.law_state.specs.Tables.{IsGrown}
-use Rattle.law_state.proofs.Rows.{fresh_rows, none_before}
 use Rattle.law_state.proofs.Steady.{front_plain, log_below}
 use Rattle.law_steps.specs.Ready.{Rests}
 use Rattle.law_steps.specs.Happens.{Worked, By_job, By_ballot, By_entry, Serving, Goes, Ends, Stays, Wakes, Fails}
@@ -39,14 +37,12 @@ use Rattle.law_stores.specs.Waiting.{IsOwn}
 use Rattle.law_copies.specs.Good.{Good, store_of}
 use Rattle.law_copies.specs.Pair.{owns_of}
 use Rattle.law_copies.specs.Visits.{Visits}
-use Rattle.law_run.specs.Follow.{Ground, HasOnlyKnown, Follow, OfStores, Stores}
-use Rattle.law_run.proofs.Along.{Along, rows_in, plain_now}
+use Rattle.law_run.specs.Follow.{Ground, HasOnlyKnown, Follow, OfStores}
+use Rattle.law_run.proofs.Along.{Along, rows_in}
 use Rattle.law_run.proofs.Born.{serves_born}
 use Rattle.law_run.proofs.Counted.{of_stores, same_kept}
 use Rattle.law_run.proofs.Looks.{Looked, is_data, no_look}
-use Rattle.law_run.proofs.Machine.{Obeys-append, replay-append, onward_itself}
-use Rattle.law_run.proofs.Onwards.{follow_onward}
-use Rattle.law_run.proofs.Makes.{made_all, drop_front}
+use Rattle.law_run.proofs.Machine.{onward_itself}
 use Rattle.law_run.proofs.Members.{all_empty}
 
 -- two copies after a step, by what was chosen before it: at the places of then, servers have been where they have been after it
@@ -78,18 +74,14 @@ pub record ServerStep : Type 0 where
   pub middle : IsMiddle setting w (acts setting w n what stamp acted).world onward.records onward.good.visits
   pub later : List Record
 
-append_nil : {A : Type 0} (xs : List A) → xs ++ [] ≡ xs
-append_nil [] = refl
-append_nil (x ∷ xs) = ap (λ ys. x ∷ ys) (append_nil xs)
-
 -- where no server has an entry there are zeros
-zero_content : (v : World) (cell : Cell) → ((k : ℕ) → chain_in (store_of v k).chains cell ≡ []) → (o : Option ℕ)
-    → content_by v cell 0 o ≡ zero_block
-zero_content v cell empty None = refl
-zero_content v cell empty (Some k) = ap (λ c. bytes_of (entry_at c 0)) (empty k)
+pub zero_content : (v : World) (cell : Cell) → ((k : ℕ) → chain_in (store_of v k).chains cell ≡ []) → (epoch : ℕ) (o : Option ℕ)
+    → content_by v cell epoch o ≡ zero_block
+zero_content v cell empty epoch None = refl
+zero_content v cell empty epoch (Some k) = ap (λ c. bytes_of (entry_at c epoch)) (empty k)
 
 -- a server's own state is below what is chosen, where its entries are
-below_at : (setting : Setting) (w : World) → Firm setting w → (front : List Command) → IsPrefix front (chosen_log setting w)
+pub below_at : (setting : Setting) (w : World) → Firm setting w → (front : List Command) → IsPrefix front (chosen_log setting w)
     → IsBelow (state_after setting.servers front) (chosen_state setting w)
 below_at setting w firm front prefix = log_below setting.servers front (chosen_log setting w) firm.plain prefix
 
@@ -196,7 +188,7 @@ module _ (this : ServerStep) where
       this.along.firm.servers (serves_within this.setting this.w this.ground.wake this.along.firm this.n this.what this.acted this.serving)
 
   -- nothing is stored of disks that were not chosen before the step
-  unput : (cell : Cell) → cell_link (chosen_state this.setting this.w) cell ≡ None → (i : ℕ) → chain_in (kept this.setting v i).chains cell ≡ []
+  pub unput : (cell : Cell) → cell_link (chosen_state this.setting this.w) cell ≡ None → (i : ℕ) → chain_in (kept this.setting v i).chains cell ≡ []
   unput cell none i =
       of_stores this.setting v (HasOnlyKnown this.setting v) this.onward.born i cell
       (none_below _ _ cell (below_at this.setting this.w this.along.firm _ (logs_within i)) none)
@@ -265,51 +257,11 @@ module _ (this : ServerStep) where
   -- what is told of the step
   pub record ServerTold : Type 0 where
     pub es : List Event
-    pub is : told_with [] (takes (change_by this.setting this.w v)) (makes (change_by this.setting this.w v) ++ looks this.setting.lines this.later letters ++ [])
+    pub is : told_with [] (takes (change_by this.setting this.w v))
+        (makes (change_by this.setting this.w v) ++ freezes (change_by this.setting this.w v) ++ looks this.setting.lines this.later letters ++ [])
         ≡ Some es
     pub may : Obeys this.m es
     pub follows : Follow this.setting (rows_in this.setting v) v (replay this.m es)
-
-  -- takes, then disks that are made, then looks
-  pub assembled : TakesTold → LooksTold → ServerTold
-  assembled taken look =
-      let before = chosen_state this.setting this.w in
-      let after = chosen_state this.setting v in
-      let more = this.grown.more in
-      let servers = this.setting.servers in
-      let one = plain_now this.setting this.w this.along.firm in
-      let two = plain_now this.setting v this.next.firm in
-      let k1 = replay this.m taken.es in
-      let made = made_all after (counted this.setting v) rows more k1 (fresh_rows servers before after two this.grown) taken.follows.stores
-      (λ row h b. zero_content (counted this.setting v) (cell_of_block row b)
-      (unput (cell_of_block row b) (none_before servers before after one two this.grown row h (cell_of_block row b) refl))
-      (authority after (cell_of_block row b))) in
-      let ms = map make_of more in
-      let made_is : makes (change_by this.setting this.w v) ≡ ms =
-      ap (λ rs. map make_of (drop (length rows) rs)) this.grown.rows ∙ ap (map make_of) (drop_front rows more) in
-      let k2 = replay k1 ms in
-      let following : Follow this.setting (rows_in this.setting v) v k2 =
-      subst (λ rs. Follow this.setting rs v k2) (sym this.grown.rows)
-      (follow_onward this.setting rows (rows ++ more) v k1 k2 taken.follows made.onward made.stores) in
-      let seen = look k2 following in
-      let ls = looks this.setting.lines this.later letters in
-      let k3 = replay k2 ls in
-      let stores : Stores after (rows_in this.setting v) (counted this.setting v) k3 =
-      record {
-        known = λ row h.
-            let k = following.stores.known row h in
-            record { disk = k.disk; is = ap (λ ds. disk_of ds row.name) seen.disks ∙ k.is; same = k.same };
-        unknown = λ name none. ap (λ ds. disk_of ds name) seen.disks ∙ following.stores.unknown name none;
-        mindful = seen.mindful;
-      } in
-      record {
-        es = taken.es ++ (ms ++ ls);
-        is = (λ i. told_with [] (taken.is i) (append_nil (made_is i ++ ls) i));
-        may = Obeys-append this.m taken.es (ms ++ ls) taken.may (Obeys-append k1 ms ls made.may seen.may);
-        follows = subst (Follow this.setting (rows_in this.setting v) v)
-            (sym (replay-append this.m taken.es (ms ++ ls) ∙ replay-append k1 ms ls))
-            (follow_onward this.setting (rows_in this.setting v) (rows_in this.setting v) v k2 k3 following seen.onward stores);
-      }
 
   -- where no data are sent, nothing is looked at
   pub quiet_looks : ((letter : Letter) → In letter letters → is_data letter.body ≡ false) → LooksTold
@@ -320,11 +272,11 @@ module _ (this : ServerStep) where
       subst (Looked k) (sym none) (record { may = tt; disks = refl; mindful = following.stores.mindful; onward = onward_itself k })
 
   -- the content of a cell that a step leaves at which nothing is chosen, where the same server's copy counts
-  pub same_content : chosen_log this.setting v ≡ chosen_log this.setting this.w → (cell : Cell) (o : Option ℕ)
+  pub same_content : chosen_log this.setting v ≡ chosen_log this.setting this.w → (cell : Cell) (epoch : ℕ) (o : Option ℕ)
       → (o ≡ Some this.n → chain_in (kept this.setting v this.n).chains cell ≡ chain_in (kept this.setting this.w this.n).chains cell)
-      → content_by (counted this.setting this.w) cell 0 o ≡ content_by (counted this.setting v) cell 0 o
-  same_content same cell None h = refl
-  same_content same cell (Some i) h = ap (λ c. bytes_of (entry_at c 0)) (sym (elim (same_or_apart i this.n) [
+      → content_by (counted this.setting this.w) cell epoch o ≡ content_by (counted this.setting v) cell epoch o
+  same_content same cell epoch None h = refl
+  same_content same cell epoch (Some i) h = ap (λ c. bytes_of (entry_at c epoch)) (sym (elim (same_or_apart i this.n) [
     | inl e ↦
         subst (λ j. chain_in (kept this.setting v j).chains cell ≡ chain_in (kept this.setting this.w j).chains cell) (sym e) (h (ap Some e))
     | inr ne ↦ ap (λ (s : Store). chain_in s.chains cell)

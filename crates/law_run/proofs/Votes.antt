@@ -24,6 +24,7 @@ use Rattle.petal_rules.proofs.Tests.{all_put_apart, by_bool, none_some, number_i
 use Rattle.petal_history.specs.Claims.{one_put_ahead}
 use Rattle.petal_history.specs.Contents.{cell_of_block, content_by}
 use Rattle.petal_history.specs.Events.{change_by, open_write}
+use Rattle.law_state.specs.Epochs.{epoch_at}
 use Rattle.law_state.specs.Places.{IsCaughtStill}
 use Rattle.law_state.specs.Plain.{IsPlainLog}
 use Rattle.law_state.specs.Rows.{ByBoth, ByOne, ByNone, IsLater}
@@ -46,17 +47,18 @@ use Rattle.law_requests.specs.Known.{asked_for}
 use Rattle.law_requests.proofs.Leads.{leader_alone, same_only}
 use Rattle.law_requests.proofs.Running.{open_at_place}
 use Rattle.law_run.specs.Onward.{is_held}
-use Rattle.law_run.specs.Follow.{HasShortChains, IsRemembered, Is_followed}
-use Rattle.law_run.proofs.Along.{rows_in, disks_now, own_link, plain_now, same_row}
+use Rattle.law_run.specs.Follow.{IsRemembered, Is_followed}
+use Rattle.law_run.proofs.Along.{rows_in, disks_now, own_link, plain_now, row_epoch, same_row}
 use Rattle.law_run.proofs.Contents.{IsGiven, AreGiven, Taken, all_given, given_held, takes_of, was_kept, now_has, now_kept}
-use Rattle.law_run.proofs.Counted.{of_stores}
+use Rattle.law_run.proofs.Entries.{entry_below, entry_put}
 use Rattle.law_run.proofs.Filled.{been_within, caught_visit, serving_same, visits}
 use Rattle.law_run.proofs.Frames.{AreKept, Runs, CountsOk, kept_before, kept_own}
-use Rattle.law_run.proofs.Grounds.{put_first, recalled_epoch, remembered, write_of}
+use Rattle.law_run.proofs.Freezing.{assembled}
+use Rattle.law_run.proofs.Grounds.{recalled_epoch, remembered, write_of}
 use Rattle.law_run.proofs.Machine.{held_onward}
 use Rattle.law_run.proofs.Placed.{Placed, placed}
 use Rattle.law_run.proofs.Says.{is_written, unended_data, unended_written}
-use Rattle.law_run.proofs.Steps.{ServerStep, ServerTold, new, later_world, letters, assembled, joined_now, joined_then, kept_chain, kept_middle, quiet_looks}
+use Rattle.law_run.proofs.Steps.{ServerStep, ServerTold, new, later_world, letters, joined_now, joined_then, kept_chain, kept_middle, quiet_looks}
 use Rattle.law_run.proofs.Seats.{chosen_last, chosen_store, chosen_twins, half_store, op_leads, op_there, shared_before, visit_here}
 use Rattle.law_run.proofs.Takes.{block_there}
 
@@ -98,8 +100,8 @@ module _ (this : ServerStep) (same_store : (new this).store.chains ≡ (owns_of 
   each_chain i cell same = ap (λ c. chain_in c cell) (kept_chain this same_store i same)
 
   same_held : (cell : Cell) (i : ℕ) → joined_now this i ≡ joined_then this i
-      → content_by (counted this.setting this.w) cell 0 (Some i) ≡ content_by (counted this.setting v) cell 0 (Some i)
-  same_held cell i same = ap (λ c. bytes_of (entry_at c 0)) (sym (each_chain i cell same))
+      → (epoch : ℕ) → content_by (counted this.setting this.w) cell epoch (Some i) ≡ content_by (counted this.setting v) cell epoch (Some i)
+  same_held cell i same epoch = ap (λ c. bytes_of (entry_at c epoch)) (sym (each_chain i cell same))
 
   -- ### By what was chosen before the step
 
@@ -338,30 +340,50 @@ module _ (this : ServerStep) (same_store : (new this).store.chains ≡ (owns_of 
       abbrev entry : Stored
       entry = record { version = version_of (chain_in (kept this.setting this.w q).chains cell) + 1; bytes = op.bytes }
 
-      front : entry_at (chain_in (kept this.setting this.w p).chains cell) 0 ≡ Some entry
+      -- of the epoch that is chosen
+      epoch : epoch_at chosen cell ≡ op.key.epoch
+      epoch = recalled_epoch this.setting this.state this.along.steady this.w this.along.firm this.ground this.n p cell left.link left.linked own visit
+          op is first_recalled
+
+      front : entry_at (chain_in (kept this.setting this.w p).chains cell) op.key.epoch ≡ Some entry
       front =
-          ap (λ c. entry_at c 0) ahead
-          ∙ put_first (chain_in (kept this.setting this.w q).chains cell) op.key.epoch entry
-          (recalled_epoch this.setting this.state this.along.steady this.w this.along.firm this.ground this.n p spot cell op first_recalled)
-          (of_stores this.setting this.w HasShortChains this.ground.short q cell)
+          ap (λ c. entry_at c op.key.epoch) ahead
+          ∙ entry_put (chain_in (kept this.setting this.w q).chains cell) op.key.epoch entry (this.ground.good.rising q cell)
 
       -- the first server's chain is there
       there : (chain : Chain) × (at cell_cmp (kept this.setting v p).chains cell ≡ Some chain)
       there = elim (some_or_none (at cell_cmp (kept this.setting v p).chains cell)) [
         | inl some ↦ some
-        | inr none ↦ none_some (ap (λ o. entry_at (unwrap_or {T = Chain} o []) 0) none) (ap (λ c. entry_at c 0) (each_chain p cell left.same) ∙ front)
+        | inr none ↦ none_some (ap (λ o. entry_at (unwrap_or {T = Chain} o []) op.key.epoch) none)
+            (ap (λ c. entry_at c op.key.epoch) (each_chain p cell left.same) ∙ front)
       ]
 
-      counts_so : content_by (counted this.setting v) cell 0 (authority after cell) ≡ op.bytes
-      counts_so = ap (content_by (counted this.setting v) cell 0) left.now ∙ sym (same_held cell p left.same) ∙ ap bytes_of front
+      counts_so : content_by (counted this.setting v) cell op.key.epoch (authority after cell) ≡ op.bytes
+      counts_so =
+          ap (content_by (counted this.setting v) cell op.key.epoch) left.now ∙ sym (same_held cell p left.same op.key.epoch) ∙ ap bytes_of front
 
       pub place : Placed this op cell
       place = placed this cell op left.link left.linked
           (write_of this.setting this.state this.along.steady this.w this.along.firm this.ground this.n p spot cell op first_recalled)
           first_open
 
-      now_bytes : now_kept this place.row place.block ≡ op.bytes
-      now_bytes = ap (λ (c : Cell). content_by (counted this.setting v) c 0 (authority after c)) (sym place.at_block) ∙ counts_so
+      at_epoch : place.row.epoch ≡ op.key.epoch
+      at_epoch = sym (row_epoch this.setting this.w this.along.firm place.row place.there cell (ap (λ (c : Cell). c.map) place.at_block)) ∙ epoch
+
+      now_bytes : now_kept this place.row place.row.epoch place.block ≡ op.bytes
+      now_bytes =
+          ap (λ e. now_kept this place.row e place.block) at_epoch
+          ∙ ap (λ (c : Cell). content_by (counted this.setting v) c op.key.epoch (authority after c)) (sym place.at_block) ∙ counts_so
+
+      -- at epochs below the two chains are equal
+      below_so : (e : ℕ) → e < place.row.epoch → was_kept this place.row e place.block ≡ now_kept this place.row e place.block
+      below_so e lt =
+          ap (λ (c : Cell). content_by (counted this.setting this.w) c e (authority chosen c)) (sym place.at_block)
+          ∙ ap (content_by (counted this.setting this.w) cell e) left.was
+          ∙ ap bytes_of (sym (entry_below (chain_in (kept this.setting this.w q).chains cell) op.key.epoch entry e (subst (λ k. e < k) at_epoch lt)))
+          ∙ ap (λ c. bytes_of (entry_at c e)) (sym ahead) ∙ same_held cell p left.same e
+          ∙ ap (content_by (counted this.setting v) cell e) (sym left.now)
+          ∙ ap (λ (c : Cell). content_by (counted this.setting v) c e (authority after c)) place.at_block
 
       has_now : now_has this place.row place.block ≡ true
       has_now = ap (λ (c : Cell). is_some (authority after c)) (sym place.at_block) ∙ ap is_some left.now
@@ -374,6 +396,7 @@ module _ (this : ServerStep) (same_store : (new this).store.chains ≡ (owns_of 
         disk_is = place.disk_is;
         block_is = place.block_is;
         bytes_is = place.bytes_is ∙ sym now_bytes;
+        below = below_so;
         looked = block_there (change_by this.setting this.w v) p place.row place.block there.0 left.within
             (ap (at cell_cmp (kept this.setting v p).chains) (sym place.at_block) ∙ there.1);
       }
@@ -419,12 +442,13 @@ module _ (this : ServerStep) (same_store : (new this).store.chains ≡ (owns_of 
   -- ### What is told
 
   given_left : (row : DiskRow) → In row (rows_in this.setting this.w) → (b : ℕ) → IsLeftToFirst (cell_of_block row b)
-      → (was_kept this row b ≡ now_kept this row b) ⊎ IsGiven this row b
+      → ((epoch : ℕ) → was_kept this row epoch b ≡ now_kept this row epoch b) ⊎ IsGiven this row b
   given_left row h b left =
       let cell = cell_of_block row b in
       elim (two_copies cell left) [
-        | inl same ↦ inl (ap (content_by (counted this.setting this.w) cell 0) left.was ∙ ap (λ c. bytes_of (entry_at c 0)) (sym same)
-            ∙ same_held cell left.link.primary left.same ∙ ap (content_by (counted this.setting v) cell 0) (sym left.now))
+        | inl same ↦ inl (λ epoch. ap (content_by (counted this.setting this.w) cell epoch) left.was
+            ∙ ap (λ c. bytes_of (entry_at c epoch)) (sym same)
+            ∙ same_held cell left.link.primary left.same epoch ∙ ap (content_by (counted this.setting v) cell epoch) (sym left.now))
         | inr one ↦
             let at = place cell left one.own one.visit one.op one.is one.ahead in
             let row_is : row ≡ at.row = same_row this.setting this.w this.along.firm row at.row h at.there (ap (λ (c : Cell). c.map) at.at_block) in
@@ -440,16 +464,16 @@ module _ (this : ServerStep) (same_store : (new this).store.chains ≡ (owns_of 
       given_by row h b has (moves cell link.row link.is)
     where
       given_by : (row : DiskRow) → In row (rows_in this.setting this.w) → (b : ℕ) → now_has this row b ≡ true → Moves (cell_of_block row b)
-          → (was_kept this row b ≡ now_kept this row b) ⊎ IsGiven this row b
+          → ((epoch : ℕ) → was_kept this row epoch b ≡ now_kept this row epoch b) ⊎ IsGiven this row b
       given_by row h b has (Stays_there a was now same) =
           let cell = cell_of_block row b in
-          inl (ap (content_by (counted this.setting this.w) cell 0) was ∙ same_held cell a same
-          ∙ ap (content_by (counted this.setting v) cell 0) (sym now))
+          inl (λ epoch. ap (content_by (counted this.setting this.w) cell epoch) was ∙ same_held cell a same epoch
+          ∙ ap (content_by (counted this.setting v) cell epoch) (sym now))
       given_by row h b has (Is_left left) = given_left row h b left
       given_by row h b has (Is_handed_on on) =
           let cell = cell_of_block row b in
-          inl (ap (content_by (counted this.setting this.w) cell 0) on.was ∙ ap (λ c. bytes_of (entry_at c 0)) on.equal
-          ∙ ap (content_by (counted this.setting v) cell 0) (sym on.now))
+          inl (λ epoch. ap (content_by (counted this.setting this.w) cell epoch) on.was ∙ ap (λ c. bytes_of (entry_at c epoch)) on.equal
+          ∙ ap (content_by (counted this.setting v) cell epoch) (sym on.now))
       given_by row h b has (Is_lost lost) = true_false has (ap is_some lost)
 
   -- an operation that is pending at the first server, which runs

@@ -1,5 +1,5 @@
 -- What ties servers and clients to the plain machine.
-use Rattle.std.specs.Prelude.{◌≡◌, ◌≤◌, ◌<◌, ◌⊎◌, ℕ, true, List, [], ◌∷◌, Some, None, ◌++◌}
+use Rattle.std.specs.Prelude.{◌≡◌, ◌≤◌, ◌<◌, ℕ, true, List, [], ◌∷◌, Some, None, ◌++◌, length}
 use Rattle.std.specs.Ordering.{nat_cmp}
 use Rattle.petal_base.specs.declared.cell.Cell.{Cell}
 use Rattle.petal_command.specs.declared.command.Command.{Command}
@@ -10,7 +10,6 @@ use Rattle.global_tables.specs.declared.disk.DiskRow.{DiskRow}
 use Rattle.global_tables.specs.declared.link.LinkRow.{LinkRow}
 use Rattle.global_tables.specs.declared.link.LinkState.TheVariants.{Both}
 use Rattle.petal_machine.specs.Machine.{Plain, disk_of, open_of}
-use Rattle.petal_msg.specs.declared.body.Body.{Body}
 use Rattle.petal_msg.specs.declared.body.Body.TheVariants as body
 use Rattle.petal_msg.specs.declared.letter.Actor.TheVariants as actor
 use Rattle.petal_msg.specs.declared.letter.Letter.{Letter}
@@ -22,23 +21,25 @@ use Rattle.petal_state.specs.Command.{state_after}
 use Rattle.petal_rules.specs.Blanked.{BeforeBlank}
 use Rattle.petal_rules.specs.Lists.{In}
 use Rattle.petal_rules.specs.State.{State, authority, in_both, is_in}
-use Rattle.petal_rules.specs.Server.{Own}
-use Rattle.petal_rules.specs.Store.{Chain, Store, Stored, cell_cmp, chain_in}
+use Rattle.petal_rules.specs.Server.{Own, Pairs}
+use Rattle.petal_rules.specs.Store.{Chain, Store, cell_cmp, chain_in}
 use Rattle.petal_rules.specs.World.{Setting, World, blank_joins_in, clock_of, server_state, start, chosen_log, chosen_state, counted, kept}
 use Rattle.petal_history.specs.Claims.{Holds, IsPrefix}
 use Rattle.petal_history.specs.Contents.{content_in, has_content}
 use Rattle.petal_history.specs.Events.{open_write, same_name}
 use Rattle.petal_history.specs.Legal.{world_after}
 use Rattle.petal_history.specs.declared.record.Record.{Record}
+use Rattle.law_state.specs.Epochs.{epoch_at}
 use Rattle.law_log.specs.Requested.{WasStarted}
 use Rattle.law_steps.specs.Ready.{Ready}
 use Rattle.law_steps.specs.Waking.{AllMayWake}
 use Rattle.law_stores.specs.Waiting.{IsOwn}
 use Rattle.law_copies.specs.Good.{Good}
 use Rattle.law_copies.specs.Pair.{owns_of}
-use Rattle.law_copies.specs.Visits.{IsLast, IsLinked, Visits, place_by}
+use Rattle.law_copies.specs.Visits.{IsLast, IsLinked, Visits, WasThere, place_by}
 use Rattle.law_requests.specs.Asked.{IsOpen}
 use Rattle.law_requests.specs.Known.{Lives, PendingFor, seen, asked_for, AskingBy}
+use Rattle.law_epochs.specs.Early.{HaveEarlyEntries}
 use Rattle.law_run.specs.Onward.{IsMindful, is_held, Seat}
 
 -- ### The ground
@@ -48,27 +49,14 @@ pub record Named (w : World) : Type 0 where
   pub unique : (one other : Letter) → In one w.sent → In other w.sent → same_name one other ≡ true → one ≡ other
   pub early : (letter : Letter) → In letter w.sent → letter.stamp ≤ clock_of w letter.from
 
--- an entry of epoch 0, or none
-abbrev pub IsShort : Chain → Type 0
-IsShort chain = (chain ≡ []) ⊎ ((entry : Stored) × (chain ≡ (0, entry) ∷ []))
-
--- so it is of the store of each server, and of the one from before its device was made blank
+-- something is so of the store of each server, and of the one from before its device was made blank
 pub record OfStores (w : World) (So : ℕ → Store → Type 0) : Type 0 where
   pub now : (n : ℕ) → So n (owns_of w n).store
   pub before : (n : ℕ) (before : BeforeBlank) → w.before_blank n ≡ Some before → So n before.store
 
--- its chains are short
-abbrev pub HasShortChains : ℕ → Store → Type 0
-HasShortChains n store = (cell : Cell) → IsShort (chain_in store.chains cell)
-
 -- it has entries only of disks that the server knows
 abbrev pub HasOnlyKnown : Setting → World → ℕ → Store → Type 0
 HasOnlyKnown setting w n store = (cell : Cell) → cell_link (server_state setting w n) cell ≡ None → chain_in store.chains cell ≡ []
-
--- an entry that a copy sends is of epoch 0
-abbrev pub IsShortSync : Body → Type 0
-IsShortSync (body.Sync number key version index bytes) = key.epoch ≡ 0
-IsShortSync _ = Unit {0}
 
 -- an operation that a server had pending when it last was at this place of the cell's link: it is pending there still, at this place, or
 -- it was known of, up to this place, at an incarnation that has ended
@@ -89,10 +77,31 @@ AreRemembered setting state w lives visits reached = (front : List Command) (cel
     → visits n (place_by setting front row) cell ≡ Some own → at cell_cmp own.pairs.pending cell ≡ Some op
     → IsRemembered setting state w lives n (place_by setting front row) cell op
 
+-- what is known of epochs, after these records: a write that is pending is of the epoch that its disk has, by each front from the one on at
+-- which it was opened, by which its server is In as itself; so is one of a place, by each front at that place; and one that a second
+-- server can put, by what is chosen; and no server has an entry of an epoch that it doesn't know of
+pub record KnowEpochs (setting : Setting) (records : List Record) (w : World) : Type 0 where
+  pub pending : (n inc : ℕ) (cell : Cell) (op : Pending) (opened front : List Command)
+      → at cell_cmp (owns_of w n).pairs.pending cell ≡ Some op → IsPrefix opened front → IsPrefix front (chosen_log setting w)
+      → length opened ≡ op.rev → is_in (state_after setting.servers opened) n inc ≡ true
+      → is_in (state_after setting.servers front) n inc ≡ true → epoch_at (state_after setting.servers front) cell ≡ op.key.epoch
+  pub place : (n place : ℕ) (cell : Cell) (pairs : Pairs) (op : Pending) (front : List Command) (row : LinkRow)
+      → WasThere setting records n place cell pairs → at cell_cmp pairs.pending cell ≡ Some op → IsPrefix front (chosen_log setting w)
+      → IsLinked setting front cell row → place_by setting front row ≡ place → op.rev ≤ length front
+      → epoch_at (state_after setting.servers front) cell ≡ op.key.epoch
+  pub second : (n m : ℕ) (cell : Cell) (pairs : Pairs) (op : Pending) (row : LinkRow) → (w.servers m).life.running ≡ true
+      → is_in (server_state setting w m) m (w.servers m).life.inc ≡ true → IsLinked setting (w.servers m).log.applied cell row
+      → row.state ≡ Both → row.primary ≡ n → row.secondary ≡ m
+      → WasThere setting records n (place_by setting (w.servers m).log.applied row) cell pairs → at cell_cmp pairs.pending cell ≡ Some op
+      → (front : List Command) (now : LinkRow) → IsPrefix front (chosen_log setting w) → IsLinked setting front cell now
+      → place_by setting front now ≡ place_by setting (w.servers m).log.applied row → op.rev ≤ length front
+      → epoch_at (chosen_state setting w) cell ≡ op.key.epoch
+  pub early : HaveEarlyEntries setting.servers w
+
 -- the ground on which the run stands, at a state from what is chosen on: the laws below it, after these records, of two copies by the
 -- stores that count, which of a server that runs and is In as itself is its own, and no Join of it with an empty store stands behind the
--- front by which it is so; the operations that servers had at places that count are of writes that are known of; and what a server has put
--- is of a disk that it knows
+-- front by which it is so; the operations that servers had at places that count are of writes that are known of; what is known of epochs;
+-- and what a server has put is of a disk that it knows
 pub record Ground (setting : Setting) (state : State) (w : World) : Type 0 where
   pub ready : Ready setting state w
   pub wake : AllMayWake setting w
@@ -110,19 +119,15 @@ pub record Ground (setting : Setting) (state : State) (w : World) : Type 0 where
   pub asking : AskingBy setting state w lives
   pub recalled : AreRemembered setting state w lives good.visits good.reached
   pub named : Named w
-  pub short : OfStores w HasShortChains
-  pub copied : (letter : Letter) → In letter w.sent → IsShortSync letter.body
+  pub epochs : KnowEpochs setting records w
   pub born : OfStores w (HasOnlyKnown setting w)
 
 -- ### The machine
 
--- the content of a disk's block, as the server has it whose copy counts by this state
-abbrev pub kept_at : State → World → DiskRow → ℕ → List ℕ
-kept_at chosen w row block = content_in chosen w row 0 block
-
--- the machine has these disks, each with the contents that count by this state, where a block has one, and no other
+-- the machine has these disks, each with the contents that count by this state, at its epoch and at those of its snapshots, where a block
+-- has one, and no other
 pub record Stores (chosen : State) (rows : List DiskRow) (w : World) (m : Plain) : Type 0 where
-  pub known : (row : DiskRow) → In row rows → Holds m.disks row.name (has_content chosen row) (kept_at chosen w row)
+  pub known : (row : DiskRow) → In row rows → Holds m.disks row (has_content chosen row) (content_in chosen w row)
   pub unknown : (name : List ℕ) → named rows name ≡ None → disk_of m.disks name ≡ None
   pub mindful : IsMindful m
 

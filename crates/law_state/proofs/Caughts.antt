@@ -16,7 +16,8 @@ use Rattle.law_state.specs.Ages.{age_of}
 use Rattle.law_state.specs.Rows.{IsHeldOn, IsLater, IsLostOn, IsServed, IsServedBy, IsServedOn, ByBoth, ByNone, ByOne}
 use Rattle.law_state.specs.Tables.{IsPlainState}
 use Rattle.law_state.proofs.Ages.{in_up, no_less}
-use Rattle.law_state.proofs.Grown.{Step, later_itself}
+use Rattle.law_state.proofs.Fences.{Acted, fences_queued, queued_on, requeued_itself}
+use Rattle.law_state.proofs.Grown.{later_itself}
 use Rattle.law_state.proofs.Changing.{changing, link_changed}
 
 -- the state after the link is in Both again
@@ -159,11 +160,11 @@ module _ (servers : ℕ) (s : State) (p : IsPlainState servers s) (of link holde
   lost_caught row is lost = by_test (λ (now : LinkRow). now.state ≡ Lost) (is_link of link row) _ _
       (λ here. true_false (the_row row is here).alone (ap (is_alone holder) lost)) (λ no. lost)
 
-  pub catching : Step servers s t
+  pub catching : Acted servers s t
   catching = changing servers s p s.view (row_caught of link) (later_caught of link) (record {
     many = p.many;
     members = p.members;
-    queue = p.queue;
+    fences = queued_on s t (fences_queued s p.fences) refl (requeued_itself s.view.queue) p.fences.present;
     ages = λ n. no_less (age_of s n);
     served = served_caught;
     on = on_caught;

@@ -1,7 +1,6 @@
 -- A step that changes who is In, and the row of each link by itself: what is left to show of it where it keeps the tables plain.
-use Rattle.std.proofs.Common.{◌≡◌, ◌≤◌, ◌==◌, ℕ, [], length, Some, sym, ap, ◌∙◌, subst}
+use Rattle.std.proofs.Common.{◌≡◌, ◌≤◌, ◌==◌, ℕ, length, Some, sym, ap, ◌∙◌, subst}
 use Rattle.std.specs.Prelude.{map, option_map, slice_get}
-use Rattle.std.proofs.lemmas.List.{append-nil}
 use Rattle.global_tables.specs.declared.fence.Member.{Member}
 use Rattle.global_tables.specs.declared.link.LinkRow.{LinkRow}
 use Rattle.global_tables.specs.Link.{is_link, link_at}
@@ -12,7 +11,8 @@ use Rattle.petal_rules.proofs.Tests.{both_true, same_numbers}
 use Rattle.law_state.specs.Ages.{age_of}
 use Rattle.law_state.specs.Rows.{IsHeldOn, IsLater, IsLostOn, IsServed, IsServedOn}
 use Rattle.law_state.specs.Tables.{IsPlainState}
-use Rattle.law_state.proofs.Grown.{Step}
+use Rattle.law_state.proofs.Fences.{Acted, AreQueued}
+use Rattle.law_state.proofs.Grown.{grown_itself}
 use Rattle.law_state.proofs.Links.{in_map}
 use Rattle.law_state.proofs.Places.{find_map, found_at}
 
@@ -31,7 +31,7 @@ changed_by s view f = record s { view = view; links = map f s.links }
 pub record IsChange (servers : ℕ) (s t : State) (f : LinkRow → LinkRow) : Type 0 where
   pub many : length t.view.members ≡ servers
   pub members : (n : ℕ) (m : Member) → slice_get t.view.members n ≡ Some m → 1 ≤ last_inc m
-  pub queue : t.view.queue ≡ []
+  pub fences : AreQueued t
   pub ages : (n : ℕ) → age_of s n ≤ age_of t n
   pub served : (row : LinkRow) → link_at s.links row.map row.link ≡ Some row → IsServed s row → IsServed t (f row)
   pub on : (row : LinkRow) → IsServedOn s t row (f row)
@@ -53,12 +53,12 @@ module _ (servers : ℕ) (s : State) (p : IsPlainState servers s) (view : View) 
       subst (λ r. link_at t.links r.map r.link ≡ Some r) (sym was.2)
       ((λ i. link_at t.links (so.map i) (so.link i)) ∙ link_changed was.0.map was.0.link ∙ ap (option_map f) (p.found was.0 was.1))
 
-  pub changing : IsChange servers s t f → Step servers s t
+  pub changing : IsChange servers s t f → Acted servers s t
   changing c = record {
     plain = record {
       many = c.many;
       members = c.members;
-      queue = c.queue;
+      fences = c.fences;
       made = p.made;
       count = p.count;
       rows = p.rows;
@@ -81,8 +81,8 @@ module _ (servers : ℕ) (s : State) (p : IsPlainState servers s) (view : View) 
       found = found_changed;
     };
     grown = record {
-      more = [];
-      rows = sym (append-nil s.disks.rows);
+      many = (grown_itself s).many;
+      rows = λ i row e. let h = (grown_itself s).rows i row e in record { now = h.now; is = h.is; so = h.so };
       maps = λ map tuple e. e;
       links = λ map at row e. record {
         now = f row;

@@ -1,16 +1,19 @@
 -- In a plain state disks, maps and cells belong together, and each server is In, or has left.
-use Rattle.std.proofs.Common.{◌≡◌, ◌≢◌, ◌<◌, ◌==◌, ℕ, List, [], ◌∷◌, true, false, not, Some, None, is_some, refl, sym, ap, ◌∙◌, subst, inl, inr}
+use Rattle.std.proofs.Common.{◌≡◌, ◌≢◌, ◌<◌, ◌==◌, ℕ, List, [], ◌∷◌, true, false, not, Some, None, is_some, refl, sym, ap, ◌∙◌, subst, inl, inr, arith}
 use Rattle.std.specs.Prelude.{fold, slice_get, option_and_then}
 use Rattle.std.specs.Option.{option_map_or}
 use Rattle.std.proofs.lemmas.Grind.{fold-append}
+use Rattle.std.proofs.lemmas.Option.{slice_get_within}
 use Rattle.petal_base.specs.declared.cell.Cell.{Cell}
-use Rattle.global_tables.specs.Disk.{disk_at, named, is_disk, same_name}
+use Rattle.global_tables.specs.Disk.{disk_at, named, is_disk, same_name, snapshot_named}
 use Rattle.global_tables.specs.View.{inc_in}
 use Rattle.global_tables.specs.declared.disk.DiskRow.{DiskRow}
+use Rattle.global_tables.specs.declared.disk.Snapshot.{Snapshot}
 use Rattle.global_tables.specs.declared.fence.Member.TheVariants as member
 use Rattle.petal_command.specs.declared.command.Command.{Command}
-use Rattle.petal_command.specs.declared.command.Command.TheVariants.{Join, Leave, Caught, MakeDisk, Witness}
+use Rattle.petal_command.specs.declared.command.Command.TheVariants.{Join, Leave, Caught, MakeDisk, Snap, Drained, Witness}
 use Rattle.global_tables.specs.declared.disk.Verdict.TheVariants as Verdict
+use Rattle.petal_state.specs.CellState.{owner}
 use Rattle.petal_state.specs.Command.{act, after, is_new, may_join, state_after, with_disk}
 use Rattle.petal_state.specs.State.{is_up, is_up_as, latest, start, told}
 use Rattle.petal_rules.specs.Lists.{In}
@@ -28,8 +31,10 @@ use Rattle.law_state.proofs.Joins.{joined_by, was_out}
 use Rattle.law_state.proofs.Joins.{in_beside as joined_beside}
 use Rattle.law_state.proofs.Places.{find_here, get_in, in_get, get_replicate, text_itself}
 use Rattle.law_state.proofs.Leaves.{left_by, in_beside}
-use Rattle.law_state.proofs.Steady.{front_plain, in_first, linked, unlinked}
-use Rattle.law_state.proofs.Entries.{entering, log_plain, settled_act}
+use Rattle.law_state.proofs.Passing.{in_settled}
+use Rattle.law_state.proofs.Snaps.{act_drained, act_snap}
+use Rattle.law_state.proofs.Steady.{front_plain, in_first, linked, owner_is, unlinked}
+use Rattle.law_state.proofs.Entries.{entering, log_plain}
 
 module _ (servers : ℕ) (s : State) (p : IsPlainState servers s) where
   at : (row : DiskRow) → In row s.disks.rows → disk_at s.disks.rows row.id ≡ Some row
@@ -52,8 +57,27 @@ module _ (servers : ℕ) (s : State) (p : IsPlainState servers s) where
       let same : here.0 ≡ there.0 = sym (p.rows here.0 one here.1).of ∙ e ∙ (p.rows there.0 other there.1).of in
       same_some (sym here.1 ∙ ap (slice_get s.disks.rows) same ∙ there.1)
 
-  new : (row : DiskRow) → In row s.disks.rows → row.epoch ≡ 0
-  new row h = let place = get_in s.disks.rows row h in (p.rows place.0 row place.1).epoch
+  owned : (row : DiskRow) → In row s.disks.rows → owner s row.map ≡ Some row
+  owned row h =
+      let place = get_in s.disks.rows row h in
+      owner_is s p.rows row.map ∙ ap (slice_get s.disks.rows) (p.rows place.0 row place.1).of ∙ place.1
+
+  -- a snapshot is found by its name, and its epoch is its place among those of the disk
+  snap_by_name : (row : DiskRow) (snap : Snapshot) → In row s.disks.rows → In snap row.snaps → snapshot_named row.snaps snap.name ≡ Some snap
+  snap_by_name row snap h k =
+      let place = get_in s.disks.rows row h in
+      let at = get_in row.snaps snap k in
+      find_here (λ (other : Snapshot). same_name other.name snap.name) row.snaps at.0 snap at.1 (text_itself snap.name)
+      (λ j other e t. (p.rows place.0 row place.1).names j at.0 other snap e at.1 (nat_lists_same other.name snap.name t))
+
+  snap_before : (row : DiskRow) (snap : Snapshot) → In row s.disks.rows → In snap row.snaps → snap.epoch < row.epoch
+  snap_before row snap h k =
+      let place = get_in s.disks.rows row h in
+      let at = get_in row.snaps snap k in
+      let is = (p.rows place.0 row place.1).snaps at.0 snap at.1 in
+      let many = (p.rows place.0 row place.1).many in
+      let lt = slice_get_within row.snaps at.0 snap at.1 in
+      omega arith
 
   -- a cell of no disk is dead
   nowhere : (cell : Cell) → ((row : DiskRow) → In row s.disks.rows → row.map ≢ cell.map) → slice_get s.disks.rows cell.map ≡ None
@@ -74,7 +98,9 @@ module _ (servers : ℕ) (s : State) (p : IsPlainState servers s) where
     at = at;
     named = by_name;
     apart = apart;
-    new = new;
+    owned = owned;
+    snaps = snap_by_name;
+    before = snap_before;
     served = served;
     empty = λ cell off. unlinked servers s p cell (nowhere cell off);
   }
@@ -123,6 +149,12 @@ made_out servers s p (MakeDisk client seq name tuple) plain n inc is =
     (λ new. by_test (λ (t : State). is_up_as t n inc ≡ false → Leave n inc ≡ MakeDisk client seq name tuple) (is_some (named s.disks.rows name))
     (told s client seq Verdict.Exists) (told (with_disk s name tuple) client seq Verdict.Ok)
     (λ there out. true_false is out) (λ none out. true_false is out))
+made_out servers s p (Snap client seq disk name) plain n inc is =
+    act_snap (λ (t : State). is_up_as t n inc ≡ false → Leave n inc ≡ Snap client seq disk name) s client seq disk name (λ old out. true_false is out)
+    (λ new none out. true_false is out) (λ new row found taken out. true_false is out) (λ new row found free out. true_false is out)
+made_out servers s p (Drained server last fence) plain n inc is =
+    act_drained (λ (t : State). is_up_as t n inc ≡ false → Leave n inc ≡ Drained server last fence) s server last fence (λ out. true_false is out)
+    (λ head up out. true_false is out)
 made_out servers s p (Witness client seq turn) plain n inc is = λ out. true_false is out
 made_out servers s p _ plain n inc is = absurd plain
 
@@ -135,7 +167,7 @@ out_left servers (entry ∷ log) s p all n inc is out =
     let next = (entering servers s entry p plain).plain in
     by_bool (is_up_as (after s entry) n inc)
     (λ stays. inr (out_left servers log (after s entry) next (λ other h. all other (inr h)) n inc stays out))
-    (λ gone. inl (made_out servers s p entry plain n inc is (sym (ap (λ (t : State). is_up_as t n inc) (settled_act servers s entry p plain)) ∙ gone)))
+    (λ gone. inl (made_out servers s p entry plain n inc is (sym (in_settled (act entry s) n inc) ∙ gone)))
 
 pub first_at_start : (servers n : ℕ) → n < servers → is_up_as (start servers) n 1 ≡ true
 first_at_start servers n lt =

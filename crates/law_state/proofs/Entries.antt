@@ -1,61 +1,66 @@
 -- Plain entries keep a state plain, and only add to its tables, but for servers that leave and join, and links that are in Both again.
-use Rattle.std.proofs.Common.{◌≡◌, ◌+◌, ℕ, zero, suc, List, [], ◌∷◌, length, false, not, Option, Some, None, refl, sym, ap, subst, inl, inr, is_some, arith}
+use Rattle.std.proofs.Common.{◌≡◌, ◌+◌, ℕ, zero, suc, List, [], ◌∷◌, not, Some, refl, sym, ap, inl, inr, is_some, arith}
 use Rattle.std.specs.Prelude.{fold, replicate, slice_get}
 use Rattle.std.proofs.lemmas.List.{length-replicate}
 use Rattle.global_tables.specs.declared.disk.Verdict.{Verdict}
+use Rattle.global_tables.specs.declared.fence.FenceKind.TheVariants.{Whole}
 use Rattle.global_tables.specs.declared.fence.Member.{Member}
 use Rattle.global_tables.specs.declared.fence.Member.TheVariants as member
 use Rattle.global_tables.specs.declared.link.LinkRow.{LinkRow}
 use Rattle.global_tables.specs.Disk.{named}
 use Rattle.global_tables.specs.View.{last_inc}
 use Rattle.petal_command.specs.declared.command.Command.{Command}
-use Rattle.petal_command.specs.declared.command.Command.TheVariants.{Join, Leave, Caught, MakeDisk, Witness}
+use Rattle.petal_command.specs.declared.command.Command.TheVariants.{Join, Leave, Caught, MakeDisk, Snap, Drained, Witness}
 use Rattle.petal_state.specs.State.{start, latest, told, is_up_as}
-use Rattle.petal_state.specs.Fence.{settled, let_through}
-use Rattle.petal_state.specs.Command.{act, after, is_new, may_join, with_disk, state_after}
+use Rattle.petal_state.specs.Fence.{settled}
+use Rattle.petal_state.specs.Command.{act, after, is_new, may_join, with_disk, with_fence, state_after}
 use Rattle.petal_rules.specs.Lists.{In}
 use Rattle.petal_rules.specs.State.{State}
-use Rattle.petal_rules.proofs.Tests.{by_test, none_some, same_some, true_false}
+use Rattle.petal_rules.proofs.Tests.{by_test, none_some, same_some}
 use Rattle.law_state.specs.Plain.{IsPlain, IsPlainLog}
 use Rattle.law_state.specs.Tables.{IsPlainState}
-use Rattle.law_state.proofs.Grown.{Step, grown_on, stays, untabled}
+use Rattle.law_state.proofs.Fences.{Acted, acts_not, renumbered, untabled}
+use Rattle.law_state.proofs.Grown.{Step, grown_on, stays}
 use Rattle.law_state.proofs.Leaves.{leaving}
 use Rattle.law_state.proofs.Joins.{joining}
 use Rattle.law_state.proofs.Caughts.{act_caught, catching}
 use Rattle.law_state.proofs.Making.{making}
+use Rattle.law_state.proofs.Passing.{settling}
+use Rattle.law_state.proofs.Snaps.{act_drained, act_snap, draining, none_of, snapping}
 
-none_of : {A : Type 0} (o : Option A) → is_some o ≡ false → o ≡ None
-none_of None e = refl
-none_of (Some x) e = true_false refl e
-
-acting : (servers : ℕ) (s : State) (command : Command) → IsPlainState servers s → IsPlain servers command → Step servers s (act command s)
+pub acting : (servers : ℕ) (s : State) (command : Command) → IsPlainState servers s → IsPlain servers command → Acted servers s (act command s)
 acting servers s (Join server inc blank) p proper =
-    by_test (Step servers s) (may_join (slice_get s.view.members server) inc) _ s (λ may. joining servers s p server inc blank may) (λ no. stays servers s p)
+    by_test (Acted servers s) (may_join (slice_get s.view.members server) inc) _ s (λ may. joining servers s p server inc blank may)
+    (λ no. acts_not servers s p)
 acting servers s (Leave server inc) p proper =
-    by_test (Step servers s) (is_up_as s server inc) _ s (λ is. leaving servers s p server inc is) (λ no. stays servers s p)
+    by_test (Acted servers s) (is_up_as s server inc) _ s (λ is. leaving servers s p server inc is) (λ no. acts_not servers s p)
 acting servers s (Caught of link holder holder_inc other other_inc) p proper =
-    act_caught (Step servers s) s of link holder holder_inc other other_inc (catching servers s p of link holder holder_inc other other_inc) (stays servers s p)
+    act_caught (Acted servers s) s of link holder holder_inc other other_inc (catching servers s p of link holder holder_inc other other_inc)
+    (acts_not servers s p)
 acting servers s (MakeDisk client seq name tuple) p proper =
-    by_test (Step servers s) (not (is_new seq (latest s client))) s _
-    (λ old. stays servers s p)
-    (λ new. by_test (Step servers s) (is_some (named s.disks.rows name)) (told s client seq Verdict.Exists)
+    by_test (Acted servers s) (not (is_new seq (latest s client))) s _
+    (λ old. acts_not servers s p)
+    (λ new. by_test (Acted servers s) (is_some (named s.disks.rows name)) (told s client seq Verdict.Exists)
     (told (with_disk s name tuple) client seq Verdict.Ok)
-    (λ there. untabled servers s.rev _ s s (stays servers s p))
+    (λ there. untabled servers s.rev _ s s (acts_not servers s p))
     (λ none. untabled servers s.rev _ s (with_disk s name tuple) (making servers s p name tuple (none_of _ none) proper)))
-acting servers s (Witness client seq turn) p proper = stays servers s p
+acting servers s (Snap client seq disk name) p proper =
+    act_snap (Acted servers s) s client seq disk name
+    (λ old. acts_not servers s p)
+    (λ new none. untabled servers s.rev _ s s (acts_not servers s p))
+    (λ new row found taken. untabled servers s.rev _ s s (acts_not servers s p))
+    (λ new row found free. untabled servers s.rev _ s (with_fence s (Whole row.id name client seq)) (snapping servers s p client seq disk name row found free))
+acting servers s (Drained server inc fence) p proper =
+    act_drained (Acted servers s) s server inc fence (acts_not servers s p) (λ is up. draining servers s p server)
+acting servers s (Witness client seq turn) p proper = acts_not servers s p
 acting servers s _ p other = absurd other
-
--- no fence waits, so none takes effect
-pub settled_quiet : (s : State) → s.view.queue ≡ [] → settled s ≡ s
-settled_quiet s e = ap (λ (queue : List Rattle.global_tables.specs.declared.fence.Fence.Fence). let_through (length queue) s) e
-
-pub settled_act : (servers : ℕ) (s : State) (command : Command) → IsPlainState servers s → IsPlain servers command → settled (act command s) ≡ act command s
-settled_act servers s command p is = settled_quiet (act command s) (acting servers s command p is).plain.queue
 
 pub entering : (servers : ℕ) (s : State) (command : Command) → IsPlainState servers s → IsPlain servers command → Step servers s (after s command)
 entering servers s command p is =
-    let h = acting servers s command p is in
-    untabled servers (s.rev + 1) _ s (settled (act command s)) (subst (Step servers s) (sym (settled_quiet (act command s) h.plain.queue)) h)
+    let one = acting servers s command p is in
+    let two = settling servers (act command s) one.plain in
+    renumbered servers (s.rev + 1) s (settled (act command s))
+    (record { plain = two.plain; grown = grown_on s (act command s) (settled (act command s)) one.grown two.grown })
 
 pub folding : (servers : ℕ) (log : List Command) (s : State) → IsPlainState servers s → IsPlainLog servers log → Step servers s (fold after s log)
 unfolding In
@@ -79,7 +84,12 @@ pub start_plain : (servers : ℕ) → IsPlainState servers (start servers)
 start_plain servers = record {
   many = length-replicate servers (member.In 1);
   members = λ n m e. let one : last_inc m ≡ 1 = ap last_inc (in_at_start servers n m e) in omega arith;
-  queue = refl;
+  fences = record {
+    each = λ i fence e. none_some refl e;
+    apart = λ i j one other disk client seq later again name e f kind like. none_some refl e;
+    waits = λ fence e. none_some refl e;
+    present = λ fence n e waits. none_some refl e;
+  };
   made = refl;
   count = refl;
   rows = λ i row e. none_some refl e;

@@ -1,14 +1,16 @@
 -- States that have grown from one another, and rows of links that are later than others.
-use Rattle.std.proofs.Common.{◌≡◌, ◌≤◌, ◌++◌, ℕ, List, [], Bool, Option, refl, sym, ap, ◌∙◌, inl, inr, append_assoc, arith}
+use Rattle.std.proofs.Common.{◌≡◌, ◌≤◌, ◌++◌, ℕ, [], Bool, refl, sym, ap, ◌∙◌, inl, inr, Some, length, append_assoc, arith}
+use Rattle.std.specs.Prelude.{slice_get}
 use Rattle.std.proofs.lemmas.List.{append-nil}
-use Rattle.global_tables.specs.Link.{has_server}
-use Rattle.global_tables.specs.declared.disk.Latest.{Latest}
+use Rattle.global_tables.specs.Link.{has_server, link_at}
+use Rattle.global_tables.specs.Map.{tuple_of}
+use Rattle.global_tables.specs.declared.disk.DiskRow.{DiskRow}
 use Rattle.global_tables.specs.declared.link.LinkRow.{LinkRow}
 use Rattle.global_tables.specs.declared.link.LinkState.TheVariants.{Both, Only, Lost}
 use Rattle.petal_rules.specs.State.{State}
-use Rattle.law_state.specs.Ages.{age_of}
+use Rattle.law_state.specs.Ages.{age, age_of}
 use Rattle.law_state.specs.Rows.{IsBetween, IsHeldOn, IsLater, IsServedOn}
-use Rattle.law_state.specs.Tables.{IsGrown, IsPlainState}
+use Rattle.law_state.specs.Tables.{HasLaterDisk, IsGrown, IsLaterDisk, IsPlainState}
 use Rattle.law_state.proofs.Ages.{between, no_less, out_same}
 
 pub later_itself : (row : LinkRow) → IsLater row row
@@ -55,29 +57,61 @@ module _ (s t u : State) (old : (n : ℕ) → age_of s n ≤ age_of t n) (new : 
       let middle = on n whole alone out here in
       after_on n middle.0 middle.1 (out_same s t n out here) there
 
-pub grown_itself : (s : State) → IsGrown s s
-grown_itself s = record {
+at_most : (a b c : ℕ) → a ≤ b → b ≤ c → a ≤ c
+at_most a b c one two = omega arith
+
+pub later_disk_itself : (row : DiskRow) → IsLaterDisk row row
+later_disk_itself row = record {
+  id = refl;
+  name = refl;
+  map = refl;
+  moving = refl;
+  onward = no_less row.epoch;
   more = [];
-  rows = sym (append-nil s.disks.rows);
-  maps = λ of tuple e. e;
+  snaps = sym (append-nil row.snaps);
+}
+
+later_disk_on : (one two three : DiskRow) → IsLaterDisk one two → IsLaterDisk two three → IsLaterDisk one three
+later_disk_on one two three a b = record {
+  id = b.id ∙ a.id;
+  name = b.name ∙ a.name;
+  map = b.map ∙ a.map;
+  moving = b.moving ∙ a.moving;
+  onward = at_most one.epoch two.epoch three.epoch a.onward b.onward;
+  more = a.more ++ b.more;
+  snaps = b.snaps ∙ ap (λ snaps. snaps ++ b.more) a.snaps ∙ append_assoc one.snaps a.more b.more;
+}
+
+-- the tables of links and maps are as they were, and so is who is In
+pub grown_still : (s t : State) → length s.disks.rows ≤ length t.disks.rows
+    → ((i : ℕ) (row : DiskRow) → slice_get s.disks.rows i ≡ Some row → HasLaterDisk t i row)
+    → t.maps ≡ s.maps → t.links ≡ s.links → t.view.members ≡ s.view.members → IsGrown s t
+grown_still s t many rows maps links members = record {
+  many = many;
+  rows = rows;
+  maps = λ of tuple e. ap (λ m. tuple_of m of) maps ∙ e;
   links = λ of link row e. record {
     now = row;
-    is = e;
+    is = ap (λ l. link_at l of link) links ∙ e;
     so = later_itself row;
     on = λ n inc has serving a b. serving;
     held = λ n whole alone out same. (whole, alone);
     lost = λ gone. gone;
   };
-  ages = λ n. no_less (age_of s n);
+  ages = λ n. let e = ap (λ m. age (slice_get m n)) members in omega arith;
 }
 
-at_most : (a b c : ℕ) → a ≤ b → b ≤ c → a ≤ c
-at_most a b c one two = omega arith
+pub grown_itself : (s : State) → IsGrown s s
+grown_itself s =
+    grown_still s s (no_less (length s.disks.rows)) (λ i row e. record { now = row; is = e; so = later_disk_itself row }) refl refl refl
 
 pub grown_on : (s t u : State) → IsGrown s t → IsGrown t u → IsGrown s u
 grown_on s t u one two = record {
-  more = one.more ++ two.more;
-  rows = two.rows ∙ ap (λ rows. rows ++ two.more) one.rows ∙ append_assoc s.disks.rows one.more two.more;
+  many = at_most (length s.disks.rows) (length t.disks.rows) (length u.disks.rows) one.many two.many;
+  rows = λ i row e.
+      let middle = one.rows i row e in
+      let last = two.rows i middle.now middle.is in
+      record { now = last.now; is = last.is; so = later_disk_on row middle.now last.now middle.so last.so };
   maps = λ of tuple e. two.maps of tuple (one.maps of tuple e);
   links = λ of link row e.
       let middle = one.links of link row e in
@@ -100,35 +134,3 @@ pub record Step (servers : ℕ) (s t : State) : Type 0 where
 
 pub stays : (servers : ℕ) (s : State) → IsPlainState servers s → Step servers s s
 stays servers s p = record { plain = p; grown = grown_itself s }
-
--- the revision and what clients are told are of no table
-pub untabled : (servers rev : ℕ) (verdicts : List (Option Latest)) (s t : State) → Step servers s t
-    → Step servers s (record t { rev = rev; verdicts = verdicts })
-untabled servers rev verdicts s t h = record {
-  plain = record {
-    many = h.plain.many;
-    members = h.plain.members;
-    queue = h.plain.queue;
-    made = h.plain.made;
-    count = h.plain.count;
-    rows = h.plain.rows;
-    names = h.plain.names;
-    tuples = h.plain.tuples;
-    links = λ of link tuple e lt. let old = h.plain.links of link tuple e lt in record {
-      row = old.row;
-      is = old.is;
-      asked = record { map = old.asked.map; place = old.asked.place; primary = old.asked.primary; secondary = old.asked.secondary; served = old.asked.served };
-    };
-    unlinked = h.plain.unlinked;
-    found = h.plain.found;
-  };
-  grown = record {
-    more = h.grown.more;
-    rows = h.grown.rows;
-    maps = h.grown.maps;
-    links = λ of link row e.
-        let old = h.grown.links of link row e in
-        record { now = old.now; is = old.is; so = old.so; on = old.on; held = old.held; lost = old.lost };
-    ages = h.grown.ages;
-  };
-}

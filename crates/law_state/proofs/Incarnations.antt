@@ -9,7 +9,7 @@ use Rattle.global_tables.specs.declared.disk.Verdict.TheVariants as Verdict
 use Rattle.global_tables.specs.declared.fence.Member.{Member}
 use Rattle.global_tables.specs.declared.fence.Member.TheVariants as member
 use Rattle.petal_command.specs.declared.command.Command.{Command}
-use Rattle.petal_command.specs.declared.command.Command.TheVariants.{Join, Leave, Caught, MakeDisk, Witness}
+use Rattle.petal_command.specs.declared.command.Command.TheVariants.{Join, Leave, Caught, MakeDisk, Snap, Drained, Witness}
 use Rattle.petal_state.specs.Command.{act, after, is_new, may_join, state_after, with_disk}
 use Rattle.petal_state.specs.State.{is_up_as, latest, start, told}
 use Rattle.petal_rules.specs.Lists.{In}
@@ -24,10 +24,12 @@ use Rattle.law_state.specs.Plain.{IsPlain, IsPlainLog}
 use Rattle.law_state.specs.Tables.{IsPlainState}
 use Rattle.law_state.proofs.Ages.{in_age, may_by}
 use Rattle.law_state.proofs.Caughts.{act_caught}
-use Rattle.law_state.proofs.Entries.{entering, in_at_start, log_plain, settled_act}
+use Rattle.law_state.proofs.Entries.{entering, in_at_start, log_plain}
 use Rattle.law_state.proofs.Joins.{joined_by, in_now}
 use Rattle.law_state.proofs.Joins.{in_beside as joined_beside}
 use Rattle.law_state.proofs.Leaves.{left_by, in_before}
+use Rattle.law_state.proofs.Passing.{in_settled}
+use Rattle.law_state.proofs.Snaps.{act_drained, act_snap}
 use Rattle.law_state.proofs.Steady.{front_plain, log_below}
 
 -- the entry is the Join of this incarnation, which acts
@@ -61,6 +63,12 @@ made_in servers s p (MakeDisk client seq name tuple) plain n inc out =
     (λ new. by_test (λ (t : State). is_up_as t n inc ≡ true → Joins s (MakeDisk client seq name tuple) n inc) (is_some (named s.disks.rows name))
     (told s client seq Verdict.Exists) (told (with_disk s name tuple) client seq Verdict.Ok)
     (λ there is. true_false is out) (λ none is. true_false is out))
+made_in servers s p (Snap client seq disk name) plain n inc out =
+    act_snap (λ (t : State). is_up_as t n inc ≡ true → Joins s (Snap client seq disk name) n inc) s client seq disk name (λ old is. true_false is out)
+    (λ new none is. true_false is out) (λ new row found taken is. true_false is out) (λ new row found free is. true_false is out)
+made_in servers s p (Drained server last fence) plain n inc out =
+    act_drained (λ (t : State). is_up_as t n inc ≡ true → Joins s (Drained server last fence) n inc) s server last fence (λ is. true_false is out)
+    (λ head up is. true_false is out)
 made_in servers s p (Witness client seq turn) plain n inc out = λ is. true_false is out
 made_in servers s p _ plain n inc out = absurd plain
 
@@ -80,7 +88,7 @@ in_joined servers (entry ∷ entries) s p all n inc out is =
     let plain = all entry (inl refl) in
     by_bool (is_up_as (after s entry) n inc)
     (λ now.
-    let made = made_in servers s p entry plain n inc out (sym (ap (λ (t : State). is_up_as t n inc) (settled_act servers s entry p plain)) ∙ now) in
+    let made = made_in servers s p entry plain n inc out (sym (in_settled (act entry s) n inc) ∙ now) in
     record { before = []; blank = made.0; rest = entries; lies = ap (λ e. e ∷ entries) made.1; may = made.2 })
     (λ stays.
     let c = in_joined servers entries (after s entry) (entering servers s entry p plain).plain (λ other h. all other (inr h)) n inc stays is in
@@ -135,7 +143,7 @@ joined_in servers front whole n inc blank all joined =
     let s = state_after servers joined.until in
     let p = log_plain servers joined.until (front_plain servers joined.until _ plain (record { later = Join n inc blank ∷ []; is = refl })) in
     ap (λ (t : State). is_up_as t n inc) (fold-append after (start servers) joined.until (Join n inc blank ∷ []))
-    ∙ ap (λ (t : State). is_up_as t n inc) (settled_act servers s (Join n inc blank) p tt)
+    ∙ in_settled (act (Join n inc blank) s) n inc
     ∙ ap (λ b. is_up_as (if b then joined_by s n inc blank else s) n inc) joined.may
     ∙ in_now servers s p n inc blank joined.may inc ∙ number_itself inc
 

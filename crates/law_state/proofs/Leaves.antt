@@ -11,7 +11,7 @@ use Rattle.global_tables.specs.declared.link.LinkState.{LinkState}
 use Rattle.global_tables.specs.declared.link.LinkState.TheVariants.{Both, Only, Lost}
 use Rattle.global_tables.specs.Link.{is_link, has_server, other_of, left_state, row_left}
 use Rattle.global_tables.specs.Link as links
-use Rattle.global_tables.specs.View.{is_in, inc_in, last_inc, out_of, servers_in, awaiting}
+use Rattle.global_tables.specs.View.{is_in, inc_in, last_inc, out_of, servers_in}
 use Rattle.global_tables.specs.View as view
 use Rattle.petal_state.specs.CellState.{serves}
 use Rattle.petal_state.specs.State.{State, inc_of, is_up, is_up_as}
@@ -20,7 +20,8 @@ use Rattle.law_state.specs.Ages.{age, age_of}
 use Rattle.law_state.specs.Rows.{IsHeldOn, IsLostOn, IsServed, IsServedOn, IsBetween, IsLater, ByBoth, ByNone, ByOne}
 use Rattle.law_state.specs.Tables.{IsPlainState}
 use Rattle.law_state.proofs.Ages.{in_up, out_not}
-use Rattle.law_state.proofs.Grown.{Step, later_itself}
+use Rattle.law_state.proofs.Fences.{Acted, fences_queued, head_awaiting, queued_on, requeued_awaiting, waits_present}
+use Rattle.law_state.proofs.Grown.{later_itself}
 use Rattle.law_state.proofs.Changing.{changing, link_changed}
 use Rattle.law_state.proofs.Links.{either_false}
 use Rattle.law_state.proofs.Places.{get_set_here, get_set_beside}
@@ -167,15 +168,15 @@ module _ (servers : ℕ) (s : State) (p : IsPlainState servers s) (server inc : 
   -- one that is In before and after still serves the links that it served
   on_left : (row : LinkRow) → IsServedOn s t row (row_left server row)
   on_left row n k has serving before later = by_test (λ (now : LinkRow). serves n now now.state ≡ true) (has_server server row) _ _
-      (λ gone. still gone row.state serving) (λ no. serving)
+      (λ mine. still mine row.state serving) (λ no. serving)
     where
       still : has_server server row ≡ true → (state : LinkState) → serves n row state ≡ true
           → serves n (record row { state = left_state (other_of server row) state }) (left_state (other_of server row) state) ≡ true
-      still gone Both e =
-          let same = one_of_two (is_up t) row (other_of server row) server n (other_between row server gone) out_now has (in_up t n k later) in
+      still mine Both e =
+          let same = one_of_two (is_up t) row (other_of server row) server n (other_between row server mine) out_now has (in_up t n k later) in
           ap (λ h. h == n) same ∙ number_itself n
-      still gone (Only holder whole) e = e
-      still gone Lost e = e
+      still mine (Only holder whole) e = e
+      still mine Lost e = e
 
   -- and who holds a link alone goes on to
   held_left : (row : LinkRow) → IsHeldOn s t row (row_left server row)
@@ -186,11 +187,12 @@ module _ (servers : ℕ) (s : State) (p : IsPlainState servers s) (server inc : 
   lost_left row lost = by_test (λ (now : LinkRow). now.state ≡ Lost) (has_server server row) _ _
       (λ gone. ap (left_state (other_of server row)) lost) (λ no. lost)
 
-  pub leaving : Step servers s t
+  pub leaving : Acted servers s t
   leaving = changing servers s p t.view (row_left server) (λ row. later_left row server) (record {
     many = length-set s.view.members server gone ∙ p.many;
     members = members_now;
-    queue = ap (awaiting (servers_in t.view.members)) p.queue;
+    fences = queued_on s t (fences_queued s p.fences) refl (requeued_awaiting (servers_in t.view.members) s.view.queue)
+        (λ fence n e. waits_present t.view.members fence n (head_awaiting (servers_in t.view.members) s.view.queue fence e));
     ages = ages;
     served = λ row is. served_left row;
     on = on_left;

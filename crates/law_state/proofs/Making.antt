@@ -8,17 +8,18 @@ use Rattle.global_tables.specs.declared.link.LinkRow.{LinkRow}
 use Rattle.global_tables.specs.declared.map.MapRow.{MapRow}
 use Rattle.global_tables.specs.Link.{is_link, link_at, new_row, new_rows}
 use Rattle.global_tables.specs.Map.{tuple_of, added}
-use Rattle.global_tables.specs.Disk.{named, same_name}
+use Rattle.global_tables.specs.Disk.{is_disk, named, same_name}
 use Rattle.petal_state.specs.State.{ups}
 use Rattle.petal_state.specs.Command.{with_disk}
 use Rattle.petal_rules.specs.Lists.{In}
 use Rattle.petal_rules.specs.State.{State}
 use Rattle.petal_rules.proofs.ListLemmas.{in-append}
 use Rattle.petal_rules.proofs.Tests.{none_some, same_some, some_or_none, true_false}
-use Rattle.law_state.specs.Tables.{IsNewRow, IsPlainState, HasLinkOf}
+use Rattle.law_state.specs.Tables.{HasLaterDisk, HasLinkOf, IsPlainState, IsRowAt}
 use Rattle.law_state.specs.Ages.{age_of}
 use Rattle.law_state.proofs.Ages.{no_less}
-use Rattle.law_state.proofs.Grown.{Step, later_itself}
+use Rattle.law_state.proofs.Fences.{Acted, AreQueued}
+use Rattle.law_state.proofs.Grown.{later_disk_itself, later_itself}
 use Rattle.law_state.proofs.Places.{get_front, get_in, get_last, none_find, find_front, find_behind, text_itself}
 use Rattle.law_state.proofs.Links.{link_new, link_other, new_served, row_in}
 
@@ -59,10 +60,21 @@ module _ (servers : ℕ) (s : State) (p : IsPlainState servers s) (name tuple : 
   abbrev t : State
   t = with_disk s name tuple
 
-  row_now : (i : ℕ) (row : DiskRow) → slice_get t.disks.rows i ≡ Some row → IsNewRow i row
+  -- no snapshot, and epoch 0
+  new_row_at : (i : ℕ) → s.disks.made ≡ i → length s.maps ≡ i → IsRowAt i made_row
+  new_row_at i id of = record {
+    id = id;
+    of = of;
+    many = refl;
+    snaps = λ j snap e. none_some refl e;
+    names = λ j k one other e. none_some refl e;
+    moving = refl;
+  }
+
+  row_now : (i : ℕ) (row : DiskRow) → slice_get t.disks.rows i ≡ Some row → IsRowAt i row
   row_now i row e = elim (get_last s.disks.rows made_row i row e) [
     | inl h ↦ p.rows i row h
-    | inr h ↦ subst (IsNewRow i) (sym h.1) (record { id = p.made ∙ sym h.0; of = p.count ∙ sym h.0; epoch = refl; snaps = refl; moving = refl })
+    | inr h ↦ subst (IsRowAt i) (sym h.1) (new_row_at i (p.made ∙ sym h.0) (p.count ∙ sym h.0))
   ]
 
   -- no row before has the new name
@@ -135,12 +147,34 @@ module _ (servers : ℕ) (s : State) (p : IsPlainState servers s) (name tuple : 
         ∙ link_new (ups s) (length s.maps) tuple is.0 is.1))
   ]
 
-  pub making : Step servers s t
+  -- what waits is for disks that were known
+  fences_now : AreQueued t
+  fences_now = record {
+    each = λ i fence e.
+        let h = p.fences.each i fence e in
+        record {
+          disk = h.disk;
+          name = h.name;
+          client = h.client;
+          seq = h.seq;
+          kind = h.kind;
+          row = h.row;
+          known = find_front (is_disk h.disk) s.disks.rows (made_row ∷ []) h.row h.known;
+          fresh = h.fresh;
+        };
+    apart = p.fences.apart;
+    present = p.fences.present;
+  }
+
+  rows_later : (i : ℕ) (row : DiskRow) → slice_get s.disks.rows i ≡ Some row → HasLaterDisk t i row
+  rows_later i row e = record { now = row; is = get_front s.disks.rows (made_row ∷ []) i row e; so = later_disk_itself row }
+
+  pub making : Acted servers s t
   making = record {
     plain = record {
       many = p.many;
       members = p.members;
-      queue = p.queue;
+      fences = fences_now;
       made = simp length-append (let e = p.made in omega arith);
       count = simp length-append (let e = p.count in omega arith);
       rows = row_now;
@@ -151,8 +185,8 @@ module _ (servers : ℕ) (s : State) (p : IsPlainState servers s) (name tuple : 
       found = found_now;
     };
     grown = record {
-      more = made_row ∷ [];
-      rows = refl;
+      many = simp length-append (omega arith);
+      rows = rows_later;
       maps = λ of ids e. map_front s.maps ids tuple s.disks.made of e;
       links = λ of link row e. record {
         now = row;

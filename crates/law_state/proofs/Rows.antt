@@ -1,6 +1,6 @@
 -- Disks that come later: where they stand, what they are named, and that their cells had no links before.
-use Rattle.std.proofs.Common.{◌≡◌, ◌≤◌, ◌+◌, ◌++◌, ℕ, suc, List, [], ◌∷◌, length, Some, None, refl, sym, ap, ◌∙◌, subst, inl, inr, arith, append_assoc}
-use Rattle.std.specs.Prelude.{slice_get}
+use Rattle.std.proofs.Common.{◌≡◌, ◌≤◌, ◌<◌, ◌+◌, ◌++◌, ℕ, zero, suc, List, [], ◌∷◌, length, Some, None, refl, sym, ap, ◌∙◌, subst, ◌⊎◌, inl, inr, arith, length-append}
+use Rattle.std.specs.Prelude.{drop, slice_get}
 use Rattle.std.proofs.lemmas.Option.{slice_get_within}
 use Rattle.petal_base.specs.declared.cell.Cell.{Cell}
 use Rattle.global_tables.specs.declared.disk.DiskRow.{DiskRow}
@@ -11,10 +11,9 @@ use Rattle.petal_rules.specs.State.{State}
 use Rattle.petal_state.specs.CellState.{cell_link}
 use Rattle.global_tables.specs.declared.link.LinkRow.{LinkRow}
 use Rattle.petal_rules.specs.State as rules
-use Rattle.petal_rules.proofs.ListLemmas.{in_former}
-use Rattle.petal_rules.proofs.Tests.{none_some, some_or_none, nat_lists_same}
-use Rattle.law_state.specs.Tables.{IsPlainState, IsGrown}
-use Rattle.law_state.proofs.Places.{found_at, get_in, in_get, get_front}
+use Rattle.petal_rules.proofs.Tests.{none_some, same_some, some_or_none, nat_lists_same}
+use Rattle.law_state.specs.Tables.{IsGrown, IsLaterDisk, IsPlainState}
+use Rattle.law_state.proofs.Places.{found_at, get_in, get_last, get_within, in_get}
 use Rattle.law_state.proofs.Steady.{found, unlinked, viewed}
 use Rattle.law_state.proofs.Disks.{plain_disks}
 
@@ -55,14 +54,28 @@ module _ (servers : ℕ) (s : State) (p : IsPlainState servers s) where
     | inr none ↦ unlinked servers s p cell none
   ]
 
-get_behind : {A : Type 0} (xs ys : List A) (i : ℕ) (x : A) → slice_get ys i ≡ Some x → slice_get (xs ++ ys) (length xs + i) ≡ Some x
-get_behind [] ys i x e = subst (λ k. slice_get ys k ≡ Some x) (let f : i ≡ 0 + i = omega arith in f) e
-get_behind (y ∷ xs) ys i x e =
-    subst (λ k. slice_get (y ∷ (xs ++ ys)) k ≡ Some x) (let f : suc (length xs + i) ≡ suc (length xs) + i = omega arith in f) (get_behind xs ys i x e)
+get_drop : {A : Type 0} (n : ℕ) (xs : List A) (i : ℕ) (x : A) → slice_get (drop n xs) i ≡ Some x → slice_get xs (n + i) ≡ Some x
+get_drop zero xs i x e = subst (λ k. slice_get xs k ≡ Some x) (let f : i ≡ 0 + i = omega arith in f) e
+get_drop (suc n) [] i x e = none_some refl e
+get_drop (suc n) (y ∷ xs) i x e =
+    subst (λ k. slice_get (y ∷ xs) k ≡ Some x) (let f : suc (n + i) ≡ suc n + i = omega arith in f) (get_drop n xs i x e)
+
+-- the disks that were made since
+abbrev pub later_rows : (earlier later : State) → List DiskRow
+later_rows earlier later = drop (length earlier.disks.rows) later.disks.rows
+
+-- the later row of a disk
+pub record HasRowLater (rows : List DiskRow) (row : DiskRow) : Type 0 where
+  pub now : DiskRow
+  pub there : In now rows
+  pub so : IsLaterDisk row now
 
 module _ (servers : ℕ) (s t : State) (p : IsPlainState servers s) (q : IsPlainState servers t) (g : IsGrown s t) where
-  pub stays_row : (row : DiskRow) → In row s.disks.rows → In row t.disks.rows
-  stays_row row h = subst (In row) (sym g.rows) (in_former row s.disks.rows g.more h)
+  pub stays_row : (row : DiskRow) → In row s.disks.rows → HasRowLater t.disks.rows row
+  stays_row row h =
+      let at = get_in s.disks.rows row h in
+      let later = g.rows at.0 row at.1 in
+      record { now = later.now; there = in_get t.disks.rows at.0 later.now later.is; so = later.so }
 
   -- a cell that had a link, of a disk that is found later, is of that disk
   pub row_of : (cell : Cell) (link : LinkRow) → cell_link s cell ≡ Some link → (name : List ℕ) (disk : DiskView) → rules.find t name ≡ Some disk
@@ -71,35 +84,79 @@ module _ (servers : ℕ) (s t : State) (p : IsPlainState servers s) (q : IsPlain
   row_of cell link has name disk finds e =
       let one = linked_row servers s p cell link has in
       let two = viewed_row servers t q name disk finds in
-      let same : one.0 ≡ two.row = (plain_disks servers t q).apart one.0 two.row (stays_row one.0 one.1) two.there (one.2 ∙ sym (two.map_is ∙ e)) in
-      record { row = one.0; there = one.1; name_is = ap (λ row. row.name) same ∙ two.name_is; map_is = one.2 }
+      let later = stays_row one.0 one.1 in
+      let same : later.now ≡ two.row = (plain_disks servers t q).apart later.now two.row later.there two.there (later.so.map ∙ one.2 ∙ sym (two.map_is ∙ e)) in
+      record { row = one.0; there = one.1; name_is = sym later.so.name ∙ ap (λ row. row.name) same ∙ two.name_is; map_is = one.2 }
+
+  -- a disk that was made later stands behind those before
+  pub later_place : (row : DiskRow) → In row (later_rows s t) → (i : ℕ) × (slice_get t.disks.rows i ≡ Some row) × (length s.disks.rows ≤ i)
+  later_place row h =
+      let at = get_in (later_rows s t) row h in
+      (length s.disks.rows + at.0, get_drop (length s.disks.rows) t.disks.rows at.0 row at.1, omega arith)
 
   -- no cell of a disk that was made later had a link
-  pub none_before : (row : DiskRow) → In row g.more → (cell : Cell) → cell.map ≡ row.map → cell_link s cell ≡ None
+  pub none_before : (row : DiskRow) → In row (later_rows s t) → (cell : Cell) → cell.map ≡ row.map → cell_link s cell ≡ None
   none_before row h cell e =
-      let at = get_in g.more row h in
-      let there : slice_get t.disks.rows (length s.disks.rows + at.0) ≡ Some row =
-      ap (λ rows. slice_get rows (length s.disks.rows + at.0)) g.rows ∙ get_behind s.disks.rows g.more at.0 row at.1 in
-      let of = (q.rows _ row there).of in
+      let at = later_place row h in
+      let of = (q.rows at.0 row at.1).of in
+      let low = at.2 in
       past_link servers s p cell (omega arith)
 
+  -- each disk that there is later was there before, or is one of these
+  pub old_or_new : (row : DiskRow) → In row t.disks.rows → ((was : DiskRow) × In was s.disks.rows × IsLaterDisk was row) ⊎ In row (later_rows s t)
+  old_or_new row h =
+      let at = get_in t.disks.rows row h in
+      elim (before_or_behind at.0 (length s.disks.rows)) [
+        | inl low ↦
+            let was = get_within s.disks.rows at.0 low in
+            let later = g.rows at.0 was.0 was.1 in
+            let same : later.now ≡ row = same_some (sym later.is ∙ at.1) in
+            inl (was.0, in_get s.disks.rows at.0 was.0 was.1, subst (IsLaterDisk was.0) same later.so)
+        | inr k ↦ inr (in_get (later_rows s t) k.0 row (drop_get (length s.disks.rows) t.disks.rows k.0 row (ap (slice_get t.disks.rows) (sym k.1) ∙ at.1)))
+      ]
+    where
+      before_or_behind : (i n : ℕ) → (i < n) ⊎ ((k : ℕ) × (i ≡ n + k))
+      before_or_behind i zero = inr (i, omega arith)
+      before_or_behind zero (suc n) = inl (omega arith)
+      before_or_behind (suc i) (suc n) = elim (before_or_behind i n) [ inl lt ↦ inl (omega arith) | inr k ↦ inr (k.0, let e = k.1 in omega arith) ]
+
+      drop_get : {A : Type 0} (n : ℕ) (xs : List A) (i : ℕ) (x : A) → slice_get xs (n + i) ≡ Some x → slice_get (drop n xs) i ≡ Some x
+      drop_get zero xs i x e = subst (λ k. slice_get xs k ≡ Some x) (let f : 0 + i ≡ i = omega arith in f) e
+      drop_get (suc n) [] i x e = none_some refl e
+      drop_get (suc n) (y ∷ xs) i x e =
+          drop_get n xs i x (subst (λ k. slice_get (y ∷ xs) k ≡ Some x) (let f : suc n + i ≡ suc (n + i) = omega arith in f) e)
+
 -- what follows in a list of disks of different names
-fresh_by : (servers : ℕ) (t : State) → IsPlainState servers t → (rows more : List DiskRow) → t.disks.rows ≡ rows ++ more → AreFresh rows more
-fresh_by servers t q rows [] e = tt
-fresh_by servers t q rows (row ∷ more) e = (
+fresh_by : (servers : ℕ) (t : State) → IsPlainState servers t → (rows more : List DiskRow)
+    → ((i : ℕ) (row : DiskRow) → slice_get rows i ≡ Some row → (now : DiskRow) × (slice_get t.disks.rows i ≡ Some now) × (now.name ≡ row.name))
+    → ((i : ℕ) (row : DiskRow) → slice_get more i ≡ Some row → slice_get t.disks.rows (length rows + i) ≡ Some row) → AreFresh rows more
+fresh_by servers t q rows [] front behind = tt
+fresh_by servers t q rows (row ∷ more) front behind = (
   elim (some_or_none (named rows row.name)) [
     | inl h ↦
         let at = found_at (λ other. same_name other.name row.name) rows h.0 h.1 in
-        let front : slice_get t.disks.rows at.0 ≡ Some h.0 = ap (λ xs. slice_get xs at.0) e ∙ get_front rows (row ∷ more) at.0 h.0 at.1 in
-        let behind : slice_get t.disks.rows (length rows + 0) ≡ Some row =
-        ap (λ xs. slice_get xs (length rows + 0)) e ∙ get_behind rows (row ∷ more) 0 row refl in
+        let now = front at.0 h.0 at.1 in
         let lt = slice_get_within rows at.0 h.0 at.1 in
-        let same = q.names at.0 (length rows + 0) h.0 row front behind (nat_lists_same h.0.name row.name at.2) in
+        let same = q.names at.0 (length rows + 0) now.0 row now.1 (behind 0 row refl) (now.2 ∙ nat_lists_same h.0.name row.name at.2) in
         absurd (omega arith)
     | inr none ↦ none
   ],
-  fresh_by servers t q (rows ++ row ∷ []) more (e ∙ sym (append_assoc rows (row ∷ []) more)),
+  fresh_by servers t q (rows ++ row ∷ []) more
+      (λ i other e. elim (get_last rows row i other e) [
+        | inl old ↦ front i other old
+        | inr new ↦ (
+          row,
+          ap (slice_get t.disks.rows) (let f = new.0 in let g : i ≡ length rows + 0 = omega arith in g) ∙ behind 0 row refl,
+          ap (λ (r : DiskRow). r.name) (sym new.1),
+        )
+      ])
+      (λ i other e. ap (slice_get t.disks.rows) (one_more i) ∙ behind (suc i) other e),
 )
+  where
+    one_more : (i : ℕ) → length (rows ++ row ∷ []) + i ≡ length rows + suc i
+    one_more i = simp length-append (omega arith)
 
-pub fresh_rows : (servers : ℕ) (s t : State) → IsPlainState servers t → (g : IsGrown s t) → AreFresh s.disks.rows g.more
-fresh_rows servers s t q g = fresh_by servers t q s.disks.rows g.more g.rows
+pub fresh_rows : (servers : ℕ) (s t : State) → IsPlainState servers t → IsGrown s t → AreFresh s.disks.rows (later_rows s t)
+fresh_rows servers s t q g = fresh_by servers t q s.disks.rows (later_rows s t)
+    (λ i row e. let later = g.rows i row e in (later.now, later.is, later.so.name))
+    (λ i row e. get_drop (length s.disks.rows) t.disks.rows i row e)

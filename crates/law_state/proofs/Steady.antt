@@ -6,38 +6,45 @@ use Rattle.std.proofs.lemmas.Option.{slice_get_within}
 use Rattle.std.proofs.lemmas.Grind.{fold-append}
 use Rattle.petal_base.specs.declared.cell.Cell.{Cell}
 use Rattle.global_tables.specs.declared.disk.DiskRow.{DiskRow}
+use Rattle.global_tables.specs.declared.disk.Move.{Move}
+use Rattle.global_tables.specs.declared.disk.Snapshot.{Snapshot}
+use Rattle.global_tables.specs.declared.fence.Fence.{Fence}
 use Rattle.global_tables.specs.declared.fence.Member.{Member}
 use Rattle.global_tables.specs.declared.fence.Member.TheVariants as member
 use Rattle.global_tables.specs.declared.link.LinkRow.{LinkRow}
-use Rattle.global_tables.specs.Disk.{named, same_name, disk_at, is_disk, snapshot_named}
+use Rattle.global_tables.specs.Disk.{named, same_name, disk_at, snapshot_named}
 use Rattle.global_tables.specs.Link.{link_at}
 use Rattle.global_tables.specs.Map.{tuple_of}
 use Rattle.global_tables.specs.Region.{link_of, region_of}
 use Rattle.global_tables.specs.View.{head, inc_in}
 use Rattle.petal_command.specs.declared.command.Command.{Command}
 use Rattle.petal_state.specs.declared.answer.DiskView.{DiskView}
-use Rattle.petal_state.specs.declared.answer.Hold.TheVariants.{No}
+use Rattle.petal_state.specs.declared.answer.Hold.TheVariants.{No, Writes}
 use Rattle.petal_state.specs.State.{leaves, mover, start}
-use Rattle.petal_state.specs.CellState.{owner, has_map, live_under, leaving, cell_link, view_of, holds, move_region, live_new, live_old, is_fenced}
+use Rattle.petal_state.specs.CellState.{owner, has_map, live_under, leaving, cell_link, view_of, holds, is_of, move_region, live_new, live_old, is_fenced}
 use Rattle.petal_state.specs.Command.{after, state_after}
 use Rattle.petal_rules.specs.Lists.{In}
 use Rattle.petal_rules.proofs.ListLemmas.{in_former, in_later}
-use Rattle.petal_rules.specs.State.{State, live, servers_of, is_in}
+use Rattle.petal_rules.specs.Reads.{is_all_held}
+use Rattle.petal_rules.specs.State.{State, live, servers_of, snapshot, is_in}
 use Rattle.petal_rules.specs.State as rules
-use Rattle.petal_rules.proofs.Tests.{by_bool, none_some, same_some, some_or_none, same_numbers, number_itself, nat_lists_same}
+use Rattle.petal_rules.proofs.Tests.{by_bool, by_test, none_some, same_some, some_or_none, same_numbers, number_itself, nat_lists_same}
 use Rattle.petal_history.specs.Claims.{IsPrefix}
 use Rattle.law_state.specs.Plain.{IsPlainLog}
 use Rattle.law_state.specs.Steady.{IsLinked, IsSteady}
-use Rattle.law_state.specs.Below.{IsBelow}
-use Rattle.law_state.specs.Tables.{IsNewRow, IsPlainState, IsGrown}
-use Rattle.law_state.proofs.Places.{find_here, find_none, found_at, find_front, get_within}
+use Rattle.law_state.specs.Below.{HasLaterView, IsBelow}
+use Rattle.law_state.specs.Epochs.{epoch_at}
+use Rattle.law_state.specs.Tables.{IsGrown, IsLaterDisk, IsPlainState, IsRowAt}
+use Rattle.law_state.proofs.Fences.{head_get}
+use Rattle.law_state.proofs.Places.{find_here, find_none, found_at, find_front, get_within, text_itself}
+use Rattle.law_state.proofs.Snaps.{disk_is, disk_stands}
 use Rattle.law_state.proofs.Links.{proper}
 use Rattle.law_state.proofs.Entries.{folding, log_plain}
 use Rattle.law_state.proofs.Making.{map_past}
 
 -- ### Rows of disks
 
-pub owns : (place of : ℕ) (row : DiskRow) → IsNewRow place row → has_map of row ≡ true → place ≡ of
+pub owns : (place of : ℕ) (row : DiskRow) → IsRowAt place row → has_map of row ≡ true → place ≡ of
 owns place of row is e =
     sym is.of ∙ same_numbers row.map of (by (row.map == of) (ap (λ m. row.map == of || leaves of m) (sym is.moving) ∙ e))
   where
@@ -45,7 +52,7 @@ owns place of row is e =
     by true e = refl
     by false e = e
 
-owned : (place : ℕ) (row : DiskRow) → IsNewRow place row → has_map place row ≡ true
+owned : (place : ℕ) (row : DiskRow) → IsRowAt place row → has_map place row ≡ true
 owned place row is = ap (λ b. b || leaves place row.moving) (ap (λ m. m == place) is.of ∙ number_itself place)
 
 -- a row that never moved is live under its own map, and leaves none
@@ -57,19 +64,31 @@ live_there of region row none is =
 below : (block many : ℕ) → 2 ≤ many → block % many < many
 below block many two = omega arith
 
+-- a disk's map has its own number, so a map's owner stands at its place
+module _ (s : State) (at : (i : ℕ) (row : DiskRow) → slice_get s.disks.rows i ≡ Some row → IsRowAt i row) where
+  no_owner : (of : ℕ) → slice_get s.disks.rows of ≡ None → owner s of ≡ None
+  no_owner of none = find_none (has_map of) s.disks.rows (λ i row e.
+      by_bool (has_map of row) (λ t. none_some none (ap (slice_get s.disks.rows) (sym (owns i of row (at i row e) t)) ∙ e)) (λ f. f))
+
+  the_owner : (of : ℕ) (row : DiskRow) → slice_get s.disks.rows of ≡ Some row → owner s of ≡ Some row
+  the_owner of row is = find_here (has_map of) s.disks.rows of row is (owned of row (at of row is)) (λ j other e t. owns j of other (at j other e) t)
+
+  pub owner_is : (of : ℕ) → owner s of ≡ slice_get s.disks.rows of
+  owner_is of = elim (some_or_none (slice_get s.disks.rows of)) [
+    | inl h ↦ the_owner of h.0 h.1 ∙ sym h.1
+    | inr none ↦ no_owner of none ∙ sym none
+  ]
+
+  -- the epoch of a cell is that of the disk that stands there
+  pub epoch_is : (cell : Cell) → epoch_at s cell ≡ option_map_or (λ (row : DiskRow). row.epoch) (slice_get s.disks.rows cell.map) 0
+  epoch_is cell = ap (λ o. option_map_or (λ (row : DiskRow). row.epoch) o 0) (owner_is cell.map)
+
 module _ (servers : ℕ) (s : State) (p : IsPlainState servers s) where
   no_mover : (of : ℕ) → mover s of ≡ None
   no_mover of = find_none (λ row. leaves of row.moving) s.disks.rows (λ i row e. ap (leaves of) (p.rows i row e).moving)
 
-  no_owner : (of : ℕ) → slice_get s.disks.rows of ≡ None → owner s of ≡ None
-  no_owner of none = find_none (has_map of) s.disks.rows (λ i row e.
-      by_bool (has_map of row) (λ t. none_some none (ap (slice_get s.disks.rows) (sym (owns i of row (p.rows i row e) t)) ∙ e)) (λ f. f))
-
-  the_owner : (of : ℕ) (row : DiskRow) → slice_get s.disks.rows of ≡ Some row → owner s of ≡ Some row
-  the_owner of row is = find_here (has_map of) s.disks.rows of row is (owned of row (p.rows of row is)) (λ j other e t. owns j of other (p.rows j other e) t)
-
   pub dead : (cell : Cell) → slice_get s.disks.rows cell.map ≡ None → live s cell ≡ false
-  dead cell none = ap (λ o. option_map_or (live_under cell.map (region_of cell.block)) o false) (no_owner cell.map none)
+  dead cell none = ap (λ o. option_map_or (live_under cell.map (region_of cell.block)) o false) (no_owner s p.rows cell.map none)
 
   past : (of : ℕ) → slice_get s.disks.rows of ≡ None → tuple_of s.maps of ≡ None
   past of none = by_le (slice_get_none s.disks.rows of none)
@@ -97,7 +116,7 @@ module _ (servers : ℕ) (s : State) (p : IsPlainState servers s) where
   pub lives : (cell : Cell) (row : DiskRow) → slice_get s.disks.rows cell.map ≡ Some row → live s cell ≡ true
   lives cell row is =
       let new = p.rows cell.map row is in
-      ap (λ o. option_map_or (live_under cell.map (region_of cell.block)) o false) (the_owner cell.map row is)
+      ap (λ o. option_map_or (live_under cell.map (region_of cell.block)) o false) (the_owner s p.rows cell.map row is)
       ∙ live_there cell.map (region_of cell.block) row new.moving new.of
 
   -- a cell of a disk has a link
@@ -159,11 +178,7 @@ module _ (servers : ℕ) (s : State) (p : IsPlainState servers s) where
       | inl h ↦ none_some none (linked cell h.0 h.1).1
       | inr gone ↦ dead cell gone
     ];
-    free = λ cell. ap (λ queue. option_map_or (λ fence. holds s cell fence.kind) (head queue) No) p.queue;
-    newest = λ name disk e.
-        let v = viewed name disk e in
-        let at = found name v.0 v.1 in
-        sym (ap (λ d. d.epoch) v.2) ∙ (p.rows at.0 v.0 at.1).epoch;
+    shown = λ cell. shown_by cell (head s.view.queue) refl;
     served = λ name disk block e.
         let v = viewed name disk e in
         let at = found name v.0 v.1 in
@@ -171,19 +186,75 @@ module _ (servers : ℕ) (s : State) (p : IsPlainState servers s) where
         ap (slice_get s.disks.rows) (sym (ap (λ d. d.map) v.2) ∙ (p.rows at.0 v.0 at.1).of) ∙ at.1 in
         let l = linked (record { map = disk.map; block = block }) v.0 there in
         record { row = l.0; is = l.1 };
-    no_snapshots = λ disk name. no_snaps disk name (disk_at s.disks.rows disk) refl;
   }
     where
-      no_snaps : (disk : ℕ) (name : List ℕ) (o : Option DiskRow) → disk_at s.disks.rows disk ≡ o
-          → option_and_then (λ row. option_map (λ snap. snap.epoch) (snapshot_named row.snaps name)) o ≡ None
-      no_snaps disk name None is = refl
-      no_snaps disk name (Some row) is =
-          let at = found_at (is_disk disk) s.disks.rows row is in
-          ap (λ snaps. option_map (λ snap. snap.epoch) (snapshot_named snaps name)) (p.rows at.0 row at.1).snaps
+      -- a fence for a snapshot holds writes alone
+      shown_by : (cell : Cell) (o : Option Fence) → head s.view.queue ≡ o → is_all_held (option_map_or (λ fence. holds s cell fence.kind) o No) ≡ false
+      shown_by cell None is = refl
+      shown_by cell (Some fence) is =
+          let h = p.fences.each 0 fence (head_get s.view.queue fence is) in
+          ap (λ kind. is_all_held (holds s cell kind)) h.kind
+          ∙ by_test (λ hold. is_all_held hold ≡ false) (is_of s h.disk cell.map) Writes No (λ t. refl) (λ f. refl)
 
 -- ### Later states
 
 module _ (servers : ℕ) (s t : State) (p : IsPlainState servers s) (q : IsPlainState servers t) (g : IsGrown s t) where
+  -- a disk that is found by its name is found so later
+  pub named_later : (name : List ℕ) (row : DiskRow) → named s.disks.rows name ≡ Some row
+      → (now : DiskRow) × (named t.disks.rows name ≡ Some now) × IsLaterDisk row now
+  named_later name row e =
+      let at = found servers s p name row e in
+      let later = g.rows at.0 row at.1 in
+      let text : later.now.name ≡ name = later.so.name ∙ at.2 in (
+        later.now,
+        find_here (λ (r : DiskRow). same_name r.name name) t.disks.rows at.0 later.now later.is
+            (ap (λ n. same_name n name) text ∙ text_itself name)
+            (λ j other f same. q.names j at.0 other later.now f later.is (nat_lists_same other.name name same ∙ sym text)),
+        later.so,
+      )
+
+  found_later : (name : List ℕ) (disk : DiskView) → rules.find s name ≡ Some disk → HasLaterView t name disk
+  found_later name disk e =
+      let v = viewed servers s p name disk e in
+      let later = named_later name v.0 v.1 in
+      subst (HasLaterView t name) v.2 (record {
+        now = view_of later.0;
+        is = ap (option_map view_of) later.1;
+        disk_is = later.2.id;
+        map_is = later.2.map;
+        old_is = ap (option_map (λ (move : Move). move.old_map)) later.2.moving;
+        onward = later.2.onward;
+      })
+
+  -- a snapshot that a disk had it has still
+  snapshot_later : (disk : ℕ) (name : List ℕ) (epoch : ℕ) (o : Option DiskRow) → disk_at s.disks.rows disk ≡ o
+      → option_and_then (λ row. option_map (λ snap. snap.epoch) (snapshot_named row.snaps name)) o ≡ Some epoch → snapshot t disk name ≡ Some epoch
+  snapshot_later disk name epoch None is e = none_some refl e
+  snapshot_later disk name epoch (Some row) is e =
+      let later = g.rows disk row (disk_stands s.disks.rows (λ i r f. (p.rows i r f).id) disk row is) in
+      let now = disk_is t.disks.rows (λ i r f. (q.rows i r f).id) disk later.now later.is in
+      let there = some_epoch (snapshot_named row.snaps name) e in
+      ap (option_and_then (λ row. option_map (λ snap. snap.epoch) (snapshot_named row.snaps name))) now
+      ∙ ap (λ snaps. option_map (λ snap. snap.epoch) (snapshot_named snaps name)) later.so.snaps
+      ∙ ap (option_map (λ snap. snap.epoch)) (find_front (λ (snap : Snapshot). same_name snap.name name) row.snaps later.so.more there.0 there.1)
+      ∙ ap Some there.2
+    where
+      some_epoch : (o : Option Snapshot) → option_map (λ snap. snap.epoch) o ≡ Some epoch → (snap : Snapshot) × (o ≡ Some snap) × (snap.epoch ≡ epoch)
+      some_epoch None f = none_some refl f
+      some_epoch (Some snap) f = (snap, refl, same_some f)
+
+  -- and no epoch falls
+  epoch_later : (cell : Cell) (o : Option DiskRow) → slice_get s.disks.rows cell.map ≡ o → epoch_at s cell ≤ epoch_at t cell
+  epoch_later cell None is =
+      let none : epoch_at s cell ≡ 0 = epoch_is s p.rows cell ∙ ap (λ o. option_map_or (λ (row : DiskRow). row.epoch) o 0) is in
+      omega arith
+  epoch_later cell (Some row) is =
+      let later = g.rows cell.map row is in
+      let was : epoch_at s cell ≡ row.epoch = epoch_is s p.rows cell ∙ ap (λ o. option_map_or (λ (row : DiskRow). row.epoch) o 0) is in
+      let now : epoch_at t cell ≡ later.now.epoch = epoch_is t q.rows cell ∙ ap (λ o. option_map_or (λ (row : DiskRow). row.epoch) o 0) later.is in
+      let on = later.so.onward in
+      omega arith
+
   pub grown_below : IsBelow s t
   grown_below = record {
     rows = λ cell row e. elim (some_or_none (tuple_of s.maps cell.map)) [
@@ -192,9 +263,9 @@ module _ (servers : ℕ) (s t : State) (p : IsPlainState servers s) (q : IsPlain
       | inr none ↦ none_some (ap (option_and_then (λ ids. link_at s.links cell.map (link_of (length ids) cell.block))) none) e
     ];
     ages = g.ages;
-    finds = λ name disk e.
-        let v = viewed servers s p name disk e in
-        ap (option_map view_of) (ap (λ rows. named rows name) g.rows ∙ find_front (λ row. same_name row.name name) s.disks.rows g.more v.0 v.1) ∙ ap Some v.2;
+    finds = found_later;
+    snaps = λ disk name epoch e. snapshot_later disk name epoch (disk_at s.disks.rows disk) refl e;
+    epochs = λ cell. epoch_later cell (slice_get s.disks.rows cell.map) refl;
   }
 
 -- ### Logs

@@ -11,7 +11,7 @@ use Rattle.global_tables.specs.Link.{has_server, is_link, link_at, row_caught, r
 use Rattle.global_tables.specs.Map.{tuple_of}
 use Rattle.global_tables.specs.Region.{link_of}
 use Rattle.petal_command.specs.declared.command.Command.{Command}
-use Rattle.petal_command.specs.declared.command.Command.TheVariants.{Join, Leave, Caught, MakeDisk, Witness}
+use Rattle.petal_command.specs.declared.command.Command.TheVariants.{Join, Leave, Caught, MakeDisk, Snap, Drained, Witness}
 use Rattle.petal_state.specs.CellState.{cell_link}
 use Rattle.petal_state.specs.Command.{act, after, is_new, may_join, with_disk, state_after}
 use Rattle.petal_state.specs.Place.{touches, places_from}
@@ -24,7 +24,7 @@ use Rattle.petal_history.specs.Claims.{IsPrefix}
 use Rattle.law_state.specs.Places.{IsReseated, IsTouchedBy, By_caught, By_join, By_leave, StaysSo, row_joined}
 use Rattle.law_state.specs.Plain.{IsPlain, IsPlainLog}
 use Rattle.law_state.specs.Tables.{IsPlainState}
-use Rattle.law_state.proofs.Entries.{entering, log_plain, settled_act}
+use Rattle.law_state.proofs.Entries.{entering, log_plain}
 use Rattle.law_state.specs.Rows.{IsServed, ByBoth, ByNone, ByOne}
 use Rattle.law_state.proofs.Caughts.{act_caught, alone_by, catch_so, caught_by, link_caught, row_in_both, row_uncaught, the_row, touch_by, touch_so}
 use Rattle.law_state.proofs.Changing.{found_itself}
@@ -34,7 +34,9 @@ use Rattle.law_state.proofs.Joins.{inc_beside as joined_beside}
 use Rattle.law_state.proofs.Leaves.{both_up, inc_beside, left_by, link_left, none_now, row_stays}
 use Rattle.law_state.proofs.Links.{either_false}
 use Rattle.law_state.proofs.Making.{map_front}
+use Rattle.law_state.proofs.Passing.{cell_settled, inc_settled}
 use Rattle.law_state.proofs.Places.{find_front}
+use Rattle.law_state.proofs.Snaps.{act_drained, act_snap}
 use Rattle.law_state.proofs.Steady.{front_plain, log_steady, plain_steady}
 
 differ : (a b : ℕ) → (a == b) ≡ false → a ≢ b
@@ -111,13 +113,24 @@ module _ (servers : ℕ) (s : State) (p : IsPlainState servers s) (cell : Cell) 
         primary = refl;
         secondary = refl;
       }))
+  act_stays (Snap client seq disk name) plain off =
+      act_snap (StaysSo cell row s) s client seq disk name (λ old. itself)
+      (λ new none. record { same = is; primary = refl; secondary = refl })
+      (λ new at found taken. record { same = is; primary = refl; secondary = refl })
+      (λ new at found free. record { same = is; primary = refl; secondary = refl })
+  act_stays (Drained server inc fence) plain off =
+      act_drained (StaysSo cell row s) s server inc fence itself (λ head up. record { same = is; primary = refl; secondary = refl })
   act_stays (Witness client seq turn) plain off = itself
   act_stays _ plain off = absurd plain
 
   pub entry_stays : (entry : Command) → IsPlain servers entry → touches s entry row ≡ false → StaysSo cell row s (after s entry)
   entry_stays entry plain off =
-      let h = subst (StaysSo cell row s) (sym (settled_act servers s entry p plain)) (act_stays entry plain off) in
-      record { same = h.same; primary = h.primary; secondary = h.secondary }
+      let h = act_stays entry plain off in
+      let t = act entry s in record {
+        same = cell_settled t cell ∙ h.same;
+        primary = inc_settled t row.primary ∙ h.primary;
+        secondary = inc_settled t row.secondary ∙ h.secondary;
+      }
 
 -- ### An entry that touches the link
 
@@ -126,11 +139,10 @@ module _ (servers : ℕ) (s : State) (p : IsPlainState servers s) (cell : Cell) 
   seats_after : (entry : Command) → IsPlain servers entry → (server : ℕ) (now : Option ℕ) → IsReseated s (act entry s) server now
       → IsReseated s (after s entry) server now
   seats_after entry plain server now h =
-      let k = subst (λ (t : State). IsReseated s t server now) (sym (settled_act servers s entry p plain)) h in
-      record { here = k.here; beside = k.beside }
+      record { here = inc_settled (act entry s) server ∙ h.here; beside = λ n ne. inc_settled (act entry s) n ∙ h.beside n ne }
 
   row_after : (entry : Command) → IsPlain servers entry → (now : LinkRow) → cell_link (act entry s) cell ≡ Some now → cell_link (after s entry) cell ≡ Some now
-  row_after entry plain now e = ap (λ (t : State). cell_link t cell) (settled_act servers s entry p plain) ∙ e
+  row_after entry plain now e = cell_settled (act entry s) cell ∙ e
 
   pub touched : (entry : Command) → IsPlain servers entry → touches s entry row ≡ true → IsTouchedBy cell row s entry
   touched (Join server inc blank) plain on =
@@ -187,9 +199,11 @@ module _ (servers : ℕ) (s : State) (p : IsPlainState servers s) (cell : Cell) 
       same_seat : (of link holder inc other other_inc : ℕ) (plain : IsPlain servers (Caught of link holder inc other other_inc)) (n : ℕ)
           → inc_of (after s (Caught of link holder inc other other_inc)) n ≡ inc_of s n
       same_seat of link holder inc other other_inc plain n =
-          ap (λ (t : State). inc_of t n) (settled_act servers s (Caught of link holder inc other other_inc) p plain)
+          inc_settled (act (Caught of link holder inc other other_inc) s) n
           ∙ act_caught (λ (t : State). inc_of t n ≡ inc_of s n) s of link holder inc other other_inc (λ acts. refl) refl
   touched (MakeDisk client seq name tuple) plain on = let f : false ≡ true = on in absurd cc
+  touched (Snap client seq disk name) plain on = let f : false ≡ true = on in absurd cc
+  touched (Drained server inc fence) plain on = let f : false ≡ true = on in absurd cc
   touched (Witness client seq turn) plain on = let f : false ≡ true = on in absurd cc
   touched _ plain on = absurd plain
 

@@ -7,8 +7,9 @@ use Rattle.global_tables.specs.declared.link.LinkState.TheVariants.{Only}
 use Rattle.petal_state.specs.declared.answer.DiskView.{DiskView}
 use Rattle.petal_state.specs.CellState.{cell_link}
 use Rattle.petal_state.specs.State.{is_up}
-use Rattle.petal_rules.specs.State.{State, find, lead, is_in, is_lead, is_second, readable}
+use Rattle.petal_rules.specs.State.{State, find, lead, is_in, is_lead, is_second, readable, snapshot}
 use Rattle.law_state.specs.Ages.{age_of}
+use Rattle.law_state.specs.Epochs.{epoch_at}
 use Rattle.law_state.specs.Rows.{IsHeldOn, IsLater, IsLostOn, IsServedOn}
 
 -- the later row of a cell's link
@@ -20,12 +21,23 @@ pub record HasLater (earlier later : State) (cell : Cell) (row : LinkRow) : Type
   pub held : IsHeldOn earlier later row now
   pub lost : IsLostOn row now
 
+-- a disk as it is found later: on the same map, and at the same epoch or a later one
+pub record HasLaterView (later : State) (name : List ℕ) (disk : DiskView) : Type 0 where
+  pub now : DiskView
+  pub is : find later name ≡ Some now
+  pub disk_is : now.disk ≡ disk.disk
+  pub map_is : now.map ≡ disk.map
+  pub old_is : now.old_map ≡ disk.old_map
+  pub onward : disk.epoch ≤ now.epoch
+
 -- a link stays between its two servers; who served it, and has been In all the time, serves it still; one that is Lost stays so; an
--- incarnation that was Out stays Out; and a disk is found as before
+-- incarnation that was Out stays Out; a disk is found as before, or at a later epoch; a snapshot stays at its epoch; and no epoch falls
 pub record IsBelow (earlier later : State) : Type 0 where
   pub rows : (cell : Cell) (row : LinkRow) → cell_link earlier cell ≡ Some row → HasLater earlier later cell row
   pub ages : (n : ℕ) → age_of earlier n ≤ age_of later n
-  pub finds : (name : List ℕ) (disk : DiskView) → find earlier name ≡ Some disk → find later name ≡ Some disk
+  pub finds : (name : List ℕ) (disk : DiskView) → find earlier name ≡ Some disk → HasLaterView later name disk
+  pub snaps : (disk : ℕ) (name : List ℕ) (epoch : ℕ) → snapshot earlier disk name ≡ Some epoch → snapshot later disk name ≡ Some epoch
+  pub epochs : (cell : Cell) → epoch_at earlier cell ≤ epoch_at later cell
 
 -- the server holds the cell's link alone
 pub record HoldsAlone (state : State) (n : ℕ) (cell : Cell) : Type 0 where

@@ -1,9 +1,10 @@
 -- How disks and cells belong together in a state that plain entries made, and who is In.
 use Rattle.std.specs.Prelude.{◌≡◌, ◌≢◌, ◌<◌, ◌≤◌, ◌⊎◌, Bool, List, ℕ, Some, None, true, false}
 use Rattle.petal_base.specs.declared.cell.Cell.{Cell}
-use Rattle.global_tables.specs.Disk.{disk_at, named}
+use Rattle.global_tables.specs.Disk.{disk_at, named, snapshot_named}
 use Rattle.global_tables.specs.declared.disk.DiskRow.{DiskRow}
-use Rattle.petal_state.specs.CellState.{cell_link}
+use Rattle.global_tables.specs.declared.disk.Snapshot.{Snapshot}
+use Rattle.petal_state.specs.CellState.{cell_link, owner}
 use Rattle.petal_state.specs.State.{is_up}
 use Rattle.petal_command.specs.declared.command.Command.{Command}
 use Rattle.petal_command.specs.declared.command.Command.TheVariants.{Join}
@@ -11,13 +12,15 @@ use Rattle.petal_rules.specs.Lists.{In}
 use Rattle.petal_rules.specs.State.{State, is_in, servers_of}
 use Rattle.law_state.specs.Steady.{HasLink}
 
--- each disk is found by its number and by its name; two disks have two maps; a disk is new, and its cells have links; and a
--- cell of no disk has none
+-- each disk is found by its number and by its name, and owns its map; two disks have two maps; each snapshot of a disk is found by its
+-- name, and is of an epoch below the disk's own; a disk's cells have links; and a cell of no disk has none
 pub record AreDisks (state : State) : Type 0 where
   pub at : (row : DiskRow) → In row state.disks.rows → disk_at state.disks.rows row.id ≡ Some row
   pub named : (row : DiskRow) → In row state.disks.rows → named state.disks.rows row.name ≡ Some row
   pub apart : (one other : DiskRow) → In one state.disks.rows → In other state.disks.rows → one.map ≡ other.map → one ≡ other
-  pub new : (row : DiskRow) → In row state.disks.rows → row.epoch ≡ 0
+  pub owned : (row : DiskRow) → In row state.disks.rows → owner state row.map ≡ Some row
+  pub snaps : (row : DiskRow) (snap : Snapshot) → In row state.disks.rows → In snap row.snaps → snapshot_named row.snaps snap.name ≡ Some snap
+  pub before : (row : DiskRow) (snap : Snapshot) → In row state.disks.rows → In snap row.snaps → snap.epoch < row.epoch
   pub served : (row : DiskRow) (cell : Cell) → In row state.disks.rows → cell.map ≡ row.map → HasLink state cell
   pub empty : (cell : Cell) → ((row : DiskRow) → In row state.disks.rows → row.map ≢ cell.map) → cell_link state cell ≡ None
 

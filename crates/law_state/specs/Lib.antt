@@ -1,6 +1,7 @@
 pub mod Ages
 pub mod Rows
 pub mod Steady
+pub mod Epochs
 pub mod Below
 pub mod Plain
 pub mod Started

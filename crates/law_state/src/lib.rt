@@ -1,8 +1,10 @@
 //! What plain entries of the agreed log make: states in which each cell's link is served by both of its servers, or by one of
-//! them once the other one has left, until a Caught of the link, or by none once that one has come back with an empty store.
+//! them once the other one has left, until a Caught of the link, or by none once that one has come back with an empty store; and in which
+//! a disk's epoch rises only once each server has reported to the fence.
 //!
-//! To the laws above it promises that such a state is steady, what of what it says of a cell, a server or a name each later
-//! one says too, and what has become of a link from one of its places to a later one. It knows nothing of letters, clients or histories.
+//! To the layers above it promises that such a state is steady, what of what it says of a cell, a server or a name each later
+//! one says too, what has become of a link from one of its places to a later one, and which reports stand before an epoch rises. It knows
+//! nothing of letters, clients or histories.
 #![tactic(auto)]
 
 ghost use Rattle.std.specs.Prelude.{◌≡◌, ◌<◌, ◌≤◌, ◌⊎◌, ℕ, Bool, List, [], ◌∷◌, ◌++◌, Some, length, slice_get, true, false};
@@ -18,8 +20,10 @@ ghost use Rattle.petal_state.specs.Place.{places_from, touches};
 ghost use Rattle.petal_state.specs.State.{start};
 ghost use Rattle.petal_rules.specs.Blanked.{blank_joins_from};
 ghost use Rattle.petal_rules.specs.Lists.{In};
-ghost use Rattle.petal_rules.specs.State.{State, is_in};
+ghost use Rattle.petal_rules.specs.State.{State, held, is_in};
+ghost use Rattle.petal_rules.specs.Writes.{is_writes_held};
 ghost use Rattle.law_state.specs.Below.{IsBelow, KeepsRoles};
+ghost use Rattle.law_state.specs.Epochs.{HasReported, epoch_at};
 ghost use Rattle.law_state.specs.Disks.{AreDisks, AreInOrOut, HasJoined};
 ghost use Rattle.law_state.specs.Joins.{CountsJoins, HasJoinedSince};
 ghost use Rattle.law_state.specs.Places.{IsCaughtSince, IsCaughtStill, IsHeldStill, IsLostIn, IsTouchedBy, StaysSo};
@@ -48,17 +52,18 @@ pub fn revisions_count_entries()
     ensures { (servers : ℕ) (log : List Command) → (state_after servers log).rev ≡ length log }
 {}
 
-/// The tables of a plain log: no fence, no move, no snapshot, and each map with the links that its tuple asks for.
+/// The tables of a plain log: fences for snapshots alone, no move, each disk with a snapshot for each epoch below its own, and each map
+/// with the links that its tuple asks for.
 pub fn a_plain_log_makes_plain_tables()
     ensures { (servers : ℕ) (log : List Command) → IsPlainLog servers log → IsPlainState servers (state_after servers log) }
 {}
 
-/// A longer log adds rows behind those that are there, and changes none but who serves a link.
+/// A longer log adds rows behind those that are there, and changes none but who serves a link, and which snapshots a disk has.
 pub fn a_longer_log_only_adds()
     ensures { (servers : ℕ) (front whole : List Command) → IsPlainLog servers whole → IsPrefix front whole → IsGrown (state_after servers front) (state_after servers whole) }
 {}
 
-/// Each disk is found by its number and its name, two disks have two maps, and a cell of no disk has no link.
+/// Each disk is found by its number and its name, and its snapshots by theirs, two disks have two maps, and a cell of no disk has no link.
 pub fn disks_and_cells_belong_together()
     ensures { (servers : ℕ) (log : List Command) → IsPlainLog servers log → AreDisks (state_after servers log) }
 {}
@@ -111,4 +116,13 @@ pub fn blank_joins_only_grow()
     ensures grows { (servers : ℕ) (front whole : List Command) (n : ℕ) → IsPrefix front whole → blank_joins_from (start servers) front n ≤ blank_joins_from (start servers) whole n }
     ensures entry { (servers : ℕ) (front : List Command) (entry : Command) (n : ℕ) → CountsJoins servers front entry n }
     ensures counts { (servers : ℕ) (front whole : List Command) (n inc : ℕ) → HasJoinedSince servers front whole n inc true → blank_joins_from (start servers) front n < blank_joins_from (start servers) whole n }
+{}
+
+/// The epoch of a cell's disk never falls. While a server stays In as one incarnation, the epoch rises only behind its report to an active
+/// fence that holds the cell's writes: from a front on whose own active fence does not hold them, and from one behind which a server
+/// leaves, since the active fence then awaits all reports again.
+pub fn an_epoch_rises_behind_reports()
+    ensures grows { (servers : ℕ) (front whole : List Command) (cell : Cell) → IsPlainLog servers whole → IsPrefix front whole → epoch_at (state_after servers front) cell ≤ epoch_at (state_after servers whole) cell }
+    ensures unheld { (servers : ℕ) (front whole : List Command) (n inc : ℕ) (cell : Cell) → IsPlainLog servers whole → IsPrefix front whole → is_in (state_after servers front) n inc ≡ true → is_in (state_after servers whole) n inc ≡ true → is_writes_held (held (state_after servers front) cell) ≡ false → epoch_at (state_after servers front) cell < epoch_at (state_after servers whole) cell → HasReported servers front whole n inc cell }
+    ensures left { (servers : ℕ) (front whole : List Command) (n inc other other_inc : ℕ) (cell : Cell) → IsPlainLog servers whole → IsPrefix (front ++ Leave other other_inc ∷ []) whole → is_in (state_after servers front) other other_inc ≡ true → is_in (state_after servers (front ++ Leave other other_inc ∷ [])) n inc ≡ true → is_in (state_after servers whole) n inc ≡ true → epoch_at (state_after servers front) cell < epoch_at (state_after servers whole) cell → HasReported servers (front ++ Leave other other_inc ∷ []) whole n inc cell }
 {}

@@ -8,6 +8,7 @@ use Rattle.petal_rules.specs.State.{State}
 use Rattle.petal_rules.proofs.Tests.{same_some}
 use Rattle.law_state.specs.Below.{IsBelow}
 use Rattle.law_state.specs.Ages.{age_of}
+use Rattle.law_state.specs.Epochs.{epoch_at}
 use Rattle.law_state.proofs.Ages.{no_less}
 use Rattle.law_state.proofs.Grown.{held_on_on, later_itself, later_on, served_on_on}
 
@@ -61,7 +62,19 @@ below_on a b c one two = record {
         lost = λ gone. last.lost (middle.lost gone);
       };
   ages = λ n. let x = one.ages n in let y = two.ages n in omega arith;
-  finds = λ name disk e. two.finds name disk (one.finds name disk e);
+  finds = λ name disk e.
+      let middle = one.finds name disk e in
+      let last = two.finds name middle.now middle.is in
+      record {
+        now = last.now;
+        is = last.is;
+        disk_is = last.disk_is ∙ middle.disk_is;
+        map_is = last.map_is ∙ middle.map_is;
+        old_is = last.old_is ∙ middle.old_is;
+        onward = let x = middle.onward in let y = last.onward in omega arith;
+      };
+  snaps = λ disk name epoch e. two.snaps disk name epoch (one.snaps disk name epoch e);
+  epochs = λ cell. let x = one.epochs cell in let y = two.epochs cell in omega arith;
 }
 
 pub below_itself : (a : State) → IsBelow a a
@@ -75,5 +88,7 @@ below_itself a = record {
     lost = λ gone. gone;
   };
   ages = λ n. no_less (age_of a n);
-  finds = λ name disk e. e;
+  finds = λ name disk e. record { now = disk; is = e; disk_is = refl; map_is = refl; old_is = refl; onward = no_less disk.epoch };
+  snaps = λ disk name epoch e. e;
+  epochs = λ cell. no_less (epoch_at a cell);
 }

@@ -75,7 +75,7 @@ ready_held : (state : State) (me : ℕ) (held later : Cell → Bool) (pending : 
     → IsReady state me held pending → IsReady state me later pending
 ready_held state me held later pending less ready = record {
   staged = λ cell op is. let s = ready.staged cell op is in
-      record { own = s.own; keyed = s.keyed; lead = s.lead; stage = s.stage; unheld = less cell op is s.unheld };
+      record { own = s.own; clients = s.clients; keyed = s.keyed; lead = s.lead; stage = s.stage; unheld = less cell op is s.unheld };
   rising = ready.rising;
 }
 
@@ -131,7 +131,7 @@ module _ (servers : ℕ) (front whole : List Command) (plain : IsPlainLog server
   ready_on : IsReady later n held pending
   ready_on = record {
     staged = λ cell op is. let s = ready.staged cell op is in
-        record { own = s.own; keyed = s.keyed; lead = lead_still cell op is; stage = stage_still cell op is; unheld = s.unheld };
+        record { own = s.own; clients = s.clients; keyed = s.keyed; lead = lead_still cell op is; stage = stage_still cell op is; unheld = s.unheld };
     rising = ready.rising;
   }
 

@@ -1,5 +1,5 @@
 -- What a lead does for a write is one of the kinds that the relation names.
-use Rattle.std.proofs.Common.{◌≡◌, ◌≤◌, ℕ, ◌+◌, ◌==◌, ◌&&◌, not, Bool, true, false, Option, Some, None, refl, ap, sym, ◌∙◌, subst, arith}
+use Rattle.std.proofs.Common.{◌≡◌, ◌≤◌, ℕ, ◌+◌, ◌==◌, ◌&&◌, not, Bool, true, false, Option, Some, None, ◌⊎◌, inl, inr, refl, ap, sym, ◌∙◌, subst, arith}
 use Rattle.std.specs.Prelude.{◌||◌, is_some, nat_lt, if◌then◌else◌}
 use Rattle.std.proofs.lemmas.Bool.Decides.{nat_tests}
 use Rattle.std.specs.Ordering.{nat_cmp}
@@ -27,9 +27,9 @@ use Rattle.law_state.proofs.Cells.{leads_so}
 use Rattle.law_state.proofs.Links.{either_false}
 use Rattle.law_steps.specs.Operations.{IsStaged, AtRest, Waiting, Putting, Copying, Answering, waiting, putting, copying, answering, done_to}
 use Rattle.law_steps.specs.DidLead.{Asks_for, Repeats, Is_full, Opens, Marks, Puts, Gives_up, Unmarks, Closes, Opens_alone, Marks_alone, Puts_alone, Unmarks_alone, Closes_alone, Asks, A_slot, A_copy, IsNew, Taken, As_it_is, As_told}
-use Rattle.law_steps.specs.Did.{Did, Ignores, Refuses, For_a_write, By_copy_for_a_write, By_lead}
+use Rattle.law_steps.specs.Did.{Did, Ignores, Refuses, For_a_write, By_copy_for_a_write, A_write, By_lead}
 use Rattle.petal_rules.proofs.Tests.{by_test, by_bool, both_true, not_true, true_false, same_numbers, only}
-use Rattle.law_steps.proofs.Busy.{not_busy, busy_seq}
+use Rattle.law_steps.proofs.Busy.{not_busy, busy_seq, not_held, held_seq}
 
 is_waiting : (stage : Stage) → AtRest stage → stage.reserved ≡ false → stage ≡ waiting
 is_waiting stage (Waiting e) f = e
@@ -53,6 +53,10 @@ is_none (Some x) e = true_false refl e
 
 pub no_free : (free : ℕ) → nat_lt 0 free ≡ false → free ≡ 0
 no_free free e = grind (arith, nat_tests)
+
+either_one : (a b : Bool) → (a || b) ≡ true → (a ≡ true) ⊎ (b ≡ true)
+either_one true b e = inl refl
+either_one false b e = inr e
 
 newer : (last : Finished) (seq : ℕ) → nat_lt seq last.seq ≡ false → (seq == last.seq) ≡ false → last.seq + 1 ≤ seq
 newer last seq e f = grind (arith, nat_tests)
@@ -150,24 +154,29 @@ module _ (heard : Body → Type 0) (here : Here) (own : Own) (steady : IsSteady 
       → D (says own (actor.Client want.client) (body.BlockBusy want.seq))
   did_busy want h lead other (Some op) e copy f busy = Refuses (actor.Client want.client) (body.BlockBusy want.seq) refl
       (λ seq g. For_a_write want op h (busy_seq g) lead e (ap (λ o. is_pending_for o want) (sym e) ∙ other))
+      (λ seq g. not_held (body.BlockBusy want.seq) seq g refl)
   did_busy want h lead other None e (Some copy) f busy = Refuses (actor.Client want.client) (body.BlockBusy want.seq) refl
-      (λ seq g. By_copy_for_a_write want copy h (busy_seq g) lead f)
+      (λ seq g. By_copy_for_a_write want copy h (busy_seq g) lead f) (λ seq g. not_held (body.BlockBusy want.seq) seq g refl)
   did_busy want h lead other None e None f busy = true_false busy refl
 
   did_newer : (want : Wanted) → by_write want → is_lead here.state here.me want.cell ≡ true
       → done_to (at nat_cmp own.pairs.finished want.client) ≤ want.seq → (kept busy : Bool) → is_kept_back here.state own want.cell ≡ kept
       → is_under_way own want.cell ≡ busy → is_pending_for (pending_on own want.cell) want ≡ false → D (takes_newer here own want kept busy)
-  did_newer want h lead new true busy e f other = Refuses (actor.Client want.client) (body.Held want.seq) refl (λ seq g. not_busy (body.Held want.seq) seq g refl)
+  did_newer want h lead new true busy e f other = Refuses (actor.Client want.client) (body.Held want.seq) refl
+      (λ seq g. not_busy (body.Held want.seq) seq g refl)
+      (λ seq g. A_write want h (held_seq g) lead (either_one (is_writes_held (held here.state want.cell)) (has_proposed here.state own want.cell) e))
   did_newer want h lead new false true e f other = did_busy want h lead other (pending_on own want.cell) refl (copying_on own want.cell) refl f
   did_newer want h lead new false false e f other =
       let idle = either_false (is_some (pending_on own want.cell)) (is_some (copying_on own want.cell)) f in
+      let free = either_false (is_writes_held (held here.state want.cell)) (has_proposed here.state own want.cell) e in
       did_opens want (record {
         wanted = h;
         lead = lead;
         newer = new;
         none = is_none (pending_on own want.cell) idle.0;
         uncopied = is_none (copying_on own want.cell) idle.1;
-        unheld = (either_false (is_writes_held (held here.state want.cell)) (has_proposed here.state own want.cell) e).1;
+        unfenced = free.0;
+        unheld = free.1;
       }) (nat_lt 0 (free_of own.store)) refl
 
   did_standing : (want : Wanted) → by_write want → is_lead here.state here.me want.cell ≡ true → (o : Option Finished)

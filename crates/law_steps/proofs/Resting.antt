@@ -328,7 +328,7 @@ other_rests heard here own _ r (Has_no_slot entry holder last of_copy so full) =
 pub did_rests : (heard : Body → Type 0) (here : Here) (own : Own) (done : Done) → AreResting here.state here.me own → Did heard here own done
     → AreResting here.state here.me done.own
 did_rests heard here own _ r Ignores = r
-did_rests heard here own _ r (Refuses to said is busy) = r
+did_rests heard here own _ r (Refuses to said is busy held) = r
 did_rests heard here own done r (By_read _ d) = resting_equal here.state here.me own done.own (ap (λ (o : Own). o.copies) (of_read heard here own done d).same) r
 did_rests heard here own done r (By_lead _ d) = resting_equal here.state here.me own done.own (of_lead heard here own done d).copies r
 did_rests heard here own done r (By_second _ d) = resting_equal here.state here.me own done.own (of_second heard here own done d).copies r

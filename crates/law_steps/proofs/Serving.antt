@@ -28,6 +28,7 @@ use Rattle.petal_rules.specs.Ballots.{ballot_posts, ask_posts, asks_next, first_
 use Rattle.petal_rules.specs.Boots.{boots, raised, stays}
 use Rattle.petal_rules.specs.Copies.{copy_awaited, copy_posts, copy_stage, mend_jobs, next_copy, page_asked, page_for, page_posts, sends_entry, waits_for_job}
 use Rattle.petal_rules.specs.Crossing.{crossed, link_jobs, settled_by, stage_jobs}
+use Rattle.petal_rules.specs.Draining.{draining}
 use Rattle.petal_rules.specs.Progress.{copying_on, has_proposed}
 use Rattle.petal_rules.specs.Returns.{caught_links, is_nothing, own_join, proposed, returning}
 use Rattle.petal_rules.specs.Entries.{applies}
@@ -38,13 +39,13 @@ use Rattle.petal_rules.specs.State.{State, id_of, in_both, is_in, is_lead, other
 use Rattle.petal_rules.specs.Store.{Stored, cell_cmp, chain_in, epochs_of, mark_left}
 use Rattle.petal_state.specs.State.{inc_of}
 use Rattle.petal_rules.specs.Writes.{pending_on, both_action, alone_action}
-use Rattle.petal_rules.specs.Jobs.{Acted, works, job_done, crossing, entered, worked, is_overfull, stops, glances, glance_sender, is_log_job, voter_of, tick_jobs, tick_posts, sent_anew, copies_anew, awaited, does, log_does, wanted_by}
+use Rattle.petal_rules.specs.Jobs.{Acted, works, job_done, crossing, entered, worked, is_overfull, stops, glances, glance_sender, is_log_job, voter_of, tick_jobs, tick_posts, sent_anew, copies_anew, awaited, does, log_does, own_wants, wanted_by}
 use Rattle.petal_rules.specs.World.{Setting, World, acts, server_state, server_step, chosen_log, MayServer}
 use Rattle.petal_rules.specs.declared.job.Job.{Job}
 use Rattle.petal_rules.specs.declared.job.Job.TheVariants as job
 use Rattle.petal_rules.specs.declared.step.CommitEnd.TheVariants.{Before, After}
 use Rattle.petal_rules.specs.declared.step.Step.{Step}
-use Rattle.petal_rules.specs.declared.step.Step.TheVariants.{Call, Deliver, Tick, Work, Stop, Blank, Boot, Glance}
+use Rattle.petal_rules.specs.declared.step.Step.TheVariants.{Call, Deliver, Tick, Work, StopIn, Stop, Blank, Boot, Arm, Glance}
 use Rattle.petal_rules.specs.declared.step.WorkEnd.{WorkEnd}
 use Rattle.petal_rules.specs.declared.step.WorkEnd.TheVariants as work_end
 use Rattle.petal_paxos.specs.Chosen.{chosen_log as chosen_by}
@@ -57,6 +58,7 @@ use Rattle.law_state.specs.Started.{is_caught}
 use Rattle.law_state.proofs.Entries.{log_plain}
 use Rattle.law_state.proofs.Steady.{front_plain, log_rev}
 use Rattle.law_log.proofs.Catching.{caught_among}
+use Rattle.law_log.proofs.Draining.{report_among}
 use Rattle.law_log.proofs.Jobs.{all_leaves, own_leaves}
 use Rattle.law_log.proofs.Lists.{kept_among}
 use Rattle.law_log.proofs.Proposing.{first_among}
@@ -163,7 +165,7 @@ chosen_same setting w n stamp what acted same =
     ap (chosen_by setting.servers) (λ i m. each m i)
 
 -- what is wanted and no Caught of clients' or Leaves is of a link of the server's
-module _ (voter : Voter) (log : Log) (returning : List Command) where
+module _ (voter : Voter) (log : Log) (mine : List Command) where
   fold_leaves : (c : Command) → is_caught c ≡ true → ((c : Command) → In c log.leaves → is_caught c ≡ false)
       → In c (fold with_leave (filter (is_due (state_in voter.servers log)) log.leaves) (own_leave voter.me voter.inc (inc_of (state_in voter.servers log) voter.me))) → ⊥
   fold_leaves c is leaves h =
@@ -172,12 +174,19 @@ module _ (voter : Voter) (log : Log) (returning : List Command) where
         | inr own ↦ own_leaves voter.me voter.inc (inc_of (state_in voter.servers log) voter.me) c (λ earlier lt e. true_false is (ap is_caught e)) own
       ]
 
-  returns : (c : Command) → is_caught c ≡ true → ((c : Command) → In c log.wants → is_caught c ≡ false)
-      → ((c : Command) → In c log.leaves → is_caught c ≡ false) → In c (wanted voter log returning) → In c returning
-  returns c is wants leaves h = elim (in-append c _ log.wants h) [
+  wanted_of_mine : (c : Command) → is_caught c ≡ true → ((c : Command) → In c log.wants → is_caught c ≡ false)
+      → ((c : Command) → In c log.leaves → is_caught c ≡ false) → In c (wanted voter log mine) → In c mine
+  wanted_of_mine c is wants leaves h = elim (in-append c _ log.wants h) [
     | inr asked ↦ true_false is (wants c asked)
-    | inl former ↦ elim (in-append c _ returning former) [ inr mine ↦ mine | inl leave ↦ absurd (fold_leaves c is leaves leave) ]
+    | inl former ↦ elim (in-append c _ mine former) [ inr own ↦ own | inl leave ↦ absurd (fold_leaves c is leaves leave) ]
   ]
+
+-- and no report to a fence
+caught_returns : (here : Here) (own : Own) (c : Command) → is_caught c ≡ true → In c (own_wants here own) → In c (returning here own)
+caught_returns here own c is h = elim (in-append c (returning here own) (draining here own) h) [
+  | inl mine ↦ mine
+  | inr report ↦ true_false is (ap is_caught (report_among here own c report).is)
+]
 
 module _ (setting : Setting) (w : World) (rests : Rests setting w) (firm : Firm setting w) (n : ℕ) (steady : IsSteady (server_state setting w n)) (stamp : ℕ) where
   abbrev here : Here
@@ -466,8 +475,9 @@ module _ (setting : Setting) (w : World) (rests : Rests setting w) (firm : Firm 
   starts_for_it : (started : Option Command) → first_wanted log.phase (rev_of log) (wanted_by here server) ≡ started → Starts here own started
   starts_for_it (Some (Caught of link holder inc other other_inc)) e =
       ballot_for of link holder inc other other_inc
-      (returns (voter_of here) log (returning here own) _ refl (λ c i. firm.asked n c (inl i)) (λ c i. firm.asked n c (inr i))
-      (first_among log.phase (rev_of log) (wanted_by here server) _ e))
+      (caught_returns here own _ refl
+      (wanted_of_mine (voter_of here) log (own_wants here own) _ refl (λ c i. firm.asked n c (inl i)) (λ c i. firm.asked n c (inr i))
+      (first_among log.phase (rev_of log) (wanted_by here server) _ e)))
   starts_for_it (Some _) e = tt
   starts_for_it None e = tt
 
@@ -531,15 +541,14 @@ module _ (setting : Setting) (w : World) (rests : Rests setting w) (firm : Firm 
       by_test (λ a. F (Work work_end.Done) a → S (Work work_end.Done) a) (is_overfull acted.server) (stops here server) acted
       (λ full later. stops_serve (Work work_end.Done) runs) (λ room later. goes_on acted runs (job_worked what rest e) later)
 
-  faults_serve : (queue : List Job) → server.queue ≡ queue → (queue ≡ [] → ⊥) → server.life.running ≡ true
-      → F (Work (work_end.Fault After)) (stops here (works here server queue).server) → S (Work (work_end.Fault After)) (stops here (works here server queue).server)
-  faults_serve [] e some runs = absurd (some refl)
-  faults_serve (what ∷ rest) e some runs =
+  -- a device failed in a job, or was to stop the server, behind its commit
+  faults_serve : (ended : Step) (queue : List Job) → server.queue ≡ queue → (queue ≡ [] → ⊥) → server.life.running ≡ true
+      → F ended (stops here (works here server queue).server) → S ended (stops here (works here server queue).server)
+  faults_serve ended [] e some runs = absurd (some refl)
+  faults_serve ended (what ∷ rest) e some runs =
       let acted = job_done here server what rest in
-      by_test (λ (a : Acted). F (Work (work_end.Fault After)) (stops here a.server) → S (Work (work_end.Fault After)) (stops here a.server))
-      (is_overfull acted.server) (stops here server) acted
-      (λ full later. stops_serve (Work (work_end.Fault After)) runs)
-      (λ room later. ends_so (Work (work_end.Fault After)) acted runs (job_worked what rest e) later)
+      by_test (λ (a : Acted). F ended (stops here a.server) → S ended (stops here a.server)) (is_overfull acted.server) (stops here server) acted
+      (λ full later. stops_serve ended runs) (λ room later. ends_so ended acted runs (job_worked what rest e) later)
 
   -- nothing is done
   rests_idle : IsIdle here own (silent own)
@@ -586,8 +595,11 @@ module _ (setting : Setting) (w : World) (rests : Rests setting w) (firm : Firm 
       (inr (record { same = refl; asks = tick_asks }))
   server_serves (Work work_end.Done) other may later = works_serve server.queue refl may.busy may.acts.runs later
   server_serves (Work (work_end.Fault Before)) other may later = stops_serve (Work (work_end.Fault Before)) may.acts.runs
-  server_serves (Work (work_end.Fault After)) other may later = faults_serve server.queue refl may.busy may.acts.runs later
+  server_serves (Work (work_end.Fault After)) other may later = faults_serve (Work (work_end.Fault After)) server.queue refl may.busy may.acts.runs later
+  server_serves (StopIn Before) other may later = stops_serve (StopIn Before) may.acts.runs
+  server_serves (StopIn After) other may later = faults_serve (StopIn After) server.queue refl may.busy may.acts.runs later
   server_serves Blank other may later = true_false refl other
   server_serves Stop other may later = stops_serve Stop may.runs
   server_serves (Boot end) other may later = boots_serve end may.rests
+  server_serves (Arm which plan) other may later = stays_serve (Arm which plan)
   server_serves (Glance line round) other may later = glances_serve line round

@@ -9,6 +9,7 @@ use Rattle.petal_msg.specs.declared.operation.Pending.{Pending}
 use Rattle.petal_msg.specs.declared.operation.Stage.{Stage}
 use Rattle.petal_rules.specs.State.{State, is_lead, is_alone_on}
 use Rattle.petal_rules.specs.Store.{cell_cmp, chain_in, version_of}
+use Rattle.petal_rules.specs.Draining.{is_clients}
 use Rattle.petal_rules.specs.Progress.{has_proposed}
 use Rattle.petal_rules.specs.Server.{Own, Here, Done}
 use Rattle.petal_rules.specs.Writes.{operation, with_reserved, with_paired, with_mark_at}
@@ -58,11 +59,11 @@ module _ (heard : Body → Type 0) (here : Here) (own : Own) (ready : IsReady he
   abbrev R : Table Cell Pending → Type 0
   R u = IsReady here.state here.me (has_proposed here.state own) u
 
-  restaged : (op new : Pending) → at cell_cmp t op.cell ≡ Some op → new.cell ≡ op.cell → new.key ≡ op.key → AtRest new.stage
+  restaged : (op new : Pending) → at cell_cmp t op.cell ≡ Some op → new.cell ≡ op.cell → new.kind ≡ op.kind → new.key ≡ op.key → AtRest new.stage
       → IsStaged here.state here.me (has_proposed here.state own) op.cell new
-  restaged op new is cell key stage =
+  restaged op new is cell kind key stage =
       let s = ready.staged op.cell op is in
-      record { own = cell; keyed = ap cell_of key ∙ s.keyed; lead = s.lead; stage = λ both. stage; unheld = s.unheld }
+      record { own = cell; clients = ap is_clients kind ∙ s.clients; keyed = ap cell_of key ∙ s.keyed; lead = s.lead; stage = λ both. stage; unheld = s.unheld }
 
   -- the operation rests in its next stage, and nothing else is changed
   put_ready : (op new : Pending) → IsStaged here.state here.me (has_proposed here.state own) op.cell new → R (put cell_cmp t op.cell new)
@@ -86,26 +87,35 @@ module _ (heard : Body → Type 0) (here : Here) (own : Own) (ready : IsReady he
 
   -- ### At a holder that is alone
 
-  alone_staged : (cell : Cell) (op : Pending) → op.cell ≡ cell → cell_of op.key ≡ cell → is_lead here.state here.me cell ≡ true
+  alone_staged : (cell : Cell) (op : Pending) → op.cell ≡ cell → is_clients op.kind ≡ true → cell_of op.key ≡ cell → is_lead here.state here.me cell ≡ true
       → is_alone_on here.state here.me cell ≡ true → has_proposed here.state own cell ≡ false → IsStaged here.state here.me (has_proposed here.state own) cell op
-  alone_staged cell op mine keyed lead alone unheld =
-      record { own = mine; keyed = keyed; lead = lead; unheld = unheld; stage = λ both. true_false both (alone_not_both here.state here.me cell alone) }
+  alone_staged cell op mine clients keyed lead alone unheld =
+      record {
+        own = mine;
+        clients = clients;
+        keyed = keyed;
+        lead = lead;
+        unheld = unheld;
+        stage = λ both. true_false both (alone_not_both here.state here.me cell alone);
+      }
 
-  taken_staged : (now : Own) (op new : Pending) → Taken own now op → is_alone_on here.state here.me op.cell ≡ true → new.cell ≡ op.cell → new.key ≡ op.key
-      → IsStaged here.state here.me (has_proposed here.state own) op.cell new
-  taken_staged now op new taken alone cell key =
+  taken_staged : (now : Own) (op new : Pending) → Taken own now op → is_alone_on here.state here.me op.cell ≡ true → new.cell ≡ op.cell
+      → new.kind ≡ op.kind → new.key ≡ op.key → IsStaged here.state here.me (has_proposed here.state own) op.cell new
+  taken_staged now op new taken alone cell kind key =
       let k = taking own now op taken in
       let s = ready.staged op.cell k.old k.was in
-      alone_staged op.cell new cell (ap cell_of (key ∙ ap (λ (o : Pending). o.key) k.is) ∙ s.keyed) s.lead alone s.unheld
+      alone_staged op.cell new cell (ap is_clients (kind ∙ ap (λ (o : Pending). o.kind) k.is) ∙ s.clients)
+      (ap cell_of (key ∙ ap (λ (o : Pending). o.key) k.is) ∙ s.keyed) s.lead alone s.unheld
 
-  taken_ready : (now : Own) (op new : Pending) → Taken own now op → is_alone_on here.state here.me op.cell ≡ true → new.cell ≡ op.cell → new.key ≡ op.key
-      → R (put cell_cmp now.pairs.pending op.cell new)
-  taken_ready now op new taken alone cell key =
+  taken_ready : (now : Own) (op new : Pending) → Taken own now op → is_alone_on here.state here.me op.cell ≡ true → new.cell ≡ op.cell
+      → new.kind ≡ op.kind → new.key ≡ op.key → R (put cell_cmp now.pairs.pending op.cell new)
+  taken_ready now op new taken alone cell kind key =
       let k = taking own now op taken in
       let u = now.pairs.pending in
       changed_ready here.state here.me (has_proposed here.state own) t (put cell_cmp u op.cell new) op.cell ready (put_rises cell_cmp_total u op.cell new (k.rises ready.rising))
       (λ q ne. cell_apart u op.cell new q ne ∙ k.others q ne)
-      (λ o there. subst (IsStaged here.state here.me (has_proposed here.state own) op.cell) (same_some (sym (cell_same u op.cell new) ∙ there)) (taken_staged now op new taken alone cell key))
+      (λ o there. subst (IsStaged here.state here.me (has_proposed here.state own) op.cell) (same_some (sym (cell_same u op.cell new) ∙ there))
+      (taken_staged now op new taken alone cell kind key))
 
   taken_gone : (now : Own) (op : Pending) → Taken own now op → R (without cell_cmp now.pairs.pending op.cell)
   taken_gone now op taken =
@@ -121,24 +131,24 @@ module _ (heard : Body → Type 0) (here : Here) (own : Own) (ready : IsReady he
   lead_ready _ (Gives_up op h is reserved put) = gone_ready op.cell
   lead_ready _ (Opens want new both) =
       let op = operation here own.pairs.next want in
-      put_ready op op (record { own = refl; keyed = refl; lead = new.lead; stage = λ both. Waiting refl; unheld = new.unheld })
+      put_ready op op (record { own = refl; clients = refl; keyed = refl; lead = new.lead; stage = λ both. Waiting refl; unheld = new.unheld })
   lead_ready _ (Marks op h is both stage) =
-      put_twice_ready op (with_reserved op) _ (restaged op (with_mark_at (with_reserved op) Busy true) is refl refl
+      put_twice_ready op (with_reserved op) _ (restaged op (with_mark_at (with_reserved op) Busy true) is refl refl refl
       (Putting (ap (λ (x : Stage). (record x { reserved = true; busy = true })) stage)))
   lead_ready _ (Puts op is both stage) =
       let two : Pending = record op { version = version_of (chain_in own.store.chains op.cell) + 1; stage = record op.stage { put = true } } in
-      put_ready op two (restaged op two is refl refl (Copying (ap (λ (x : Stage). (record x { put = true })) stage)))
+      put_ready op two (restaged op two is refl refl refl (Copying (ap (λ (x : Stage). (record x { put = true })) stage)))
   lead_ready _ (Unmarks op h is both stage) =
-      put_twice_ready op (with_paired op) _ (restaged op (with_mark_at (with_paired op) Busy false) is refl refl
+      put_twice_ready op (with_paired op) _ (restaged op (with_mark_at (with_paired op) Busy false) is refl refl refl
       (Answering (ap (λ (x : Stage). (record x { paired = true; busy = false })) stage)))
   lead_ready _ (Closes op is both stage) = gone_ready op.cell
   lead_ready _ (Opens_alone want new alone) =
       let op = operation here own.pairs.next want in
-      put_twice_ready op op (with_mark_at op Stale true) (alone_staged want.cell (with_mark_at op Stale true) refl refl new.lead alone new.unheld)
-  lead_ready _ (Marks_alone now op taken alone fresh) = taken_ready now op (with_mark_at op Stale true) taken alone refl refl
+      put_twice_ready op op (with_mark_at op Stale true) (alone_staged want.cell (with_mark_at op Stale true) refl refl refl new.lead alone new.unheld)
+  lead_ready _ (Marks_alone now op taken alone fresh) = taken_ready now op (with_mark_at op Stale true) taken alone refl refl refl
   lead_ready _ (Puts_alone now op taken alone stale put) =
-      taken_ready now op (record op { version = version_of (chain_in now.store.chains op.cell) + 1; stage = record op.stage { put = true } }) taken alone refl refl
-  lead_ready _ (Unmarks_alone now op taken alone stale put busy) = taken_ready now op (with_mark_at op Busy false) taken alone refl refl
+      taken_ready now op (record op { version = version_of (chain_in now.store.chains op.cell) + 1; stage = record op.stage { put = true } }) taken alone refl refl refl
+  lead_ready _ (Unmarks_alone now op taken alone stale put busy) = taken_ready now op (with_mark_at op Busy false) taken alone refl refl refl
   lead_ready _ (Closes_alone now op taken alone stale put free) = taken_gone now op taken
 
   still : (t : Table Cell Pending) → t ≡ own.pairs.pending → R t
@@ -146,7 +156,7 @@ module _ (heard : Body → Type 0) (here : Here) (own : Own) (ready : IsReady he
 
   pub did_ready : (done : Done) → Did heard here own done → R done.own.pairs.pending
   did_ready _ Ignores = ready
-  did_ready _ (Refuses to said is why) = ready
+  did_ready _ (Refuses to said is busy held) = ready
   did_ready _ (By_read done d) = still _ (ap (λ (o : Own). o.pairs.pending) (of_read heard here own done d).same)
   did_ready _ (By_lead done d) = lead_ready done d
   did_ready _ (By_second done d) = still _ (of_second heard here own done d).pending

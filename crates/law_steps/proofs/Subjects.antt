@@ -120,7 +120,7 @@ module _ (heard : Body → Type 0) (here : Here) (own : Own) where
   -- copies under way stand in the order of their cells
   pub copies_rise : (done : Done) → Did heard here own done → IsRising cell_cmp own.copies.pending → IsRising cell_cmp done.own.copies.pending
   copies_rise _ Ignores h = h
-  copies_rise _ (Refuses to said is why) h = h
+  copies_rise _ (Refuses to said is busy held) h = h
   copies_rise _ (By_read done d) h = subst (λ (o : Own). IsRising cell_cmp o.copies.pending) (sym (of_read done d).same) h
   copies_rise _ (By_lead done d) h = subst (λ (c : Copies). IsRising cell_cmp c.pending) (sym (of_lead done d).copies) h
   copies_rise _ (By_second done d) h = subst (λ (c : Copies). IsRising cell_cmp c.pending) (sym (of_second done d).copies) h
@@ -131,7 +131,7 @@ module _ (heard : Body → Type 0) (here : Here) (own : Own) where
   pub unheld_stays : (done : Done) → Did heard here own done → (state : State) (cell : Cell) → has_proposed state own cell ≡ false
       → has_proposed state done.own cell ≡ false
   unheld_stays _ Ignores state cell e = e
-  unheld_stays _ (Refuses to said is why) state cell e = e
+  unheld_stays _ (Refuses to said is busy held) state cell e = e
   unheld_stays _ (By_read done d) state cell e = ap (λ (o : Own). has_proposed state o cell) (of_read done d).same ∙ e
   unheld_stays _ (By_lead done d) state cell e = same_copies done (of_lead done d).copies state cell ∙ e
   unheld_stays _ (By_second done d) state cell e = same_copies done (of_second done d).copies state cell ∙ e
@@ -142,7 +142,7 @@ module _ (heard : Body → Type 0) (here : Here) (own : Own) where
   pub no_letters : (done : Done) → Did heard here own done → (letter : Letter) → In (job.Letter letter) done.jobs → ⊥
   unfolding In
   no_letters _ Ignores letter i = i
-  no_letters _ (Refuses to said is why) letter i = i
+  no_letters _ (Refuses to said is busy held) letter i = i
   no_letters _ (By_read done d) letter i = subst (λ (jobs : List Job). In (job.Letter letter) jobs) (of_read done d).no_jobs i
   no_letters _ (By_lead done d) letter i = (of_lead done d).no_letters letter i
   no_letters _ (By_second done d) letter i = subst (λ (jobs : List Job). In (job.Letter letter) jobs) (of_second done d).no_jobs i

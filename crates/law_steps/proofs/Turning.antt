@@ -29,7 +29,7 @@ use Rattle.petal_rules.specs.Server.{Post, post_to}
 use Rattle.petal_rules.specs.Clients.{Client, Asked, Reaction, Learning, rests, posts_for, write_posts, read_posts, read_posts_at, epoch_for, cell_on, to_propose, sends_or_proposes, goes_out, goes_out_where, post_in_turn, asking, asks_and_sends, called, replies, is_read, is_write, first_round, Sight, with_sight, stays_open, rounds, settles, sees_for, sees, sees_from, answers, hears, hears_of, heard, hears_any, command_of, refusal, verdict_for, answered_where, witnessed, is_witness, judged, judged_by, takes_entry, takes_all, then_goes_out, takes_entries, next_entries, ticked}
 use Rattle.petal_rules.specs.World.{Setting, World, MayClient, client_state, client_step, calls, line_in, next_line}
 use Rattle.petal_rules.specs.declared.step.Step.{Step}
-use Rattle.petal_rules.specs.declared.step.Step.TheVariants.{Call, Deliver, Tick, Work, Stop, Blank, Boot, Glance}
+use Rattle.petal_rules.specs.declared.step.Step.TheVariants.{Call, Deliver, Tick, Work, StopIn, Stop, Blank, Boot, Arm, Glance}
 use Rattle.petal_rules.proofs.ListLemmas.{in-append}
 use Rattle.petal_rules.proofs.Tests.{by_test, both_true, same_numbers, only}
 use Rattle.law_state.proofs.Steady.{log_rev}
@@ -502,7 +502,9 @@ client_turns setting w c Tick may =
     let state = client_state setting w c in
     goes_on setting.servers setting.lines w c _ (asking_quiet state c client client.asked _ (where_quiet state c client client.asked refl))
 client_turns setting w c (Work end) may = absurd may
+client_turns setting w c (StopIn end) may = absurd may
 client_turns setting w c Stop may = absurd may
 client_turns setting w c Blank may = absurd may
 client_turns setting w c (Boot end) may = absurd may
+client_turns setting w c (Arm which plan) may = absurd may
 client_turns setting w c (Glance line round) may = absurd may

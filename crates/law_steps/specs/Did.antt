@@ -1,5 +1,5 @@
 -- What a server may have done: one constructor for each subject, whose rules stand in a file of their own.
-use Rattle.std.specs.Prelude.{◌≡◌, ℕ, true, false, Some}
+use Rattle.std.specs.Prelude.{◌≡◌, ◌⊎◌, ℕ, true, false, Some}
 use Rattle.petal_base.specs.declared.cell.Cell.{Cell}
 use Rattle.petal_msg.specs.Kinds.{Refused, subject_of}
 use Rattle.petal_msg.specs.declared.body.Body.{Body}
@@ -7,10 +7,11 @@ use Rattle.petal_msg.specs.declared.body.Body.TheVariants as body
 use Rattle.petal_msg.specs.declared.letter.Actor.{Actor}
 use Rattle.petal_msg.specs.declared.copying.Copying.{Copying}
 use Rattle.petal_msg.specs.declared.operation.Pending.{Pending}
-use Rattle.petal_rules.specs.Progress.{copying_on}
-use Rattle.petal_rules.specs.State.{is_lead}
+use Rattle.petal_rules.specs.Progress.{copying_on, has_proposed}
+use Rattle.petal_rules.specs.Reads.{is_all_held}
+use Rattle.petal_rules.specs.State.{held, is_lead}
 use Rattle.petal_rules.specs.Server.{Own, Here, Done, silent, says}
-use Rattle.petal_rules.specs.Writes.{Wanted, is_for, pending_on}
+use Rattle.petal_rules.specs.Writes.{Wanted, is_for, is_writes_held, pending_on}
 use Rattle.law_steps.specs.DidRead.{DidRead}
 use Rattle.law_steps.specs.DidLead.{DidLead}
 use Rattle.law_steps.specs.DidSecond.{DidSecond}
@@ -32,11 +33,21 @@ pub data IsBusy (heard : Body → Type 0) (here : Here) (own : Own) (seq : ℕ) 
   By_copy_for_a_read : (client : ℕ) (cell : Cell) (epoch : ℕ) (copy : Copying) → heard (body.Read client seq cell epoch)
       → is_lead here.state here.me cell ≡ true → copying_on own cell ≡ Some copy → IsBusy heard here own seq
 
+-- why a client is told that its request is held: a fence holds the cell's writes, or its reads; or the lead has started a ballot for the
+-- Caught of the cell's link
+pub data IsHeldBack (heard : Body → Type 0) (here : Here) (own : Own) (seq : ℕ) : Type 0 where
+  A_write : (want : Wanted) → heard (body.Write want.client want.seq want.cell want.epoch want.bytes) → want.seq ≡ seq
+      → is_lead here.state here.me want.cell ≡ true
+      → (is_writes_held (held here.state want.cell) ≡ true) ⊎ (has_proposed here.state own want.cell ≡ true) → IsHeldBack heard here own seq
+  A_read : (client : ℕ) (cell : Cell) (epoch : ℕ) → heard (body.Read client seq cell epoch) → is_all_held (held here.state cell) ≡ true
+      → IsHeldBack heard here own seq
+
 -- what a server may have done that handled only such letters as `heard` knows: nothing, a refusal, what its subject's rules
 -- say. All is by its own state, `here.state`
 pub data Did (heard : Body → Type 0) (here : Here) (own : Own) : Done → Type 0 where
   Ignores : Did heard here own (silent own)
   Refuses : (to : Actor) (said : Body) → IsRefusal said → ((seq : ℕ) → said ≡ body.BlockBusy seq → IsBusy heard here own seq)
+      → ((seq : ℕ) → said ≡ body.Held seq → IsHeldBack heard here own seq)
       → Did heard here own (says own to said)
   By_read : (done : Done) → DidRead heard here own done → Did heard here own done
   By_lead : (done : Done) → DidLead heard here own done → Did heard here own done

@@ -19,10 +19,10 @@ use Rattle.petal_state.specs.CellState.{cell_link}
 use Rattle.petal_rules.specs.Copies.{page_wanted}
 use Rattle.petal_rules.specs.Lists.{In}
 use Rattle.petal_rules.specs.Progress.{copying_on, has_proposed, progress_on}
-use Rattle.petal_rules.specs.State.{second, is_lead, in_both, is_alone_on, other_in}
+use Rattle.petal_rules.specs.State.{held, second, is_lead, in_both, is_alone_on, other_in}
 use Rattle.petal_rules.specs.Store.{Stored, chain_in, epochs_of, free_of}
 use Rattle.petal_rules.specs.Server.{Own, Here, Post, Done, says, says_to}
-use Rattle.petal_rules.specs.Writes.{Wanted, operation, pending_on, with_pending, without_pending, gives_back, with_reserved, with_paired, opened, marks, puts, unmarks, finishes, ended}
+use Rattle.petal_rules.specs.Writes.{Wanted, is_writes_held, operation, pending_on, with_pending, without_pending, gives_back, with_reserved, with_paired, opened, marks, puts, unmarks, finishes, ended}
 use Rattle.law_steps.specs.Operations.{waiting, putting, copying, answering, done_to}
 
 -- to the other server of a cell's link, which this one holds alone, where that is In
@@ -44,13 +44,15 @@ pub data Asks (here : Here) (own : Own) : Post → Type 0 where
       → Asks here own (record { to = actor.Server to; body = page_wanted own row })
   Of_the_log : (post : Post) → is_logged (subject_of post.body) ≡ true → Asks here own post
 
--- the write's request is new to the lead, nothing is under way on its cell, and the lead wants no Caught of the cell's link
+-- the write's request is new to the lead, nothing is under way on its cell, no fence holds the cell's writes, and the lead wants no Caught of
+-- the cell's link
 pub record IsNew (heard : Body → Type 0) (here : Here) (own : Own) (want : Wanted) : Type 0 where
   pub wanted : heard (body.Write want.client want.seq want.cell want.epoch want.bytes)
   pub lead : is_lead here.state here.me want.cell ≡ true
   pub newer : done_to (at nat_cmp own.pairs.finished want.client) ≤ want.seq
   pub none : pending_on own want.cell ≡ None
   pub uncopied : copying_on own want.cell ≡ None
+  pub unfenced : is_writes_held (held here.state want.cell) ≡ false
   pub unheld : has_proposed here.state own want.cell ≡ false
 
 -- the operation, as letters of the second server may have told of it

@@ -9,6 +9,7 @@ use Rattle.petal_msg.specs.declared.operation.LastOp.{LastOp}
 use Rattle.petal_msg.specs.declared.operation.Pending.{Pending}
 use Rattle.petal_msg.specs.declared.operation.Stage.{Stage}
 use Rattle.petal_rules.specs.State.{State, is_lead, in_both}
+use Rattle.petal_rules.specs.Draining.{is_clients}
 use Rattle.petal_rules.specs.Writes.{first_stage}
 
 -- the stages that an operation rests in while its link is in Both: it waits for its slot at the second server; its block is marked, and it is to put;
@@ -31,10 +32,11 @@ pub data AtRest (stage : Stage) : Type 0 where
   Copying : stage ≡ copying → AtRest stage
   Answering : stage ≡ answering → AtRest stage
 
--- an operation that is pending on a cell at a server, by this state. At a holder that is alone it may rest in any stage; and the server
--- has started no ballot for the Caught of the cell's link, for which it would be held
+-- an operation that is pending on a cell at a server, by this state, is of a client's write. At a holder that is alone it may rest in any
+-- stage; and the server has started no ballot for the Caught of the cell's link, for which it would be held
 pub record IsStaged (state : State) (me : ℕ) (held : Cell → Bool) (cell : Cell) (op : Pending) : Type 0 where
   pub own : op.cell ≡ cell
+  pub clients : is_clients op.kind ≡ true
   pub keyed : cell_of op.key ≡ cell
   pub lead : is_lead state me cell ≡ true
   pub stage : in_both state cell ≡ true → AtRest op.stage

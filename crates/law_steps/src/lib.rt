@@ -33,8 +33,8 @@ pub fn what_is_chosen_is_steady()
     ensures { (script : Script) (records : List Record) → IsSound script → IsLegal script records → IsSteady (chosen_state (setting_of script) (world_after (setting_of script) (start (setting_of script)) records)) }
 {}
 
-/// After every legal history, what waits in a queue was sent to its server, and a pending operation is on a cell that its
-/// server leads, by the server's own state, and rests in one of four stages where the cell is in Both; and the server has started no
+/// After every legal history, what waits in a queue was sent to its server, and a pending operation is of a client's write, on a cell that
+/// its server leads, by the server's own state, and rests in one of four stages where the cell is in Both; and the server has started no
 /// ballot for the Caught of the cell's link. While the server runs this is so by what is chosen, too. A copy that is under way is of a
 /// link that the server holds alone by its own state, and whose pages are done; and the last copy to a server is of a link that the other
 /// one holds.

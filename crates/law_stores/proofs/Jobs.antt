@@ -108,7 +108,7 @@ module _ (heard : Body → Type 0) (here : Here) (own : Own) where
 
   pub did_waits : (done : Done) → Did heard here own done → waits done.own ≡ waits own
   did_waits _ Ignores = refl
-  did_waits _ (Refuses to said is why) = refl
+  did_waits _ (Refuses to said is busy held) = refl
   did_waits _ (By_read done d) = read_waits done d
   did_waits _ (By_lead done d) = lead_waits done d
   did_waits _ (By_second done d) = second_waits done d

@@ -194,13 +194,13 @@ module _ {D : Type 0} {device : Ghosts D} (old : Mounted D) (store : Holdings D)
       → Booted device between new end letters → Booted device old new end letters
   from_before {new} {end} {letters} later booted = record {
     site =
-        seen_after (whole_of between) (Boot end) end (may end) (whole_of new) booted.site
+        seen_after (whole_of between) (Boot end) (may end) (whole_of new) booted.site
         ∙ ap (λ (site : Site). site_after site (Boot end)) same_site
-        ∙ sym (seen_after (whole_of old) (Boot end) end (may end) (whole_after (whole_of old) (Boot end)) refl);
+        ∙ sym (seen_after (whole_of old) (Boot end) (may end) (whole_after (whole_of old) (Boot end)) refl);
     sends =
-        seen_letters (whole_of between) (Boot end) end (may end) letters booted.sends
+        seen_letters (whole_of between) (Boot end) (may end) letters booted.sends
         ∙ ap (λ (site : Site). (acted_at site (Boot end)).letters) same_site
-        ∙ sym (seen_letters (whole_of old) (Boot end) end (may end) (acted_at (whole_of old) (Boot end)).letters refl);
+        ∙ sym (seen_letters (whole_of old) (Boot end) (may end) (acted_at (whole_of old) (Boot end)).letters refl);
     stands = booted.stands;
     cause = λ fault. let failed = booted.cause fault in omega (arith, later, failed);
   }

@@ -1,3 +1,4 @@
+pub mod Ends
 pub mod Casting
 pub mod Ticking
 pub mod Seen

@@ -9,7 +9,7 @@ use Rattle.petal_rules.specs.declared.step.Step.TheVariants.{Boot, Work}
 use Rattle.petal_rules.specs.declared.step.WorkEnd.{WorkEnd}
 use Rattle.server_core.specs.Boots.{raised_core}
 use Rattle.server_core.specs.Core.{Core}
-use Rattle.world_desks.specs.Desks.{IsFault, acted_at, end_in}
+use Rattle.world_desks.specs.Desks.{IsFault, acted_at, as_end, end_in}
 use Rattle.memory_server.specs.Server.{HasFailed, IsKept, Mounted, Stands, left_at, site_of, store_at, whole_after, whole_of}
 
 -- the core of a stopped server, after a boot in which its state device failed
@@ -37,4 +37,4 @@ pub record BootedBlank {D : Type 0} (device : Ghosts D) (old new : Mounted D) (b
   pub site : site_of (record new { store = store_at blank new.store }) ≡ left_at (whole_after (whole_of old) (Boot end))
   pub sends : letters ≡ (acted_at (whole_of old) (Boot end)).letters
   pub kept : IsKept device false blank new
-  pub cause : IsFault end → HasFailed device old (record new { store = store_at blank new.store })
+  pub cause : IsFault (as_end end) → HasFailed device old (record new { store = store_at blank new.store })

@@ -1,4 +1,5 @@
 pub mod Members
 pub mod Server
+pub mod Ends
 pub mod Recovery
 pub mod Booted

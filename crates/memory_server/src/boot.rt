@@ -10,7 +10,7 @@ ghost use Rattle.memory_server.specs.Booted.{Booted, BootedBlank, core_at};
 ghost use Rattle.memory_server.specs.Server.{store_on};
 
 use crate::recovery::{Counts, reopen, reread};
-use crate::taken::{done, failed};
+use crate::taken::Outcome;
 use petal_base::{NoMemory, Sequence};
 use petal_disk::Disk;
 use petal_rules::CommitEnd;
@@ -18,7 +18,6 @@ use server_core::{ServerCore, WorkError};
 use server_store::{Store, StoreError};
 use state_store::StateStore;
 use std::alloc::Global;
-use world_desks::Taken;
 
 /// A stopped server's incarnation is the one that its state device tells after a boot in which that device failed.
 fn raise_at(end: CommitEnd, core: &mut ServerCore)
@@ -42,24 +41,24 @@ fn boot_opened<D: Disk>(
     core: &mut ServerCore,
     store: &mut Store<D>,
     state: &mut StateStore<D>,
-) -> Result<Taken, NoMemory>
+) -> Result<Outcome, NoMemory>
     requires stopped { core.old.running ≡ false }
     requires raises { core.old.log.voter.inc < greatest_u32 }
     requires known { core.old.log.voter.inc ≡ inc_of state.old.records }
-    ensures { IfOk result (λ taken. D.told → HoldsAt D.Disk store.old → logs.HoldsAt D.Disk state.old → store.old.tickets ≡ []
+    ensures { IfOk result (λ outcome. D.told → HoldsAt D.Disk store.old → logs.HoldsAt D.Disk state.old → store.old.tickets ≡ []
         → Booted D.Disk (record { core = core.old; store = store.old; state = state.old })
-        (record { core = core.new; store = store.new; state = state.new }) taken.end taken.letters) }
+        (record { core = core.new; store = store.new; state = state.new }) outcome.end outcome.letters) }
 {
     // as many slots as a number of 32 bits can tell
     let _slots = store.slots();
     let before = Counts::of(store, state);
     match core.boot(alloc, state) {
-        Ok(letters) => Ok(done(letters)),
-        Err(WorkError::JournalFull) => Ok(done(Sequence::new(alloc))),
+        Ok(letters) => Ok(Outcome::done(letters)),
+        Err(WorkError::JournalFull) => Ok(Outcome::done(Sequence::new(alloc))),
         Err(WorkError::Failed) => {
             let end = reopen(alloc, store, state, before)?;
             raise_at(end, core);
-            Ok(failed(Sequence::new(alloc), end))
+            Ok(Outcome::failed(Sequence::new(alloc), end))
         }
         Err(WorkError::NoMemory) => Err(NoMemory),
     }
@@ -75,12 +74,12 @@ pub fn boot_again<D: Disk>(
     core: &mut ServerCore,
     store: &mut Store<D>,
     state: &mut StateStore<D>,
-) -> Result<Taken, NoMemory>
+) -> Result<Outcome, NoMemory>
     requires stopped { core.old.running ≡ false }
     requires raises { core.old.log.voter.inc < greatest_u32 }
-    ensures { IfOk result (λ taken. D.told → HoldsAt D.Disk store.old → logs.HoldsAt D.Disk state.old
+    ensures { IfOk result (λ outcome. D.told → HoldsAt D.Disk store.old → logs.HoldsAt D.Disk state.old
         → Booted D.Disk (record { core = core.old; store = store.old; state = state.old })
-        (record { core = core.new; store = store.new; state = state.new }) taken.end taken.letters) }
+        (record { core = core.new; store = store.new; state = state.new }) outcome.end outcome.letters) }
 {
     // as many slots as a number of 32 bits can tell
     let _slots = store.slots();
@@ -88,8 +87,8 @@ pub fn boot_again<D: Disk>(
     if state.inc() != core.inc() {
         return Err(NoMemory);
     }
-    let taken = boot_opened(alloc, core, store, state)?;
-    Ok(taken)
+    let outcome = boot_opened(alloc, core, store, state)?;
+    Ok(outcome)
 }
 
 /// A stopped server boots whose data device is a blank one: a store is made there, which waits to be filled, and then it boots as
@@ -103,7 +102,7 @@ pub fn boot_blank<D: Disk>(
     store: &mut Store<D>,
     state: &mut StateStore<D>,
     disk: D,
-) -> Result<(Taken, Option<D>), NoMemory>
+) -> Result<(Outcome, Option<D>), NoMemory>
     requires stopped { core.old.running ≡ false }
     requires raises { core.old.log.voter.inc < greatest_u32 }
     requires room { slot_start store.old.slots ≤ D.size disk }
@@ -114,12 +113,12 @@ pub fn boot_blank<D: Disk>(
     match Store::format(alloc, disk, store.slots(), true) {
         Ok(made) => {
             *store = made;
-            let taken = boot_again(alloc, core, store, state)?;
-            Ok((taken, None))
+            let outcome = boot_again(alloc, core, store, state)?;
+            Ok((outcome, None))
         }
         Err((disk, StoreError::Failed)) => {
-            let taken = failed(Sequence::new(alloc), CommitEnd::Before);
-            Ok((taken, Some(disk)))
+            let outcome = Outcome::failed(Sequence::new(alloc), CommitEnd::Before);
+            Ok((outcome, Some(disk)))
         }
         Err(_) => Err(NoMemory),
     }

@@ -5,13 +5,13 @@ ghost use Rattle.log_side.specs.Done as logs;
 ghost use Rattle.petal_paxos.specs.declared.record.StateRecord.TheVariants.{Inc};
 ghost use Rattle.petal_rules.specs.Server.{first_server};
 ghost use Rattle.petal_rules.specs.declared.step.Step.TheVariants.{Blank, Boot, Stop, Tick, Work};
-ghost use Rattle.petal_rules.specs.declared.step.WorkEnd.TheVariants.{Done};
-ghost use Rattle.world_desks.specs.Desks.{IsFault, acted_at, end_in, ended, may_take};
+ghost use Rattle.world_desks.specs.Desks.{IsFault, acted_at, as_end, boot_end, end_in, ended, job_ended, may_take};
+ghost use Rattle.world_desks.specs.declared.step_end.StepEnd.TheVariants.{Done};
 ghost use Rattle.server_store.specs.Slots.{slot_start};
 ghost use Rattle.memory_server.specs.Server.{HasFailed, left_at, site_of, whole_after, whole_of};
 
 use crate::boot::{boot_again, boot_blank};
-use crate::taken::done;
+use crate::taken::{Outcome, Stops, done};
 use crate::work::work_first;
 use petal_base::{Inc, NoMemory, Rev, Sequence, ServerId};
 use petal_disk::{Disk, MemDisk, Plan, Planned, Which};
@@ -24,7 +24,7 @@ use std::alloc::Global;
 use std::marker::Model;
 use world_desks::{Host, Taken};
 
-/// A disk in memory, of which one call can be made to fail.
+/// A disk in memory, of which one call can be made to fail, or to stop the server.
 type Device = Planned<MemDisk>;
 
 /// A server with its store and its state store, each on a disk in memory. Contracts see the core and what the stores hold.
@@ -103,16 +103,35 @@ impl MemServer {
         }
     }
 
-    /// From now on this plan counts at the device, and no earlier one.
-    pub fn arm(&mut self, device: Which, plan: Plan)
-        ensures { site_of self.new ≡ site_of self.old }
+    /// From now on this plan counts at the data device, which may be a blank one, and no earlier one.
+    fn arm_data(&mut self, plan: Option<Plan>)
+        ensures { whole_of self.new ≡ whole_of self.old }
+    {
+        match (&mut self.blank, plan) {
+            (None, None) => self.store.disarm(),
+            (None, Some(plan)) => self.store.arm(plan),
+            (Some(disk), None) => disk.disarm(),
+            (Some(disk), Some(plan)) => disk.arm(plan),
+        }
+    }
+
+    /// The same at the state device.
+    fn arm_state(&mut self, plan: Option<Plan>)
+        ensures { whole_of self.new ≡ whole_of self.old }
+    {
+        match plan {
+            None => self.state.disarm(),
+            Some(plan) => self.state.arm(plan),
+        }
+    }
+
+    /// From now on the device has this plan, or none.
+    fn arm(&mut self, device: Which, plan: Option<Plan>)
+        ensures { whole_of self.new ≡ whole_of self.old }
     {
         match device {
-            Which::Data => match &mut self.blank {
-                None => self.store.arm(plan),
-                Some(disk) => disk.arm(plan),
-            },
-            Which::State => self.state.arm(plan),
+            Which::Data => self.arm_data(plan),
+            Which::State => self.arm_state(plan),
         }
     }
 
@@ -128,10 +147,10 @@ impl MemServer {
     }
 
     /// Does the first job of the queue, where it runs.
-    fn work(&mut self, alloc: Global) -> Result<Taken, NoMemory>
-        ensures site { IfOk result (λ taken. site_of self.new ≡ left_at (whole_after (whole_of self.old) (Work taken.end))) }
-        ensures letters { IfOk result (λ taken. taken.letters ≡ (acted_at (whole_of self.old) (Work taken.end)).letters) }
-        ensures cause { IfOk result (λ taken. IsFault taken.end → HasFailed ⟦<Planned<MemDisk> as Disk>⟧ self.old self.new) }
+    fn first_job(&mut self, alloc: Global) -> Result<Outcome, NoMemory>
+        ensures site { IfOk result (λ outcome. site_of self.new ≡ left_at (whole_after (whole_of self.old) (Work outcome.end))) }
+        ensures letters { IfOk result (λ outcome. outcome.letters ≡ (acted_at (whole_of self.old) (Work outcome.end)).letters) }
+        ensures cause { IfOk result (λ outcome. IsFault (as_end outcome.end) → HasFailed ⟦<Planned<MemDisk> as Disk>⟧ self.old self.new) }
     {
         if self.over || self.blank.is_some() {
             return Err(NoMemory);
@@ -140,9 +159,23 @@ impl MemServer {
             return Err(NoMemory);
         }
         self.over = true;
-        let taken = work_first(alloc, &mut self.core, &mut self.store, &mut self.state)?;
+        let outcome = work_first(alloc, &mut self.core, &mut self.store, &mut self.state)?;
         self.over = false;
-        Ok(taken)
+        Ok(outcome)
+    }
+
+    /// Does the first job of the queue, where it runs. It stops the server where a plan was met that does: then a device tells so
+    /// that did not before.
+    fn work(&mut self, alloc: Global) -> Result<Taken, NoMemory>
+        ensures site { IfOk result (λ taken. site_of self.new ≡ left_at (whole_after (whole_of self.old) (job_ended taken.end))) }
+        ensures letters { IfOk result (λ taken. taken.letters ≡ (acted_at (whole_of self.old) (job_ended taken.end)).letters) }
+        ensures end { IfOk result (λ taken. taken.end ≡ end_in (job_ended taken.end)) }
+        ensures cause { IfOk result (λ taken. IsFault taken.end → HasFailed ⟦<Planned<MemDisk> as Disk>⟧ self.old self.new) }
+    {
+        let before = Stops::of(&self.store, &self.state);
+        let outcome = self.first_job(alloc)?;
+        let stopped = Stops::of(&self.store, &self.state) != before;
+        Ok(outcome.job_taken(stopped))
     }
 
     /// A tick, in which the data device may fail; then all is as before.
@@ -196,10 +229,10 @@ impl MemServer {
     /// filled, both stores are opened again, and it runs as its next incarnation. Where the blank device fails it stays stopped
     /// as it was. Where the journal of the state device has no room it stays stopped, and so does one of which the state device
     /// fails: then the devices tell whether the incarnation was raised.
-    fn boot(&mut self, alloc: Global) -> Result<Taken, NoMemory>
-        ensures site { IfOk result (λ taken. site_of self.new ≡ left_at (whole_after (whole_of self.old) (Boot taken.end))) }
-        ensures letters { IfOk result (λ taken. taken.letters ≡ (acted_at (whole_of self.old) (Boot taken.end)).letters) }
-        ensures cause { IfOk result (λ taken. IsFault taken.end → HasFailed ⟦<Planned<MemDisk> as Disk>⟧ self.old self.new) }
+    fn boot_up(&mut self, alloc: Global) -> Result<Outcome, NoMemory>
+        ensures site { IfOk result (λ outcome. site_of self.new ≡ left_at (whole_after (whole_of self.old) (Boot outcome.end))) }
+        ensures letters { IfOk result (λ outcome. outcome.letters ≡ (acted_at (whole_of self.old) (Boot outcome.end)).letters) }
+        ensures cause { IfOk result (λ outcome. IsFault (as_end outcome.end) → HasFailed ⟦<Planned<MemDisk> as Disk>⟧ self.old self.new) }
     {
         if self.over || self.core.is_running() || self.core.inc() == Inc::MAX {
             return Err(NoMemory);
@@ -207,18 +240,29 @@ impl MemServer {
         self.over = true;
         match self.blank.take() {
             None => {
-                let taken = boot_again(alloc, &mut self.core, &mut self.store, &mut self.state)?;
+                let outcome = boot_again(alloc, &mut self.core, &mut self.store, &mut self.state)?;
                 self.over = false;
-                Ok(taken)
+                Ok(outcome)
             }
             Some(disk) => {
                 let (core, store, state) = (&mut self.core, &mut self.store, &mut self.state);
-                let (taken, back) = boot_blank(alloc, core, store, state, disk)?;
+                let (outcome, back) = boot_blank(alloc, core, store, state, disk)?;
                 self.blank = back;
                 self.over = false;
-                Ok(taken)
+                Ok(outcome)
             }
         }
+    }
+
+    /// It boots, where it is stopped and its incarnation can be raised. A plan that stops the server fails the boot.
+    fn boot(&mut self, alloc: Global) -> Result<Taken, NoMemory>
+        ensures site { IfOk result (λ taken. site_of self.new ≡ left_at (whole_after (whole_of self.old) (Boot (boot_end taken.end)))) }
+        ensures letters { IfOk result (λ taken. taken.letters ≡ (acted_at (whole_of self.old) (Boot (boot_end taken.end))).letters) }
+        ensures end { IfOk result (λ taken. taken.end ≡ end_in (Boot (boot_end taken.end))) }
+        ensures cause { IfOk result (λ taken. IsFault taken.end → HasFailed ⟦<Planned<MemDisk> as Disk>⟧ self.old self.new) }
+    {
+        let outcome = self.boot_up(alloc)?;
+        Ok(outcome.boot_taken())
     }
 
     /// Takes the step, whatever it has in memory.
@@ -235,13 +279,17 @@ impl MemServer {
                 Ok(done(Sequence::new(alloc)))
             }
             Step::Tick => self.tick(alloc),
-            Step::Work(_) => self.work(alloc),
+            Step::Work(_) | Step::StopIn(_) => self.work(alloc),
             Step::Stop => Ok(done(self.stop(alloc)?)),
             Step::Blank => {
                 self.blank(alloc)?;
                 Ok(done(Sequence::new(alloc)))
             }
             Step::Boot(_) => self.boot(alloc),
+            Step::Arm { which, plan } => {
+                self.arm(*which, *plan);
+                Ok(done(Sequence::new(alloc)))
+            }
             Step::Glance { line, round } => Ok(done(self.core.glance(alloc, *line, *round)?)),
         }
     }
@@ -251,10 +299,11 @@ impl MemServer {
         ensures { result ≡ may_take step.now self.now.core.running }
     {
         match step {
-            Step::Tick | Step::Work(_) | Step::Stop => self.core.is_running(),
+            Step::Tick | Step::Work(_) | Step::StopIn(_) | Step::Stop => self.core.is_running(),
             Step::Blank | Step::Boot(_) => !self.core.is_running(),
             Step::Call { line: _ }
             | Step::Deliver { letter: _ }
+            | Step::Arm { which: _, plan: _ }
             | Step::Glance { line: _, round: _ } => true,
         }
     }

@@ -7,14 +7,13 @@ ghost use Rattle.memory_server.specs.Booted.{Worked};
 ghost use Rattle.memory_server.specs.Server.{Stands};
 
 use crate::recovery::{Counts, reopen};
-use crate::taken::{done, failed};
+use crate::taken::Outcome;
 use petal_base::{NoMemory, Sequence};
 use petal_disk::Disk;
 use server_core::{ServerCore, WorkError};
 use server_store::Store;
 use state_store::StateStore;
 use std::alloc::Global;
-use world_desks::Taken;
 
 /// Does the first job of the queue. A server whose journal is full stops, and so does one of which a device fails: then both
 /// stores are opened again, and tell whether the commit was made.
@@ -26,24 +25,24 @@ pub fn work_first<D: Disk>(
     core: &mut ServerCore,
     store: &mut Store<D>,
     state: &mut StateStore<D>,
-) -> Result<Taken, NoMemory>
+) -> Result<Outcome, NoMemory>
     requires runs { core.old.running ≡ true }
     requires goes_on { is_spent core.old (store_of store.old) ≡ false }
     requires stands { Stands D.Disk (record { core = core.old; store = store.old; state = state.old }) }
-    ensures { IfOk result (λ taken. D.told → Worked D.Disk (record { core = core.old; store = store.old; state = state.old })
-        (record { core = core.new; store = store.new; state = state.new }) taken.end taken.letters) }
+    ensures { IfOk result (λ outcome. D.told → Worked D.Disk (record { core = core.old; store = store.old; state = state.old })
+        (record { core = core.new; store = store.new; state = state.new }) outcome.end outcome.letters) }
 {
     // as many slots as a number of 32 bits can tell
     let _slots = store.slots();
     let before = Counts::of(store, state);
     match core.work(alloc, store, state) {
-        Ok(Some(letters)) => Ok(done(letters)),
-        Ok(None) => Ok(done(Sequence::new(alloc))),
-        Err(WorkError::JournalFull) => Ok(done(core.stop(alloc))),
+        Ok(Some(letters)) => Ok(Outcome::done(letters)),
+        Ok(None) => Ok(Outcome::done(Sequence::new(alloc))),
+        Err(WorkError::JournalFull) => Ok(Outcome::done(core.stop(alloc))),
         Err(WorkError::Failed) => {
             let letters = core.stop(alloc);
             let end = reopen(alloc, store, state, before)?;
-            Ok(failed(letters, end))
+            Ok(Outcome::failed(letters, end))
         }
         Err(WorkError::NoMemory) => Err(NoMemory),
     }

@@ -1,12 +1,11 @@
 -- Tables of pending operations, and what is asked of them.
 use Rattle.std.specs.Prelude.{◌≡◌, ℕ, Bool, true, false, ◌&&◌, ◌||◌, ◌==◌, nat_lt, find, Option, None, Some, option_map}
 use Rattle.petal_base.specs.declared.cell.Cell.{Cell}
-use Rattle.petal_msg.specs.declared.operation.OpKind.{OpKind}
-use Rattle.petal_msg.specs.declared.operation.OpKind.TheVariants.{Write, Fill, Copy}
 use Rattle.petal_msg.specs.declared.operation.Pending.{Pending}
 use Rattle.petal_msg.specs.declared.operation.Stage.{Stage}
 use Rattle.petal_table.specs.Table.{Table, at, put}
 use Rattle.global_tables.specs.Region.{region_of}
+use Rattle.petal_rules.specs.Draining.{is_clients}
 use Rattle.petal_rules.specs.Store.{cell_cmp}
 use Rattle.pair_lock.specs.declared.error.PairError.{PairError}
 use Rattle.pair_lock.specs.declared.error.PairError.TheVariants as error
@@ -39,11 +38,6 @@ abbrev pub versioned : Table Cell Pending → Cell → ℕ → Stage → Option 
 versioned table cell version stage None = table
 versioned table cell version stage (Some op) = put cell_cmp table cell (at_version op version stage)
 
-abbrev pub is_write : OpKind → Bool
-is_write Write = true
-is_write Fill = false
-is_write Copy = false
-
 -- the number is there
 abbrev pub is_this : Option ℕ → ℕ → Bool
 is_this None n = false
@@ -60,7 +54,7 @@ in_scope scope cell = (scope.map == cell.map || is_this scope.old_map cell.map) 
 
 -- a write is pending on a cell of the scope
 abbrev pub is_write_in : Scope → Cell × Pending → Bool
-is_write_in scope row = is_write row.1.kind && in_scope scope row.0
+is_write_in scope row = is_clients row.1.kind && in_scope scope row.0
 
 -- the first cell in the order of cells on which a write is pending in the scope
 abbrev pub first_write_in : Scope → Table Cell Pending → Option Cell

@@ -9,6 +9,6 @@ mod lock;
 mod scope;
 
 pub use error::PairError;
-pub use lock::PairLock;
+pub use lock::{PairLock, is_clients};
 pub use petal_msg::{OpKind, Pending, Stage};
 pub use scope::Scope;

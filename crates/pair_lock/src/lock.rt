@@ -4,8 +4,9 @@ ghost use Rattle.std.specs.Prelude.{◌≡◌, ◌↔◌, [], length, Err, IsSom
 ghost use Rattle.std.specs.List.Sorted.{IsStrictlySortedBy};
 ghost use Rattle.std.specs.Map.{keys_of};
 ghost use Rattle.petal_table.specs.Table.{at, put, without};
+ghost use Rattle.petal_rules.specs.Draining.{is_clients};
 ghost use Rattle.petal_rules.specs.Store.{cell_cmp};
-ghost use Rattle.pair_lock.specs.Pairs.{refused, at_stage, staged, at_version, versioned, above, is_next, is_write, is_write_in, first_write_in, next_pending};
+ghost use Rattle.pair_lock.specs.Pairs.{refused, at_stage, staged, at_version, versioned, above, is_next, is_write_in, first_write_in, next_pending};
 ghost use Rattle.pair_lock.specs.declared.error.PairError.TheVariants as error;
 
 use crate::{PairError, Scope};
@@ -176,8 +177,9 @@ fn advance(pending: &mut Pending, version: Version, stage: Stage)
     pending.stage = stage;
 }
 
-fn is_write(kind: OpKind) -> bool
-    ensures { result ≡ is_write kind }
+/// Whether an operation of this kind was opened for a client's write.
+pub fn is_clients(kind: OpKind) -> bool
+    ensures { result ≡ is_clients kind }
 {
     match kind {
         OpKind::Write => true,
@@ -188,7 +190,7 @@ fn is_write(kind: OpKind) -> bool
 fn is_write_in(scope: &Scope, cell: Cell, pending: &Pending) -> bool
     ensures { result ≡ is_write_in scope.now (cell, pending.now) }
 {
-    is_write(pending.kind) && scope.covers(cell)
+    is_clients(pending.kind) && scope.covers(cell)
 }
 
 fn is_above(after: Option<BlockNo>, block: BlockNo) -> bool

@@ -1,9 +1,10 @@
 -- Why a request is answered so: by its own entry in the chosen log, and the state at that entry's place.
-use Rattle.std.specs.Prelude.{◌≡◌, ◌≢◌, ℕ, ◌+◌, ◌<◌, true, List, slice_get, Option, Some, None, is_some}
-use Rattle.global_tables.specs.Disk.{named}
-use Rattle.global_tables.specs.declared.disk.DiskRow.{DiskRow}
+use Rattle.std.specs.Prelude.{◌≡◌, ◌≢◌, ℕ, ◌+◌, ◌<◌, ◌≤◌, Bool, true, false, List, length, slice_get, Option, Some, None, is_none, is_some}
+use Rattle.std.specs.Option.{option_map_or}
+use Rattle.global_tables.specs.Disk.{named, snapshot_named}
 use Rattle.petal_command.specs.declared.command.Command.{Command}
 use Rattle.petal_command.specs.declared.command.Command.TheVariants.{Witness}
+use Rattle.petal_state.specs.Command.{is_taken}
 use Rattle.petal_state.specs.State.{latest}
 use Rattle.script_lines.specs.declared.answer.Answer.{Answer}
 use Rattle.script_lines.specs.declared.answer.Answer.TheVariants as answer
@@ -22,22 +23,43 @@ pub record HasWitness (setting : Setting) (w : World) (client seq : ℕ) (asked 
   pub is : slice_get (chosen_log setting w) place ≡ Some (Witness client seq turn)
   pub so : refusal (state_at setting w (place + 1)) asked ≡ Some cause
 
--- the disk of the name that the request would give, in this state
-abbrev pub named_by : State → Request → Option DiskRow
-named_by state (request.Disk name tuple) = named state.disks.rows name
-named_by state _ = None
+-- the name that the request would give is taken in this state: it is that of a disk; or that of a snapshot of the request's disk, or of one
+-- that waits for its fence
+abbrev pub is_name_taken : State → Request → Bool
+is_name_taken state (request.Disk name tuple) = is_some (named state.disks.rows name)
+is_name_taken state (request.Snap name snap) = option_map_or (is_taken state snap) (named state.disks.rows name) false
+is_name_taken state _ = false
 
--- the request's own command is chosen, and in the state right after its first place its verdict says this. A name that is
--- taken was that of a disk in the state before, and one that is given was not
+-- the request is for a disk that the state doesn't know
+abbrev pub lacks_disk : State → Request → Bool
+lacks_disk state (request.Snap name snap) = is_none (named state.disks.rows name)
+lacks_disk state _ = false
+
+-- what the request asked for is there: its disk, or its snapshot of its disk
+abbrev pub has_made : State → Request → Bool
+has_made state (request.Disk name tuple) = is_some (named state.disks.rows name)
+has_made state (request.Snap name snap) = option_map_or (λ row. is_some (snapshot_named row.snaps snap)) (named state.disks.rows name) false
+has_made state _ = false
+
+-- the request's own command is chosen, and its verdict says this: in the state right after its first place or, where a snapshot is taken,
+-- after the entry with which its fence took effect; and no state before says anything. What is refused is so by the state before its first
+-- place; and by that state a name that is given was free, and its disk known
 pub record HasVerdict (setting : Setting) (w : World) (client seq : ℕ) (asked : Request) (cause : Answer) : Type 0 where
   pub place : ℕ
+  pub judged : ℕ
   pub command : Command
   pub own : command_of client seq asked ≡ Some command
   pub is : slice_get (chosen_log setting w) place ≡ Some command
   pub first : (i : ℕ) → i < place → slice_get (chosen_log setting w) i ≢ Some command
-  pub so : verdict_for seq (latest (state_at setting w (place + 1)) client) ≡ Some cause
-  pub taken : cause ≡ answer.Exists → is_some (named_by (state_at setting w place) asked) ≡ true
-  pub free : cause ≡ answer.Ok → named_by (state_at setting w place) asked ≡ None
+  pub since : place ≤ judged
+  pub within : judged < length (chosen_log setting w)
+  pub so : verdict_for seq (latest (state_at setting w (judged + 1)) client) ≡ Some cause
+  pub until : (i : ℕ) → i ≤ judged → verdict_for seq (latest (state_at setting w i) client) ≡ None
+  pub taken : cause ≡ answer.Exists → is_name_taken (state_at setting w place) asked ≡ true
+  pub unknown : cause ≡ answer.NoDisk → lacks_disk (state_at setting w place) asked ≡ true
+  pub free : cause ≡ answer.Ok → is_name_taken (state_at setting w place) asked ≡ false
+  pub known : cause ≡ answer.Ok → lacks_disk (state_at setting w place) asked ≡ false
+  pub made : cause ≡ answer.Ok → has_made (state_at setting w (judged + 1)) asked ≡ true
 
 -- a request with a command of its own is answered by its verdict; another one that can't be served by its Witness
 abbrev pub CauseOf : Setting → World → (client seq : ℕ) → Request → Option Command → Answer → Type 0

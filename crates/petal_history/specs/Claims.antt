@@ -1,5 +1,5 @@
 -- What every legal history keeps. These are statements; `law_run` shows them.
-use Rattle.std.specs.Prelude.{◌≡◌, ◌≢◌, ◌⊎◌, ◌+◌, ◌&&◌, ◌++◌, [], ◌∷◌, ◌≤◌, ℕ, Bool, List, slice_get, Option, Some, None, true, false}
+use Rattle.std.specs.Prelude.{◌≡◌, ◌≢◌, ◌⊎◌, ◌+◌, ◌&&◌, ◌++◌, [], ◌∷◌, ◌≤◌, ◌<◌, ℕ, Bool, List, slice_get, Option, Some, None, true, false}
 use Rattle.std.specs.Ordering.{nat_cmp}
 use Rattle.busy_marks.specs.declared.marks.MarkKind.TheVariants.{Busy, Stale}
 use Rattle.petal_base.specs.declared.cell.Cell.{Cell}
@@ -10,10 +10,12 @@ use Rattle.global_tables.specs.Disk.{named}
 use Rattle.global_tables.specs.Link.{other_of}
 use Rattle.global_tables.specs.declared.link.LinkRow.{LinkRow}
 use Rattle.global_tables.specs.declared.disk.DiskRow.{DiskRow}
+use Rattle.global_tables.specs.declared.disk.Snapshot.{Snapshot}
 use Rattle.petal_machine.specs.Machine.{Plain, blank, content, disk_of}
 use Rattle.petal_machine.specs.Run.{replay}
 use Rattle.petal_machine.specs.declared.event.Event.{Event}
 use Rattle.petal_machine.specs.declared.state.Disk.{Disk}
+use Rattle.petal_machine.specs.declared.state.Snapshot as machine
 use Rattle.petal_msg.specs.declared.body.Body.TheVariants as body
 use Rattle.petal_msg.specs.declared.letter.Letter.{Letter}
 use Rattle.petal_msg.specs.declared.operation.Finished.{Finished}
@@ -29,7 +31,7 @@ use Rattle.petal_rules.specs.State.{State, first, second, is_in, is_lead, is_who
 use Rattle.petal_rules.specs.Store.{Chain, Store, cell_cmp, chain_in, version_of, is_marked}
 use Rattle.petal_rules.specs.Log.{rev_of}
 use Rattle.petal_rules.specs.World.{Setting, World, start, setting_of, server_state, devices, chosen_log, chosen_state, counted}
-use Rattle.petal_history.specs.Contents.{content_at, has_content}
+use Rattle.petal_history.specs.Contents.{content_at, has_content, has_content_of}
 use Rattle.petal_history.specs.Events.{IsRunOf, events_of}
 use Rattle.petal_history.specs.Legal.{IsLegal, stepped, world_after}
 use Rattle.petal_history.specs.Sound.{IsSound}
@@ -126,17 +128,33 @@ abbrev pub machine_after : Option (List Event) → Plain
 machine_after None = blank
 machine_after (Some events) = replay blank events
 
--- the machine's disk of this name has these contents, where a block has one
-pub record Holds (disks : List Disk) (name : List ℕ) (has : ℕ → Bool) (contents : ℕ → List ℕ) : Type 0 where
+-- the machine's snapshots are these, in their order, each with the contents at its epoch, where a block has one
+abbrev pub AreSnapshots : List machine.Snapshot → List Snapshot → (has : ℕ → Bool) → (contents : (epoch block : ℕ) → List ℕ) → Type 0
+AreSnapshots [] [] has contents = Unit {0}
+AreSnapshots (taken ∷ later) (snap ∷ snaps) has contents =
+    (taken.name ≡ snap.name) × ((block : ℕ) → has block ≡ true → content taken.blocks block ≡ contents snap.epoch block)
+    × AreSnapshots later snaps has contents
+AreSnapshots _ _ has contents = ⊥
+
+-- the machine has the disk, with these contents at its epoch and at that of each of its snapshots, where a block has one
+pub record Holds (disks : List Disk) (row : DiskRow) (has : ℕ → Bool) (contents : (epoch block : ℕ) → List ℕ) : Type 0 where
   pub disk : Disk
-  pub is : disk_of disks name ≡ Some disk
-  pub same : (block : ℕ) → has block ≡ true → content disk.now block ≡ contents block
+  pub is : disk_of disks row.name ≡ Some disk
+  pub same : (block : ℕ) → has block ≡ true → content disk.now block ≡ contents row.epoch block
+  pub snapshots : AreSnapshots disk.snaps row.snaps has contents
 
 -- the machine has the disks of the chosen state, each with its contents but for links that are Lost, and no other
 pub record AreHeld (setting : Setting) (w : World) (disks : List Disk) : Type 0 where
   pub known : (row : DiskRow) → In row (chosen_state setting w).disks.rows
-      → Holds disks row.name (has_content (chosen_state setting w) row) (content_at setting w row.id row.epoch)
+      → Holds disks row (has_content (chosen_state setting w) row) (content_at setting w row.id)
   pub unknown : (name : List ℕ) → named (chosen_state setting w).disks.rows name ≡ None → disk_of disks name ≡ None
+
+-- at each epoch below that of a disk its contents are the same in the later world, where a block has one in both
+abbrev pub IsStill : Setting → (w later : World) → Type 0
+IsStill setting w later =
+    (row : DiskRow) (epoch block : ℕ) → In row (chosen_state setting w).disks.rows → epoch < row.epoch
+    → has_content_of (chosen_state setting w) row.id block ≡ true → has_content_of (chosen_state setting later) row.id block ≡ true
+    → content_at setting later row.id epoch block ≡ content_at setting w row.id epoch block
 
 -- a store that waits to be filled is empty
 abbrev pub AreEmpty : World → Type 0
@@ -165,14 +183,24 @@ MarksFirst script records =
     → ChangesMarked (setting_of script) (world_after (setting_of script) (start (setting_of script)) front)
     (stepped (setting_of script) (world_after (setting_of script) (start (setting_of script)) front) own).world n cell
 
+-- a snapshot never changes: the content of a block at an epoch below the disk's own is the same after more records, but for links that are
+-- Lost
+abbrev pub SnapshotsStay : Script → List Record → Type 0
+SnapshotsStay script records =
+    (front back : List Record) → records ≡ front ++ back
+    → IsStill (setting_of script) (world_after (setting_of script) (start (setting_of script)) front)
+    (world_after (setting_of script) (start (setting_of script)) records)
+
 -- what every legal history of a script keeps: the rules of its world at its end, that the chosen log has only grown, that
--- leads put only on marked blocks, that its events are a run of the plain machine, and that the contents are the machine's
+-- leads put only on marked blocks, that its events are a run of the plain machine, that the contents are the machine's, and that snapshots
+-- never change
 pub record Keeps (script : Script) (records : List Record) : Type 0 where
   pub world : Stands (setting_of script) (world_after (setting_of script) (start (setting_of script)) records)
   pub grows : Grows script records
   pub marks : MarksFirst script records
   pub run : IsRunOf (events_of script records)
   pub holds : AreHeld (setting_of script) (world_after (setting_of script) (start (setting_of script)) records) (machine_after (events_of script records)).disks
+  pub snapshots : SnapshotsStay script records
 
 -- the whole law, of each sound script
 abbrev pub Law : Type 0

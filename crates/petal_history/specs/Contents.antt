@@ -40,6 +40,10 @@ abbrev pub has_content_where : State → Option DiskRow → ℕ → Bool
 has_content_where state None block = false
 has_content_where state (Some row) block = has_content state row block
 
+-- the same, of the disk of this number
+abbrev pub has_content_of : State → (disk block : ℕ) → Bool
+has_content_of state disk block = has_content_where state (disk_at state.disks.rows disk) block
+
 -- the content of a block of the disk of this number
 abbrev pub content_at : Setting → World → (disk epoch block : ℕ) → List ℕ
 content_at setting w disk epoch block =

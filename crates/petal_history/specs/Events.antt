@@ -5,10 +5,11 @@ use Rattle.std.specs.Ordering.{nat_cmp}
 use Rattle.petal_table.specs.Table.{Table, put}
 use Rattle.global_tables.specs.Disk.{disk_at}
 use Rattle.global_tables.specs.declared.disk.DiskRow.{DiskRow}
+use Rattle.global_tables.specs.declared.disk.Snapshot.{Snapshot}
 use Rattle.petal_machine.specs.Machine.{same_bytes}
 use Rattle.petal_machine.specs.Run.{IsRun}
 use Rattle.petal_machine.specs.declared.event.Event.{Event}
-use Rattle.petal_machine.specs.declared.event.Event.TheVariants.{Make, Begin, Take, End, Look}
+use Rattle.petal_machine.specs.declared.event.Event.TheVariants.{Make, Freeze, Begin, Take, End, Look}
 use Rattle.petal_machine.specs.declared.event.Write.{Write}
 use Rattle.petal_machine.specs.declared.event.WriteEnd.{WriteEnd}
 use Rattle.petal_machine.specs.declared.event.WriteEnd.TheVariants as write_end
@@ -156,6 +157,24 @@ make_of row = Make row.name
 abbrev pub makes : Change → List Event
 makes change = map make_of (drop (length change.chosen.disks.rows) change.chosen_next.disks.rows)
 
+-- ### Snapshots
+
+-- the snapshots of a disk that may be unknown
+abbrev pub snapshots_of : Option DiskRow → List Snapshot
+snapshots_of None = []
+snapshots_of (Some row) = row.snaps
+
+abbrev pub freeze_of : DiskRow → Snapshot → Event
+freeze_of row snap = Freeze row.name snap.name
+
+-- the snapshots of the disk that this step made, in their order
+abbrev pub freezes_on : Change → DiskRow → List Event
+freezes_on change row = map (freeze_of row) (drop (length (snapshots_of (disk_at change.chosen.disks.rows row.id))) row.snaps)
+
+-- a snapshot is taken in the step that chose the entry with which its fence takes effect
+abbrev pub freezes : Change → List Event
+freezes change = flat_map (freezes_on change) change.chosen_next.disks.rows
+
 -- ### Reads
 
 abbrev pub same_actor : Actor → Actor → Bool
@@ -212,12 +231,12 @@ abbrev pub told_with : List Event → Option (List Event) → List Event → Opt
 told_with before None behind = None
 told_with before (Some taken_now) behind = Some (before ++ taken_now ++ behind)
 
--- the events of one step, in the order begin, take, make, look, end
+-- the events of one step, in the order begin, take, make, freeze, look, end
 abbrev pub told : Setting → World → Record → List Record → Option (List Event)
 told setting w own later =
     let next = (stepped setting w own).world in
     let change = change_by setting w next in
-    told_with (begins own.step own.actor next) (takes change) (makes change ++ looks setting.lines later own.sent ++ ends own.actor w own.answer)
+    told_with (begins own.step own.actor next) (takes change) (makes change ++ freezes change ++ looks setting.lines later own.sent ++ ends own.actor w own.answer)
 
 abbrev pub joined : Option (List Event) → Option (List Event) → Option (List Event)
 joined None events = None

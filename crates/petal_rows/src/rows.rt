@@ -223,6 +223,33 @@ a read vol 1\nb write vol 1 fill 5\nc read vol 2\nd write vol 0 fill 6\nwait\na 
 }
 
 #[test]
+fn snapshots(rt: HostRuntime) -> Result<(), Fail> {
+    let rows: [Row; 2] = [
+        Row {
+            shows: "a snapshot keeps what the disk held, its name is taken, and another is unknown",
+            lines: "a write vol 5 fill 1\na snap vol s1\na write vol 5 fill 2\na read vol@s1 5\na read vol 5\na snap vol s1\na read vol@s2 5\n",
+            written: &[
+                "2: ok\n4: ok\n5: ok\n6: ok\n7: data 65536x1\n8: data 65536x2\n9: exists\n10: nosnap\n",
+            ],
+            ..ON_DISK
+        },
+        Row {
+            shows: "a day's use of two disks, with a snapshot, a stop and a return",
+            start: "servers 4 slots 64\na disk home on 0 1 2 3\na disk mail on 1 3\nwait\n",
+            lines: "a write home 0 fill 10\na write home 1 fill 11\nb write mail 0 fill 20\nc read home 9\nwait\na snap home monday\nb write mail 0 fill 21\nop stop 3\nwait\na write home 1 fill 12\nb read mail 0\nop start 3\nop settle\nwait\nc read home@monday 1\nc read home 1\nb read mail 0\n",
+            written: &[
+                "2: ok\n3: ok\n5: ok\n6: ok\n7: ok\n8: data 65536x0\n10: ok\n11: ok\n12: ok\n14: ok\n15: data 65536x21\n16: ok\n17: ok\n19: data 65536x11\n20: data 65536x12\n21: data 65536x21\n",
+            ],
+            ..RUN
+        },
+    ];
+    for row in &rows {
+        assert!(rt; is_so(&rt, rt.alloc(), row)?, "{}", row.shows);
+    }
+    Ok(())
+}
+
+#[test]
 fn lines_that_are_refused(rt: HostRuntime) -> Result<(), Fail> {
     let rows: [Row; 3] = [
         Row {
@@ -254,14 +281,14 @@ fn lines_that_are_refused(rt: HostRuntime) -> Result<(), Fail> {
 fn lines_that_are_not_built_yet(rt: HostRuntime) -> Result<(), Fail> {
     let rows: [Row; 2] = [
         Row {
-            shows: "a snapshot is not built yet",
-            lines: "a disk vol on 0 1\n# the other\na snap vol monday\n",
+            shows: "a move is not built yet",
+            lines: "a disk vol on 0 1\n# the other\na move vol on 1 0\n",
             written: &["refused line 4: not built\n"],
             ..REFUSED
         },
         Row {
-            shows: "a read of a snapshot is not built yet",
-            lines: "a read vol@monday 5\n",
+            shows: "a device that fails is not built yet",
+            lines: "op fault 1 data write 2\n",
             written: &["refused line 2: not built\n"],
             ..REFUSED
         },

@@ -57,11 +57,11 @@ with_leave (first ∷ rest) leave =
     else first ∷ with_leave rest leave
 
 -- what a server wants chosen, the most urgent first: the Leaves of incarnations that have stopped and are In, what it wants
--- so that it and its links return, and then what clients asked it to propose
-abbrev pub wanted : Voter → Log → (returning : List Command) → List Command
-wanted voter log returning =
+-- by its own part, and then what clients asked it to propose
+abbrev pub wanted : Voter → Log → (own_wants : List Command) → List Command
+wanted voter log own_wants =
     let state = state_in voter.servers log in
-    fold with_leave (filter (is_due state) log.leaves) (own_leave voter.me voter.inc (inc_of state voter.me)) ++ returning ++ log.wants
+    fold with_leave (filter (is_due state) log.leaves) (own_leave voter.me voter.inc (inc_of state voter.me)) ++ own_wants ++ log.wants
 
 -- an incarnation has stopped
 unfoldable pub on_down : Log → (server inc : ℕ) → LogDone

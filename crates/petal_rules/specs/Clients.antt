@@ -6,7 +6,7 @@ use Rattle.std.specs.Ordering.{nat_cmp}
 use Rattle.petal_table.specs.Table.{Table, put}
 use Rattle.petal_base.specs.declared.cell.Cell.{Cell}
 use Rattle.petal_command.specs.declared.command.Command.{Command}
-use Rattle.petal_command.specs.declared.command.Command.TheVariants.{MakeDisk, Witness}
+use Rattle.petal_command.specs.declared.command.Command.TheVariants.{MakeDisk, Snap, Witness}
 use Rattle.global_tables.specs.declared.disk.Latest.{Latest}
 use Rattle.global_tables.specs.declared.disk.Verdict.{Verdict}
 use Rattle.global_tables.specs.declared.disk.Verdict.TheVariants as verdict
@@ -104,9 +104,10 @@ posts_for state client seq turn _ = []
 
 -- ### Commands of a client
 
--- the command that carries the request out. Snapshots and moves send nothing at this stage
+-- the command that carries the request out. Moves send nothing at this stage
 abbrev pub command_of : (client seq : ℕ) → Request → Option Command
 command_of client seq (request.Disk name tuple) = Some (MakeDisk client seq name tuple)
+command_of client seq (request.Snap name snap) = Some (Snap client seq name snap)
 command_of client seq _ = None
 
 abbrev pub write_refusal : State → Option DiskView → ℕ → Option Answer

@@ -24,6 +24,7 @@ use Rattle.petal_rules.specs.Copies.{copies_on, mends, trims_on, on_hello_ask, o
 use Rattle.petal_rules.specs.Crossing.{crossed_by, jobs_by}
 use Rattle.petal_rules.specs.Progress.{copying_on}
 use Rattle.petal_rules.specs.Returns.{returning, proposed}
+use Rattle.petal_rules.specs.Draining.{draining}
 use Rattle.petal_rules.specs.declared.step.CommitEnd.{CommitEnd}
 use Rattle.petal_rules.specs.declared.step.CommitEnd.TheVariants.{Before, After}
 use Rattle.petal_rules.specs.declared.job.Job.{Job}
@@ -168,9 +169,13 @@ crossing here server rest entry done = record {
   letters = letters_of (sender here) 0 done.posts;
 }
 
+-- what a server wants chosen by its own part: that it and its links return, and that the active fence takes effect
+abbrev pub own_wants : Here → Own → List Command
+own_wants here own = returning here own ++ draining here own
+
 -- what a server wants chosen, the most urgent first
 abbrev pub wanted_by : Here → Server → List Command
-wanted_by here server = wanted (voter_of here) server.log (returning here server.own)
+wanted_by here server = wanted (voter_of here) server.log (own_wants here server.own)
 
 -- the same after the job that starts a ballot for the first command that is wanted
 abbrev pub starting : Here → Server → List Job → List Command → Acted

@@ -12,6 +12,7 @@ pub mod Reads
 pub mod Copies
 pub mod Crossing
 pub mod Returns
+pub mod Draining
 pub mod Jobs
 pub mod Boots
 pub mod Blanked

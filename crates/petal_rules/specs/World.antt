@@ -24,7 +24,7 @@ use Rattle.petal_rules.specs.Jobs.{Acted, here_of, works, delivered, ticks, faul
 use Rattle.petal_rules.specs.Boots.{boots, blanked, stays}
 use Rattle.petal_rules.specs.Clients.{Client, Asked, Reaction, first_client, client_sender, rests, called, heard, ticked}
 use Rattle.petal_rules.specs.declared.step.Step.{Step}
-use Rattle.petal_rules.specs.declared.step.Step.TheVariants.{Call, Deliver, Tick, Work, Stop, Blank, Boot, Glance}
+use Rattle.petal_rules.specs.declared.step.Step.TheVariants.{Call, Deliver, Tick, Work, StopIn, Stop, Blank, Boot, Arm, Glance}
 use Rattle.petal_rules.specs.declared.step.WorkEnd.TheVariants as work_end
 
 -- what a run is given: how many servers and slots, and the lines of its script
@@ -96,9 +96,11 @@ line_in (Call line) = Some line
 line_in (Deliver letter) = None
 line_in Tick = None
 line_in (Work end) = None
+line_in (StopIn end) = None
 line_in Stop = None
 line_in Blank = None
 line_in (Boot end) = None
+line_in (Arm which plan) = None
 line_in (Glance line round) = None
 
 -- the letter that it hands over
@@ -107,9 +109,11 @@ letter_in (Call line) = None
 letter_in (Deliver letter) = Some letter
 letter_in Tick = None
 letter_in (Work end) = None
+letter_in (StopIn end) = None
 letter_in Stop = None
 letter_in Blank = None
 letter_in (Boot end) = None
+letter_in (Arm which plan) = None
 letter_in (Glance line round) = None
 
 -- ### States
@@ -181,9 +185,11 @@ server_step (Deliver letter) state me server = record { server = delivered serve
 server_step Tick state me server = ticks (here_of state me server) server
 server_step (Work work_end.Done) state me server = works (here_of state me server) server server.queue
 server_step (Work (work_end.Fault end)) state me server = faults (here_of state me server) server server.queue end
+server_step (StopIn end) state me server = faults (here_of state me server) server server.queue end
 server_step Stop state me server = stops (here_of state me server) server
 server_step Blank state me server = stays (blanked server)
 server_step (Boot end) state me server = boots (here_of state me server) server end
+server_step (Arm which plan) state me server = stays server
 server_step (Glance line round) state me server = glances (here_of state me server) line round server
 
 abbrev pub calls : State → ℕ → Client → Option Line → Reaction
@@ -196,9 +202,11 @@ client_step (Call number) state me client line = calls state me client line
 client_step (Deliver letter) state me client line = heard state me client letter
 client_step Tick state me client line = ticked state me client
 client_step (Work end) state me client line = rests client
+client_step (StopIn end) state me client line = rests client
 client_step Stop state me client line = rests client
 client_step Blank state me client line = rests client
 client_step (Boot end) state me client line = rests client
+client_step (Arm which plan) state me client line = rests client
 client_step (Glance number round) state me client line = rests client
 
 -- the letters carry the stamp of the step that sent them
@@ -372,9 +380,11 @@ MayServer (Call line) w n = ⊥
 MayServer (Deliver letter) w n = MayReceive w n letter
 MayServer Tick w n = MayAct w n
 MayServer (Work end) w n = MayWork w n
+MayServer (StopIn end) w n = MayWork w n
 MayServer Stop w n = MayStop w n
 MayServer Blank w n = MayBlank w n
 MayServer (Boot end) w n = MayBoot w n
+MayServer (Arm which plan) w n = Unit {0}
 MayServer (Glance line round) w n = MayGlance w n line round
 
 abbrev pub MayClient : Step → Setting → World → ℕ → Type 0
@@ -382,9 +392,11 @@ MayClient (Call line) setting w c = MayCall setting w c line
 MayClient (Deliver letter) setting w c = MayDeliver w (actor.Client c) letter
 MayClient Tick setting w c = Unit {0}
 MayClient (Work end) setting w c = ⊥
+MayClient (StopIn end) setting w c = ⊥
 MayClient Stop setting w c = ⊥
 MayClient Blank setting w c = ⊥
 MayClient (Boot end) setting w c = ⊥
+MayClient (Arm which plan) setting w c = ⊥
 MayClient (Glance line round) setting w c = ⊥
 
 -- the stamp of what a step receives

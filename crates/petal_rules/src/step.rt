@@ -1,5 +1,6 @@
 //! The steps of the world.
 
+use petal_disk::{Plan, Which};
 use petal_msg::SharedLetter;
 
 /// Whether the commit of a job that a device failed in was made.
@@ -31,12 +32,16 @@ pub enum Step {
     Tick,
     /// A server does the first job of its queue.
     Work(WorkEnd),
+    /// A server's job met the call of a device at which its plan says that the server stops.
+    StopIn(CommitEnd),
     /// A running server stops.
     Stop,
     /// A stopped server gets a blank data device.
     Blank,
     /// A stopped server boots, which a failed device may end.
     Boot(WorkEnd),
+    /// One of a server's devices has this plan from now on, or none.
+    Arm { which: Which, plan: Option<Plan> },
     /// A server shows the operator whether it runs, for this line and this round of it.
     Glance { line: u32, round: u32 },
 }

@@ -1,14 +1,15 @@
--- The lines that are built: clients make disks, and write and read their blocks; the operator stops, starts and blanks servers,
--- and waits until they are settled.
+-- The lines that are built: clients make disks and snapshots of them, write blocks, and read those of disks and of snapshots; the
+-- operator stops, starts and blanks servers, and waits until they are settled.
 use Rattle.std.specs.Prelude.{ℕ, Bool, true, false, ◌&&◌, ◌||◌, nat_lt, List, [], ◌∷◌, Option, Some, None, if◌then◌else◌}
 use Rattle.script_lines.specs.declared.request.Request.{Request}
-use Rattle.script_lines.specs.declared.request.Request.TheVariants.{Disk, Write, Read, Stop, Start, Blank, Settle}
+use Rattle.script_lines.specs.declared.request.Request.TheVariants.{Disk, Write, Read, Snap, Stop, Start, Blank, Settle}
 use Rattle.script_lines.specs.declared.request.Line.{Line}
 
 abbrev pub is_built_request : Request → Bool
 is_built_request (Disk name tuple) = true
 is_built_request (Write name block pattern) = true
-is_built_request (Read name None block) = true
+is_built_request (Read name snap block) = true
+is_built_request (Snap name snap) = true
 is_built_request (Stop server) = true
 is_built_request (Start server) = true
 is_built_request (Blank server) = true

@@ -6,11 +6,11 @@ use Rattle.petal_msg.specs.declared.letter.Actor.{Actor}
 use Rattle.petal_msg.specs.declared.letter.Actor.TheVariants as actor
 use Rattle.petal_rules.specs.World.{Setting, World, MayStep, step, clock_of}
 use Rattle.petal_rules.specs.declared.step.Step.{Step}
-use Rattle.petal_rules.specs.declared.step.WorkEnd.{WorkEnd}
-use Rattle.petal_rules.specs.declared.step.WorkEnd.TheVariants.{Done}
 use Rattle.petal_world.specs.declared.seat.Seat.{Seat}
 use Rattle.petal_world.specs.declared.stepped.Stepped.{Stepped}
 use Rattle.world_desks.specs.Desks.{Desk, desk_of, end_in, ended}
+use Rattle.world_desks.specs.declared.step_end.StepEnd.{StepEnd}
+use Rattle.world_desks.specs.declared.step_end.StepEnd.TheVariants.{Done}
 use Rattle.petal_world.specs.Play.{Leaves, LeavesIn}
 use Rattle.petal_world.specs.Seats.{seat_of, reacted_at}
 use Rattle.petal_world.specs.Actors.{Actors, Shows, client_letters, server_letters, with_client, with_server}
@@ -78,7 +78,7 @@ module _ (setting : Setting) (w : World) (actors : Actors) (h : Shows setting w 
   serves who n is told_so = subst (λ (a : Actor). MayStep setting w a what → clock_of w a < stamp → Leaves setting w a what stamp new told) (sym is) (λ may less. serves_so n may less told_so)
 
   -- a client has no job that could end otherwise
-  reacts_at : (c : ℕ) (end : WorkEnd) → ReactedSo actors c what stamp new told
+  reacts_at : (c : ℕ) (end : StepEnd) → ReactedSo actors c what stamp new told
       → MayStep setting w (actor.Client c) (ended what end) → clock_of w (actor.Client c) < stamp
       → Leaves setting w (actor.Client c) (ended what end) stamp new told
   reacts_at c end told_so may less =
@@ -86,7 +86,7 @@ module _ (setting : Setting) (w : World) (actors : Actors) (h : Shows setting w 
       subst (λ (s : Step). Leaves setting w (actor.Client c) s stamp new told) (sym same)
       (reacts_so c (subst (λ (s : Step). MayStep setting w (actor.Client c) s) same may) less told_so)
 
-  pub reacts : (who : Actor) (c : ℕ) (end : WorkEnd) → who ≡ actor.Client c → ReactedSo actors c what stamp new told
+  pub reacts : (who : Actor) (c : ℕ) (end : StepEnd) → who ≡ actor.Client c → ReactedSo actors c what stamp new told
       → MayStep setting w who (ended what end) → clock_of w who < stamp → Leaves setting w who (ended what end) stamp new told
   reacts who c end is told_so =
       subst (λ (a : Actor). MayStep setting w a (ended what end) → clock_of w a < stamp → Leaves setting w a (ended what end) stamp new told) (sym is)

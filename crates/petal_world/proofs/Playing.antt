@@ -7,14 +7,14 @@ use Rattle.petal_msg.specs.declared.letter.Actor.TheVariants as actor
 use Rattle.script_lines.specs.declared.request.Line.{Line}
 use Rattle.petal_rules.specs.World.{Setting, World, MayStep, MayClient, start, clock_of, next_stamp, next_line, setting_of}
 use Rattle.petal_rules.specs.declared.step.Step.{Step}
-use Rattle.petal_rules.specs.declared.step.Step.TheVariants.{Call, Deliver, Tick, Work, Stop, Blank, Boot, Glance}
-use Rattle.petal_rules.specs.declared.step.WorkEnd.{WorkEnd}
+use Rattle.petal_rules.specs.declared.step.Step.TheVariants.{Call, Deliver, Tick, Work, StopIn, Stop, Blank, Boot, Arm, Glance}
 use Rattle.petal_history.specs.Legal.{IsLegalFrom, Follows, InPhase, CallsInPhase, world_after, stepped}
 use Rattle.petal_history.specs.declared.record.Record.{Record}
 use Rattle.client_core.specs.Core.{is_spent}
 use Rattle.petal_world.specs.declared.seat.Seat.{Seat}
 use Rattle.petal_world.specs.declared.stepped.Stepped.{Stepped}
 use Rattle.world_desks.specs.Desks.{desk_of, ended}
+use Rattle.world_desks.specs.declared.step_end.StepEnd.{StepEnd}
 use Rattle.petal_world.specs.Play.{Play, IsKept, LeavesIn, Can, world_of, stamp_of, phase_of, phase_for, record_of, played, told_by}
 use Rattle.petal_world.specs.Seats.{CanTake, seat_of}
 use Rattle.petal_world.specs.Actors.{Actors, Shows}
@@ -28,9 +28,11 @@ can_take setting w c (Call line) may = may.free
 can_take setting w c (Deliver letter) may = tt
 can_take setting w c Tick may = tt
 can_take setting w c (Work end) may = tt
+can_take setting w c (StopIn end) may = tt
 can_take setting w c Stop may = tt
 can_take setting w c Blank may = tt
 can_take setting w c (Boot end) may = tt
+can_take setting w c (Arm which plan) may = tt
 can_take setting w c (Glance line round) may = tt
 
 pub can : (setting : Setting) (w : World) (actors : Actors) (who : Actor) (what : Step) → Shows setting w actors → MayStep setting w who what → Can actors who what
@@ -76,9 +78,11 @@ calls_in (Call line) (actor.Server n) setting w phase = tt
 calls_in (Deliver letter) who setting w phase = tt
 calls_in Tick who setting w phase = tt
 calls_in (Work end) who setting w phase = tt
+calls_in (StopIn end) who setting w phase = tt
 calls_in Stop who setting w phase = tt
 calls_in Blank who setting w phase = tt
 calls_in (Boot end) who setting w phase = tt
+calls_in (Arm which plan) who setting w phase = tt
 calls_in (Glance line round) who setting w phase = tt
 
 follows : (play : Play) (who : Actor) (what : Step) → MayStep (setting_of play.script) (world_of play) who what → Follows (setting_of play.script) (world_of play) (record_of play who what)
@@ -117,7 +121,7 @@ module _ (play : Play) (actors new : Actors) (who : Actor) (what : Step) (stamp 
       })
 
 -- the step that was allowed, with the end that its job had
-module _ (play : Play) (actors new : Actors) (who : Actor) (what : Step) (end : WorkEnd) (stamp phase : ℕ) (told : Stepped)
+module _ (play : Play) (actors new : Actors) (who : Actor) (what : Step) (end : StepEnd) (stamp phase : ℕ) (told : Stepped)
     (h : IsKept play actors) (going : play.over ≡ false)
     (may : MayStep (setting_of play.script) (world_of play) who what)
     (at : stamp ≡ stamp_of play.floor (world_of play) who what)

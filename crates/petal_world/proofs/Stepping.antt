@@ -23,7 +23,7 @@ use Rattle.petal_rules.specs.declared.job.Job.TheVariants as job
 use Rattle.petal_rules.specs.declared.step.CommitEnd.{CommitEnd}
 use Rattle.petal_rules.specs.declared.step.CommitEnd.TheVariants.{Before, After}
 use Rattle.petal_rules.specs.declared.step.Step.{Step}
-use Rattle.petal_rules.specs.declared.step.Step.TheVariants.{Call, Deliver, Tick, Work, Stop, Blank, Boot, Glance}
+use Rattle.petal_rules.specs.declared.step.Step.TheVariants.{Call, Deliver, Tick, Work, StopIn, Stop, Blank, Boot, Arm, Glance}
 use Rattle.petal_rules.specs.declared.step.WorkEnd.{WorkEnd}
 use Rattle.petal_rules.specs.declared.step.WorkEnd.TheVariants as work_end
 use Rattle.petal_rules.proofs.ListLemmas.{in-append, put_same, put_apart}
@@ -225,9 +225,11 @@ server_posts (Deliver letter) state n stamp server = record { sender = sender (h
 server_posts Tick state n stamp server = record { sender = sender (here_of state n server); posts = _; from = refl; are = refl }
 server_posts (Work work_end.Done) state n stamp server = work_posts server.queue state n stamp server
 server_posts (Work (work_end.Fault end)) state n stamp server = fault_posts end (here_of state n server) server server.queue stamp
+server_posts (StopIn end) state n stamp server = fault_posts end (here_of state n server) server server.queue stamp
 server_posts Stop state n stamp server = stop_posts (here_of state n server) server stamp
 server_posts Blank state n stamp server = record { sender = sender (here_of state n server); posts = []; from = refl; are = refl }
 server_posts (Boot end) state n stamp server = boot_posts end (here_of state n server) server stamp
+server_posts (Arm which plan) state n stamp server = record { sender = sender (here_of state n server); posts = []; from = refl; are = refl }
 server_posts (Glance line round) state n stamp server = glance_posts line round (here_of state n server) server stamp
 
 module _ (setting : Setting) (w : World) (actors : Actors) (h : Shows setting w actors) (n : ℕ) (what : Step) (stamp : ℕ) (may : MayServer what w n) where

@@ -9,7 +9,7 @@ use Rattle.petal_rules.specs.World.{Setting, World, start, step, setting_of, nex
 use Rattle.petal_rules.specs.Log as log
 use Rattle.petal_rules.specs.World as rules
 use Rattle.petal_rules.specs.declared.step.Step.{Step}
-use Rattle.petal_rules.specs.declared.step.Step.TheVariants.{Call, Deliver, Tick, Work, Stop, Blank, Boot, Glance}
+use Rattle.petal_rules.specs.declared.step.Step.TheVariants.{Call, Deliver, Tick, Work, StopIn, Stop, Blank, Boot, Arm, Glance}
 use Rattle.petal_history.specs.Legal.{IsLegal, world_after}
 use Rattle.petal_history.specs.declared.record.Record.{Record}
 use Rattle.client_core.specs.Core.{is_spent}
@@ -56,9 +56,11 @@ phase_for (Call line) (actor.Server n) setting w phase = phase
 phase_for (Deliver letter) who setting w phase = phase
 phase_for Tick who setting w phase = phase
 phase_for (Work end) who setting w phase = phase
+phase_for (StopIn end) who setting w phase = phase
 phase_for Stop who setting w phase = phase
 phase_for Blank who setting w phase = phase
 phase_for (Boot end) who setting w phase = phase
+phase_for (Arm which plan) who setting w phase = phase
 phase_for (Glance line round) who setting w phase = phase
 
 -- what a step does to the world behind the records

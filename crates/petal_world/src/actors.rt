@@ -2,8 +2,8 @@
 
 ghost use Rattle.std.specs.Prelude.{◌≡◌, ◌<◌, false, None, Some, length, slice_get, IfOk, IfSome};
 ghost use Rattle.client_core.specs.Core.{is_spent};
-ghost use Rattle.petal_rules.specs.declared.step.WorkEnd.TheVariants.{Done};
 ghost use Rattle.world_desks.specs.Desks.{Desk, end_in, ended};
+ghost use Rattle.world_desks.specs.declared.step_end.StepEnd.TheVariants.{Done};
 ghost use Rattle.petal_world.specs.Seats.{CanTake, reacted_at};
 ghost use Rattle.petal_world.specs.Actors.{client_letters, server_letters, with_client, with_server};
 ghost use Rattle.petal_world.specs.declared.seat.Seat.{Seat};
@@ -12,14 +12,14 @@ use crate::control::Control;
 use crate::seats::Seats;
 use crate::stepped::Stepped;
 use petal_base::{ClientId, NoMemory, ServerId, Stamp};
-use petal_rules::{Step, WorkEnd};
+use petal_rules::Step;
 use std::alloc::Global;
 use std::marker::Model;
-use world_desks::Host;
 use world_desks::desks::Desks;
 use world_desks::sent::Sent;
 use world_desks::stamping::stamped;
 use world_desks::waiting::Waiting;
+use world_desks::{Host, StepEnd};
 
 /// All clients and servers, the letters ever sent, the lines without an answer, and what was done of the operator's last line.
 #[derive(Drop)]
@@ -64,7 +64,7 @@ impl<H: Host> Actors<H> {
         Ok(Stepped {
             letters,
             answer: reaction.answer,
-            end: WorkEnd::Done,
+            end: StepEnd::Done,
         })
     }
 

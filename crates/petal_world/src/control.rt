@@ -56,7 +56,12 @@ impl Control {
                 self.hand = None;
                 self.glanced = Some(*line);
             }
-            Step::Call { line: _ } | Step::Deliver { letter: _ } | Step::Tick | Step::Work(_) => {}
+            Step::Call { line: _ }
+            | Step::Deliver { letter: _ }
+            | Step::Tick
+            | Step::Work(_)
+            | Step::StopIn(_)
+            | Step::Arm { which: _, plan: _ } => {}
         }
     }
 

@@ -33,9 +33,11 @@ pub fn received(step: &Step) -> Stamp
         Step::Call { line: _ }
         | Step::Tick
         | Step::Work(_)
+        | Step::StopIn(_)
         | Step::Stop
         | Step::Blank
         | Step::Boot(_)
+        | Step::Arm { which: _, plan: _ }
         | Step::Glance { line: _, round: _ } => 0,
     }
 }
@@ -332,9 +334,11 @@ impl<H: Host> Actors<H> {
             Step::Deliver { letter } => self.may_deliver(Actor::Client(client), letter.get()),
             Step::Tick => true,
             Step::Work(_)
+            | Step::StopIn(_)
             | Step::Stop
             | Step::Blank
             | Step::Boot(_)
+            | Step::Arm { which: _, plan: _ }
             | Step::Glance { line: _, round: _ } => false,
         }
     }
@@ -347,10 +351,11 @@ impl<H: Host> Actors<H> {
             Step::Call { line: _ } => false,
             Step::Deliver { letter } => self.may_receive(server, letter.get()),
             Step::Tick => self.may_act(desk, server),
-            Step::Work(_) => self.may_work(desk, server),
+            Step::Work(_) | Step::StopIn(_) => self.may_work(desk, server),
             Step::Stop => self.may_stop(desk, server),
             Step::Blank => self.may_blank(desk, server),
             Step::Boot(_) => self.may_boot(desk, server),
+            Step::Arm { which: _, plan: _ } => true,
             Step::Glance { line, round } => self.may_glance(desk, server, *line, *round),
         }
     }

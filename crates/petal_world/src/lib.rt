@@ -20,4 +20,4 @@ pub use petal_history::{History, Record};
 pub use petal_rules::{CommitEnd, Step, WorkEnd};
 pub use stepped::Stepped;
 pub use world::World;
-pub use world_desks::{Host, are_in_order};
+pub use world_desks::{Host, StepEnd, are_in_order};

@@ -58,9 +58,11 @@ impl Seat {
             Step::Deliver { letter } => self.core.deliver(alloc, letter.get()),
             Step::Tick => self.core.tick(alloc),
             Step::Work(_)
+            | Step::StopIn(_)
             | Step::Stop
             | Step::Blank
             | Step::Boot(_)
+            | Step::Arm { which: _, plan: _ }
             | Step::Glance { line: _, round: _ } => Ok(nothing(alloc)),
         }
     }

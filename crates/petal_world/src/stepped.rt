@@ -2,8 +2,8 @@
 
 use petal_base::Sequence;
 use petal_msg::SharedLetter;
-use petal_rules::WorkEnd;
 use script_lines::Answer;
+use world_desks::StepEnd;
 
 /// The letters that a step sent, the answer that it gave with the number of its line, and how its job ended.
 #[derive(Drop)]
@@ -11,5 +11,5 @@ pub struct Stepped {
     pub letters: Sequence<SharedLetter>,
     pub answer: Option<(u32, Answer)>,
     /// As the devices say, whatever end the step named; `Done` for a step without a job.
-    pub end: WorkEnd,
+    pub end: StepEnd,
 }

@@ -98,9 +98,11 @@ impl<H: Host> Actors<H> {
                 Step::Deliver { letter: _ }
                 | Step::Tick
                 | Step::Work(_)
+                | Step::StopIn(_)
                 | Step::Stop
                 | Step::Blank
                 | Step::Boot(_)
+                | Step::Arm { which: _, plan: _ }
                 | Step::Glance { line: _, round: _ },
                 _,
             ) => phase,

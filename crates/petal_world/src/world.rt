@@ -190,7 +190,7 @@ impl<H: Host> World<H> {
     /// Takes a step, and tells the letters that it sent, the answer that it gave and how its job ended. How a job ends is for
     /// the devices to say, whatever end the step names: the step with the end that is told is the one that was taken, and its
     /// record is kept. `NotAllowed` comes exactly where the step is not one of the world's in this state, which is so of a job
-    /// with each end or with none. After it ran out of memory the step did not happen, and none follows.
+    /// with each end or with none, also where the plan of a device stops the server in it. After it ran out of memory the step did not happen, and none follows.
     pub fn step(&mut self, alloc: Global, actor: Actor, step: &Step) -> Result<Stepped, WorldError>
         ensures allowed { OnOk result (MayStep (setting_of self.old.script) (world_of self.old) actor step.now) }
         ensures ok { IfOk result (λ stepped. self.new ≡ played self.old actor (ended step.now stepped.end)) }

@@ -1,7 +1,8 @@
 //! One step of a row: what its words ask for.
 
-use crate::words::{Mail, actor, byte, client, mail_of, number, server};
+use crate::words::{Mail, actor, byte, calls, client, device, mail_of, number, server};
 use petal_base::{ClientId, ServerId};
+use petal_disk::{Plan, Which};
 use petal_msg::Actor;
 
 /// What is expected of a line's answer.
@@ -10,6 +11,7 @@ pub enum Want {
     Ok,
     NoSpace,
     NoDisk,
+    NoSnap,
     Unavailable,
     Exists,
     /// The server that the line starts or blanks does not run.
@@ -37,6 +39,8 @@ pub enum Act<'a> {
     Blank(ServerId),
     /// The server boots.
     Boot(ServerId),
+    /// The server's device has this plan from now on, or none.
+    Arm(ServerId, Which, Option<Plan>),
     /// The server is glanced at for this line, in this round of it.
     Show(ServerId, u32, u32),
     Hand(Mail<'a>),
@@ -46,6 +50,8 @@ pub enum Act<'a> {
     Changed(Mail<'a>),
     Wait,
     PlayOut,
+    /// So many steps are taken, one after the other.
+    GoOn(u32),
     /// Everyone but this actor comes to one revision.
     Agree(Option<Actor>),
     Line(u32, Want),
@@ -54,8 +60,12 @@ pub enum Act<'a> {
     Told(&'a [&'a str]),
     /// So many disks were made.
     Made(u32),
-    /// So many jobs ended since a device failed.
+    /// So many jobs and boots ended since a device failed.
     Failed(u32),
+    /// So many jobs ended since a plan stopped the server, whether their commits were made or not.
+    Stopped(u32),
+    /// So many of these had made their commit.
+    Committed(u32),
 }
 
 /// The words by which the plain machine's events are told.
@@ -87,6 +97,7 @@ fn want_of(words: &[&str]) -> Result<Want, usize> {
         ["ok"] => Ok(Want::Ok),
         ["nospace"] => Ok(Want::NoSpace),
         ["nodisk"] => Ok(Want::NoDisk),
+        ["nosnap"] => Ok(Want::NoSnap),
         ["unavailable"] => Ok(Want::Unavailable),
         ["exists"] => Ok(Want::Exists),
         ["failed"] => Ok(Want::DoesNotRun),
@@ -134,30 +145,53 @@ fn marked<'a>(verb: &str, kind: &'a str, way: &str) -> Result<Act<'a>, usize> {
     }
 }
 
+// A plan of one of a server's devices.
+fn armed<'a>(who: &str, which: &str, kind: &str, at: &str, stop: bool) -> Result<Act<'a>, usize> {
+    let plan = Plan {
+        kind: calls(kind, 4)?,
+        at: number(at, 5)?,
+        stop,
+    };
+    Ok(Act::Arm(server(who, 1)?, device(which, 3)?, Some(plan)))
+}
+
+// A step of one actor: what follows its name.
+fn step_of<'a>(who: &str, words: &[&str]) -> Result<Act<'a>, usize> {
+    match *words {
+        ["calls", line] => Ok(Act::Call(client(who, 1)?, number(line, 3)?)),
+        ["works"] => Ok(Act::Work(server(who, 1)?)),
+        ["works", "off"] => Ok(Act::WorkOff(server(who, 1)?)),
+        ["ticks"] => Ok(Act::Tick(actor(who, 1)?)),
+        ["stops"] => Ok(Act::Stop(server(who, 1)?)),
+        ["blanks"] => Ok(Act::Blank(server(who, 1)?)),
+        ["boots"] => Ok(Act::Boot(server(who, 1)?)),
+        ["arms", which, kind, at] => armed(who, which, kind, at, false),
+        ["arms", which, kind, at, "stop"] => armed(who, which, kind, at, true),
+        ["disarms", which] => Ok(Act::Arm(server(who, 1)?, device(which, 3)?, None)),
+        ["shows", line] => Ok(Act::Show(server(who, 1)?, number(line, 3)?, 0)),
+        ["shows", line, "in", round] => Ok(Act::Show(
+            server(who, 1)?,
+            number(line, 3)?,
+            number(round, 5)?,
+        )),
+        _ => Err(2),
+    }
+}
+
 /// What the words of a step ask for, or the place of the first word that is none of the form.
 pub fn act_of<'a>(words: &'a [&'a str]) -> Result<Act<'a>, usize> {
     match *words {
         ["told", ..] => told(&words[1..]),
         ["wait"] => Ok(Act::Wait),
         ["play", "out"] => Ok(Act::PlayOut),
+        ["go", "on", count] => Ok(Act::GoOn(number(count, 3)?)),
         ["agree"] => Ok(Act::Agree(None)),
         ["agree", "without", who] => Ok(Act::Agree(Some(actor(who, 3)?))),
         ["made", count] => Ok(Act::Made(number(count, 2)?)),
         ["failed", count] => Ok(Act::Failed(number(count, 2)?)),
-        [who, "calls", line] => Ok(Act::Call(client(who, 1)?, number(line, 3)?)),
-        [who, "works"] => Ok(Act::Work(server(who, 1)?)),
-        [who, "works", "off"] => Ok(Act::WorkOff(server(who, 1)?)),
-        [who, "ticks"] => Ok(Act::Tick(actor(who, 1)?)),
-        [who, "stops"] => Ok(Act::Stop(server(who, 1)?)),
-        [who, "blanks"] => Ok(Act::Blank(server(who, 1)?)),
-        [who, "boots"] => Ok(Act::Boot(server(who, 1)?)),
-        [who, "shows", line] => Ok(Act::Show(server(who, 1)?, number(line, 3)?, 0)),
-        [who, "shows", line, "in", round] => Ok(Act::Show(
-            server(who, 1)?,
-            number(line, 3)?,
-            number(round, 5)?,
-        )),
-        [who, ..] if actor(who, 1).is_ok() => Err(2),
+        ["stopped", count] => Ok(Act::Stopped(number(count, 2)?)),
+        ["committed", count] => Ok(Act::Committed(number(count, 2)?)),
+        [who, ..] if actor(who, 1).is_ok() => step_of(who, &words[1..]),
         [kind, way] => Ok(Act::Hand(mail_of(kind, way, 1)?)),
         _ => longer(words),
     }

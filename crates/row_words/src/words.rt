@@ -2,6 +2,7 @@
 
 use petal_base::{ClientId, OPERATOR, ServerId};
 use petal_command::Pax;
+use petal_disk::{CallKind, Which};
 use petal_msg::{Actor, Body, Letter};
 
 /// The kinds of letters, in the order of the format.
@@ -154,6 +155,26 @@ pub fn byte(word: &str, place: usize) -> Result<u8, usize> {
     match word.parse::<u8>() {
         Ok(byte) => Ok(byte),
         Err(_) => Err(place),
+    }
+}
+
+/// One of a server's two devices.
+pub fn device(word: &str, place: usize) -> Result<Which, usize> {
+    match word.as_bytes() {
+        b"data" => Ok(Which::Data),
+        b"state" => Ok(Which::State),
+        _ => Err(place),
+    }
+}
+
+/// Which calls of a device count.
+pub fn calls(word: &str, place: usize) -> Result<CallKind, usize> {
+    match word.as_bytes() {
+        b"any" => Ok(CallKind::Any),
+        b"read" => Ok(CallKind::Read),
+        b"write" => Ok(CallKind::Write),
+        b"sync" => Ok(CallKind::Sync),
+        _ => Err(place),
     }
 }
 

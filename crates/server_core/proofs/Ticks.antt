@@ -9,9 +9,8 @@ use Rattle.petal_msg.specs.declared.letter.Letter.{Letter}
 use Rattle.petal_paxos.specs.declared.record.StateRecord.{StateRecord}
 use Rattle.petal_rules.specs.Ballots.{ballot_posts, ask_posts, start_jobs, wanted}
 use Rattle.petal_rules.specs.Copies.{mend_jobs}
-use Rattle.petal_rules.specs.Jobs.{copies_anew, sent_anew, tick_jobs, tick_posts, ticks, voter_of}
+use Rattle.petal_rules.specs.Jobs.{copies_anew, own_wants, sent_anew, tick_jobs, tick_posts, ticks, voter_of}
 use Rattle.petal_rules.specs.Log.{Voter}
-use Rattle.petal_rules.specs.Returns.{returning}
 use Rattle.petal_rules.specs.Server.{Own, Post, Sender, letters_of, sender}
 use Rattle.petal_rules.specs.State.{is_in}
 use Rattle.petal_rules.specs.Store.{Store}
@@ -61,7 +60,7 @@ pub tick_queued : (core : Core) (store : Store) (records : List StateRecord) (st
     → all ≡ starts ++ mends → all ≡ tick_jobs (here_in core) (server_of core store records)
 tick_queued core store records starts mends all first second is =
     is ∙ (λ i. first i ++ second i)
-    ∙ ap (λ (voter : Voter). start_jobs core.log.phase (wanted voter (log_of core.log records) (returning (here_in core) (own_in core.side store)))
+    ∙ ap (λ (voter : Voter). start_jobs core.log.phase (wanted voter (log_of core.log records) (own_wants (here_in core) (own_in core.side store)))
     ++ (if is_in (here_in core).state core.log.voter.me core.log.voter.inc then mend_jobs (here_in core) (own_in core.side store) else []))
     (sym (voter_is core))
 

@@ -1,5 +1,6 @@
 -- A server in memory, and the server of the rules that it is with its two stores.
-use Rattle.std.specs.Prelude.{◌≡◌, ◌≤◌, ◌<◌, ◌⊎◌, ℕ, ◌==◌, ◌||◌, Bool, List, [], ◌∷◌, Option, None, Some, Result, Err}
+use Rattle.std.specs.Prelude.{◌≡◌, ◌≤◌, ◌<◌, ◌⊎◌, ℕ, ◌==◌, ◌||◌, Bool, List, [], ◌∷◌, if◌then◌else◌, Option, None, Some, Result, Err}
+use Rattle.epoch_snapshot.specs.Report.{report, reported_as}
 use Rattle.log_side.specs.Part.{Part, log_of, state_of, wants_of}
 use Rattle.pair_side.specs.Side.{Side, pairs_of}
 use Rattle.pair_side.specs.declared.error.WorkError.{WorkError}
@@ -11,8 +12,8 @@ use Rattle.petal_paxos.specs.declared.record.StateRecord.{StateRecord}
 use Rattle.petal_rules.specs.Store.{Store, top_of}
 use Rattle.petal_rules.specs.Log.{Voter}
 use Rattle.petal_rules.specs.Server.{Server, Here, Own, letters_of}
-use Rattle.petal_rules.specs.Jobs.{Acted, down_posts, job_done, works}
-use Rattle.petal_rules.specs.Returns.{returning}
+use Rattle.petal_rules.specs.Jobs.{Acted, down_posts, job_done, own_wants, works}
+use Rattle.petal_rules.specs.State.{is_in}
 use Rattle.petal_rules.specs.World.{greatest_u64}
 use Rattle.petal_rules.specs.declared.job.Job.{Job}
 
@@ -35,9 +36,16 @@ here_in core = here_by core.log
 abbrev pub own_in : Side → Store → Own
 own_in side store = record { pairs = pairs_of side; copies = side.copies; store = store }
 
+-- its report to the active fence, while it is In as itself
+abbrev pub report_of : Part → Side → List Command
+report_of part side =
+    if is_in (state_of part) part.voter.me part.voter.inc
+    then reported_as part.voter.me part.voter.inc (report (state_of part) part.voter.me side.pending)
+    else []
+
 -- what it wants chosen; no record on its state device counts
 abbrev pub wants_in : Part → Side → Store → List Command
-wants_in part side store = wants_of part (returning (here_by part) (own_in side store))
+wants_in part side store = wants_of part (own_wants (here_by part) (own_in side store))
 
 -- the server with this store and these records on its state device
 abbrev pub server_of : Core → Store → List StateRecord → Server

@@ -1,5 +1,5 @@
--- That a ballot was started for a link's Caught, as it is noted of the link.
-use Rattle.std.specs.Prelude.{true, unwrap_or, Option, None, Some}
+-- What is wanted as at most one command; and that a ballot was started for a link's Caught, as it is noted of the link.
+use Rattle.std.specs.Prelude.{true, unwrap_or, List, [], ◌∷◌, Option, None, Some}
 use Rattle.global_tables.specs.declared.link.LinkRow.{LinkRow}
 use Rattle.pair_side.specs.Copies.{with_progress}
 use Rattle.petal_command.specs.declared.command.Command.{Command}
@@ -10,6 +10,11 @@ use Rattle.petal_rules.specs.Progress.{no_progress}
 use Rattle.petal_rules.specs.Server.{Copies}
 use Rattle.petal_rules.specs.State.{State, link_cmp, link_named}
 use Rattle.petal_table.specs.Table.{at}
+
+-- one command at most
+abbrev pub commands_of : Option Command → List Command
+commands_of None = []
+commands_of (Some command) = command ∷ []
 
 -- the link whose Caught it is
 abbrev pub row_caught : State → Command → Option LinkRow

@@ -13,11 +13,11 @@ use Rattle.petal_disk.specs.declared.disk.Disk.{Ghosts}
 use Rattle.petal_disk.specs.Disk.{LeavesOnly}
 use Rattle.petal_msg.specs.declared.letter.Letter.{Letter}
 use Rattle.petal_paxos.specs.declared.record.StateRecord.{StateRecord}
-use Rattle.petal_rules.specs.Jobs.{journal_records, log_does, stops, works}
+use Rattle.petal_rules.specs.Jobs.{journal_records, log_does, own_wants, stops, works}
 use Rattle.petal_rules.specs.Ballots.{first_wanted, starts, wanted}
 use Rattle.petal_rules.specs.Log.{Voter}
 use Rattle.petal_rules.specs.Log.{LogDone as Rule}
-use Rattle.petal_rules.specs.Returns.{proposed, returning}
+use Rattle.petal_rules.specs.Returns.{proposed}
 use Rattle.petal_rules.specs.Server.{Own}
 use Rattle.petal_rules.specs.Store.{Store}
 use Rattle.petal_rules.specs.declared.job.Job.{Job}
@@ -43,7 +43,7 @@ Stops old store records =
 
 -- what a server wants chosen, as this voter
 abbrev pub wanted_by : Part → Side → Store → List StateRecord → Voter → List Command
-wanted_by part side store records voter = wanted voter (log_of part records) (returning (here_by part) (own_in side store))
+wanted_by part side store records voter = wanted voter (log_of part records) (own_wants (here_by part) (own_in side store))
 
 -- the rule of a job of the agreed log, at a server as this voter
 abbrev pub log_rule : Part → Side → Store → List StateRecord → Job → Voter → Rule

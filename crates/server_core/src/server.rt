@@ -21,7 +21,7 @@ ghost use Rattle.server_core.specs.Core.{acted, here_in, is_spent, own_in, serve
 use crate::jobs::is_in;
 use crate::queue::{add_all, make_room};
 use crate::recent::RecentBlocks;
-use crate::wants::returning;
+use crate::wants::own_wants;
 use copy_recovery::mend_jobs;
 use global_state::GlobalState;
 use kept_chains::ReadError;
@@ -266,7 +266,7 @@ impl ServerCore {
     fn start_jobs<D: Disk>(&self, alloc: Global, store: &Store<D>) -> Result<Vec<Job>, NoMemory>
         ensures { IfOk result (λ jobs. jobs.items ≡ start_jobs self.now.log.phase (wants_in self.now.log self.now.side (store_of store.now))) }
     {
-        let wants = returning(alloc, &self.log, &self.side, store)?;
+        let wants = own_wants(alloc, &self.log, &self.side, store)?;
         let may = self.log.may_start(alloc, wants.as_slice())?;
         start_job(alloc, may)
     }

@@ -4,21 +4,24 @@ ghost use Rattle.std.specs.Prelude.{◌≡◌, IfOk, OnOk, OnErr, option_map};
 ghost use Rattle.kept_chains.specs.Kept.{store_of};
 ghost use Rattle.log_side.specs.Done as logs;
 ghost use Rattle.log_side.specs.Part.{log_of};
+ghost use Rattle.epoch_snapshot.specs.Report.{reported_as};
 ghost use Rattle.petal_rules.specs.Ballots.{starts_for};
+ghost use Rattle.petal_rules.specs.Jobs.{own_wants};
 ghost use Rattle.petal_rules.specs.Returns as returns;
 ghost use Rattle.petal_rules.specs.State.{id_of};
 ghost use Rattle.petal_rules.specs.declared.job.Job.TheVariants as job;
-ghost use Rattle.server_core.specs.Core.{here_by, own_in};
-ghost use Rattle.server_core.specs.Noted.{found_caught, noted, row_caught};
+ghost use Rattle.server_core.specs.Core.{here_by, own_in, report_of};
+ghost use Rattle.server_core.specs.Noted.{commands_of, found_caught, noted, row_caught};
 ghost use Rattle.server_core.specs.Steps.{IsLeft, log_rule};
 
 use crate::jobs::is_in;
 use copy_recovery::caught_links;
+use epoch_snapshot::drained;
 use global_state::GlobalState;
 use log_side::{LogDone, LogSide};
 use pair_side::{Copies, link_id};
 use petal_base::{NoMemory, Sequence};
-use petal_command::Command;
+use petal_command::{Command, ServerNumber};
 use petal_disk::Disk;
 use petal_msg::{LinkId, Progress};
 use server_store::Store;
@@ -28,7 +31,7 @@ use write_pair::{Here, Side};
 
 /// What the server wants chosen so that it, and the links that it shares, return to what they were: its Join alone where it is
 /// not In as itself, and else the `Caught` of each link of which nothing is left to copy.
-pub fn returning<D: Disk>(
+fn returning<D: Disk>(
     alloc: Global,
     log: &LogSide,
     side: &Side,
@@ -41,6 +44,46 @@ pub fn returning<D: Disk>(
     }
     let here = Here::new(alloc, log.state(), log.me(), log.inc());
     Ok(Sequence::of(caught_links(&here, side, store)?))
+}
+
+/// The report to the fence of this number.
+fn reported(log: &LogSide, fence: Option<u32>) -> Result<Option<Command>, NoMemory>
+    ensures { IfOk result (λ report. commands_of report ≡ reported_as log.now.voter.me log.now.voter.inc fence) }
+{
+    match fence {
+        Some(fence) => Ok(Some(Command::Drained {
+            server: ServerNumber::checked(log.me()).ok_or(NoMemory)?,
+            inc: log.inc(),
+            fence,
+        })),
+        None => Ok(None),
+    }
+}
+
+/// The report to the active fence, where that awaits the server, which is In as itself, and nothing that it holds is under way.
+fn draining(log: &LogSide, side: &Side) -> Result<Option<Command>, NoMemory>
+    ensures { IfOk result (λ report. commands_of report ≡ report_of log.now side.now) }
+{
+    if !is_in(log.state(), log.me(), log.inc()) {
+        return Ok(None);
+    }
+    reported(log, drained(log.state(), log.me(), &side.locks))
+}
+
+/// What the server wants chosen by its own part: that it and its links return, and then its report to the active fence.
+pub fn own_wants<D: Disk>(
+    alloc: Global,
+    log: &LogSide,
+    side: &Side,
+    store: &Store<D>,
+) -> Result<Sequence<Command>, NoMemory>
+    ensures { IfOk result (λ wants. wants ≡ own_wants (here_by log.now) (own_in side.now (store_of store.now))) }
+{
+    let mut wants = returning(alloc, log, side, store)?;
+    if let Some(report) = draining(log, side)? {
+        wants.push(report)?;
+    }
+    Ok(wants)
 }
 
 /// The link whose `Caught` it is.
@@ -114,7 +157,7 @@ pub fn start_wanted<D: Disk, E: Disk>(
     ensures left { OnOk result (IsLeft log.old side.old (store_of store.now) state.old.records job.Start side.new) }
     ensures same { OnErr result (side.new ≡ side.old) }
 {
-    let wants = returning(alloc, log, side, store)?;
+    let wants = own_wants(alloc, log, side, store)?;
     let found = log.next_want(alloc, wants.as_slice())?;
     let link = link_found(log.state(), &found);
     start_for(alloc, log, &mut side.copies, state, link, found)

@@ -94,3 +94,22 @@ fn a_lead_is_blanked(rt: HostRuntime) -> Result<(), Fail> {
     };
     play(rt.alloc(), &row)
 }
+
+// The same, but server 1 has stopped. Line 6 is the write, and line 7 the blank.
+const LEAD_ALONE_IS_BLANKED: &str =
+    "servers 3 slots 4\na disk vol on 0 1 2\nwait\nop stop 1\nwait\na write vol 0 fill 7\nop blank 0\nop start 1\nop settle\nwait\nb read vol 0\n";
+
+#[test]
+fn a_lead_that_is_alone_is_blanked(rt: HostRuntime) -> Result<(), Fail> {
+    let row = Row {
+        shows: "a lead that is alone has put: the block is lost with its write, which nobody is told of",
+        script: LEAD_ALONE_IS_BLANKED,
+        steps: "a calls 2; agree; wait; op calls 4; 1 stops; 1 shows 4; seen 1>op; line 4 ok;
+            down 1>0; 0 works; 0 ticks; 0 works; prepare 0>0; 0 works; prepare 0>2; 2 works; promise 0>0; promise 2>0; 0 works off;
+            accept 0>0; accept 0>2; 0 works; 2 works; accepted 0>0; accepted 2>0; 0 works off; chosen 0>2; 2 works off; agree without 1; wait;
+            a calls 6; write a>0; 0 works; 0 works; told begin; 0 works; told begin take; op calls 7; 0 stops; drop written 0>a;
+            0 blanks; 0 boots; 0 shows 7; seen 0>op; line 7 ok; op calls 8; 1 boots; 1 shows 8; seen 1>op; line 8 ok; agree; line 6 unavailable;
+            told begin take end; play out; line 9 ok; line 11 unavailable; told begin take end",
+    };
+    play(rt.alloc(), &row)
+}

@@ -1,7 +1,6 @@
 //! A stopped server boots, and is In again.
 
-use memory_runs::{Failing, play, play_failing};
-use petal_disk::{CallKind, Which};
+use memory_runs::play;
 use std::alloc::Global;
 use std::test::Fail;
 use world_runs::Row;
@@ -69,31 +68,37 @@ fn two_neighbours_start_again(rt: HostRuntime) -> Result<(), Fail> {
     play(rt.alloc(), &row)
 }
 
-/// The state device of server 0 fails in such a call of its first boot.
-fn failing_boot(alloc: Global, kind: CallKind, at: u32) -> Result<(), Fail> {
+/// The state device of server 0, which is armed while the server is stopped, fails in such a call of the boot. It does so no less
+/// where the plan stops the server.
+fn failing_boot(alloc: Global, plan: &str) -> Result<(), Fail> {
+    let steps = format!(in alloc;
+        "op calls 2; 0 stops; 0 shows 2; seen 0>op; wait; op calls 4; 0 arms state {plan}; 0 boots; failed 1; stopped 0; not 0 ticks; not 0 boots;
+        not sent 2 down 0>1; 0 shows 4; seen 0>op; line 4 failed; op calls 5; 0 boots; failed 1; sent 2 down 0>1; 0 shows 5; seen 0>op; line 5 ok;
+        play out; line 7 ok; line 9 ok; line 11 fill 7"
+    )?;
     let row = Row {
         shows: "a device fails in a boot: the server stays stopped as the same incarnation, tells nobody, and boots for the next line",
         script: "servers 3 slots 4\nop stop 0\nwait\nop start 0\nop start 0\nwait\na disk vol on 0 1 2\nwait\na write vol 0 fill 7\nwait
 b read vol 0\n",
-        steps: "op calls 2; 0 stops; 0 shows 2; seen 0>op; wait; op calls 4; 0 boots; failed 1; not 0 ticks; not 0 boots; not sent 2 down 0>1;
-            0 shows 4; seen 0>op; line 4 failed; op calls 5; 0 boots; failed 1; sent 2 down 0>1; 0 shows 5; seen 0>op; line 5 ok;
-            play out; line 7 ok; line 9 ok; line 11 fill 7",
+        steps: steps.as_str(),
     };
-    let failing = Failing {
-        server: 0,
-        device: Which::State,
-        kind,
-        at,
-    };
-    play_failing(alloc, &row, failing)
+    play(alloc, &row)
 }
 
 #[test]
 fn boots_that_fail(rt: HostRuntime) -> Result<(), Fail> {
     // its device is read again first, which syncs it twice
-    for at in 1..3 {
-        failing_boot(rt.alloc(), CallKind::Write, at)?;
-        failing_boot(rt.alloc(), CallKind::Sync, 2 + at)?;
+    for plan in [
+        "write 1",
+        "write 2",
+        "write 1 stop",
+        "write 2 stop",
+        "sync 3",
+        "sync 4",
+        "sync 3 stop",
+        "sync 4 stop",
+    ] {
+        failing_boot(rt.alloc(), plan)?;
     }
     Ok(())
 }

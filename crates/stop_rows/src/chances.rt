@@ -1,8 +1,9 @@
 //! Worlds stepped by chance, in which servers stop: two of five by the operator's lines, which may start again, also with blank
-//! data devices, or one since a device fails.
+//! data devices, or one since a device fails or stops it.
 
-use memory_runs::{Failing, start, start_failing};
-use petal_disk::{CallKind, Which};
+use memory_runs::start;
+use petal_base::ServerId;
+use petal_disk::{CallKind, Plan, Which};
 use std::alloc::Global;
 use std::test::Fail;
 use world_runs::{
@@ -65,25 +66,33 @@ fn worlds_whose_servers_are_blanked(rt: HostRuntime) -> Result<(), Fail> {
     Ok(())
 }
 
-/// One of the first calls of one of the first three servers' devices.
-fn failing_by(chance: &mut Chance) -> Failing {
-    Failing {
-        server: chance.below(3) as u8,
-        device: if chance.below(2) == 0 {
-            Which::Data
-        } else {
-            Which::State
-        },
+/// One of the devices of the first three servers.
+fn device_by(chance: &mut Chance) -> (ServerId, Which) {
+    let server = chance.below(3) as u8;
+    let which = if chance.below(2) == 0 {
+        Which::Data
+    } else {
+        Which::State
+    };
+    (server, which)
+}
+
+/// One of its first calls fails.
+fn plan_by(chance: &mut Chance, stop: bool) -> Plan {
+    Plan {
         kind: CallKind::Any,
         at: chance.below(40).saturating_add(1) as u32,
+        stop,
     }
 }
 
-fn simulate_failing(alloc: Global, seed: u32) -> Result<Count, Fail> {
+fn simulate_failing(alloc: Global, seed: u32, stop: bool) -> Result<Count, Fail> {
     let mut chance = Chance::new(seed);
     let text = script_by(alloc, &mut chance)?;
-    let failing = failing_by(&mut chance);
-    let run = start_failing(alloc, text.as_str(), failing)?;
+    let (server, which) = device_by(&mut chance);
+    let plan = plan_by(&mut chance, stop);
+    let mut run = start(alloc, text.as_str())?;
+    run.arm(alloc, server, which, Some(plan))?;
     simulate(alloc, seed, chance, run)
 }
 
@@ -91,9 +100,20 @@ fn simulate_failing(alloc: Global, seed: u32) -> Result<Count, Fail> {
 fn worlds_whose_devices_fail(rt: HostRuntime) -> Result<(), Fail> {
     let mut all = Count::new();
     for seed in 1..21 {
-        all = all.and(simulate_failing(rt.alloc(), seed)?);
+        all = all.and(simulate_failing(rt.alloc(), seed, false)?);
     }
     assert!(rt; all.answered >= 400, "{all:?}");
     assert!(rt; all.faults >= 12, "{all:?}");
+    Ok(())
+}
+
+#[test]
+fn worlds_whose_devices_stop_their_servers(rt: HostRuntime) -> Result<(), Fail> {
+    let mut all = Count::new();
+    for seed in 1..21 {
+        all = all.and(simulate_failing(rt.alloc(), seed, true)?);
+    }
+    assert!(rt; all.answered >= 400, "{all:?}");
+    assert!(rt; all.stopped_in >= 12, "{all:?}");
     Ok(())
 }

@@ -1,6 +1,8 @@
 -- What is left of a server, and of it after a step.
-use Rattle.std.proofs.Common.{◌≡◌, ℕ, zero, suc, ◌+◌, Bool, true, false, List, length, Some, None, refl, sym, ap, ◌∙◌}
+use Rattle.std.proofs.Common.{◌≡◌, ℕ, zero, suc, ◌+◌, Bool, true, false, List, length, Option, Some, None, refl, sym, ap, ◌∙◌}
 use Rattle.std.specs.Prelude.{not, if◌then◌else◌}
+use Rattle.petal_disk.specs.declared.planned.Plan.{Plan}
+use Rattle.petal_disk.specs.declared.shelf.Which.{Which}
 use Rattle.petal_msg.specs.declared.letter.Actor.TheVariants as actor
 use Rattle.petal_msg.specs.declared.letter.Letter.{Letter}
 use Rattle.petal_paxos.specs.Kept.{known_at}
@@ -14,7 +16,7 @@ use Rattle.petal_rules.specs.State.{servers_of}
 use Rattle.petal_rules.specs.World.{World, MayServer, is_spent_server, server_step}
 use Rattle.petal_rules.specs.declared.job.Job.{Job}
 use Rattle.petal_rules.specs.declared.step.Step.{Step}
-use Rattle.petal_rules.specs.declared.step.Step.TheVariants.{Call, Deliver, Tick, Work, Stop, Blank, Boot, Glance}
+use Rattle.petal_rules.specs.declared.step.Step.TheVariants.{Call, Deliver, Tick, Work, StopIn, Stop, Blank, Boot, Arm, Glance}
 use Rattle.petal_rules.specs.declared.step.CommitEnd.TheVariants.{After, Before}
 use Rattle.petal_rules.specs.declared.step.WorkEnd.{WorkEnd}
 use Rattle.petal_rules.specs.declared.step.WorkEnd.TheVariants.{Done, Fault}
@@ -89,6 +91,11 @@ shows : (servers n line round : ℕ) (running : Bool) (inc : ℕ) (log : Log) (o
 shows servers n line round true inc log own queue = record { letters = refl; left = refl }
 shows servers n line round false inc log own queue = record { letters = refl; left = refl }
 
+arms : (servers n : ℕ) (which : Which) (plan : Option Plan) (running : Bool) (inc : ℕ) (log : Log) (own : Own) (queue : List Job)
+    → StepsLeft servers n (made running inc log own queue) (Arm which plan)
+arms servers n which plan true inc log own queue = record { letters = refl; left = refl }
+arms servers n which plan false inc log own queue = record { letters = refl; left = refl }
+
 empties : (servers n : ℕ) (running : Bool) (inc : ℕ) (log : Log) (own : Own) (queue : List Job) → not running ≡ true
     → StepsLeft servers n (made running inc log own queue) Blank
 empties servers n true inc log own queue rests = absurd (cc)
@@ -151,9 +158,11 @@ steps_left servers n s (Call line) on = calls servers n line s.life.running s.li
 steps_left servers n s (Deliver letter) on = receives servers n letter s.life.running s.life.inc s.log s.own s.queue
 steps_left servers n s Tick on = runs servers n s Tick on
 steps_left servers n s (Work end) on = runs servers n s (Work end) on
+steps_left servers n s (StopIn end) on = runs servers n s (StopIn end) on
 steps_left servers n s Stop on = runs servers n s Stop on
 steps_left servers n s Blank on = empties servers n s.life.running s.life.inc s.log s.own s.queue on
 steps_left servers n s (Boot end) on = boots_at servers n end s.life.running s.life.inc s.log s.own s.queue on
+steps_left servers n s (Arm which plan) on = arms servers n which plan s.life.running s.life.inc s.log s.own s.queue
 steps_left servers n s (Glance line round) on = shows servers n line round s.life.running s.life.inc s.log s.own s.queue
 
 -- as it may each step that is allowed
@@ -162,7 +171,9 @@ allowed w n (Call line) may = refl
 allowed w n (Deliver letter) may = refl
 allowed w n Tick may = may.runs
 allowed w n (Work end) may = may.acts.runs
+allowed w n (StopIn end) may = may.acts.runs
 allowed w n Stop may = may.runs
 allowed w n Blank may = ap not may.rests
 allowed w n (Boot end) may = ap not may.rests
+allowed w n (Arm which plan) may = refl
 allowed w n (Glance line round) may = refl

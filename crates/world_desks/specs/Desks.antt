@@ -8,9 +8,11 @@ use Rattle.petal_rules.specs.Jobs.{Acted}
 pub use Rattle.petal_rules.specs.World.{is_spent_server}
 use Rattle.petal_rules.specs.World.{Setting, World, server_step, setting_of, start}
 use Rattle.petal_rules.specs.declared.step.Step.{Step}
-use Rattle.petal_rules.specs.declared.step.Step.TheVariants.{Tick, Work, Stop, Blank, Boot}
+use Rattle.petal_rules.specs.declared.step.Step.TheVariants.{Tick, Work, StopIn, Stop, Blank, Boot}
 use Rattle.petal_rules.specs.declared.step.WorkEnd.{WorkEnd}
 use Rattle.petal_rules.specs.declared.step.WorkEnd.TheVariants.{Done, Fault}
+use Rattle.world_desks.specs.declared.step_end.StepEnd.{StepEnd}
+use Rattle.world_desks.specs.declared.step_end.StepEnd.TheVariants as step_end
 
 -- ### What is left of a server
 
@@ -27,11 +29,12 @@ on_devices server = record {
 abbrev pub left_of : Server → Server
 left_of server = if server.life.running then server else on_devices server
 
--- a server that has stopped drops letters, is glanced at, gets a blank data device and boots, and takes no other step; one that
--- runs gets no such device and does not boot
+-- a server that has stopped drops letters, is glanced at, gets a blank data device or a plan for a device and boots, and takes no
+-- other step; one that runs gets no blank device and does not boot
 abbrev pub may_take : Step → (running : Bool) → Bool
 may_take Tick running = running
 may_take (Work end) running = running
+may_take (StopIn end) running = running
 may_take Stop running = running
 may_take Blank running = not running
 may_take (Boot end) running = not running
@@ -39,22 +42,42 @@ may_take _ running = true
 
 -- ### How a job or a boot ends
 
+-- a job that ended so
+abbrev pub job_ended : StepEnd → Step
+job_ended step_end.Done = Work Done
+job_ended (step_end.Fault commit) = Work (Fault commit)
+job_ended (step_end.StopIn commit) = StopIn commit
+
+-- how a boot ended: it fails where the plan of a device stops the server
+abbrev pub boot_end : StepEnd → WorkEnd
+boot_end step_end.Done = Done
+boot_end (step_end.Fault commit) = Fault commit
+boot_end (step_end.StopIn commit) = Fault commit
+
 -- the step that was taken: how a job or a boot ended is told by the devices
-abbrev pub ended : Step → WorkEnd → Step
-ended (Work named) end = Work end
-ended (Boot named) end = Boot end
+abbrev pub ended : Step → StepEnd → Step
+ended (Work named) end = job_ended end
+ended (StopIn named) end = job_ended end
+ended (Boot named) end = Boot (boot_end end)
 ended what end = what
 
+-- as a job or a boot ends that no plan stops
+abbrev pub as_end : WorkEnd → StepEnd
+as_end Done = step_end.Done
+as_end (Fault commit) = step_end.Fault commit
+
 -- how the job or the boot of a step ended; any other step is done
-abbrev pub end_in : Step → WorkEnd
-end_in (Work end) = end
-end_in (Boot end) = end
-end_in _ = Done
+abbrev pub end_in : Step → StepEnd
+end_in (Work end) = as_end end
+end_in (StopIn commit) = step_end.StopIn commit
+end_in (Boot end) = as_end end
+end_in _ = step_end.Done
 
 -- a device failed in it
-abbrev pub IsFault : WorkEnd → Type 0
-IsFault Done = ⊥
-IsFault (Fault end) = Unit {0}
+abbrev pub IsFault : StepEnd → Type 0
+IsFault step_end.Done = ⊥
+IsFault (step_end.Fault commit) = Unit {0}
+IsFault (step_end.StopIn commit) = Unit {0}
 
 -- ### Servers and their steps
 

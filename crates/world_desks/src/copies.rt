@@ -1,8 +1,10 @@
 //! Requests, lines, answers and steps once more, with their blocks and letters shared.
 
 ghost use Rattle.std.specs.Prelude.{◌≡◌, IfOk};
-ghost use Rattle.world_desks.specs.Desks.{ended};
+ghost use Rattle.petal_rules.specs.declared.step.Step.TheVariants.{Boot};
+ghost use Rattle.world_desks.specs.Desks.{boot_end, ended, job_ended};
 
+use crate::StepEnd;
 use petal_base::NoMemory;
 use petal_rules::{Step, WorkEnd};
 use script_lines::{Answer, Line, Request};
@@ -79,8 +81,29 @@ pub fn answer_again(answer: &Answer) -> Result<Answer, NoMemory>
     Ok(answer.clone()?)
 }
 
+/// A job that ended so.
+fn job_taken(end: StepEnd) -> Step
+    ensures { result ≡ job_ended end }
+{
+    match end {
+        StepEnd::Done => Step::Work(WorkEnd::Done),
+        StepEnd::Fault(end) => Step::Work(WorkEnd::Fault(end)),
+        StepEnd::StopIn(end) => Step::StopIn(end),
+    }
+}
+
+/// A boot that ended so: it fails where the plan of a device stops the server.
+fn boot_taken(end: StepEnd) -> Step
+    ensures { result ≡ Boot (boot_end end) }
+{
+    match end {
+        StepEnd::Done => Step::Boot(WorkEnd::Done),
+        StepEnd::Fault(end) | StepEnd::StopIn(end) => Step::Boot(WorkEnd::Fault(end)),
+    }
+}
+
 /// The step that was taken, where its job or its boot ended so.
-pub fn step_taken(step: &Step, end: WorkEnd) -> Result<Step, NoMemory>
+pub fn step_taken(step: &Step, end: StepEnd) -> Result<Step, NoMemory>
     ensures { IfOk result (λ taken. taken ≡ ended step.now end) }
 {
     match step {
@@ -89,10 +112,14 @@ pub fn step_taken(step: &Step, end: WorkEnd) -> Result<Step, NoMemory>
             letter: letter.share()?,
         }),
         Step::Tick => Ok(Step::Tick),
-        Step::Work(_) => Ok(Step::Work(end)),
+        Step::Work(_) | Step::StopIn(_) => Ok(job_taken(end)),
         Step::Stop => Ok(Step::Stop),
         Step::Blank => Ok(Step::Blank),
-        Step::Boot(_) => Ok(Step::Boot(end)),
+        Step::Boot(_) => Ok(boot_taken(end)),
+        Step::Arm { which, plan } => Ok(Step::Arm {
+            which: *which,
+            plan: *plan,
+        }),
         Step::Glance { line, round } => Ok(Step::Glance {
             line: *line,
             round: *round,

@@ -4,9 +4,10 @@ ghost use Rattle.std.specs.Prelude.{◌≡◌, ◌<◌, ◌↔◌, ℕ, [], IfOk
 ghost use Rattle.petal_rules.specs.Log.{rev_of};
 ghost use Rattle.world_desks.specs.Desks.{IsFault, Site, acted_at, end_in, ended, is_spent_server, site_after};
 
+use crate::StepEnd;
 use petal_base::{Inc, NoMemory, Rev, Sequence};
 use petal_msg::Letter;
-use petal_rules::{Step, WorkEnd};
+use petal_rules::Step;
 use std::alloc::Global;
 
 /// What a server's step gives.
@@ -15,7 +16,7 @@ pub struct Taken {
     /// The letters that it sends, without their stamps.
     pub letters: Sequence<Letter>,
     /// How the job or the boot ended; `Done` for any other step.
-    pub end: WorkEnd,
+    pub end: StepEnd,
 }
 
 /// A server with its store, as a world steps it.
@@ -28,8 +29,8 @@ pub trait Host: Drop {
     ghost faults: { Self → ℕ };
 
     /// Takes a step. How a job or a boot ends is for the devices to say, whatever end the step names; the server and the letters
-    /// are those of the step with the end that is given, which is a fault only where a device failed. After it ran out of memory
-    /// nothing is said of the server.
+    /// are those of the step with the end that is given, which is a fault or a stop only where a device failed. After it ran out of
+    /// memory nothing is said of the server.
     fn step(&mut self, alloc: Global, step: &Step) -> Result<Taken, NoMemory>
         ensures site { IfOk result (λ taken. seen self.new ≡ site_after (seen self.old) (ended step.now taken.end)) }
         ensures letters { IfOk result (λ taken. taken.letters ≡ (acted_at (seen self.old) (ended step.now taken.end)).letters) }

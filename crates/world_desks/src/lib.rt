@@ -11,7 +11,9 @@ pub mod name;
 mod order;
 pub mod sent;
 pub mod stamping;
+mod step_end;
 pub mod waiting;
 
 pub use host::{Host, Taken};
 pub use order::are_in_order;
+pub use step_end::StepEnd;

@@ -6,3 +6,5 @@
 mod chances;
 #[cfg(test)]
 mod rows;
+#[cfg(test)]
+mod snapshots;

@@ -28,6 +28,13 @@ fn is_no_disk(answer: Option<&Answer>) -> bool {
     }
 }
 
+fn is_no_snap(answer: Option<&Answer>) -> bool {
+    match answer {
+        Some(Answer::NoSnap) => true,
+        _ => false,
+    }
+}
+
 /// Whether the answer is that no server could serve the request.
 pub fn is_unavailable(answer: Option<&Answer>) -> bool {
     match answer {
@@ -81,6 +88,7 @@ pub fn is_so<H: Host>(run: &Run<H>, line: u32, want: &Want) -> bool {
         Want::Ok => is_done(answer),
         Want::NoSpace => is_no_space(answer),
         Want::NoDisk => is_no_disk(answer),
+        Want::NoSnap => is_no_snap(answer),
         Want::Unavailable => is_unavailable(answer),
         Want::Exists => is_exists(answer),
         Want::DoesNotRun => is_failed(answer),

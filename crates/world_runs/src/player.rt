@@ -15,6 +15,8 @@ use world_told::{made, tells};
 pub struct Player<H: Host> {
     run: Run<H>,
     gone: Vec<bool>,
+    // How many ticks were passed on one after the other.
+    turns: u32,
 }
 
 /// Those who don't agree after so many rounds are taken to hang.
@@ -65,6 +67,7 @@ impl<H: Host> Player<H> {
         Player {
             run,
             gone: Vec::new(alloc),
+            turns: 0,
         }
     }
 
@@ -237,6 +240,56 @@ impl<H: Host> Player<H> {
         Ok(false)
     }
 
+    // A server with a job does it. Gives whether there is one.
+    fn work_one(&mut self, alloc: Global) -> Result<bool, NoMemory> {
+        for server in 0..self.run.script().servers {
+            if self.run.work(alloc, server)? {
+                return Ok(true);
+            }
+        }
+        Ok(false)
+    }
+
+    // The oldest letter is handed over that is on its way and is not refused. Gives whether there is one.
+    fn hand_one(&mut self, alloc: Global) -> Result<bool, NoMemory> {
+        for at in 0..self.run.sent.len() {
+            if self.is_gone(at) {
+                continue;
+            }
+            self.remove(at)?;
+            let letter = self.letter(Some(at))?;
+            if self.deliver(alloc, letter)? {
+                return Ok(true);
+            }
+        }
+        Ok(false)
+    }
+
+    // The next in turn ticks, of all servers and all clients but the operator. Gives whether there is one that may.
+    fn tick_one(&mut self, alloc: Global) -> Result<bool, NoMemory> {
+        let actors = self.run.actors(alloc)?;
+        for _ in 0..actors.len() {
+            let at = self.turns as usize % actors.len();
+            self.turns = self.turns.wrapping_add(1);
+            if self.run.tick(alloc, actors[at])? {
+                return Ok(true);
+            }
+        }
+        Ok(false)
+    }
+
+    // So many steps, one after the other: of the first server that has a job; or else the oldest letter is handed over; or else the
+    // next in turn ticks. Gives whether it came to that.
+    fn go_on(&mut self, alloc: Global, steps: u32) -> Result<bool, NoMemory> {
+        for _ in 0..steps {
+            let taken = self.work_one(alloc)? || self.hand_one(alloc)? || self.tick_one(alloc)?;
+            if !taken {
+                return Ok(false);
+            }
+        }
+        Ok(true)
+    }
+
     fn made(&self, alloc: Global) -> Result<usize, NoMemory> {
         let told = self.run.events(alloc)?;
         Ok(made(&told))
@@ -277,6 +330,7 @@ impl<H: Host> Player<H> {
             Act::Stop(server) => self.run.stop(alloc, *server),
             Act::Blank(server) => self.run.blank(alloc, *server),
             Act::Boot(server) => self.run.boot(alloc, *server),
+            Act::Arm(server, which, plan) => self.run.arm(alloc, *server, *which, *plan),
             Act::Show(server, line, round) => self.run.show(alloc, *server, *line, *round),
             Act::Hand(mail) => self.hand_over(alloc, mail),
             Act::Lose(mail) => self.lose(mail),
@@ -285,9 +339,12 @@ impl<H: Host> Player<H> {
             Act::Changed(mail) => self.hand_changed(alloc, mail),
             Act::Wait => self.run.go_on(),
             Act::PlayOut => play(alloc, &mut self.run),
+            Act::GoOn(steps) => self.go_on(alloc, *steps),
             Act::Agree(without) => self.agree(alloc, *without),
             Act::Made(count) => Ok(self.made(alloc)? == *count as usize),
             Act::Failed(count) => Ok(self.run.failed() == *count as usize),
+            Act::Stopped(count) => Ok(self.run.stopped() == *count as usize),
+            Act::Committed(count) => Ok(self.run.committed() == *count as usize),
             Act::Line(line, want) => Ok(is_so(&self.run, *line, want)),
             Act::Sent(count, mail) => Ok(self.count(mail) >= *count as usize),
             Act::Owners(count, mail) => Ok(self.owners(mail) >= *count as usize),

@@ -1,9 +1,10 @@
 //! A world in the middle of its run.
 
 use petal_base::{ClientId, NoMemory, OPERATOR, ServerId};
+use petal_disk::{Plan, Which};
 use petal_machine::{Event, EventError, Machine};
 use petal_msg::{Actor, SharedLetter};
-use petal_world::{Host, Record, Step, WorkEnd, World, WorldError};
+use petal_world::{CommitEnd, Host, Record, Step, WorkEnd, World, WorldError};
 use script_lines::{Answer, Request, Script};
 use std::alloc::Global;
 use world_told::{Told, told_of};
@@ -91,6 +92,17 @@ impl<H: Host> Run<H> {
     /// The stopped server boots.
     pub fn boot(&mut self, alloc: Global, server: ServerId) -> Result<bool, NoMemory> {
         self.take(alloc, Actor::Server(server), &Step::Boot(WorkEnd::Done))
+    }
+
+    /// The server's device has this plan from now on, or none.
+    pub fn arm(
+        &mut self,
+        alloc: Global,
+        server: ServerId,
+        which: Which,
+        plan: Option<Plan>,
+    ) -> Result<bool, NoMemory> {
+        self.take(alloc, Actor::Server(server), &Step::Arm { which, plan })
     }
 
     /// The server is glanced at for this line, in this round of it.
@@ -238,11 +250,27 @@ impl<H: Host> Run<H> {
         self.world.records()
     }
 
-    /// How many jobs ended since a device failed.
+    /// How many jobs and boots ended since a device failed.
     pub fn failed(&self) -> usize {
         self.records()
             .iter()
             .filter(|record| has_failed(&record.step))
+            .count()
+    }
+
+    /// How many jobs ended since a plan stopped the server.
+    pub fn stopped(&self) -> usize {
+        self.records()
+            .iter()
+            .filter(|record| has_stopped(&record.step))
+            .count()
+    }
+
+    /// How many of these had made their commit.
+    pub fn committed(&self) -> usize {
+        self.records()
+            .iter()
+            .filter(|record| record.step == Step::StopIn(CommitEnd::After))
             .count()
     }
 
@@ -305,15 +333,25 @@ fn has_failed(step: &Step) -> bool {
     }
 }
 
+/// Whether a plan stopped the server in the job.
+fn has_stopped(step: &Step) -> bool {
+    match step {
+        Step::StopIn(_) => true,
+        _ => false,
+    }
+}
+
 fn is_call(step: &Step) -> bool {
     match step {
         Step::Call { line: _ } => true,
         Step::Deliver { letter: _ }
         | Step::Tick
         | Step::Work(_)
+        | Step::StopIn(_)
         | Step::Stop
         | Step::Blank
         | Step::Boot(_)
+        | Step::Arm { which: _, plan: _ }
         | Step::Glance { line: _, round: _ } => false,
     }
 }

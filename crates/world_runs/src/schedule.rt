@@ -13,12 +13,15 @@
 //! | `1 works off` | server 1 does jobs until its queue is empty, and at least one |
 //! | `1 stops` | the server stops: the operator's open line is its stop |
 //! | `1 blanks` | the stopped server gets a blank data device: the operator's open line is its blank |
+//! | `1 arms data write 3`, `1 arms state any 2 stop` | the third write of the server's data device from now on fails; the second call of its state device stops the server in it |
+//! | `1 disarms data` | the device has no plan from now on |
 //! | `1 boots` | the stopped server boots: the operator's open line is its start, or has blanked it |
 //! | `1 shows 4` | the server is glanced at, for the operator's open line 4, which has given it each of its steps |
 //! | `1 shows 4 in 2` | the server is glanced at in the second round of the operator's open line 4, which is a settle |
 //! | `1 ticks`, `a ticks` | the server or the client sends again what is not answered |
 //! | `agree` | rounds in which everyone gets its letters and works, and in some of which they tick, until each line that was called is answered and all that run are at one revision, but for the operator, who takes no part; what is then on its way is lost |
 //! | `agree without 1`, `agree without b` | the same without this actor |
+//! | `go on 20` | so many steps, one after the other, in which the operator takes no part: the first server that has a job does it; or else the oldest letter on its way is handed over; or else the next in turn ticks |
 //! | `wait` | the next phase begins; each line before it is answered |
 //! | `play out` | rounds, until each line is answered: each letter is handed over twice, the last one first, servers work off their queues, clients and the operator call, servers stop, are blanked, boot and are glanced at as it says, and in every eighth round clients and a server tick |
 //! | `renamed write a>1` | the letter that is next to be handed over comes with a later stamp |
@@ -26,13 +29,15 @@
 //!
 //! | expectation | what is so at this place |
 //! |---|---|
-//! | `line 3 ok`, `line 3 nospace`, `line 3 nodisk`, `line 3 unavailable`, `line 3 exists`, `line 3 failed` | the line has this answer |
+//! | `line 3 ok`, `line 3 nospace`, `line 3 nodisk`, `line 3 nosnap`, `line 3 unavailable`, `line 3 exists`, `line 3 failed` | the line has this answer |
 //! | `line 3 open` | the line has no answer yet |
 //! | `line 5 fill 7`, `line 5 fill 1\|2` | it is answered with a block of this byte, or of one of the two |
 //! | `line 8 as 7` | it is answered with the same block as line 7 |
 //! | `told begin take end` | of all that the plain machine is told so far, but for the disks that are made, these are the events |
 //! | `made 2` | the plain machine is told so far that so many disks are made |
-//! | `failed 1` | so many jobs ended so far since a device failed |
+//! | `failed 1` | so many jobs and boots ended so far since a device failed |
+//! | `stopped 1` | so many jobs ended so far since a plan stopped the server |
+//! | `committed 1` | so many of these had made their commit |
 //! | `sent 4 write a>1` | at least so many letters of this kind and way were sent |
 //! | `owners 8 data 0>a` | the block that the last such letter brings has at least so many owners |
 //!
@@ -55,10 +60,10 @@ use std::test::Fail;
 
 /// What a run shows, its script, and its steps, in the form of this module.
 #[derive(Clone, Copy)]
-pub struct Row {
-    pub shows: &'static str,
-    pub script: &'static str,
-    pub steps: &'static str,
+pub struct Row<'a> {
+    pub shows: &'a str,
+    pub script: &'a str,
+    pub steps: &'a str,
 }
 
 /// What is wrong with a step.

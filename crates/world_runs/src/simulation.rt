@@ -154,7 +154,7 @@ impl Choice {
 }
 
 /// How many lines were answered in some runs, how many of these with `nospace` and with `unavailable`, how often a server was
-/// stopped, got a blank data device and booted, and in how many jobs a device failed.
+/// stopped, got a blank data device and booted, in how many jobs a device failed, and in how many a plan stopped the server.
 #[derive(Clone, Copy, Debug, PartialEq, Eq)]
 pub struct Count {
     pub answered: usize,
@@ -164,6 +164,7 @@ pub struct Count {
     pub blanks: usize,
     pub boots: usize,
     pub faults: usize,
+    pub stopped_in: usize,
 }
 
 impl Count {
@@ -177,6 +178,7 @@ impl Count {
             blanks: 0,
             boots: 0,
             faults: 0,
+            stopped_in: 0,
         }
     }
 
@@ -190,6 +192,7 @@ impl Count {
             blanks: self.blanks.saturating_add(more.blanks),
             boots: self.boots.saturating_add(more.boots),
             faults: self.faults.saturating_add(more.faults),
+            stopped_in: self.stopped_in.saturating_add(more.stopped_in),
         }
     }
 }
@@ -213,12 +216,14 @@ fn counted<H: Host>(run: &Run<H>) -> Count {
             blanks: 0,
             boots: 0,
             faults: 0,
+            stopped_in: 0,
         });
     }
     count.stops = steps(run, &Step::Stop);
     count.blanks = steps(run, &Step::Blank);
     count.boots = steps(run, &Step::Boot(WorkEnd::Done));
     count.faults = run.failed();
+    count.stopped_in = run.stopped();
     count
 }
 

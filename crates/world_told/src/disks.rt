@@ -1,9 +1,13 @@
 //! The disks that chosen commands make, and their links.
 
+use crate::fences::Fences;
 use crate::members::Members;
 use petal_base::{Cell, Inc, MapId, Name, NoMemory, ServerId, Tuple};
 use petal_command::Command;
 use std::alloc::Global;
+
+/// No command lets more fences take effect than the log has entries.
+const MOST_FENCES: usize = 16384;
 
 /// Which of a link's two servers have its blocks.
 #[derive(Clone, Copy, Debug, PartialEq, Eq)]
@@ -79,20 +83,29 @@ impl Link {
     }
 }
 
-/// The disks by map, their links, and who is in.
+/// The disks by map, their links, who is in, and the snapshots that wait.
 #[derive(Drop)]
 pub struct Disks {
     names: Vec<Name>,
     links: Vec<Link>,
     members: Members,
+    fences: Fences,
 }
 
-/// What some commands have done: the disks that they made, and the links whose secondary they took out, so that the copies of
-/// the primary count.
+/// What some commands have done: the disks that they made; the links whose secondary they took out, so that the copies of the
+/// primary count; and the snapshots that were taken, each with its disk.
 #[derive(Drop)]
 pub struct Done {
     pub made: Vec<Name>,
     pub passed: Vec<Link>,
+    pub frozen: Vec<Frozen>,
+}
+
+/// A snapshot that was taken.
+#[derive(Drop)]
+pub struct Frozen {
+    pub disk: Name,
+    pub name: Name,
 }
 
 impl Done {
@@ -101,6 +114,7 @@ impl Done {
         Done {
             made: Vec::new(alloc),
             passed: Vec::new(alloc),
+            frozen: Vec::new(alloc),
         }
     }
 }
@@ -112,6 +126,7 @@ impl Disks {
             names: Vec::new(alloc),
             links: Vec::new(alloc),
             members: Members::new(alloc, servers)?,
+            fences: Fences::new(alloc),
         })
     }
 
@@ -178,7 +193,7 @@ impl Disks {
                 done.passed.push(*link)?;
             }
         }
-        Ok(())
+        self.fences.renew(&self.members)
     }
 
     // The links that a server alone held which came back with nothing are lost.
@@ -202,13 +217,30 @@ impl Disks {
         }
     }
 
-    /// The command is the next one that is chosen, in the record of this number.
-    pub fn apply(
-        &mut self,
-        command: &Command,
-        records: usize,
-        done: &mut Done,
-    ) -> Result<(), NoMemory> {
+    // A snapshot of a known disk waits for its fence.
+    fn snap(&mut self, disk: &Name, name: &Name) -> Result<(), NoMemory> {
+        match self.names.iter().position(|other| other == disk) {
+            Some(disk) => self.fences.ask(disk, name, &self.members),
+            None => Ok(()),
+        }
+    }
+
+    // Each fence that awaits nobody takes its snapshot, one after the other.
+    fn freeze(&mut self, done: &mut Done) -> Result<(), NoMemory> {
+        for _ in 0..MOST_FENCES {
+            let Some((disk, name)) = self.fences.take(&self.members)? else {
+                return Ok(());
+            };
+            if let Some(disk) = self.names.get(disk) {
+                let disk = disk.again();
+                done.frozen.push(Frozen { disk, name })?;
+            }
+        }
+        Ok(())
+    }
+
+    // What the command does by itself.
+    fn act(&mut self, command: &Command, records: usize, done: &mut Done) -> Result<(), NoMemory> {
         match command {
             Command::MakeDisk { name, tuple, .. } => self.make(name, tuple, done),
             Command::Leave { server, inc } => self.leave(server.get(), *inc, done),
@@ -233,7 +265,24 @@ impl Disks {
                 self.catch(&own, records);
                 Ok(())
             }
+            Command::Snap { disk, name, .. } => self.snap(disk, name),
+            Command::Drained { server, inc, fence } => {
+                self.fences
+                    .report(server.get(), *inc, *fence, &self.members);
+                Ok(())
+            }
             _ => Ok(()),
         }
+    }
+
+    /// The command is the next one that is chosen, in the record of this number.
+    pub fn apply(
+        &mut self,
+        command: &Command,
+        records: usize,
+        done: &mut Done,
+    ) -> Result<(), NoMemory> {
+        self.act(command, records, done)?;
+        self.freeze(done)
     }
 }

@@ -136,9 +136,19 @@ impl<'a> Telling<'a> {
         Ok(done)
     }
 
+    // The disks that were made, and then the snapshots that were taken.
     fn makes(&mut self, step: usize, done: Done) -> Result<(), NoMemory> {
         for disk in done.made {
             self.tell(step, Some(Event::Make { disk }))?;
+        }
+        for frozen in done.frozen {
+            self.tell(
+                step,
+                Some(Event::Freeze {
+                    disk: frozen.disk,
+                    snap: frozen.name,
+                }),
+            )?;
         }
         Ok(())
     }

@@ -8,6 +8,7 @@
 mod choices;
 mod disks;
 mod events;
+mod fences;
 mod members;
 mod operations;
 mod reads;

@@ -45,6 +45,17 @@ impl Members {
         }
     }
 
+    /// The servers that are in.
+    pub fn all_in(&self, alloc: Global) -> Result<Vec<ServerId>, NoMemory> {
+        let mut servers = Vec::new(alloc);
+        for server in 0..=u8::MAX {
+            if self.is_in(server) {
+                servers.push(server)?;
+            }
+        }
+        Ok(servers)
+    }
+
     /// The incarnation of the server is out. Gives whether it was in.
     pub fn leave(&mut self, server: ServerId, inc: Inc) -> bool {
         let acts = self.is_in_as(server, inc);

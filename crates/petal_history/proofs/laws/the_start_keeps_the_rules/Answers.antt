@@ -12,7 +12,7 @@ use Rattle.petal_rules.specs.Lists.{In}
 use Rattle.petal_rules.specs.Store.{cell_cmp}
 use Rattle.petal_rules.specs.World.{Setting, start, setting_of, devices, chosen_log, chosen_state}
 use Rattle.script_lines.specs.declared.script.Script.{Script}
-use Rattle.petal_history.specs.Claims.{Grows, MarksFirst}
+use Rattle.petal_history.specs.Claims.{Grows, MarksFirst, SnapshotsStay}
 use Rattle.petal_history.proofs.laws.the_start_keeps_the_rules.Goals as goal
 
 none_some : {A B : Type 0} {x : A} → None ≡ Some x → B
@@ -49,6 +49,10 @@ marks : (script : Script) → MarksFirst script []
 marks script [] back own e = absurd cc
 marks script (first ∷ front) back own e = absurd cc
 
+snapshots : (script : Script) → SnapshotsStay script []
+snapshots script [] back e = λ row epoch block there. not_in row _ (no_disks (setting_of script)) there
+snapshots script (own ∷ front) back e = absurd cc
+
 pub returns : goal.returns
 unfolding In
 returns c script = record {
@@ -73,4 +77,5 @@ returns c script = record {
     known = λ row there. not_in row _ (no_disks (setting_of script)) there;
     unknown = λ name none. refl;
   };
+  snapshots = snapshots script;
 }

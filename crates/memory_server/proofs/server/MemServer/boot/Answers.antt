@@ -1,37 +1,21 @@
--- A boot, as the devices tell of it.
-use Rattle.std.proofs.Common.{sym, ap, ◌∙◌}
-use Rattle.std.specs.Prelude.{is_some}
+-- A boot, whose step is called by what the devices tell.
+use Rattle.std.proofs.Common.{ap, ◌∙◌}
+use Rattle.petal_rules.specs.declared.step.Step.TheVariants.{Boot}
+use Rattle.world_desks.specs.Desks.{acted_at}
+use Rattle.memory_server.proofs.Ends.{boot_left, boot_told}
+use Rattle.memory_server.specs.Server.{left_at, whole_after, whole_of}
 use Rattle.memory_server.proofs.server.MemServer.boot.Goals as goal
 
-pub returns-in_ok-taken-in-None-clause-site : goal.returns-in_ok-taken-in-None-clause-site
-returns-in_ok-taken-in-None-clause-site c =
-    let none = sym c.take.ensures.value ∙ c.in-None.is in
-    let stands = c.self.invariant.stands c.if-self.false (ap is_some none) in
-    rw (← c.self.view_is, none, c.take.ensures.after) (c.in_ok-taken-in-None.ensures tt stands.store stands.state).site
+pub returns-clause-site : goal.returns-clause-site
+returns-clause-site c =
+    rw c.boot_taken.ensures
+    (c.in_ok-outcome.ensures.site
+    ∙ ap (λ e. left_at (whole_after (whole_of c.args.self.now) (Boot e))) (boot_left c.in_ok-outcome.outcome.end))
 
-pub returns-in_ok-taken-in-None-clause-letters : goal.returns-in_ok-taken-in-None-clause-letters
-returns-in_ok-taken-in-None-clause-letters c =
-    let none = sym c.take.ensures.value ∙ c.in-None.is in
-    let stands = c.self.invariant.stands c.if-self.false (ap is_some none) in
-    rw (← c.self.view_is, none) (c.in_ok-taken-in-None.ensures tt stands.store stands.state).sends
+pub returns-clause-letters : goal.returns-clause-letters
+returns-clause-letters c =
+    rw c.boot_taken.ensures
+    (c.in_ok-outcome.ensures.letters ∙ ap (λ e. (acted_at (whole_of c.args.self.now) (Boot e)).letters) (boot_left c.in_ok-outcome.outcome.end))
 
-pub returns-in_ok-taken-in-None-clause-cause : goal.returns-in_ok-taken-in-None-clause-cause
-returns-in_ok-taken-in-None-clause-cause c =
-    let none = sym c.take.ensures.value ∙ c.in-None.is in
-    let stands = c.self.invariant.stands c.if-self.false (ap is_some none) in
-    rw (← c.self.view_is, none, c.take.ensures.after) (c.in_ok-taken-in-None.ensures tt stands.store stands.state).cause
-
-pub returns-in_ok-taken-in-Some-clause-site : goal.returns-in_ok-taken-in-Some-clause-site
-returns-in_ok-taken-in-Some-clause-site c =
-    let some = sym c.take.ensures.value ∙ c.in-Some.is in
-    rw (← c.self.view_is, some) (c.in_ok-taken-in-Some.ensures tt (c.self.invariant.state c.if-self.false)).site
-
-pub returns-in_ok-taken-in-Some-clause-letters : goal.returns-in_ok-taken-in-Some-clause-letters
-returns-in_ok-taken-in-Some-clause-letters c =
-    let some = sym c.take.ensures.value ∙ c.in-Some.is in
-    rw (← c.self.view_is, some) (c.in_ok-taken-in-Some.ensures tt (c.self.invariant.state c.if-self.false)).sends
-
-pub returns-in_ok-taken-in-Some-clause-cause : goal.returns-in_ok-taken-in-Some-clause-cause
-returns-in_ok-taken-in-Some-clause-cause c =
-    let some = sym c.take.ensures.value ∙ c.in-Some.is in
-    rw (← c.self.view_is, some) (c.in_ok-taken-in-Some.ensures tt (c.self.invariant.state c.if-self.false)).cause
+pub returns-clause-end : goal.returns-clause-end
+returns-clause-end c = rw c.boot_taken.ensures (boot_told c.in_ok-outcome.outcome.end)

@@ -1,25 +1,19 @@
--- The first job, of a server whose data device is not blank.
-use Rattle.std.proofs.Common.{sym, ◌∙◌}
-use Rattle.memory_server.proofs.Keeping.{none_there}
+-- The first job, whose step is called by what the devices tell.
+use Rattle.std.proofs.Common.{◌∙◌}
+use Rattle.memory_server.proofs.Ends.{job_fault, job_left, job_sends, job_told}
+use Rattle.memory_server.specs.Server.{whole_of}
 use Rattle.memory_server.proofs.server.MemServer.work.Goals as goal
 
 pub returns-clause-site : goal.returns-clause-site
 returns-clause-site c =
-    let none = none_there c.self.inside.blank (sym c.is_some.ensures ∙ c.if-is_some.false) in
-    rw (← c.self.view_is, none) (c.in_ok-taken.ensures tt).site
+    rw c.job_taken.ensures (c.in_ok-outcome.ensures.site ∙ job_left (whole_of c.args.self.now) c.in_ok-outcome.outcome.end _)
 
 pub returns-clause-letters : goal.returns-clause-letters
 returns-clause-letters c =
-    let none = none_there c.self.inside.blank (sym c.is_some.ensures ∙ c.if-is_some.false) in
-    rw (← c.self.view_is, none) (c.in_ok-taken.ensures tt).sends
+    rw c.job_taken.ensures (c.in_ok-outcome.ensures.letters ∙ job_sends (whole_of c.args.self.now) c.in_ok-outcome.outcome.end _)
+
+pub returns-clause-end : goal.returns-clause-end
+returns-clause-end c = job_told c.job_taken.result.end
 
 pub returns-clause-cause : goal.returns-clause-cause
-returns-clause-cause c =
-    let none = none_there c.self.inside.blank (sym c.is_some.ensures ∙ c.if-is_some.false) in
-    rw (← c.self.view_is, none) (c.in_ok-taken.ensures tt).cause
-
-pub invariant_of-self-2 : goal.invariant_of-self-2
-invariant_of-self-2 c =
-    let none = none_there c.self.inside.blank (sym c.is_some.ensures ∙ c.if-is_some.false) in
-    let stands = (c.in_ok-taken.ensures tt).stands in
-    rw none (record { stands = λ _ _. stands; rests = λ no. absurd (cc); room = tt; state = λ _. stands.state })
+returns-clause-cause c = rw c.job_taken.ensures (λ fault. c.in_ok-outcome.ensures.cause (job_fault c.in_ok-outcome.outcome.end _ fault))

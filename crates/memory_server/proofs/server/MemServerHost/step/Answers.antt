@@ -2,15 +2,15 @@
 use Rattle.std.proofs.Common.{sym, ◌∙◌}
 use Rattle.server_core.proofs.Steps.{of_each}
 use Rattle.memory_server.specs.Server.{whole_of}
-use Rattle.memory_server.proofs.Seen.{seen_after, seen_letters}
+use Rattle.memory_server.proofs.Seen.{ended_after, ended_letters}
 use Rattle.memory_server.proofs.server.MemServerHost.step.Goals as goal
 
 pub returns-clause-site : goal.returns-clause-site
 returns-clause-site c =
-    of_each _ _ (λ taken. seen_after (whole_of c.args.self.now) c.args.step.now taken.end (sym c.may_take.ensures ∙ c.if-not-may_take.false)
+    of_each _ _ (λ taken. ended_after (whole_of c.args.self.now) c.args.step.now taken.end (sym c.may_take.ensures ∙ c.if-not-may_take.false)
     (whole_of c.act.new.self)) c.act.result c.act.ensures.site
 
 pub returns-clause-letters : goal.returns-clause-letters
 returns-clause-letters c =
-    of_each _ _ (λ taken. seen_letters (whole_of c.args.self.now) c.args.step.now taken.end (sym c.may_take.ensures ∙ c.if-not-may_take.false)
+    of_each _ _ (λ taken. ended_letters (whole_of c.args.self.now) c.args.step.now taken.end (sym c.may_take.ensures ∙ c.if-not-may_take.false)
     taken.letters) c.act.result c.act.ensures.letters

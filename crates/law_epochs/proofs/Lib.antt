@@ -1,0 +1,12 @@
+pub mod Keys
+pub mod Parts
+pub mod Opened
+pub mod Reports
+pub mod Present
+pub mod There
+pub mod Second
+pub mod Within
+pub mod Puts
+pub mod Sends
+pub mod Early
+pub mod Histories

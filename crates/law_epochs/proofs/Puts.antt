@@ -1,0 +1,102 @@
+-- Each job leaves the entries of a server within a bound, where what is pending is, and what letters tell of.
+use Rattle.std.proofs.Common.{◌≡◌, ℕ, Some, refl, ap, sym, subst}
+use Rattle.petal_base.specs.declared.cell.Cell.{Cell}
+use Rattle.petal_table.specs.Table.{at}
+use Rattle.petal_msg.specs.declared.body.Body.{Body}
+use Rattle.petal_msg.specs.declared.copying.Copying.{Copying}
+use Rattle.petal_msg.specs.declared.copying.LastCopy.{LastCopy}
+use Rattle.petal_msg.specs.declared.operation.Pending.{Pending}
+use Rattle.petal_rules.specs.Server.{Own, Here, Done}
+use Rattle.petal_rules.specs.Store.{Store, cell_cmp}
+use Rattle.petal_rules.specs.Writes.{tells}
+use Rattle.law_steps.specs.DidLead.{DidLead, Asks_for, Repeats, Is_full, Opens, Marks, Puts, Gives_up, Unmarks, Closes, Opens_alone, Marks_alone, Puts_alone, Unmarks_alone, Closes_alone, Taken}
+use Rattle.law_steps.specs.DidSecond.{DidSecond, Sets_apart, Promises, Declines, Follows}
+use Rattle.law_steps.specs.DidHolder.{DidHolder, CopyStep, Asks_to_trim, Sends, Unmarks_copied, Closes_copy, TakenCopy, Copy_as_is, Copy_trimmed, Copy_synced, Asks_page, Turns_page, Begins_copy, Goes_on_copying, Finds_it_full, Tidies}
+use Rattle.law_steps.specs.DidOther.{DidOther, TrimStep, Is_trimmed, Drops_entry, Answers_page, Is_copied_to, Goes_on_trimming, Puts_entry, Has_entry, Has_no_slot}
+use Rattle.law_steps.specs.Did.{Did, Ignores, Refuses, By_read, By_lead, By_second, By_holder, By_other}
+use Rattle.law_steps.proofs.Subjects.{of_read, told_own}
+use Rattle.law_steps.proofs.Taking.{taking}
+use Rattle.law_copies.proofs.Chains.{copied_chains, page_chains}
+use Rattle.law_epochs.proofs.Within.{AreWithin, IsWithin, OfKey, drop_within, put_within}
+
+module _ (bound : Cell → ℕ) (heard : Body → Type 0) (here : Here) (own : Own) (all : AreWithin bound own.store.chains)
+    (pending : (cell : Cell) (op : Pending) → at cell_cmp own.pairs.pending cell ≡ Some op → IsWithin bound op.key)
+    (told : (said : Body) → heard said → OfKey (IsWithin bound) said) where
+  abbrev Kept : Own → Type 0
+  Kept new = AreWithin bound new.store.chains
+
+  same : (new : Own) → new.store.chains ≡ own.store.chains → Kept new
+  same new e = subst (AreWithin bound) (sym e) all
+
+  taken_kept : (now : Own) (op : Pending) → Taken own now op → Kept now
+  taken_kept now op taken = same now (ap (λ (s : Store). s.chains) (taking own now op taken).store)
+
+  taken_key : (now : Own) (op : Pending) → Taken own now op → IsWithin bound op.key
+  taken_key now op taken =
+      let k = taking own now op taken in subst (IsWithin bound) (ap (λ (o : Pending). o.key) (sym k.is)) (pending op.cell k.old k.was)
+
+  lead_kept : (done : Done) → DidLead heard here own done → Kept done.own
+  lead_kept _ (Asks_for posts h) = all
+  lead_kept _ (Repeats want last h lead is e) = all
+  lead_kept _ (Is_full want new no_room) = all
+  lead_kept _ (Gives_up op h is reserved put) = all
+  lead_kept _ (Opens want new both) = all
+  lead_kept _ (Marks op h is both stage) = all
+  lead_kept _ (Puts op is both stage) = put_within bound own.store.chains op.key _ all (pending op.cell op is)
+  lead_kept _ (Unmarks op h is both stage) = all
+  lead_kept _ (Closes op is both stage) = all
+  lead_kept _ (Opens_alone want new on) = all
+  lead_kept _ (Marks_alone now op taken on fresh) = taken_kept now op taken
+  lead_kept _ (Puts_alone now op taken on stale put) =
+      put_within bound now.store.chains op.key _ (taken_kept now op taken) (taken_key now op taken)
+  lead_kept _ (Unmarks_alone now op taken on stale put busy) = taken_kept now op taken
+  lead_kept _ (Closes_alone now op taken on stale put free) = taken_kept now op taken
+
+  second_kept : (done : Done) → DidSecond heard here own done → Kept done.own
+  second_kept _ (Sets_apart number cell tickets h s le) = all
+  second_kept _ (Promises number cell how s is) = same (tells here own cell number how).own
+      (ap (λ (o : Own). o.store.chains) (told_own here own cell number how))
+  second_kept _ (Declines number cell h s no_room) = all
+  second_kept _ (Follows number key version bytes h s is) = put_within bound own.store.chains key _ all (told _ h)
+
+  step_kept : (now : Own) (cell : Cell) (copy : Copying) (done : Done) → CopyStep here now cell copy done → Kept now → Kept done.own
+  step_kept now cell copy _ (Asks_to_trim fresh) kept = kept
+  step_kept now cell copy _ (Sends row trimmed is) kept = kept
+  step_kept now cell copy _ (Unmarks_copied kind synced left) kept = kept
+  step_kept now cell copy _ (Closes_copy synced left) kept = subst (AreWithin bound) (sym (copied_chains here now cell)) kept
+
+  pub copy_kept : (cell : Cell) (now : Own) (copy : Copying) → TakenCopy heard own cell now copy → Kept now
+  copy_kept cell _ _ (Copy_as_is copy is) = all
+  copy_kept cell _ _ (Copy_trimmed copy h is fresh) = all
+  copy_kept cell _ _ (Copy_synced copy h is trimmed lt) = all
+
+  holder_kept : (done : Done) → DidHolder heard here own done → Kept done.own
+  holder_kept _ (Asks_page id row other held fresh) = all
+  holder_kept _ (Turns_page id row other after block h held fresh at) = subst (AreWithin bound) (sym (page_chains own row block)) all
+  holder_kept done (Begins_copy id row other cell _ held next step) = step_kept _ cell _ done step all
+  holder_kept done (Goes_on_copying cell now copy _ taken step) = step_kept now cell copy done step (copy_kept cell now copy taken)
+  holder_kept _ (Finds_it_full cell copy h is trimmed lt) = all
+  holder_kept _ (Tidies id row block kind is both idle left) = all
+
+  trim_kept : (now : Own) (cell : Cell) (last : LastCopy) (holder : ℕ) (done : Done) → TrimStep now cell last holder done → now.store ≡ own.store
+      → Kept done.own
+  trim_kept now cell last holder _ (Is_trimmed none) e = same now (ap (λ (s : Store). s.chains) e)
+  trim_kept now cell last holder _ (Drops_entry epoch epochs is) e = drop_within bound now.store _ (same now (ap (λ (s : Store). s.chains) e))
+
+  other_kept : (done : Done) → DidOther heard here own done → Kept done.own
+  other_kept _ (Answers_page id row after h is) = all
+  other_kept done (Is_copied_to number cell epochs holder _ h held newer step) = trim_kept _ cell _ holder done step refl
+  other_kept done (Goes_on_trimming cell holder last _ held is step) = trim_kept own cell last holder done step refl
+  other_kept _ (Puts_entry entry holder last of_copy at room) =
+      put_within bound own.store.chains entry.key entry.stored all (told _ of_copy.said)
+  other_kept _ (Has_entry entry holder last of_copy lt) = all
+  other_kept _ (Has_no_slot entry holder last of_copy at full) = all
+
+  pub did_kept : (done : Done) → Did heard here own done → Kept done.own
+  did_kept _ Ignores = all
+  did_kept _ (Refuses to said is why held) = all
+  did_kept _ (By_read done d) = same done.own (ap (λ (o : Own). o.store.chains) (of_read heard here own done d).same)
+  did_kept _ (By_lead done d) = lead_kept done d
+  did_kept _ (By_second done d) = second_kept done d
+  did_kept _ (By_holder done d) = holder_kept done d
+  did_kept _ (By_other done d) = other_kept done d

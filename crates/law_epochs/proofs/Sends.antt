@@ -1,0 +1,144 @@
+-- What each job sends of entries is within a bound, where the server's own entries are, and what is pending.
+use Rattle.std.proofs.Common.{◌≡◌, ℕ, false, List, Some, ap, sym, ◌∙◌, subst}
+use Rattle.std.specs.Prelude.{filter, slice_get}
+use Rattle.busy_marks.specs.Marks.{above}
+use Rattle.petal_base.specs.declared.cell.Cell.{Cell}
+use Rattle.petal_base.specs.Cells.{cell_of, key_at}
+use Rattle.petal_table.specs.Table.{at}
+use Rattle.petal_msg.specs.Kinds.{subject_of}
+use Rattle.petal_msg.specs.declared.body.Body.{Body}
+use Rattle.petal_msg.specs.declared.body.Body.TheVariants as body
+use Rattle.petal_msg.specs.declared.copying.Copying.{Copying}
+use Rattle.petal_msg.specs.declared.copying.LastCopy.{LastCopy}
+use Rattle.petal_msg.specs.declared.operation.Ending.{Ending}
+use Rattle.petal_msg.specs.declared.operation.Ending.TheVariants as ending
+use Rattle.petal_msg.specs.declared.operation.Far.{Far}
+use Rattle.petal_msg.specs.declared.operation.Far.TheVariants as far
+use Rattle.petal_msg.specs.declared.operation.Pending.{Pending}
+use Rattle.petal_rules.specs.Copies.{begins_copy, least, marked_blocks, page_wanted}
+use Rattle.petal_rules.specs.Lists.{In}
+use Rattle.petal_rules.specs.Server.{Own, Here, Post, Done}
+use Rattle.petal_rules.specs.Store.{Stored, cell_cmp, chain_in, epochs_of}
+use Rattle.petal_rules.specs.Writes.{ended, follows, tells, with_last}
+use Rattle.law_steps.specs.DidLead.{DidLead, Asks_for, Repeats, Is_full, Opens, Marks, Puts, Gives_up, Unmarks, Closes, Opens_alone, Marks_alone, Puts_alone, Unmarks_alone, Closes_alone, Asks, A_slot, A_copy, A_trim, A_copied_entry, A_page, Of_the_log}
+use Rattle.law_steps.specs.DidSecond.{DidSecond, with_tickets, Sets_apart, Promises, Declines, Follows}
+use Rattle.law_steps.specs.DidHolder.{DidHolder, CopyStep, Asks_to_trim, Sends, Unmarks_copied, Closes_copy, Asks_page, Turns_page, Begins_copy, Goes_on_copying, Finds_it_full, Tidies}
+use Rattle.law_steps.specs.DidOther.{DidOther, TrimStep, Is_trimmed, Drops_entry, Answers_page, Is_copied_to, Goes_on_trimming, Puts_entry, Has_entry, Has_no_slot}
+use Rattle.law_steps.specs.Did.{Did, Ignores, Refuses, By_read, By_lead, By_second, By_holder, By_other}
+use Rattle.law_steps.specs.Happens.{is_between}
+use Rattle.law_steps.proofs.Letters.{one_post, posted}
+use Rattle.law_steps.proofs.Subjects.{of_read}
+use Rattle.law_copies.proofs.Mute.{logged_mute}
+use Rattle.law_copies.proofs.Sent.{none_in}
+use Rattle.law_epochs.proofs.Keys.{at_key}
+use Rattle.law_epochs.proofs.Puts.{copy_kept}
+use Rattle.law_epochs.proofs.Within.{AreWithin, IsWithin, OfKey, of_no_key}
+
+module _ (bound : Cell → ℕ) (heard : Body → Type 0) (here : Here) (own : Own) (all : AreWithin bound own.store.chains)
+    (pending : (cell : Cell) (op : Pending) → at cell_cmp own.pairs.pending cell ≡ Some op → IsWithin bound op.key)
+    (told : (said : Body) → heard said → OfKey (IsWithin bound) said) where
+  abbrev E : Body → Type 0
+  E said = OfKey (IsWithin bound) said
+
+  abbrev AreSaid : List Post → Type 0
+  AreSaid posts = (post : Post) → In post posts → E post.body
+
+  as_said : (post : Post) (what : Body) → post.body ≡ what → E what → E post.body
+  as_said post what is e = subst E (sym is) e
+
+  mute : (post : Post) → is_between (subject_of post.body) ≡ false → E post.body
+  mute post e = of_no_key (IsWithin bound) post.body e
+
+  -- an entry of one's own
+  entry_said : (now : Own) → AreWithin bound now.store.chains → (cell : Cell) (index : ℕ) (row : ℕ × Stored)
+      → slice_get (chain_in now.store.chains cell) index ≡ Some row → IsWithin bound (key_at cell row.0)
+  entry_said now kept cell index row is =
+      let there = at_key (chain_in now.store.chains cell) index row is in kept cell row.0 there.0 there.1
+
+  asks_said : (post : Post) → Asks here own post → E post.body
+  asks_said _ (A_slot op to is stage so) = tt
+  asks_said _ (A_copy op to is stage so) = pending op.cell op is
+  asks_said _ (A_trim cell copy to is fresh so) = tt
+  asks_said _ (A_copied_entry cell copy row to is trimmed spot so) = entry_said own all cell copy.index row spot
+  asks_said _ (A_page row to on so fresh) = tt
+  asks_said post (Of_the_log _ logged) = mute post (logged_mute (subject_of post.body) logged)
+
+  ended_said : (seq : ℕ) (how : Ending) → E (ended seq how)
+  ended_said seq ending.Written = tt
+  ended_said seq ending.Full = tt
+
+  lead_said : (done : Done) → DidLead heard here own done → AreSaid done.posts
+  lead_said _ (Asks_for posts h) post i = asks_said post (h post i)
+  lead_said _ (Repeats want last h lead is e) post i =
+      as_said post _ (one_post _ _ post i).1 (ended_said want.seq last.ending)
+  lead_said _ (Is_full want new no_room) post i = as_said post _ (one_post _ _ post i).1 (ended_said want.seq ending.Full)
+  lead_said _ (Gives_up op h is reserved put) post i = as_said post _ (one_post _ _ post i).1 (ended_said op.seq ending.Full)
+  lead_said _ (Opens want new both) post i = as_said post _ (posted _ (body.Reserve own.pairs.next want.cell) post i) tt
+  lead_said _ (Marks op h is both stage) post i = none_in post i
+  lead_said _ (Puts op is both stage) post i = none_in post i
+  lead_said _ (Unmarks op h is both stage) post i = none_in post i
+  lead_said _ (Closes op is both stage) post i = as_said post _ (one_post _ _ post i).1 (ended_said op.seq ending.Written)
+  lead_said _ (Opens_alone want new alone) post i = none_in post i
+  lead_said _ (Marks_alone now op taken alone fresh) post i = none_in post i
+  lead_said _ (Puts_alone now op taken alone stale put) post i = none_in post i
+  lead_said _ (Unmarks_alone now op taken alone stale put busy) post i = none_in post i
+  lead_said _ (Closes_alone now op taken alone stale put free) post i =
+      as_said post _ (one_post _ _ post i).1 (ended_said op.seq ending.Written)
+
+  tells_said : (new : Own) (cell : Cell) (number : ℕ) (how : Far) → AreSaid (tells here new cell number how).posts
+  tells_said new cell number far.Reserved post i = as_said post _ (posted _ (body.Reserved number cell) post i) tt
+  tells_said new cell number far.Replicated post i = as_said post _ (posted _ (body.Replicated number cell) post i) tt
+
+  second_said : (done : Done) → DidSecond heard here own done → AreSaid done.posts
+  second_said _ (Sets_apart number cell tickets h so le) post i =
+      tells_said (with_last (with_tickets own tickets) cell number far.Reserved) cell number far.Reserved post i
+  second_said _ (Promises number cell how so is) post i = tells_said own cell number how post i
+  second_said _ (Declines number cell h so found) post i = as_said post _ (posted _ (body.PairFull number cell) post i) tt
+  second_said _ (Follows number key version bytes h so is) post i =
+      tells_said (follows here own number key bytes).own (cell_of key) number far.Replicated post i
+
+  step_said : (now : Own) (cell : Cell) (copy : Copying) (done : Done) → AreWithin bound now.store.chains → CopyStep here now cell copy done
+      → AreSaid done.posts
+  step_said now cell copy _ kept (Asks_to_trim fresh) post i =
+      as_said post _ (posted _ (body.Trim copy.op cell (epochs_of (chain_in now.store.chains cell))) post i) tt
+  step_said now cell copy _ kept (Sends row trimmed is) post i =
+      as_said post _ (posted _ (body.Sync copy.op (key_at cell row.0) row.1.version copy.index row.1.bytes) post i)
+      (entry_said now kept cell copy.index row is)
+  step_said now cell copy _ kept (Unmarks_copied kind synced left) post i = none_in post i
+  step_said now cell copy _ kept (Closes_copy synced left) post i = none_in post i
+
+  holder_said : (done : Done) → DidHolder heard here own done → AreSaid done.posts
+  holder_said _ (Asks_page id row other held fresh) post i = as_said post _ (posted (Some other) (page_wanted own row) post i) tt
+  holder_said _ (Turns_page id row other after block h held fresh spot) post i = none_in post i
+  holder_said done (Begins_copy id row other cell _ held next step) post i = step_said (begins_copy own cell) cell _ done all step post i
+  holder_said done (Goes_on_copying cell now copy _ taken step) post i =
+      step_said now cell copy done (copy_kept bound heard here own all pending told cell now copy taken) step post i
+  holder_said _ (Finds_it_full cell copy h is trimmed lt) post i = none_in post i
+  holder_said _ (Tidies id row block kind is both idle left) post i = none_in post i
+
+  trim_said : (now : Own) (cell : Cell) (last : LastCopy) (holder : ℕ) (done : Done) → TrimStep now cell last holder done → AreSaid done.posts
+  trim_said now cell last holder _ (Is_trimmed none) post i = as_said post _ (posted (Some holder) (body.Trimmed last.op cell) post i) tt
+  trim_said now cell last holder _ (Drops_entry epoch epochs is) post i = none_in post i
+
+  other_said : (done : Done) → DidOther heard here own done → AreSaid done.posts
+  other_said _ (Answers_page id row after h named) post i =
+      as_said post _ (posted _ (body.Hello row.map row.link after (least (filter (above after) (marked_blocks here.state row own)))) post i) tt
+  other_said done (Is_copied_to number cell epochs holder _ h held newer step) post i = trim_said _ cell _ holder done step post i
+  other_said done (Goes_on_trimming cell holder last _ held is step) post i = trim_said own cell last holder done step post i
+  other_said _ (Puts_entry entry holder last of_copy spot room) post i =
+      as_said post _ (posted (Some holder) (body.Synced entry.op (cell_of entry.key) entry.index) post i) tt
+  other_said _ (Has_entry entry holder last of_copy lt) post i =
+      as_said post _ (posted (Some holder) (body.Synced entry.op (cell_of entry.key) entry.index) post i) tt
+  other_said _ (Has_no_slot entry holder last of_copy spot full) post i =
+      as_said post _ (posted (Some holder) (body.SyncFull entry.op (cell_of entry.key)) post i) tt
+
+  pub did_said : (done : Done) → Did heard here own done → AreSaid done.posts
+  did_said _ Ignores post i = none_in post i
+  did_said _ (Refuses to what is why kept) post i =
+      mute post (ap (λ (b : Body). is_between (subject_of b)) (one_post _ _ post i).1 ∙ ap is_between is)
+  did_said _ (By_read done d) post i =
+      let r = (of_read heard here own done d).says post i in mute post (ap (λ (b : Body). is_between (subject_of b)) r.is)
+  did_said _ (By_lead done d) post i = lead_said done d post i
+  did_said _ (By_second done d) post i = second_said done d post i
+  did_said _ (By_holder done d) post i = holder_said done d post i
+  did_said _ (By_other done d) post i = other_said done d post i

@@ -1,0 +1,66 @@
+-- What no lead says, and nobody that asks: refusals, and that a copy finds no slot.
+use Rattle.std.proofs.Common.{◌≡◌, ℕ, Bool, true, false, refl, ap, ◌∙◌}
+use Rattle.petal_msg.specs.Kinds.{is_logged, is_refused, subject_of}
+use Rattle.petal_msg.specs.declared.body.Body.{Body}
+use Rattle.petal_msg.specs.declared.body.Body.TheVariants as body
+use Rattle.petal_msg.specs.declared.operation.Ending.{Ending}
+use Rattle.petal_msg.specs.declared.operation.Ending.TheVariants as ending
+use Rattle.petal_rules.specs.Lists.{In}
+use Rattle.petal_rules.specs.Server.{Own, Here, Post, Done}
+use Rattle.petal_rules.specs.Writes.{ended}
+use Rattle.petal_rules.proofs.Tests.{true_false}
+use Rattle.law_steps.specs.DidLead.{DidLead, Asks_for, Repeats, Is_full, Gives_up, Opens, Marks, Puts, Unmarks, Closes, Opens_alone, Marks_alone, Puts_alone, Unmarks_alone, Closes_alone, Asks, A_slot, A_copy, A_trim, A_copied_entry, A_page, Of_the_log}
+use Rattle.law_steps.proofs.Letters.{one_post, posted}
+
+abbrev pub is_no_leads : Body → Bool
+is_no_leads (body.NotHere seq) = true
+is_no_leads (body.BlockBusy seq) = true
+is_no_leads (body.Held seq) = true
+is_no_leads (body.WrongRev seq) = true
+is_no_leads (body.SyncFull number cell) = true
+is_no_leads _ = false
+
+pub refused_no_leads : (said : Body) → is_refused (subject_of said) ≡ true → is_no_leads said ≡ true
+refused_no_leads (body.NotHere seq) e = refl
+refused_no_leads (body.BlockBusy seq) e = refl
+refused_no_leads (body.Held seq) e = refl
+refused_no_leads (body.WrongRev seq) e = refl
+refused_no_leads _ e = true_false e refl
+
+logged_quiet : (said : Body) → is_logged (subject_of said) ≡ true → is_no_leads said ≡ false
+logged_quiet (body.NotHere seq) e = true_false e refl
+logged_quiet (body.BlockBusy seq) e = true_false e refl
+logged_quiet (body.Held seq) e = true_false e refl
+logged_quiet (body.WrongRev seq) e = true_false e refl
+logged_quiet (body.SyncFull number cell) e = true_false e refl
+logged_quiet _ e = refl
+
+pub asks_quiet : (here : Here) (own : Own) (post : Post) → Asks here own post → is_no_leads post.body ≡ false
+asks_quiet here own _ (A_slot op to is stage e) = refl
+asks_quiet here own _ (A_copy op to is stage e) = refl
+asks_quiet here own _ (A_trim cell copy to is fresh e) = refl
+asks_quiet here own _ (A_copied_entry cell copy row to is trimmed there e) = refl
+asks_quiet here own _ (A_page row to i other fresh) = refl
+asks_quiet here own _ (Of_the_log post e) = logged_quiet post.body e
+
+ended_quiet : (seq : ℕ) (how : Ending) → is_no_leads (ended seq how) ≡ false
+ended_quiet seq ending.Written = refl
+ended_quiet seq ending.Full = refl
+
+pub lead_quiet : (heard : Body → Type 0) (here : Here) (own : Own) (done : Done) → DidLead heard here own done → (post : Post)
+    → In post done.posts → is_no_leads post.body ≡ false
+unfolding In
+lead_quiet heard here own _ (Asks_for posts h) post i = asks_quiet here own post (h post i)
+lead_quiet heard here own _ (Repeats want last h lead is f) post i = ap is_no_leads (one_post _ _ post i).1 ∙ ended_quiet want.seq last.ending
+lead_quiet heard here own _ (Is_full want new no_room) post i = ap is_no_leads (one_post _ _ post i).1
+lead_quiet heard here own _ (Opens want new both) post i = ap is_no_leads (posted _ _ post i)
+lead_quiet heard here own _ (Marks op h is both stage) post i = absurd i
+lead_quiet heard here own _ (Puts op is both stage) post i = absurd i
+lead_quiet heard here own _ (Gives_up op h is reserved put) post i = ap is_no_leads (one_post _ _ post i).1
+lead_quiet heard here own _ (Unmarks op h is both stage) post i = absurd i
+lead_quiet heard here own _ (Closes op is both stage) post i = ap is_no_leads (one_post _ _ post i).1
+lead_quiet heard here own _ (Opens_alone want new alone) post i = absurd i
+lead_quiet heard here own _ (Marks_alone now op taken alone fresh) post i = absurd i
+lead_quiet heard here own _ (Puts_alone now op taken alone stale put) post i = absurd i
+lead_quiet heard here own _ (Unmarks_alone now op taken alone stale put busy) post i = absurd i
+lead_quiet heard here own _ (Closes_alone now op taken alone stale put free) post i = ap is_no_leads (one_post _ _ post i).1

@@ -1,0 +1,324 @@
+-- Between what a command does and what settles behind it: a state that is plain, but that its active fence may wait for nobody.
+use Rattle.std.proofs.Common.{◌≡◌, ◌≢◌, ◌≤◌, ◌<◌, ◌+◌, ◌++◌, ◌==◌, ◌&&◌, ℕ, zero, suc, List, [], ◌∷◌, length, Bool, true, false, not, Option, Some, None, refl, subst, sym, ap, ◌∙◌, ◌⊎◌, inl, inr, arith}
+use Rattle.std.specs.Prelude.{◌||◌, filter, nat_eq, slice_get, if◌then◌else◌}
+use Rattle.std.specs.List.{list_any, range_with_len}
+use Rattle.std.specs.Option.{option_map_or}
+use Rattle.std.proofs.lemmas.Bool.Decides.{nat_tests}
+use Rattle.std.proofs.lemmas.Map.Views.{any-filter_same}
+use Rattle.std.proofs.lemmas.Option.{slice_get_within}
+use Rattle.petal_base.specs.Tuple.{is_tuple}
+use Rattle.global_tables.specs.declared.disk.DiskRow.{DiskRow}
+use Rattle.global_tables.specs.declared.disk.Latest.{Latest}
+use Rattle.global_tables.specs.declared.fence.Fence.{Fence}
+use Rattle.global_tables.specs.declared.fence.FenceKind.{FenceKind}
+use Rattle.global_tables.specs.declared.fence.FenceKind.TheVariants.{Whole}
+use Rattle.global_tables.specs.declared.fence.Member.{Member}
+use Rattle.global_tables.specs.declared.link.LinkRow.{LinkRow}
+use Rattle.global_tables.specs.Disk.{disk_at}
+use Rattle.global_tables.specs.Link.{link_at}
+use Rattle.global_tables.specs.Map.{tuple_of}
+use Rattle.global_tables.specs.View.{View, awaiting, behind, first_waiting, head, is_in, last_inc, queued, ready, reported, servers_in, stands_in}
+use Rattle.petal_state.specs.State.{is_up}
+use Rattle.petal_rules.specs.Draining.{awaits}
+use Rattle.petal_rules.specs.Lists.{In}
+use Rattle.petal_rules.specs.State.{State}
+use Rattle.petal_rules.proofs.Tests.{both_true, by_bool, none_some, same_numbers, same_some, true_false}
+use Rattle.law_state.specs.Tables.{AreFences, HasLinkOf, IsFence, IsGrown, IsPlainState, IsRowAt}
+use Rattle.law_state.specs.Rows.{IsServed}
+use Rattle.law_state.proofs.Ages.{no_less}
+use Rattle.law_state.proofs.Grown.{grown_still, later_disk_itself, Step, grown_itself, grown_on}
+
+-- fences for snapshots alone, each for one that nobody has and no other is for; the active one waits only for servers that are In
+pub record AreQueued (state : State) : Type 0 where
+  pub each : (i : ℕ) (fence : Fence) → slice_get state.view.queue i ≡ Some fence → IsFence state fence
+  pub apart : (i j : ℕ) (one other : Fence) (disk client seq later again : ℕ) (name : List ℕ) → slice_get state.view.queue i ≡ Some one
+      → slice_get state.view.queue j ≡ Some other → one.kind ≡ Whole disk name client seq → other.kind ≡ Whole disk name later again → i ≡ j
+  pub present : (fence : Fence) (n : ℕ) → head state.view.queue ≡ Some fence → awaits fence n ≡ true → is_up state n ≡ true
+
+-- what a command makes of a plain state, before fences take effect
+pub record IsUnsettled (servers : ℕ) (state : State) : Type 0 where
+  pub many : length state.view.members ≡ servers
+  pub members : (n : ℕ) (member : Member) → slice_get state.view.members n ≡ Some member → 1 ≤ last_inc member
+  pub fences : AreQueued state
+  pub made : state.disks.made ≡ length state.disks.rows
+  pub count : length state.maps ≡ length state.disks.rows
+  pub rows : (i : ℕ) (row : DiskRow) → slice_get state.disks.rows i ≡ Some row → IsRowAt i row
+  pub names : (i j : ℕ) (one other : DiskRow) → slice_get state.disks.rows i ≡ Some one → slice_get state.disks.rows j ≡ Some other
+      → one.name ≡ other.name → i ≡ j
+  pub tuples : (of : ℕ) (tuple : List ℕ) → tuple_of state.maps of ≡ Some tuple → is_tuple servers tuple ≡ true
+  pub links : (of link : ℕ) (tuple : List ℕ) → tuple_of state.maps of ≡ Some tuple → link < length tuple → HasLinkOf state of tuple link
+  pub unlinked : (of link : ℕ) → tuple_of state.maps of ≡ None → link_at state.links of link ≡ None
+  pub found : (row : LinkRow) → In row state.links → link_at state.links row.map row.link ≡ Some row
+
+-- the state is so, and has grown from this one
+pub record Acted (servers : ℕ) (s t : State) : Type 0 where
+  pub plain : IsUnsettled servers t
+  pub grown : IsGrown s t
+
+pub fences_queued : (s : State) → AreFences s → AreQueued s
+fences_queued s h = record { each = h.each; apart = h.apart; present = h.present }
+
+pub unsettled : (servers : ℕ) (s : State) → IsPlainState servers s → IsUnsettled servers s
+unsettled servers s p = record {
+  many = p.many;
+  members = p.members;
+  fences = fences_queued s p.fences;
+  made = p.made;
+  count = p.count;
+  rows = p.rows;
+  names = p.names;
+  tuples = p.tuples;
+  links = p.links;
+  unlinked = p.unlinked;
+  found = p.found;
+}
+
+pub acts_not : (servers : ℕ) (s : State) → IsPlainState servers s → Acted servers s s
+acts_not servers s p = record { plain = unsettled servers s p; grown = grown_itself s }
+
+-- a head that is not ready waits for somebody
+waits_for : (queue : List Fence) (fence : Fence) → ready queue ≡ None → head queue ≡ Some fence → fence.waiting ≢ []
+waits_for [] fence none is = none_some refl is
+waits_for (first ∷ rest) fence none is = λ e. none_some none
+    (ap (λ (waiting : List ℕ). if length waiting == 0 then Some first else None) (ap (λ (f : Fence). f.waiting) (same_some is) ∙ e))
+
+-- where no fence is ready the state is plain
+pub settles : (servers : ℕ) (s : State) → IsUnsettled servers s → ready s.view.queue ≡ None → IsPlainState servers s
+settles servers s p none = record {
+  many = p.many;
+  members = p.members;
+  fences = record {
+    each = p.fences.each;
+    apart = p.fences.apart;
+    waits = λ fence is. waits_for s.view.queue fence none is;
+    present = p.fences.present;
+  };
+  made = p.made;
+  count = p.count;
+  rows = p.rows;
+  names = p.names;
+  tuples = p.tuples;
+  links = p.links;
+  unlinked = p.unlinked;
+  found = p.found;
+}
+
+empty : (xs : List ℕ) → length xs ≡ 0 → xs ≡ []
+empty [] e = refl
+empty (x ∷ xs) e = absurd (omega arith)
+
+-- and the other way round: a head that waits for somebody is not ready
+pub none_ready : (queue : List Fence) → ((fence : Fence) → head queue ≡ Some fence → fence.waiting ≢ []) → ready queue ≡ None
+none_ready [] waits = refl
+none_ready (first ∷ rest) waits = by_bool (length first.waiting == 0)
+    (λ t. absurd (waits first refl (empty first.waiting (same_numbers (length first.waiting) 0 t))))
+    (λ f. ap (λ b. if b then Some first else None) f)
+
+pub not_ready : (servers : ℕ) (s : State) → IsPlainState servers s → ready s.view.queue ≡ None
+not_ready servers s p = none_ready s.view.queue p.fences.waits
+
+-- the fence that is ready is the head, and waits for nobody
+pub record IsReady (queue : List Fence) (fence : Fence) : Type 0 where
+  pub first : head queue ≡ Some fence
+  pub nobody : fence.waiting ≡ []
+
+pub ready_by : (queue : List Fence) (fence : Fence) → ready queue ≡ Some fence → IsReady queue fence
+ready_by [] fence e = none_some refl e
+ready_by (first ∷ rest) fence e = by_bool (length first.waiting == 0)
+    (λ t.
+    let is : Some first ≡ Some fence = sym (ap (λ b. if b then Some first else None) t) ∙ e in
+    record { first = is; nobody = ap (λ (f : Fence). f.waiting) (sym (same_some is)) ∙ empty first.waiting (same_numbers (length first.waiting) 0 t) })
+    (λ f. none_some (ap (λ b. if b then Some first else None) f) e)
+
+-- ### A state of the same tables
+
+-- the fence is as before, over the same disks
+pub fence_kept : (s t : State) (before fence : Fence) → t.disks.rows ≡ s.disks.rows → fence.kind ≡ before.kind → IsFence s before → IsFence t fence
+fence_kept s t before fence same like h = record {
+  disk = h.disk;
+  name = h.name;
+  client = h.client;
+  seq = h.seq;
+  kind = like ∙ h.kind;
+  row = h.row;
+  known = ap (λ rows. disk_at rows h.disk) same ∙ h.known;
+  fresh = h.fresh;
+}
+
+-- a link is as before, where links and members are
+pub link_kept : (s t : State) (of link : ℕ) (tuple : List ℕ) → t.links ≡ s.links → t.view.members ≡ s.view.members → HasLinkOf s of tuple link
+    → HasLinkOf t of tuple link
+link_kept s t of link tuple links members h = record {
+  row = h.row;
+  is = ap (λ l. link_at l of link) links ∙ h.is;
+  asked = record {
+    map = h.asked.map;
+    place = h.asked.place;
+    primary = h.asked.primary;
+    secondary = h.asked.secondary;
+    served = subst served_by (sym members) h.asked.served;
+  };
+}
+  where
+    served_by : List Member → Type 0
+    served_by m = IsServed (record s { view = record s.view { members = m } }) h.row
+
+-- what the tables say stays so under another queue, revision or list of verdicts
+pub requeued : (servers : ℕ) (s : State) → IsUnsettled servers s → (rev waiting : ℕ) (queue : List Fence) (verdicts : List (Option Latest))
+    → AreQueued (record s { rev = rev; view = record s.view { queue = queue; queued = waiting }; verdicts = verdicts })
+    → Acted servers s (record s { rev = rev; view = record s.view { queue = queue; queued = waiting }; verdicts = verdicts })
+requeued servers s p rev waiting queue verdicts fences =
+    let t : State = record s { rev = rev; view = record s.view { queue = queue; queued = waiting }; verdicts = verdicts } in record {
+      plain = record {
+        many = p.many;
+        members = p.members;
+        fences = fences;
+        made = p.made;
+        count = p.count;
+        rows = p.rows;
+        names = p.names;
+        tuples = p.tuples;
+        links = λ of link tuple e lt. link_kept s t of link tuple refl refl (p.links of link tuple e lt);
+        unlinked = p.unlinked;
+        found = p.found;
+      };
+      grown = grown_still s t (no_less (length s.disks.rows)) (λ i row e. record { now = row; is = e; so = later_disk_itself row }) refl refl refl;
+    }
+
+-- the revision and what clients are told are of no table
+pub untabled : (servers rev : ℕ) (verdicts : List (Option Latest)) (s t : State) → Acted servers s t
+    → Acted servers s (record t { rev = rev; verdicts = verdicts })
+untabled servers rev verdicts s t h =
+    let u : State = record t { rev = rev; verdicts = verdicts } in
+    let fences : AreQueued u = record {
+      each = λ i fence e. fence_kept t u fence fence refl refl (h.plain.fences.each i fence e);
+      apart = h.plain.fences.apart;
+      present = h.plain.fences.present;
+    } in
+    let now = requeued servers t h.plain rev t.view.queued t.view.queue verdicts fences in
+    record { plain = now.plain; grown = grown_on s t u h.grown now.grown }
+
+pub renumbered : (servers rev : ℕ) (s t : State) → Step servers s t → Step servers s (record t { rev = rev })
+renumbered servers rev s t h =
+    let now = untabled servers rev t.verdicts s t (record { plain = unsettled servers t h.plain; grown = h.grown }) in
+    record { plain = settles servers (record t { rev = rev }) now.plain (not_ready servers t h.plain); grown = now.grown }
+
+-- ### Queues
+
+-- each fence stood before at the same place
+abbrev pub IsRequeued : (old new : List Fence) → Type 0
+IsRequeued old new = (i : ℕ) (fence : Fence) → slice_get new i ≡ Some fence
+    → (before : Fence) × (slice_get old i ≡ Some before) × (fence.kind ≡ before.kind)
+
+pub requeued_itself : (queue : List Fence) → IsRequeued queue queue
+requeued_itself queue i fence e = (fence, e, refl)
+
+pub requeued_awaiting : (waiting : List ℕ) (queue : List Fence) → IsRequeued queue (awaiting waiting queue)
+requeued_awaiting waiting [] i fence e = none_some refl e
+requeued_awaiting waiting (first ∷ rest) zero fence e = (first, refl, ap (λ (f : Fence). f.kind) (sym (same_some e)))
+requeued_awaiting waiting (first ∷ rest) (suc i) fence e = (fence, e, refl)
+
+pub requeued_reported : (server : ℕ) (queue : List Fence) → IsRequeued queue (reported server queue)
+requeued_reported server [] i fence e = none_some refl e
+requeued_reported server (first ∷ rest) zero fence e = (first, refl, ap (λ (f : Fence). f.kind) (sym (same_some e)))
+requeued_reported server (first ∷ rest) (suc i) fence e = (fence, e, refl)
+
+pub queued_on : (s t : State) → AreQueued s → t.disks.rows ≡ s.disks.rows → IsRequeued s.view.queue t.view.queue
+    → ((fence : Fence) (n : ℕ) → head t.view.queue ≡ Some fence → awaits fence n ≡ true → is_up t n ≡ true) → AreQueued t
+queued_on s t old same was present = record {
+  each = λ i fence e. let b = was i fence e in fence_kept s t b.0 fence same b.2 (old.each i b.0 b.1);
+  apart = λ i j one other disk client seq later again name e f kind like.
+      let a = was i one e in
+      let b = was j other f in
+      old.apart i j a.0 b.0 disk client seq later again name a.1 b.1 (sym a.2 ∙ kind) (sym b.2 ∙ like);
+  present = present;
+}
+
+pub head_get : (queue : List Fence) (fence : Fence) → head queue ≡ Some fence → slice_get queue 0 ≡ Some fence
+head_get [] fence e = none_some refl e
+head_get (first ∷ rest) fence e = e
+
+pub head_awaiting : (waiting : List ℕ) (queue : List Fence) (fence : Fence) → head (awaiting waiting queue) ≡ Some fence → fence.waiting ≡ waiting
+head_awaiting waiting [] fence e = none_some refl e
+head_awaiting waiting (first ∷ rest) fence e = ap (λ (f : Fence). f.waiting) (sym (same_some e))
+
+-- of what is behind the head the first one waits for these servers
+pub head_behind : (waiting : List ℕ) (queue : List Fence) (fence : Fence) → head (behind waiting queue) ≡ Some fence → fence.waiting ≡ waiting
+head_behind waiting [] fence e = none_some refl e
+head_behind waiting (first ∷ rest) fence e = head_awaiting waiting rest fence e
+
+pub get_behind : (waiting : List ℕ) (queue : List Fence) (i : ℕ) (fence : Fence) → slice_get (behind waiting queue) i ≡ Some fence
+    → (before : Fence) × (slice_get queue (suc i) ≡ Some before) × (fence.kind ≡ before.kind)
+get_behind waiting [] i fence e = none_some refl e
+get_behind waiting (first ∷ rest) i fence e = requeued_awaiting waiting rest i fence e
+
+-- the head after a report is the one before, which waits for one server less
+pub record IsReported (server : ℕ) (before fence : Fence) : Type 0 where
+  pub number : fence.number ≡ before.number
+  pub kind : fence.kind ≡ before.kind
+  pub waiting : fence.waiting ≡ filter (λ other. not (other == server)) before.waiting
+
+pub head_reported : (server : ℕ) (queue : List Fence) (fence : Fence) → head (reported server queue) ≡ Some fence
+    → (before : Fence) × (head queue ≡ Some before) × IsReported server before fence
+head_reported server [] fence e = none_some refl e
+head_reported server (first ∷ rest) fence e = (
+  first,
+  refl,
+  record {
+    number = ap (λ (f : Fence). f.number) (sym (same_some e));
+    kind = ap (λ (f : Fence). f.kind) (sym (same_some e));
+    waiting = ap (λ (f : Fence). f.waiting) (sym (same_some e));
+  },
+)
+
+-- the head behind a new fence is the one before, or the new one, where no other waits
+pub head_queued : (v : View) (kind : FenceKind) (fence : Fence) → head (queued v kind).queue ≡ Some fence
+    → (head v.queue ≡ Some fence) ⊎ (fence.waiting ≡ servers_in v.members)
+head_queued v kind fence = by v.queue
+  where
+    by : (queue : List Fence)
+        → head (queue ++ record { number = v.queued + 1; kind = kind; waiting = first_waiting v.members queue } ∷ []) ≡ Some fence
+        → (head queue ≡ Some fence) ⊎ (fence.waiting ≡ servers_in v.members)
+    by [] e = inr (ap (λ (f : Fence). f.waiting) (sym (same_some e)))
+    by (first ∷ rest) e = inl e
+
+-- ### For whom a fence waits
+
+any_filter : (p : ℕ → Bool) (n : ℕ) (xs : List ℕ) → list_any (nat_eq n) (filter p xs) ≡ (p n && list_any (nat_eq n) xs)
+any_filter p n xs = any-filter_same (nat_eq n) p (p n) (λ k e. ap p (sym (same_numbers n k e))) xs
+
+any_range : (n start many : ℕ) → start ≤ n → n < start + many → list_any (nat_eq n) (range_with_len start many) ≡ true
+any_range n start zero low high = absurd (omega arith)
+any_range n start (suc many) low high = by_bool (nat_eq n start)
+    (λ t. ap (λ b. b || list_any (nat_eq n) (range_with_len (start + 1) many)) t)
+    (λ f. ap (λ b. b || list_any (nat_eq n) (range_with_len (start + 1) many)) f ∙ any_range n (start + 1) many (past f) (omega arith))
+  where
+    past : nat_eq n start ≡ false → start + 1 ≤ n
+    past f = grind (arith, nat_tests)
+
+-- one that waits for all that are In waits for these alone
+pub waits_present : (members : List Member) (fence : Fence) (n : ℕ) → fence.waiting ≡ servers_in members → awaits fence n ≡ true → stands_in members n ≡ true
+waits_present members fence n is e =
+    (both_true (stands_in members n) _ (sym (any_filter (stands_in members) n (range_with_len 0 (length members))) ∙ sym (ap (list_any (nat_eq n)) is) ∙ e)).0
+
+pub present_waits : (members : List Member) (fence : Fence) (n : ℕ) → fence.waiting ≡ servers_in members → stands_in members n ≡ true → awaits fence n ≡ true
+present_waits members fence n is up =
+    ap (list_any (nat_eq n)) is ∙ any_filter (stands_in members) n (range_with_len 0 (length members))
+    ∙ ap (λ b. b && list_any (nat_eq n) (range_with_len 0 (length members))) up
+    ∙ any_range n 0 (length members) (omega arith) (within (slice_get members n) refl)
+  where
+    within : (o : Option Member) → slice_get members n ≡ o → n < 0 + length members
+    within (Some m) e = let lt = slice_get_within members n m e in omega arith
+    within None e = true_false up (ap (λ o. option_map_or is_in o false) e)
+
+-- a report takes its server alone from those that are awaited
+pub waits_before : (server : ℕ) (before fence : Fence) (n : ℕ) → IsReported server before fence → awaits fence n ≡ true → awaits before n ≡ true
+waits_before server before fence n r e =
+    (both_true (not (n == server)) (awaits before n)
+    (sym (any_filter (λ other. not (other == server)) n before.waiting) ∙ sym (ap (list_any (nat_eq n)) r.waiting) ∙ e)).1
+
+pub waits_still : (server : ℕ) (before fence : Fence) (n : ℕ) → IsReported server before fence → (n == server) ≡ false → awaits before n ≡ true
+    → awaits fence n ≡ true
+waits_still server before fence n r away e =
+    ap (list_any (nat_eq n)) r.waiting ∙ any_filter (λ other. not (other == server)) n before.waiting
+    ∙ ap (λ b. not b && list_any (nat_eq n) before.waiting) away ∙ e

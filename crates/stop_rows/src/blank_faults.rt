@@ -1,0 +1,101 @@
+//! A device of a server fails, or stops it, that comes back with nothing.
+
+use memory_runs::play;
+use std::alloc::Global;
+use std::test::Fail;
+use world_runs::Row;
+
+/// A device fails in the boot of server 1 behind its blank. It does so no less where the plan stops the server.
+fn failing_boot(alloc: Global, plan: &str) -> Result<(), Fail> {
+    let steps = format!(in alloc;
+        "op calls 2; 1 stops; 1 blanks; 1 arms {plan}; failed 0; 1 boots; failed 1; stopped 0; not 1 ticks; not 1 boots; not 1 blanks;
+        not sent 2 down 1>0; 1 shows 2; seen 1>op; line 2 failed; op calls 3; 1 boots; failed 1; sent 2 down 1>0; 1 shows 3; seen 1>op; line 3 ok;
+        play out; line 5 ok; line 7 ok; line 9 ok; line 10 ok; line 12 fill 7"
+    )?;
+    let row = Row {
+        shows: "a device fails in the boot behind a blank: the server stays stopped and tells nobody, and boots for the next line to be filled",
+        script: "servers 3 slots 4\nop blank 1\nop start 1\nwait\na disk vol on 0 1 2\nwait\na write vol 0 fill 7\nwait\nop settle\nop stop 0\nwait
+b read vol 0\n",
+        steps: steps.as_str(),
+    };
+    play(alloc, &row)
+}
+
+#[test]
+fn a_blank_device_fails_in_the_boot(rt: HostRuntime) -> Result<(), Fail> {
+    // the calls that make a store there
+    for plan in [
+        "data write 1",
+        "data write 2",
+        "data write 3 stop",
+        "data sync 1",
+        "data sync 2 stop",
+        "data sync 3",
+        "data sync 4",
+    ] {
+        failing_boot(rt.alloc(), plan)?;
+    }
+    Ok(())
+}
+
+#[test]
+fn a_state_device_fails_in_the_boot_behind_a_blank(rt: HostRuntime) -> Result<(), Fail> {
+    // those that raise the incarnation; the device is read again first, which syncs it twice
+    for plan in [
+        "state write 1",
+        "state write 2 stop",
+        "state sync 3 stop",
+        "state sync 4",
+    ] {
+        failing_boot(rt.alloc(), plan)?;
+    }
+    Ok(())
+}
+
+// Line 6 is the blank. Behind it the server is started twice, should it have stopped, and each time it is waited until it is filled.
+const FILLED: &str =
+    "servers 3 slots 4\na disk vol on 0 1 2\nwait\na write vol 0 fill 7\nwait\nop blank 1\nop start 1\nop settle\nop start 1\nop settle\nop stop 0\nwait
+b read vol 0\n";
+
+/// The blank device of server 1 has this plan, which is met behind the boot, as it tells.
+fn met_behind_the_boot(alloc: Global, plan: &str, told: &str) -> Result<(), Fail> {
+    let steps = format!(in alloc;
+        "a calls 2; agree; wait; a calls 4; agree; wait; op calls 6; 1 stops; 1 blanks; 1 arms data {plan}; 1 boots; 1 shows 6; seen 1>op; line 6 ok;
+        play out; {told}; line 7 ok; line 8 ok; line 9 ok; line 10 ok; line 11 ok; line 13 fill 7"
+    )?;
+    let row = Row {
+        shows: "the server that is to be filled stops in a call of its new device, and is filled once it starts again",
+        script: FILLED,
+        steps: steps.as_str(),
+    };
+    play(alloc, &row)
+}
+
+fn fails(alloc: Global, plan: &str) -> Result<(), Fail> {
+    met_behind_the_boot(alloc, plan, "failed 1; stopped 0")
+}
+
+fn stops(alloc: Global, plan: &str) -> Result<(), Fail> {
+    met_behind_the_boot(alloc, plan, "failed 0; stopped 1; committed 0")
+}
+
+// Behind the calls that make the store, of which the last one opens its gate, and the two syncs as it is read again.
+#[test]
+fn the_commit_of_its_own_join_is_cut_off(rt: HostRuntime) -> Result<(), Fail> {
+    // what was not synced is lost: the commit is not made, and the next life finds the device as it was
+    fails(rt.alloc(), "write 4")?;
+    stops(rt.alloc(), "write 4 stop")?;
+    fails(rt.alloc(), "sync 7")?;
+    stops(rt.alloc(), "write 5 stop")?;
+    fails(rt.alloc(), "sync 8")?;
+    stops(rt.alloc(), "sync 8 stop")
+}
+
+#[test]
+fn the_put_of_a_copy_is_cut_off(rt: HostRuntime) -> Result<(), Fail> {
+    fails(rt.alloc(), "write 6")?;
+    fails(rt.alloc(), "write 7")?;
+    stops(rt.alloc(), "write 6 stop")?;
+    stops(rt.alloc(), "write 7 stop")?;
+    stops(rt.alloc(), "write 8 stop")
+}
