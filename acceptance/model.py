@@ -1,7 +1,7 @@
 """A plain model of the script language as far as it is built: what `petal run` may print for a script.
 
 It knows nothing of servers' letters and of agreement: a disk is a map of blocks, and each block takes a slot on two
-neighbouring servers of the disk's tuple, its pair. Where one of a pair stops, the other one holds the pair's blocks alone, and
+neighbouring servers of the disk's tuple, its pair, and one more for each snapshot behind which it is written. Where one of a pair stops, the other one holds the pair's blocks alone, and
 serves them while it runs; once both run it copies to the other what that one has missed, and then both hold them again. A server that
 is blanked has nothing left: what it held alone is lost, and of all else the other one has the blocks alone. The model
 doesn't know when the others are told that a server has stopped, when a server that was started is taken in again and when it is
@@ -52,10 +52,11 @@ def lines_of(text):
             yield number, line.split()
 
 class Use:
-    """A read or a write of a client's line: the block it is about, and what it writes."""
+    """A read or a write of a client's line: the block it is about, the snapshot where it reads one, and what it writes."""
 
     def __init__(self, number, client, words):
-        self.number, self.client, self.name, self.block = number, client, words[2], int(words[3])
+        self.number, self.client, self.block = number, client, int(words[3])
+        self.name, _, self.snap = words[2].partition("@")
         self.writes = printed(tuple(words[4:])) if words[1] == "write" else None
         self.spot = self.name, self.block
 
@@ -65,6 +66,12 @@ class Making:
     def __init__(self, number, client, words):
         self.number, self.client, self.name = number, client, words[2]
         self.tuple = [int(word) for word in words[4:]]
+
+class Snapping:
+    """A line that takes a snapshot of a disk."""
+
+    def __init__(self, number, client, words):
+        self.number, self.client, self.name, self.snap = number, client, words[2], words[3]
 
 class Order:
     """A line that stops, starts or blanks a server, or waits until all is settled."""
@@ -121,45 +128,48 @@ class Pair:
             raise ValueError(f"{why}, and then nobody can hold its block")
 
 class World:
-    """The disks by name with their pairs, what each block may hold, which servers have stopped, which of those that run were started
-    and may not be taken in yet, and on each server the blocks that have a slot, or may have one."""
+    """The disks by name with their pairs, what each block may hold, their snapshots by name with what each block may hold there, which
+    servers have stopped, which of those that run were started and may not be taken in yet, and on each server the blocks that have a slot,
+    or may have one, each with the number of snapshots that its disk had when it was written."""
 
     def __init__(self, servers, slots):
         self.slots = slots
         self.disks = {}
         self.contents = {}
+        self.snaps = {}
         self.stopped, self.returning = set(), set()
         self.taken = {server: {} for server in range(servers)}
 
     def make(self, name, tuple_):
         self.disks[name] = [Pair((first, second)) for first, second in zip(tuple_, tuple_[1:] + tuple_[:1])]
+        self.snaps[name] = {}
 
     def pair_of(self, spot):
         """The two servers of a block."""
         pairs = self.disks[spot[0]]
         return pairs[spot[1] % len(pairs)]
 
-    def take_slot(self, server, spot, is_sure):
-        self.taken[server][spot] = is_sure or self.taken[server].get(spot, False)
+    def take_slot(self, server, entry, is_sure):
+        self.taken[server][entry] = is_sure or self.taken[server].get(entry, False)
 
     def least_free(self, server):
-        """How many slots are free, where each block that may have one has it."""
+        """How many slots are free, where each entry that may have one has it."""
         return self.slots - len(self.taken[server])
 
     def most_free(self, server):
         return self.slots - sum(self.taken[server].values())
 
     def copy_slots(self, pair, is_sure):
-        """Each block of the pair that has a slot on one of the two has one on both, or may have one."""
-        for spot in [spot for server in pair.servers for spot in self.taken[server] if spot[0] in self.disks and self.pair_of(spot) is pair]:
-            known = is_sure and any(self.taken[server].get(spot, False) for server in pair.servers)
+        """Each entry of the pair that has a slot on one of the two has one on both, or may have one."""
+        for entry in [entry for server in pair.servers for entry in self.taken[server] if self.pair_of(entry[0]) is pair]:
+            known = is_sure and any(self.taken[server].get(entry, False) for server in pair.servers)
             for server in pair.servers:
-                self.take_slot(server, spot, known)
+                self.take_slot(server, entry, known)
 
     def give_slots(self, server):
-        """Of the blocks that had a slot each may have one, or none."""
-        for spot in self.taken[server]:
-            self.taken[server][spot] = False
+        """Of the entries that had a slot each may have one, or none."""
+        for entry in self.taken[server]:
+            self.taken[server][entry] = False
 
     def held(self, spot):
         """What a block may hold."""
@@ -182,15 +192,21 @@ class Phase:
         # By line: the servers that may serve it together, in each way in which it may be served; whether it may be told that nobody
         # does; and whether a write took effect for sure, or perhaps.
         self.ways, self.may_fail, self.effects = {}, {}, {}
+        # The snapshots that were there, those that the phase takes, by disk and name, and how many of them a line comes after for sure.
+        self.old_snaps = {(name, snap) for name, snaps in world.snaps.items() for snap in snaps}
+        self.taken_snaps, self.epochs = {}, {}
 
     def answers(self):
         """Which answers are right, by number of line."""
         self.obey()
         self.make_disks()
+        self.take_snapshots()
+        self.count_epochs()
         served = [use for use in self.lines if isinstance(use, Use) and self.is_served(use)]
         self.find_servers(served)
         self.write([use for use in served if use.writes is not None and self.ways[use.number]])
-        self.read(served)
+        self.read([use for use in served if not use.snap])
+        self.read_snapshots([use for use in served if use.snap])
         for use in served:
             self.learn(use)
         for server, later in self.blanked.items():
@@ -305,32 +321,80 @@ class Phase:
                 elif not self.is_firm(server):
                     pair.may_leave(server)
 
+    def take_snapshots(self):
+        """Of the lines that would take a snapshot of one name one does. It is the first of its client that finds the disk."""
+        snappings = defaultdict(list)
+        for line in self.lines:
+            if isinstance(line, Snapping):
+                snappings[line.name, line.snap].append(line)
+        for (name, snap), lines in snappings.items():
+            firsts = {}
+            for line in lines:
+                self.allowed[line.number] = set()
+                if self.finds_disk(line):
+                    firsts.setdefault(line.client, line)
+            winner = None if (name, snap) in self.old_snaps or not firsts else self.winner_of(list(firsts.values()))
+            for line in firsts.values():
+                self.allowed[line.number] |= {"ok" if line is winner else "exists"}
+            for line in lines:
+                if line.client in firsts and line.number > firsts[line.client].number and line is not firsts[line.client]:
+                    self.allowed[line.number] |= {"exists"}
+            if winner:
+                self.taken_snaps[name, snap] = winner
+                self.world.snaps[name][snap] = {}
+
+    def count_epochs(self):
+        """A write takes slots for the epoch that its disk has: that of the phase's start, or a later one where a client has taken snapshots
+        before it, or any where another client takes some in the phase."""
+        for line in self.lines:
+            if isinstance(line, Use) and line.writes is not None and line.name in self.world.disks:
+                known = sum(1 for snap in self.world.snaps[line.name] if (line.name, snap) in self.old_snaps)
+                own = [taken for (name, _), taken in self.taken_snaps.items() if name == line.name and taken.client == line.client]
+                self.epochs[line.number] = known + sum(1 for taken in own if taken.number < line.number)
+
+    def entry_of(self, use):
+        """What a write takes a slot for."""
+        return use.spot, self.epochs[use.number]
+
     def winner_of(self, firsts):
-        """The line that made the disk: the only one that could, or the first that says so."""
+        """The line that made the disk, or took the snapshot: the only one that could, or the first that says so."""
         if len(firsts) == 1:
             return firsts[0]
         if self.heard is None:
-            raise Racing(f"several clients make the disk {firsts[0].name}")
+            raise Racing(f"several clients make {firsts[0].name}")
         said = [line for line in firsts if self.heard.get(line.number) == "ok"]
         return said[0] if said else firsts[0]
 
     def is_served(self, use):
-        """Whether the disk may be there. A client that made it, or was told that it exists, finds it afterwards."""
+        """Whether the disk may be there, and the snapshot where the line reads one."""
         self.allowed[use.number] = set()
+        return self.finds_disk(use) and (not use.snap or self.finds_snapshot(use))
+
+    def finds_snapshot(self, use):
+        """Whether the snapshot may be there. The client that took it finds it afterwards; one that was told that it exists may have to wait
+        for it still."""
+        winner = self.taken_snaps.get((use.name, use.snap))
+        if (use.name, use.snap) in self.old_snaps or winner is not None and winner.client == use.client and winner.number < use.number:
+            return True
+        self.allowed[use.number] |= {"nosnap"}
+        return winner is not None and winner.client != use.client and self.may_be_there(use, "nosnap")
+
+    def finds_disk(self, use):
+        """Whether the disk may be there. A client that made it, or was told that it exists, finds it afterwards."""
         if use.name in self.old:
             return True
         told = [line for line in self.lines if isinstance(line, Making) and (line.name, line.client) == (use.name, use.client)]
         if any(line.number < use.number for line in told):
             return True
-        self.allowed[use.number] = {"nodisk"}
+        self.allowed[use.number] |= {"nodisk"}
         winner = self.winners.get(use.name)
-        return winner is not None and winner.client != use.client and self.may_be_served(use)
+        return winner is not None and winner.client != use.client and self.may_be_there(use, "nodisk")
 
-    def may_be_served(self, use):
-        """Another client makes the disk in this phase: it may be there or not."""
+    def may_be_there(self, use, missing):
+        """Another client makes the disk, or takes the snapshot, in this phase: it may be there or not."""
         if self.heard is None:
-            raise Racing(f"line {use.number} races with the making of its disk")
-        return self.heard.get(use.number) != "nodisk"
+            raise Racing(f"line {use.number} races with what it is about")
+        return self.heard.get(use.number) != missing
 
     def find_servers(self, served):
         """A block is served while one of those runs that hold it. A client that was told that nobody does knows it from then on, where
@@ -361,7 +425,7 @@ class Phase:
     def learn(self, use):
         """What an answer tells of who holds the block alone."""
         pair, answer = self.world.pair_of(use.spot), self.answer_to(use)
-        if answer is None or answer == "nodisk":
+        if answer in (None, "nodisk", "nosnap"):
             return
         why = f"line {use.number} is answered {answer!r}"
         if answer != "unavailable" and not set(self.blanked) & set(pair.servers):
@@ -396,7 +460,7 @@ class Phase:
         running = self.running(use)
         if len(running) < 2 or running[0] not in self.stopping:
             return False
-        return not self.world.taken[running[1]].get(use.spot, False) and self.world.least_free(running[1]) <= 1
+        return not self.world.taken[running[1]].get(self.entry_of(use), False) and self.world.least_free(running[1]) <= 1
 
     def note_effect(self, use):
         """A write that is told `unavailable` may have taken effect before. Only those surely take a slot that serve it in every way."""
@@ -404,7 +468,7 @@ class Phase:
         if answer in ("ok", "unavailable") or answer == "nospace" and self.may_be_full_again(use):
             self.effects[use.number] = answer == "ok"
             for server in self.running(use):
-                self.world.take_slot(server, use.spot, answer == "ok" and all(server in way for way in self.ways[use.number]))
+                self.world.take_slot(server, self.entry_of(use), answer == "ok" and all(server in way for way in self.ways[use.number]))
 
     def give_up_where_slots_may_run_out(self, writes):
         """Each client has one write open at a time, which takes a slot more than what stays."""
@@ -412,29 +476,49 @@ class Phase:
         for use in writes:
             for server in self.running(use):
                 writers[server].add(use.client)
-                if use.spot not in self.world.taken[server]:
-                    fresh[server].add(use.spot)
+                if self.entry_of(use) not in self.world.taken[server] or self.may_be_later(use):
+                    fresh[server].add(use.number)
         for server, clients in writers.items():
             if self.world.least_free(server) < len(fresh[server]) + len(clients):
                 raise Racing(f"slots of server {server} may run out while several clients write")
 
+    def may_be_later(self, use):
+        """Whether another client takes a snapshot of the disk in the phase."""
+        return any(name == use.name and taken.client != use.client for (name, _), taken in self.taken_snaps.items())
+
     def read(self, served):
-        """What each read may find, and what each block may hold afterwards."""
+        """What each read may find, what each block may hold afterwards, and what it holds in the snapshots that the phase takes."""
         by_spot = defaultdict(list)
+        for spot in self.world.contents:
+            by_spot[spot] = []
         for use in served:
             by_spot[use.spot].append(use)
         for spot, uses in by_spot.items():
-            self.read_block(spot, uses, [use for use in uses if use.number in self.effects])
+            snappings = [line for (name, _), line in self.taken_snaps.items() if name == spot[0]]
+            if uses or snappings:
+                self.read_block(spot, sorted(uses + snappings, key=lambda line: line.number), [use for use in uses if use.number in self.effects])
+
+    def read_snapshots(self, reads):
+        """A read of a snapshot finds what the block may hold there; later reads find the same."""
+        for use in reads:
+            held = self.world.snaps[use.name][use.snap]
+            if self.ways[use.number]:
+                contents = held.get(use.spot, {ZEROS})
+                self.allowed[use.number] |= {"data " + content for content in contents}
+                held[use.spot] = self.narrowed(contents, use)
 
     def read_block(self, spot, uses, writes):
-        """A read finds what its client wrote last, or what was there, or what others write meanwhile. Where no other client
-        writes, later reads find the same."""
+        """A read finds what its client wrote last, or what was there, or what others write meanwhile; so does a snapshot. Where no other
+        client writes, later reads find the same."""
         writers = {write.client for write in writes}
         # What a client that writes may find of its own, and what all others may find that was there.
         found = defaultdict(lambda: self.world.held(spot))
         for use in uses:
             own = use.client if use.client in writers else None
-            if use in writes:
+            if isinstance(use, Snapping):
+                others = {write.writes for write in writes if write.client != use.client}
+                self.world.snaps[use.name][use.snap][spot] = found[own] | others
+            elif use in writes:
                 found[own] = {use.writes} if self.effects[use.number] else found[own] | {use.writes}
             elif use.writes is None and self.ways[use.number]:
                 others = {write.writes for write in writes if write.client != use.client}
@@ -456,7 +540,7 @@ def phases_of(text):
         elif words[0] == "wait":
             phases.append([])
         elif words[0] in CLIENTS:
-            kind = Making if words[1] == "disk" else Use
+            kind = {"disk": Making, "snap": Snapping}.get(words[1], Use)
             phases[-1].append(kind(number, words[0], words))
         elif words[:2] in (["op", "stop"], ["op", "start"], ["op", "blank"], ["op", "settle"]):
             phases[-1].append(Order(number, words))

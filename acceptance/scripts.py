@@ -115,11 +115,16 @@ def many_disks(count, *nets):
 # More slots than all writes of a mixed script can take.
 PLENTY = 160
 
-def mixed_line(draw, clients, names, makes):
-    """A request of one of the clients, about one of the disks or a name that none has. A line that makes a disk lacks its servers."""
+def mixed_line(draw, clients, names, makes, snaps):
+    """A request of one of the clients, about one of the disks or a name that none has, or about a snapshot where these names are given. A
+    line that makes a disk lacks its servers."""
     client, name = draw.choice(clients), draw.choice(names)
     if makes and draw.randrange(6) == 0:
         return f"{client} disk {name}"
+    if snaps and draw.randrange(8) == 0:
+        return f"{client} snap {name} {draw.choice(snaps)}"
+    if snaps and draw.randrange(6) == 0:
+        return f"{client} read {name}@{draw.choice(snaps)} {draw.randrange(4)}"
     block = draw.choice((0, 1, 2, 3, draw.randrange(2**48), 2**48 - 1))
     if draw.randrange(5) < 2:
         return f"{client} read {name} {block}"
@@ -130,20 +135,20 @@ def made_disk(draw, client, name, servers):
     """A line that makes a disk over some of so many servers."""
     return f"{client} disk {name} on " + " ".join(map(str, draw.sample(range(servers), draw.randint(2, servers))))
 
-def mixed_phase(draw, clients, names, servers, makes):
+def mixed_phase(draw, clients, names, servers, makes, snaps):
     """The lines of a phase of these clients, of which at most so many make a disk."""
     lines = []
     for _ in range(draw.randint(1, 20)):
-        line = mixed_line(draw, clients, names, makes)
+        line = mixed_line(draw, clients, names, makes, snaps)
         if line[1:6] == " disk":
             makes -= 1
             line = made_disk(draw, line[0], line.split()[2], servers)
         lines.append(line)
     return lines
 
-def mixed_phases(draw, servers, most, nets, stops_of=None):
-    """Phases of a mixed script of at most so many disks. Where servers stop, most disks are made first, and `stops_of` gives the
-    phases that come before the next one, and the lines that stand in it."""
+def mixed_phases(draw, servers, most, nets, stops_of=None, snaps=()):
+    """Phases of a mixed script of at most so many disks, and of snapshots of these names. Where servers stop, most disks are made first, and
+    `stops_of` gives the phases that come before the next one, and the lines that stand in it."""
     alone = draw.randrange(2 if stops_of else 4) == 0
     names = [f"d{number}" for number in range(draw.randint(1, most))]
     lines = [f"servers {servers} slots {draw.randint(1, 6) if alone else PLENTY}", *(net.replace("_", " ") for net in nets)]
@@ -154,11 +159,14 @@ def mixed_phases(draw, servers, most, nets, stops_of=None):
     for _ in range(draw.randint(1, 7)):
         here = [draw.choice(clients)] if alone else clients
         before, beside = stops_of() if stops_of else ([], [])
-        phase = mixed_phase(draw, here, names, servers, makes)
+        phase = mixed_phase(draw, here, names, servers, makes, snaps)
         makes -= sum(line[1:6] == " disk" for line in phase)
         lines += [*before, *phase, *beside, "wait"]
     spots = sorted({tuple(line.split()[2:4]) for line in lines if line.split()[1:2] == ["write"]})
-    return lines + [f"{draw.choice(CLIENTS)} read {name} {block}" for name, block in spots]
+    taken = sorted({tuple(line.split()[2:4]) for line in lines if line.split()[1:2] == ["snap"]})
+    lines += [f"{draw.choice(CLIENTS)} read {name} {block}" for name, block in spots]
+    reads = [f"{draw.choice(CLIENTS)} read {name}@{snap} {block}" for name, snap in taken for other, block in spots if other == name]
+    return lines + draw.sample(reads, min(len(reads), 400))
 
 def mixed(seed, *nets):
     """Up to 16 disks, made at any time by any client, some under a name that is taken, with writes and reads of disks that are
@@ -192,6 +200,15 @@ def stops(seed, *nets):
 
     return joined(mixed_phases(draw, servers, 4, nets, stops_of))
 
+def snaps(seed, *nets):
+    """A mixed script in which snapshots are taken and read; in two of three, servers stop, start, settle and come back with nothing. At the
+    end each snapshot is read."""
+    names = [f"s{number}" for number in range(random.Random(int(seed)).randint(1, 6))]
+    if int(seed) % 3 == 0:
+        draw = random.Random(int(seed))
+        return joined(mixed_phases(draw, draw.randint(2, 8), 6, nets, snaps=names))
+    return starts(seed, *nets, settles=True, blanks=True, snaps=names)
+
 def settles(seed, *nets):
     """The same, where the operator often waits until all is settled."""
     return starts(seed, *nets, settles=True)
@@ -200,7 +217,7 @@ def blanks(seed, *nets):
     """The same, where servers also come back with nothing."""
     return starts(seed, *nets, settles=True, blanks=True)
 
-def starts(seed, *nets, settles=False, blanks=False):
+def starts(seed, *nets, settles=False, blanks=False, snaps=()):
     """A mixed script of few disks in which servers stop and start again, so that a majority runs: mostly in phases of their own, and
     beside writes and reads. Some are stopped that have stopped, and started that run."""
     draw = random.Random(int(seed))
@@ -227,29 +244,67 @@ def starts(seed, *nets, settles=False, blanks=False):
         before = [order() for _ in range(draw.choice((0, 1, 1, 2, 4)))]
         return [*before, "wait"] if before else [], [order() for _ in range(draw.choice((0, 0, 0, 1, 3)))]
 
-    return joined(mixed_phases(draw, servers, 4, nets, orders_of))
+    return joined(mixed_phases(draw, servers, 4, nets, orders_of, snaps))
+
+def frozen(servers, count, *nets):
+    """So many snapshots, a block written before each, and two of each read at the end."""
+    servers, count = int(servers), int(count)
+    lines = head(servers, 2 * count + 8, *(net.replace("_", " ") for net in nets))
+    for turn in range(count):
+        lines += [f"a write vol {turn % 7} fill {turn + 1}", f"a snap vol s{turn}"]
+    lines.append("wait")
+    return joined(lines + [f"b read vol@s{turn} {block}" for turn in range(count) for block in (turn % 7, (turn + 3) % 7)])
+
+def race(turns, *nets):
+    """In each phase two clients take snapshots of one disk, one of them of a name that both want, while two write its blocks and one reads.
+    Then each snapshot is read twice: what it holds is the same."""
+    lines = head(4, 200, *(net.replace("_", " ") for net in nets))
+    for turn in range(int(turns)):
+        lines += [f"a write vol 0 fill {10 * turn + 1}", f"b write vol 1 fill {10 * turn + 2}", f"c snap vol s{turn}", f"d snap vol s{turn}"]
+        lines += [f"a write vol 0 fill {10 * turn + 3}", f"d snap vol t{turn}", f"e read vol 0", f"b write vol 1 fill {10 * turn + 4}", "wait"]
+        lines += [f"{client} read vol@{name}{turn} {block}" for client in "fg" for name in "st" for block in (0, 1)] + ["wait"]
+    return joined(lines + [f"h read vol@{name}{turn} {block}" for turn in range(int(turns)) for name in "st" for block in (0, 1)])
+
+def thousand():
+    """A disk of 1,000 written blocks, of which a snapshot is taken, with no slot to spare for a copy of them; some are read from it."""
+    lines = head(8, 260)
+    lines += [f"{CLIENTS[block % 8]} write vol {block} fill {block % 256}" for block in range(1000)]
+    lines += ["wait", "a snap vol all", "wait", "a write vol 0 fill 7", "wait"]
+    return joined(lines + [f"{CLIENTS[block % 8]} read vol@all {block}" for block in range(0, 1000, 50)] + ["b read vol 0"])
 
 def upgrade(servers, turns, *nets):
     """One server after the other stops, blocks of its are written, and it starts again and is brought up to date, before the next one
     stops: all is served at any time."""
     return rolling(servers, turns, *nets, settles=True)
 
-def renewal(servers, turns, *nets):
+def renewal(servers, turns, *nets, snaps=False):
     """One server after the other gets a blank device, and is filled before the next one does: all is served at any time."""
     servers, turns = int(servers), int(turns)
-    lines = head(servers, 2 * turns, *(net.replace("_", " ") for net in nets))
+    lines = head(servers, (4 if snaps else 2) * turns, *(net.replace("_", " ") for net in nets))
     for turn in range(turns):
-        lines += [f"a write vol {turn} fill {turn}", "wait", f"op blank {turn % servers}", "op settle", f"b write vol {turn} fill {turn + 100}", "wait"]
+        lines += [f"a write vol {turn} fill {turn}", "wait", f"op blank {turn % servers}", *([f"d snap vol s{turn}"] if snaps else [])]
+        lines += ["op settle", f"b write vol {turn} fill {turn + 100}", "wait"]
+    lines += [f"e read vol@s{turn} {block}" for turn in range(turns) if snaps for block in range(turns)]
     return joined(lines + [f"c read vol {block}" for block in range(turns)])
 
-def rolling(servers, turns, *nets, settles=False):
+def renewal_snaps(servers, turns, *nets):
+    """The same, with a snapshot while each is filled."""
+    return renewal(servers, turns, *nets, snaps=True)
+
+def rolling_snaps(servers, turns, *nets):
+    """One server after the other stops, and starts again, each time with a snapshot meanwhile."""
+    return rolling(servers, turns, *nets, settles=True, snaps=True)
+
+def rolling(servers, turns, *nets, settles=False, snaps=False):
     """One server after the other stops, a block of its is written and read, and it starts again; at the end each block is read."""
     servers, turns = int(servers), int(turns)
-    lines = head(servers, 2 * turns, *(net.replace("_", " ") for net in nets))
+    lines = head(servers, (6 if snaps else 2) * turns, *(net.replace("_", " ") for net in nets))
     for turn in range(turns):
         server = turn % servers
         lines += [f"op stop {server}", "wait", f"a write vol {turn} fill {turn}", f"b write vol {turn + servers - 1} fill {turn + 100}"]
-        lines += [f"c read vol {turn}", "wait", f"op start {server}", *(["op settle"] if settles else []), "wait"]
+        lines += [f"c read vol {turn}", *([f"d snap vol s{turn}"] if snaps else []), "wait"]
+        lines += [f"op start {server}", *(["op settle"] if settles else []), "wait"]
+    lines += [f"e read vol@s{turn} {block}" for turn in range(turns) if snaps for block in range(turns)]
     return joined(lines + [f"a read vol {block}" for block in range(turns)])
 
 def neighbours(*nets):
@@ -276,7 +331,7 @@ def amid(slots, stopped, delay, *nets):
     lines += [f"b write vol {block} fill {block}" for block in range(2, 22, 5)] + ["wait"]
     return joined(lines + [f"c read vol {block}" for block in range(2, 22, 5)])
 
-MAKERS = {"many_disks": many_disks, "mixed": mixed, "stops": stops, "starts": starts, "settles": settles, "blanks": blanks, "renewal": renewal, "rolling": rolling, "upgrade": upgrade, "neighbours": neighbours, "amid": amid, "text": text, "bytes": bytes_of, "nothing": nothing, "work": work, "busy": busy,
+MAKERS = {"many_disks": many_disks, "mixed": mixed, "stops": stops, "starts": starts, "settles": settles, "blanks": blanks, "snaps": snaps, "frozen": frozen, "race": race, "thousand": thousand, "renewal": renewal, "renewal_snaps": renewal_snaps, "rolling_snaps": rolling_snaps, "rolling": rolling, "upgrade": upgrade, "neighbours": neighbours, "amid": amid, "text": text, "bytes": bytes_of, "nothing": nothing, "work": work, "busy": busy,
           "all_servers": all_servers, "patterns": patterns, "sized": sized, "requests": requests, "phases": phases, "large": large}
 
 def made(words):
