@@ -476,8 +476,10 @@ class Phase:
         for use in writes:
             for server in self.running(use):
                 writers[server].add(use.client)
-                if self.entry_of(use) not in self.world.taken[server] or self.may_be_later(use):
+                if self.may_be_later(use):
                     fresh[server].add(use.number)
+                elif self.entry_of(use) not in self.world.taken[server]:
+                    fresh[server].add(self.entry_of(use))
         for server, clients in writers.items():
             if self.world.least_free(server) < len(fresh[server]) + len(clients):
                 raise Racing(f"slots of server {server} may run out while several clients write")
