@@ -288,6 +288,7 @@ fn lines_that_are_not_built_yet(rt: HostRuntime) -> Result<(), Fail> {
         },
         Row {
             shows: "a device that fails is not built yet",
+            start: "servers 3 slots 4\n",
             lines: "op fault 1 data write 2\n",
             written: &["refused line 2: not built\n"],
             ..REFUSED

@@ -1,4 +1,4 @@
-//! A server of a link stops in the middle of a catch-up.
+//! A server of a link stops at each step of a catch-up in turn.
 
 use memory_runs::play;
 use std::alloc::Global;
@@ -14,8 +14,8 @@ const STEPS_BEFORE: &str =
     "a calls 2; agree; wait; a calls 4; b calls 5; agree; wait; op calls 7; 1 stops; 1 shows 7; seen 1>op; line 7 ok; agree without 1; wait;
     a calls 9; b calls 10; agree without 1; wait; op calls 12; 1 boots; 1 shows 12; seen 1>op; line 12 ok";
 
-/// From the boot of server 1 until the copies are equal thirty steps are taken no more than so many times.
-const ROUNDS: u32 = 8;
+/// So many steps are taken at most from the boot of server 1 until the copies are equal.
+const STEPS: u32 = 240;
 
 /// Server 0, which holds the link, stops after so many steps, and starts again.
 fn holder_stops(alloc: Global, after: u32) -> Result<(), Fail> {
@@ -66,44 +66,26 @@ op stop 0\nwait\na read vol 0\nb read vol 3\n",
     play(alloc, &row)
 }
 
-// Each test takes one step of every thirty: together they go through a catch-up from its first step to its last.
-
 #[test]
 fn the_holder_stops(rt: HostRuntime) -> Result<(), Fail> {
-    for round in 0..ROUNDS {
-        holder_stops(rt.alloc(), 30 * round)?;
-    }
-    Ok(())
-}
-
-#[test]
-fn the_holder_stops_between(rt: HostRuntime) -> Result<(), Fail> {
-    for round in 0..ROUNDS {
-        holder_stops(rt.alloc(), 30 * round + 15)?;
+    for after in 0..STEPS {
+        holder_stops(rt.alloc(), after)?;
     }
     Ok(())
 }
 
 #[test]
 fn the_other_server_stops(rt: HostRuntime) -> Result<(), Fail> {
-    for round in 0..ROUNDS {
-        other_stops(rt.alloc(), 30 * round + 5)?;
-    }
-    Ok(())
-}
-
-#[test]
-fn the_other_server_stops_between(rt: HostRuntime) -> Result<(), Fail> {
-    for round in 0..ROUNDS {
-        other_stops(rt.alloc(), 30 * round + 20)?;
+    for after in 0..STEPS {
+        other_stops(rt.alloc(), after)?;
     }
     Ok(())
 }
 
 #[test]
 fn the_other_server_is_blanked(rt: HostRuntime) -> Result<(), Fail> {
-    for round in 0..ROUNDS {
-        blanked_again(rt.alloc(), 30 * round + 10)?;
+    for after in 0..STEPS {
+        blanked_again(rt.alloc(), after)?;
     }
     Ok(())
 }
@@ -125,5 +107,5 @@ fn read_alone(alloc: Global, after: u32, expected: &str) -> Result<(), Fail> {
 #[test]
 fn a_catch_up_takes_no_more_steps(rt: HostRuntime) -> Result<(), Fail> {
     read_alone(rt.alloc(), 0, "line 15 unavailable; line 16 unavailable")?;
-    read_alone(rt.alloc(), 30 * ROUNDS, "line 15 fill 3; line 16 fill 4")
+    read_alone(rt.alloc(), STEPS, "line 15 fill 3; line 16 fill 4")
 }
