@@ -42,7 +42,7 @@ use Rattle.law_steps.proofs.Fronts.{front_itself, front_on, below_itself}
 use Rattle.law_steps.proofs.Histories.{rests_next, happens, firm_now, firm_after, start_rests}
 use Rattle.law_causes.specs.Asked.{AreAsked, asker}
 use Rattle.law_answers.proofs.Places.{one_client, one_place}
-use Rattle.law_causes.proofs.Verdicts.{has_at, judged_first, judged_low, placed_before, placed_first, plain_front}
+use Rattle.law_causes.proofs.Verdicts.{has_at, judged_at_once, judged_first, judged_low, placed_before, placed_first, plain_front}
 use Rattle.law_causes.proofs.Served.{never_unavailable}
 
 -- ### Fronts of a list
@@ -135,6 +135,7 @@ module _ (setting : Setting) (last : World) (plain : IsPlainLog setting.servers 
         within = omega arith;
         so = first.2;
         until = first.3;
+        at_once = judged_at_once setting.servers log plain c seq few asked own first.0 upto given first.2 first.3 placed (omega arith);
         taken = placed.taken;
         unknown = placed.unknown;
         free = placed.free;

@@ -47,6 +47,12 @@ many_told s d q v = length-set s.verdicts d (Some (record { seq = q; verdict = v
 told_itself : (s : State) (d c q : ℕ) (v : Verdict) → c ≡ d → c < length s.verdicts → latest (told s d q v) c ≡ Some (record { seq = q; verdict = v })
 told_itself s d c q v same low = subst (λ k. latest (told s k q v) c ≡ Some (record { seq = q; verdict = v })) same (told_here s c q v low)
 
+-- who is told is answered so
+pub told_answers : (s : State) (c seq : ℕ) (v : Verdict) (given : Answer) → c < length s.verdicts → verdict_answer v ≡ Some given
+    → verdict_for seq (latest (told s c seq v) c) ≡ Some given
+told_answers s c seq v given low is =
+    ap (verdict_for seq) (told_here s c seq v low) ∙ (λ i. if number_itself seq i then verdict_answer v else None) ∙ is
+
 told_now : (q seq : ℕ) (v : Verdict) (given : Answer) → verdict_for seq (Some (record { seq = q; verdict = v })) ≡ Some given
     → (q ≡ seq) × (verdict_answer v ≡ Some given)
 told_now q seq v given h = by (q == seq) refl h

@@ -15,6 +15,7 @@ use Rattle.global_tables.specs.declared.disk.Verdict.{Verdict}
 use Rattle.global_tables.specs.declared.disk.Verdict.TheVariants as verdict
 use Rattle.global_tables.specs.declared.fence.Fence.{Fence}
 use Rattle.global_tables.specs.declared.fence.FenceKind.TheVariants.{Whole}
+use Rattle.script_lines.specs.Requests.{is_snap}
 use Rattle.script_lines.specs.declared.answer.Answer.{Answer}
 use Rattle.script_lines.specs.declared.answer.Answer.TheVariants as answer
 use Rattle.script_lines.specs.declared.request.Request.{Request}
@@ -39,7 +40,7 @@ use Rattle.law_state.proofs.Places.{find_behind, find_front, find_here, found_at
 use Rattle.law_state.proofs.Snaps.{act_drained, act_snap}
 use Rattle.law_causes.specs.Asked.{asker}
 use Rattle.law_causes.proofs.Asked.{asker_of}
-use Rattle.law_causes.proofs.Folds.{act_make, judged_last, judged_old, many_after, none_past, old_after, old_behind, old_now, onward_new, passed_old, passed_or, passed_stays, settled_old, told_old, told_or, told_stays}
+use Rattle.law_causes.proofs.Folds.{told_answers, act_make, judged_last, judged_old, many_after, none_past, old_after, old_behind, old_now, onward_new, passed_old, passed_or, passed_stays, settled_old, told_old, told_or, told_stays}
 
 -- ### Fronts of a log
 
@@ -641,3 +642,41 @@ module _ (servers : ℕ) (log : List Command) (plain : IsPlainLog servers log) w
           let here = slice_get_within log p.place p.command p.is in
           true_false p.new (old_on c seq k p.place le (omega arith) (judged_old seq (latest (at k) c) given h))
     ]
+
+    -- ### A request that isn't for a snapshot
+
+    -- the new command of a disk is answered by the state right after it, but where that state tells of a later command
+    disk_answers : (k : ℕ) → k + 1 ≤ length log → (name tuple : List ℕ) → slice_get log k ≡ Some (MakeDisk c seq name tuple)
+        → is_new seq (latest (at k) c) ≡ true
+        → ((given : Answer) × (says (at (suc k)) ≡ Some given)) ⊎ (is_new (suc seq) (latest (at (suc k)) c) ≡ false)
+    disk_answers k low name tuple there new =
+        let e = MakeDisk c seq name tuple in
+        let acted = acting servers (at k) e (plain_at k) (entry_plain k e there) in
+        let acts_so = acts k (omega arith) (has_at k (omega arith)) e there acted in
+        let few_at : c < length (at k).verdicts = (let many = many_at k (omega arith) in omega arith) in
+        let now = act_make (λ (t : State). (given : Answer) × (says t ≡ Some given)) (at k) c seq name tuple (λ old. true_false new old)
+        (λ _ taken. (answer.Exists, told_answers (at k) c seq verdict.Exists answer.Exists few_at refl))
+        (λ _ free. (answer.Ok, told_answers (with_disk (at k) name tuple) c seq verdict.Ok answer.Ok few_at refl)) in
+        let settled_so = settles (act e (at k)) acted.plain acts_so.0 in
+        subst (λ (t : State). ((given : Answer) × (says t ≡ Some given)) ⊎ (is_new (suc seq) (latest t c) ≡ false)) (sym (at_next k e there))
+        (elim (settled_so.1 now.0 now.1) [ inl still ↦ inl (now.0, still) | inr later ↦ inr later ])
+
+    -- so its verdict stands right after its place
+    pub judged_at_once : (j : ℕ) → j + 1 ≤ length log → (given : Answer) → says (at (j + 1)) ≡ Some given → ((i : ℕ) → i ≤ j → says (at i) ≡ None)
+        → (p : Placed given) → p.place ≤ j → is_snap asked ≡ false → j ≡ p.place
+    judged_at_once j low given so until p le other = elim (cases_lt p.place j) [
+      | inr past ↦ omega arith
+      | inl before ↦
+          let made = made_of asked other p.command p.of_it in
+          let answered = disk_answers p.place (omega arith) made.0 made.1 (p.is ∙ ap Some made.2) p.new in
+          elim answered [
+            | inl some ↦ none_some (until (suc p.place) (omega arith)) some.1
+            | inr later ↦ judged_last seq (latest (at (j + 1)) c) given so (old_on c (suc seq) (suc p.place) (j + 1) (omega arith) low later)
+          ]
+    ]
+      where
+        made_of : (what : Request) → is_snap what ≡ false → (command : Command) → command_of c seq what ≡ Some command
+            → (name : List ℕ) × (tuple : List ℕ) × (command ≡ MakeDisk c seq name tuple)
+        made_of (request.Disk name tuple) h command e = (name, tuple, sym (same_some e))
+        made_of (request.Snap name snap) h command e = true_false refl h
+        made_of _ h command e = none_some refl e

@@ -6,6 +6,7 @@ use Rattle.petal_command.specs.declared.command.Command.{Command}
 use Rattle.petal_command.specs.declared.command.Command.TheVariants.{Witness}
 use Rattle.petal_state.specs.Command.{is_taken}
 use Rattle.petal_state.specs.State.{latest}
+use Rattle.script_lines.specs.Requests.{is_snap}
 use Rattle.script_lines.specs.declared.answer.Answer.{Answer}
 use Rattle.script_lines.specs.declared.answer.Answer.TheVariants as answer
 use Rattle.script_lines.specs.declared.request.Line.{Line}
@@ -55,6 +56,7 @@ pub record HasVerdict (setting : Setting) (w : World) (client seq : ℕ) (asked 
   pub within : judged < length (chosen_log setting w)
   pub so : verdict_for seq (latest (state_at setting w (judged + 1)) client) ≡ Some cause
   pub until : (i : ℕ) → i ≤ judged → verdict_for seq (latest (state_at setting w i) client) ≡ None
+  pub at_once : is_snap asked ≡ false → judged ≡ place
   pub taken : cause ≡ answer.Exists → is_name_taken (state_at setting w place) asked ≡ true
   pub unknown : cause ≡ answer.NoDisk → lacks_disk (state_at setting w place) asked ≡ true
   pub free : cause ≡ answer.Ok → is_name_taken (state_at setting w place) asked ≡ false
