@@ -17,6 +17,8 @@ mod faults;
 #[cfg(test)]
 mod plans;
 #[cfg(test)]
+mod returns;
+#[cfg(test)]
 mod rows;
 #[cfg(test)]
 mod settles;
