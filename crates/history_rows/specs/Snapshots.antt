@@ -76,6 +76,20 @@ held_moves = Calls 0 2 ∷ passes 0 0
 abbrev pub fenced_after : List Move → World
 fenced_after moves = plays mending fenced moves
 
+-- all have applied the reports of servers 0 and 1, and the one of server 2 is awaited
+abbrev pub reported : World
+reported = world_with mending reported_log (λ n. server_with reported_log 1 (empty_store 4))
+
+abbrev pub reported_after : List Move → World
+reported_after moves = plays mending reported moves
+
+-- all have applied the third report
+abbrev pub passed : World
+passed = world_with mending frozen_log (λ n. server_with frozen_log 1 (empty_store 4))
+
+abbrev pub passed_after : List Move → World
+passed_after moves = plays mending passed moves
+
 -- the same write came to server 0 before the fence: it is under way there
 abbrev pub unfenced : World
 unfenced = world_with mending early_log (λ n. server_with early_log 1 (empty_store 4))

@@ -27,6 +27,9 @@ pub use faults::{
 };
 pub use returns::{a_primary_boots_before_its_leave, a_returning_primary_drops_its_put};
 pub use settles::{a_copy_finds_no_slot, a_settle_goes_round_by_round};
-pub use snapshots::{a_fence_awaits_reports, a_fence_holds_writes, a_snapshot_keeps_its_block};
+pub use snapshots::{
+    a_fence_awaits_reports, a_fence_holds_until_it_takes_effect, a_fence_holds_writes,
+    a_snapshot_keeps_its_block,
+};
 pub use stops::{a_line_stops_a_server, a_stop_of_a_stopped_server_does_nothing};
 pub use takeover::{a_lead_goes_on_alone, a_leave_is_chosen, a_secondary_stops_in_a_write};

@@ -1,13 +1,13 @@
 //! A snapshot is taken: a fence holds writes until each server has reported, and then the epoch rises.
 
-ghost use Rattle.std.specs.Prelude.{◌≡◌, ◌++◌, [], ◌∷◌, None, Some};
+ghost use Rattle.std.specs.Prelude.{◌≡◌, ◌++◌, [], ◌∷◌, length, None, Some};
 ghost use Rattle.petal_base.specs.Block.{fill_block};
 ghost use Rattle.petal_machine.specs.declared.event.Event.TheVariants.{Freeze};
 ghost use Rattle.petal_msg.specs.declared.body.Body.TheVariants.{Held};
 ghost use Rattle.petal_history.specs.Contents.{content_at};
 ghost use Rattle.petal_history.specs.Examples.{vol};
 ghost use Rattle.history_rows.specs.Returned.{last_said, mending, wants_of};
-ghost use Rattle.history_rows.specs.Snapshots.{awaited_by, epochs_by, fenced, fenced_after, fenced_log, frozen, frozen_log, held_moves, left_log, mon, report_of, reported_log, snaps_by, told_of_vote, writing};
+ghost use Rattle.history_rows.specs.Snapshots.{awaited_by, epochs_by, fenced, fenced_after, fenced_log, frozen, frozen_log, held_moves, left_log, mon, passed_after, report_of, reported, reported_after, reported_log, snaps_by, told_of_vote, writing};
 
 /// The fence awaits all servers, until each has reported. A server that leaves makes it await all that are In once more.
 pub fn a_fence_awaits_reports()
@@ -28,6 +28,17 @@ pub fn a_fence_holds_writes()
     ensures wants { wants_of fenced 0 ≡ report_of 0 ∷ [] }
     ensures drains { wants_of writing 0 ≡ [] }
     ensures other { wants_of writing 1 ≡ report_of 1 ∷ [] }
+{}
+
+/// A server whose own report is chosen goes on holding writes, until the entry at which the fence takes effect: then the write is
+/// opened, and its lead asks the second server for a slot.
+pub fn a_fence_holds_until_it_takes_effect()
+    ensures wants { wants_of reported 0 ≡ [] }
+    ensures other { wants_of reported 2 ≡ report_of 2 ∷ [] }
+    ensures held { last_said (reported_after held_moves) ≡ Held 2 ∷ [] }
+    ensures pending { ((reported_after held_moves).servers 0).own.pairs.pending ≡ [] }
+    ensures opened { length ((passed_after held_moves).servers 0).own.pairs.pending ≡ 1 }
+    ensures sent { length (passed_after held_moves).sent ≡ 2 }
 {}
 
 /// The machine is told of the snapshot at the vote that chooses the last report. The block holds there what it held before.

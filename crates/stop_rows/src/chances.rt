@@ -7,14 +7,15 @@ use petal_disk::{CallKind, Plan, Which};
 use std::alloc::Global;
 use std::test::Fail;
 use world_runs::{
-    Chance, Count, script_by, script_with_blanks, script_with_starts, script_with_stops, simulate,
+    Chance, Count, Habit, script_by, script_with_blanks, script_with_cuts, script_with_starts,
+    script_with_stops, simulate,
 };
 
 fn simulate_seed(alloc: Global, seed: u32) -> Result<Count, Fail> {
     let mut chance = Chance::new(seed);
     let text = script_with_stops(alloc, &mut chance)?;
     let run = start(alloc, text.as_str())?;
-    simulate(alloc, seed, chance, run)
+    simulate(alloc, seed, Habit::Even, chance, run)
 }
 
 #[test]
@@ -33,7 +34,7 @@ fn simulate_starts(alloc: Global, seed: u32) -> Result<Count, Fail> {
     let mut chance = Chance::new(seed);
     let text = script_with_starts(alloc, &mut chance)?;
     let run = start(alloc, text.as_str())?;
-    simulate(alloc, seed, chance, run)
+    simulate(alloc, seed, Habit::Even, chance, run)
 }
 
 #[test]
@@ -51,7 +52,7 @@ fn simulate_blanks(alloc: Global, seed: u32) -> Result<Count, Fail> {
     let mut chance = Chance::new(seed);
     let text = script_with_blanks(alloc, &mut chance)?;
     let run = start(alloc, text.as_str())?;
-    simulate(alloc, seed, chance, run)
+    simulate(alloc, seed, Habit::Even, chance, run)
 }
 
 #[test]
@@ -93,7 +94,7 @@ fn simulate_failing(alloc: Global, seed: u32, stop: bool) -> Result<Count, Fail>
     let plan = plan_by(&mut chance, stop);
     let mut run = start(alloc, text.as_str())?;
     run.arm(alloc, server, which, Some(plan))?;
-    simulate(alloc, seed, chance, run)
+    simulate(alloc, seed, Habit::Even, chance, run)
 }
 
 #[test]
@@ -115,5 +116,24 @@ fn worlds_whose_devices_stop_their_servers(rt: HostRuntime) -> Result<(), Fail> 
     }
     assert!(rt; all.answered >= 400, "{all:?}");
     assert!(rt; all.stopped_in >= 12, "{all:?}");
+    Ok(())
+}
+
+fn simulate_cuts(alloc: Global, seed: u32) -> Result<Count, Fail> {
+    let mut chance = Chance::new(seed);
+    let text = script_with_cuts(alloc, &mut chance)?;
+    let run = start(alloc, text.as_str())?;
+    simulate(alloc, seed, Habit::CutOff, chance, run)
+}
+
+#[test]
+fn worlds_whose_servers_stop_right_after_a_commit(rt: HostRuntime) -> Result<(), Fail> {
+    let mut all = Count::new();
+    for seed in 1..21 {
+        all = all.and(simulate_cuts(rt.alloc(), seed)?);
+    }
+    assert!(rt; all.answered >= 300, "{all:?}");
+    assert!(rt; all.cut_jobs >= 20, "{all:?}");
+    assert!(rt; all.cut_boots >= 20, "{all:?}");
     Ok(())
 }

@@ -3,13 +3,13 @@
 use memory_runs::start;
 use std::alloc::Global;
 use std::test::Fail;
-use world_runs::{Chance, Count, script_by, simulate};
+use world_runs::{Chance, Count, Habit, script_by, script_with_snaps, simulate};
 
 fn simulate_seed(alloc: Global, seed: u32) -> Result<Count, Fail> {
     let mut chance = Chance::new(seed);
     let text = script_by(alloc, &mut chance)?;
     let run = start(alloc, text.as_str())?;
-    simulate(alloc, seed, chance, run)
+    simulate(alloc, seed, Habit::Even, chance, run)
 }
 
 #[test]
@@ -20,5 +20,24 @@ fn worlds_by_chance(rt: HostRuntime) -> Result<(), Fail> {
     }
     assert!(rt; all.answered >= 1000, "{all:?}");
     assert!(rt; all.no_space >= 1, "{all:?}");
+    Ok(())
+}
+
+fn simulate_snaps(alloc: Global, seed: u32) -> Result<Count, Fail> {
+    let mut chance = Chance::new(seed);
+    let text = script_with_snaps(alloc, &mut chance)?;
+    let run = start(alloc, text.as_str())?;
+    simulate(alloc, seed, Habit::Brisk, chance, run)
+}
+
+#[test]
+fn worlds_that_take_snapshots(rt: HostRuntime) -> Result<(), Fail> {
+    let mut all = Count::new();
+    for seed in 1..21 {
+        all = all.and(simulate_snaps(rt.alloc(), seed)?);
+    }
+    assert!(rt; all.answered >= 1000, "{all:?}");
+    assert!(rt; all.snapshots >= 20, "{all:?}");
+    assert!(rt; all.old_reads >= 20, "{all:?}");
     Ok(())
 }

@@ -6,7 +6,8 @@ use petal_world::Host;
 use row_words::Want;
 use script_lines::Answer;
 
-fn is_done(answer: Option<&Answer>) -> bool {
+/// Whether the answer is that it was done.
+pub fn is_done(answer: Option<&Answer>) -> bool {
     match answer {
         Some(Answer::Ok) => true,
         _ => false,
@@ -56,6 +57,11 @@ fn shown(answer: Option<&Answer>) -> Option<&SharedBlock> {
         Some(Answer::Data(bytes)) => Some(bytes),
         _ => None,
     }
+}
+
+/// Whether the answer is a block.
+pub fn is_shown(answer: Option<&Answer>) -> bool {
+    shown(answer).is_some()
 }
 
 fn is_failed(answer: Option<&Answer>) -> bool {

@@ -7,6 +7,8 @@
 
 mod answers;
 mod chance;
+mod count;
+mod cuts;
 mod player;
 mod rounds;
 mod run;
@@ -15,7 +17,11 @@ mod scripts;
 mod simulation;
 
 pub use chance::Chance;
+pub use count::Count;
 pub use run::Run;
 pub use schedule::{Row, play_row};
-pub use scripts::{script_by, script_with_blanks, script_with_starts, script_with_stops};
-pub use simulation::{Count, simulate};
+pub use scripts::{
+    script_by, script_with_blanks, script_with_cuts, script_with_snaps, script_with_starts,
+    script_with_stops,
+};
+pub use simulation::{Habit, simulate};

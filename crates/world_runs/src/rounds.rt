@@ -62,22 +62,45 @@ fn tick_some<H: Host>(alloc: Global, run: &mut Run<H>, turn: u32) -> Result<(), 
     Ok(())
 }
 
-/// Plays a run until each line is answered: in each round the letters of the round before are handed over, then each server
-/// works until it is idle, each client and the operator calls, what the operator's line asks for is done, and in every eighth
-/// round the clients, the operator and one of the servers tick. Gives whether it came to that.
+// A round: the letters from this place on are handed over, then each server works until it is idle, each client and the operator
+// calls, what the operator's line asks for is done, and in every eighth round the clients, the operator and one of the servers tick.
+// Gives the place after the letters.
+fn round<H: Host>(
+    alloc: Global,
+    run: &mut Run<H>,
+    from: usize,
+    number: u32,
+) -> Result<usize, NoMemory> {
+    let handed = hand_over(alloc, run, from)?;
+    work_off(alloc, run)?;
+    call_all(alloc, run)?;
+    if number % TICK_EVERY == 0 {
+        tick_some(alloc, run, number / TICK_EVERY)?;
+    }
+    Ok(handed)
+}
+
+/// Plays a run in rounds until each line is answered. Gives whether it came to that.
 pub fn play<H: Host>(alloc: Global, run: &mut Run<H>) -> Result<bool, NoMemory> {
     let mut handed = 0;
-    for round in 0..MOST_ROUNDS {
+    for number in 0..MOST_ROUNDS {
         if run.is_over() {
             return Ok(true);
         }
-        handed = hand_over(alloc, run, handed)?;
-        work_off(alloc, run)?;
-        call_all(alloc, run)?;
-        if round % TICK_EVERY == 0 {
-            tick_some(alloc, run, round / TICK_EVERY)?;
-        }
+        handed = round(alloc, run, handed, number)?;
         run.go_on()?;
+    }
+    Ok(false)
+}
+
+/// Plays a run in rounds until its second phase begins. Gives whether it came to that.
+pub fn begin<H: Host>(alloc: Global, run: &mut Run<H>) -> Result<bool, NoMemory> {
+    let mut handed = 0;
+    for number in 0..MOST_ROUNDS {
+        if run.go_on()? {
+            return Ok(true);
+        }
+        handed = round(alloc, run, handed, number)?;
     }
     Ok(false)
 }

@@ -98,3 +98,72 @@ pub fn script_with_blanks(alloc: Global, chance: &mut Chance) -> Result<String, 
     add_lines(alloc, chance, &mut text)?;
     Ok(text)
 }
+
+/// The same over five servers, of which the operator again and again stops two, each twice, and starts them.
+pub fn script_with_cuts(alloc: Global, chance: &mut Chance) -> Result<String, AllocError> {
+    let slots = 3 + chance.below(3);
+    let mut text = format!(in alloc;
+        "servers 5 slots {slots}\na disk vol on 0 1 2\nb disk log on 3 4\n"
+    )?;
+    for _ in 0..4 {
+        let (first, second) = two_by(chance);
+        for server in [first, second] {
+            let orders = format!(in alloc;
+                "op stop {server}\nop start {server}\nop stop {server}\nop start {server}\n"
+            )?;
+            text.push_str(orders.as_str())?;
+        }
+    }
+    add_lines(alloc, chance, &mut text)?;
+    Ok(text)
+}
+
+// A read of one of three blocks, as one of so many snapshots has it.
+fn old_read(
+    alloc: Global,
+    chance: &mut Chance,
+    client: &str,
+    snaps: usize,
+) -> Result<String, AllocError> {
+    let block = chance.below(3);
+    if snaps == 0 {
+        return format!(in alloc; "{client} read vol {block}\n");
+    }
+    let snap = chance.below(snaps).saturating_add(1);
+    format!(in alloc; "{client} read vol@s{snap} {block}\n")
+}
+
+// A client's write or read of one of three blocks.
+fn own_line(
+    alloc: Global,
+    chance: &mut Chance,
+    client: &str,
+    fill: u8,
+) -> Result<String, AllocError> {
+    let block = chance.below(3);
+    if chance.below(2) == 0 {
+        format!(in alloc; "{client} write vol {block} fill {fill}\n")
+    } else {
+        format!(in alloc; "{client} read vol {block}\n")
+    }
+}
+
+/// A script of three servers and three clients, of which `a` takes snapshots of the disk that is made in a first phase, and mostly
+/// reads them.
+pub fn script_with_snaps(alloc: Global, chance: &mut Chance) -> Result<String, AllocError> {
+    let mut text = format!(in alloc; "servers 3 slots 64\na disk vol on 0 1 2\nwait\n")?;
+    let mut snaps: usize = 0;
+    for fill in 1..=LINES {
+        let client = chance.below(3);
+        let line = match (client, chance.below(6)) {
+            (0, 0) => {
+                snaps = snaps.saturating_add(1);
+                format!(in alloc; "a snap vol s{snaps}\n")?
+            }
+            (0, 1..=3) | (_, 0) => old_read(alloc, chance, client_word(client), snaps)?,
+            _ => own_line(alloc, chance, client_word(client), fill)?,
+        };
+        text.push_str(line.as_str())?;
+    }
+    Ok(text)
+}

@@ -1,11 +1,13 @@
 //! Worlds stepped by chance.
 
-use crate::answers::{is_no_space, is_unavailable};
 use crate::chance::Chance;
-use crate::run::Run;
-use petal_base::{NoMemory, OPERATOR};
+use crate::count::{Count, counted};
+use crate::cuts::{boot_cut_off, stop_cut_off};
+use crate::rounds::begin;
+use crate::run::{Order, Run};
+use petal_base::{NoMemory, OPERATOR, ServerId};
 use petal_msg::{Actor, SharedLetter};
-use petal_world::{Host, Step, WorkEnd};
+use petal_world::Host;
 use std::alloc::Global;
 use std::test::Fail;
 
@@ -17,12 +19,32 @@ const CHOICES: usize = 20_000;
 /// Mostly one of so many letters is handed over that wait the longest.
 const OLDEST: usize = 6;
 
-/// What chooses the steps of a run: the letters that were never handed over, and how many letters were looked at for that.
+/// In one of so many choices a server stops that has made no commit.
+const PATIENCE: usize = 8;
+
+/// What the choices of a run favour.
+#[derive(Clone, Copy, Debug, PartialEq, Eq)]
+pub enum Habit {
+    /// Nothing.
+    Even,
+    /// A server that is to stop does so right after the commit of a job, and nobody gets the letters of that job; or right after
+    /// a boot, and nobody hears of it.
+    CutOff,
+    /// The first phase is over when the choices begin, several letters are handed over in one, and ticks come when nothing waits:
+    /// so that what takes many ballots, as a snapshot does, comes about.
+    Brisk,
+}
+
+/// What chooses the steps of a run: what it favours, the letters that were never handed over, how many letters were looked at for
+/// that, and how many jobs and boots were cut off.
 #[derive(Drop)]
 struct Choice {
     chance: Chance,
+    habit: Habit,
     fresh: Vec<SharedLetter>,
     seen: usize,
+    cut_jobs: usize,
+    cut_boots: usize,
 }
 
 impl Choice {
@@ -76,7 +98,7 @@ impl Choice {
         }
     }
 
-    fn deliver<H: Host>(&mut self, alloc: Global, run: &mut Run<H>) -> Result<bool, NoMemory> {
+    fn hand_over<H: Host>(&mut self, alloc: Global, run: &mut Run<H>) -> Result<bool, NoMemory> {
         let letter = if self.chance.below(4) == 0 {
             self.any_letter(run)?
         } else {
@@ -86,6 +108,15 @@ impl Choice {
             Some(letter) => run.deliver(alloc, letter),
             None => Ok(false),
         }
+    }
+
+    fn deliver<H: Host>(&mut self, alloc: Global, run: &mut Run<H>) -> Result<bool, NoMemory> {
+        let letters = if self.habit == Habit::Brisk { 3 } else { 1 };
+        let mut taken = false;
+        for _ in 0..letters {
+            taken = self.hand_over(alloc, run)? || taken;
+        }
+        Ok(taken)
     }
 
     fn tick<H: Host>(&mut self, alloc: Global, run: &mut Run<H>) -> Result<bool, NoMemory> {
@@ -109,6 +140,31 @@ impl Choice {
         run.show(alloc, server, line, round)
     }
 
+    // The server takes the next step that the line gives it, or is cut off where that is to be.
+    fn follow<H: Host>(
+        &mut self,
+        alloc: Global,
+        run: &mut Run<H>,
+        line: u32,
+        order: Order,
+        server: ServerId,
+    ) -> Result<bool, NoMemory> {
+        match (self.habit, order) {
+            (Habit::CutOff, Order::Stop) => {
+                let patient = self.chance.below(PATIENCE) > 0;
+                let cut = stop_cut_off(alloc, run, server, patient)?;
+                self.cut_jobs = self.cut_jobs.saturating_add(usize::from(cut));
+                Ok(cut)
+            }
+            (Habit::CutOff, Order::Start) => {
+                let cut = boot_cut_off(alloc, run, line, server)?;
+                self.cut_boots = self.cut_boots.saturating_add(usize::from(cut));
+                Ok(cut)
+            }
+            _ => run.follow(alloc, order, server),
+        }
+    }
+
     // The operator calls its next line, or its open line goes on: its server takes a step that it gives, or is glanced
     // at.
     fn operate<H: Host>(&mut self, alloc: Global, run: &mut Run<H>) -> Result<bool, NoMemory> {
@@ -118,13 +174,31 @@ impl Choice {
         match (run.open_order(), self.chance.below(4)) {
             (None, 0) => run.call(alloc, OPERATOR),
             (None, _) => Ok(false),
-            (Some((_line, order, server)), 0) => run.follow(alloc, order, server),
+            (Some((line, order, server)), 0) => self.follow(alloc, run, line, order, server),
             (Some((line, _order, server)), _) => run.show(alloc, server, line, 0),
         }
     }
 
+    // No letter waits: a server does a job or, where none has one, someone ticks or a client calls. Servers that tick while ballots
+    // are under way outbid one another.
+    fn go_ahead<H: Host>(&mut self, alloc: Global, run: &mut Run<H>) -> Result<bool, NoMemory> {
+        for server in 0..run.script().servers {
+            if run.work(alloc, server)? {
+                return Ok(true);
+            }
+        }
+        if self.chance.below(2) == 0 {
+            return self.tick(alloc, run);
+        }
+        let client = self.client();
+        run.call(alloc, client)
+    }
+
     // A choice of a step, which the world takes if it is one of its own. Gives whether it was.
     fn choose<H: Host>(&mut self, alloc: Global, run: &mut Run<H>) -> Result<bool, NoMemory> {
+        if self.habit == Habit::Brisk && self.fresh.is_empty() {
+            return self.go_ahead(alloc, run);
+        }
         match self.chance.below(64) {
             0 => self.tick(alloc, run),
             1 => self.operate(alloc, run),
@@ -144,87 +218,13 @@ impl Choice {
     fn go_on<H: Host>(&mut self, alloc: Global, run: &mut Run<H>) -> Result<bool, NoMemory> {
         for _ in 0..CHOICES {
             self.choose(alloc, run)?;
-            if run.records().len() == STEPS {
+            if run.records().len() >= STEPS {
                 return Ok(true);
             }
             self.note_sent(run)?;
         }
         Ok(false)
     }
-}
-
-/// How many lines were answered in some runs, how many of these with `nospace` and with `unavailable`, how often a server was
-/// stopped, got a blank data device and booted, in how many jobs a device failed, and in how many a plan stopped the server.
-#[derive(Clone, Copy, Debug, PartialEq, Eq)]
-pub struct Count {
-    pub answered: usize,
-    pub no_space: usize,
-    pub unavailable: usize,
-    pub stops: usize,
-    pub blanks: usize,
-    pub boots: usize,
-    pub faults: usize,
-    pub stopped_in: usize,
-}
-
-impl Count {
-    /// Of no run.
-    pub fn new() -> Count {
-        Count {
-            answered: 0,
-            no_space: 0,
-            unavailable: 0,
-            stops: 0,
-            blanks: 0,
-            boots: 0,
-            faults: 0,
-            stopped_in: 0,
-        }
-    }
-
-    /// Of some runs and of some more.
-    pub fn and(self, more: Count) -> Count {
-        Count {
-            answered: self.answered.saturating_add(more.answered),
-            no_space: self.no_space.saturating_add(more.no_space),
-            unavailable: self.unavailable.saturating_add(more.unavailable),
-            stops: self.stops.saturating_add(more.stops),
-            blanks: self.blanks.saturating_add(more.blanks),
-            boots: self.boots.saturating_add(more.boots),
-            faults: self.faults.saturating_add(more.faults),
-            stopped_in: self.stopped_in.saturating_add(more.stopped_in),
-        }
-    }
-}
-
-fn steps<H: Host>(run: &Run<H>, step: &Step) -> usize {
-    run.records()
-        .iter()
-        .filter(|record| record.step == *step)
-        .count()
-}
-
-fn counted<H: Host>(run: &Run<H>) -> Count {
-    let mut count = Count::new();
-    for line in run.script().lines.as_slice() {
-        let answer = run.answer(line.number);
-        count = count.and(Count {
-            answered: usize::from(answer.is_some()),
-            no_space: usize::from(is_no_space(answer)),
-            unavailable: usize::from(is_unavailable(answer)),
-            stops: 0,
-            blanks: 0,
-            boots: 0,
-            faults: 0,
-            stopped_in: 0,
-        });
-    }
-    count.stops = steps(run, &Step::Stop);
-    count.blanks = steps(run, &Step::Blank);
-    count.boots = steps(run, &Step::Boot(WorkEnd::Done));
-    count.faults = run.failed();
-    count.stopped_in = run.stopped();
-    count
 }
 
 /// Takes 2,000 steps of a run that begins, chosen by chance, all of which the plain machine takes. Gives what was counted.
@@ -234,20 +234,31 @@ fn counted<H: Host>(run: &Run<H>) -> Count {
 pub fn simulate<H: Host>(
     alloc: Global,
     seed: u32,
+    habit: Habit,
     chance: Chance,
     run: Run<H>,
 ) -> Result<Count, Fail> {
     let mut run = run;
+    if habit == Habit::Brisk && !begin(alloc, &mut run)? {
+        return Err(Fail::new(format_args!("seed {seed}: the first phase doesn't end")));
+    }
     let mut choice = Choice {
         chance,
+        habit,
         fresh: Vec::new(alloc),
-        seen: 0,
+        seen: run.sent.len(),
+        cut_jobs: 0,
+        cut_boots: 0,
     };
     if !choice.go_on(alloc, &mut run)? {
         return Err(Fail::new(format_args!("seed {seed} takes too few steps")));
     }
     match run.first_refused(alloc)? {
-        None => Ok(counted(&run)),
+        None => Ok(Count {
+            cut_jobs: choice.cut_jobs,
+            cut_boots: choice.cut_boots,
+            ..counted(&run)
+        }),
         Some(step) => Err(Fail::new(format_args!(
             "seed {seed}: the plain machine refuses step {step}"
         ))),

@@ -1,0 +1,115 @@
+//! What is counted of a run.
+
+use crate::answers::{is_done, is_no_space, is_shown, is_unavailable};
+use crate::run::Run;
+use petal_world::{Host, Step, WorkEnd};
+use script_lines::{Answer, Request};
+
+/// What was counted in some runs.
+#[derive(Clone, Copy, Debug, PartialEq, Eq)]
+pub struct Count {
+    /// The lines that were answered.
+    pub answered: usize,
+    /// Those of these that were answered `nospace`.
+    pub no_space: usize,
+    /// Those that were answered `unavailable`.
+    pub unavailable: usize,
+    /// The snapshots that were taken.
+    pub snapshots: usize,
+    /// The reads of a snapshot that were answered with a block.
+    pub old_reads: usize,
+    /// How often a server was stopped by the operator.
+    pub stops: usize,
+    /// How often one got a blank data device.
+    pub blanks: usize,
+    /// How often one booted.
+    pub boots: usize,
+    /// The jobs and boots in which a device failed.
+    pub faults: usize,
+    /// The jobs in which a plan stopped the server.
+    pub stopped_in: usize,
+    /// The jobs right after whose commit the server stopped, so that nobody got its letters.
+    pub cut_jobs: usize,
+    /// The boots right after which the server stopped, so that nobody heard of it.
+    pub cut_boots: usize,
+}
+
+impl Count {
+    /// Of no run.
+    pub fn new() -> Count {
+        Count {
+            answered: 0,
+            no_space: 0,
+            unavailable: 0,
+            snapshots: 0,
+            old_reads: 0,
+            stops: 0,
+            blanks: 0,
+            boots: 0,
+            faults: 0,
+            stopped_in: 0,
+            cut_jobs: 0,
+            cut_boots: 0,
+        }
+    }
+
+    /// Of some runs and of some more.
+    pub fn and(self, more: Count) -> Count {
+        Count {
+            answered: self.answered.saturating_add(more.answered),
+            no_space: self.no_space.saturating_add(more.no_space),
+            unavailable: self.unavailable.saturating_add(more.unavailable),
+            snapshots: self.snapshots.saturating_add(more.snapshots),
+            old_reads: self.old_reads.saturating_add(more.old_reads),
+            stops: self.stops.saturating_add(more.stops),
+            blanks: self.blanks.saturating_add(more.blanks),
+            boots: self.boots.saturating_add(more.boots),
+            faults: self.faults.saturating_add(more.faults),
+            stopped_in: self.stopped_in.saturating_add(more.stopped_in),
+            cut_jobs: self.cut_jobs.saturating_add(more.cut_jobs),
+            cut_boots: self.cut_boots.saturating_add(more.cut_boots),
+        }
+    }
+
+    // One more line, which has this answer.
+    fn add(&mut self, request: &Request, answer: Option<&Answer>) {
+        let snapped = match request {
+            Request::Snap { .. } => is_done(answer),
+            _ => false,
+        };
+        let read = match request {
+            Request::Read { snap: Some(_), .. } => is_shown(answer),
+            _ => false,
+        };
+        let more = Count {
+            answered: usize::from(answer.is_some()),
+            no_space: usize::from(is_no_space(answer)),
+            unavailable: usize::from(is_unavailable(answer)),
+            snapshots: usize::from(snapped),
+            old_reads: usize::from(read),
+            ..Count::new()
+        };
+        *self = self.and(more);
+    }
+}
+
+fn steps<H: Host>(run: &Run<H>, step: &Step) -> usize {
+    run.records()
+        .iter()
+        .filter(|record| record.step == *step)
+        .count()
+}
+
+/// What is counted of a run, but for what was cut off, which only its choices know.
+pub fn counted<H: Host>(run: &Run<H>) -> Count {
+    let mut count = Count::new();
+    for line in run.script().lines.as_slice() {
+        count.add(&line.request, run.answer(line.number));
+    }
+    count.stops = steps(run, &Step::Stop);
+    count.blanks = steps(run, &Step::Blank);
+    count.boots = steps(run, &Step::Boot(WorkEnd::Done));
+    count.faults = run.failed();
+    count.stopped_in = run.stopped();
+    count
+}
