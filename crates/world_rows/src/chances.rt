@@ -36,8 +36,8 @@ fn worlds_that_take_snapshots(rt: HostRuntime) -> Result<(), Fail> {
     for seed in 1..21 {
         all = all.and(simulate_snaps(rt.alloc(), seed)?);
     }
-    assert!(rt; all.answered >= 1000, "{all:?}");
-    assert!(rt; all.snapshots >= 20, "{all:?}");
-    assert!(rt; all.old_reads >= 20, "{all:?}");
+    assert!(rt; all.answered >= 400, "{all:?}");
+    assert!(rt; all.snapshots >= 10, "{all:?}");
+    assert!(rt; all.old_reads >= 40, "{all:?}");
     Ok(())
 }

@@ -30,8 +30,8 @@ pub enum Habit {
     /// A server that is to stop does so right after the commit of a job, and nobody gets the letters of that job; or right after
     /// a boot, and nobody hears of it.
     CutOff,
-    /// The first phase is over when the choices begin, several letters are handed over in one, and ticks come when nothing waits:
-    /// so that what takes many ballots, as a snapshot does, comes about.
+    /// The first phase is over when the choices begin, several letters are handed over in one, few of them late, and ticks come
+    /// when nothing waits, most of them to servers: so that what takes many ballots, as a snapshot does, comes about.
     Brisk,
 }
 
@@ -85,6 +85,22 @@ impl Choice {
         Some(self.fresh.remove(at))
     }
 
+    // Whether the letter that is handed over is any that was ever sent.
+    fn is_late(&mut self) -> bool {
+        match self.habit {
+            Habit::Brisk => self.chance.below(16) == 0,
+            Habit::Even | Habit::CutOff => self.chance.below(4) == 0,
+        }
+    }
+
+    // Whether it is a server that ticks, and no client.
+    fn is_for_server(&mut self) -> bool {
+        match self.habit {
+            Habit::Brisk => self.chance.below(4) > 0,
+            Habit::Even | Habit::CutOff => self.chance.below(2) == 0,
+        }
+    }
+
     // A letter that was ever sent.
     fn any_letter<H: Host>(&mut self, run: &Run<H>) -> Result<Option<SharedLetter>, NoMemory> {
         let count = run.sent.len();
@@ -99,7 +115,7 @@ impl Choice {
     }
 
     fn hand_over<H: Host>(&mut self, alloc: Global, run: &mut Run<H>) -> Result<bool, NoMemory> {
-        let letter = if self.chance.below(4) == 0 {
+        let letter = if self.is_late() {
             self.any_letter(run)?
         } else {
             self.fresh_letter()
@@ -120,7 +136,7 @@ impl Choice {
     }
 
     fn tick<H: Host>(&mut self, alloc: Global, run: &mut Run<H>) -> Result<bool, NoMemory> {
-        if self.chance.below(2) == 0 {
+        if self.is_for_server() {
             let server = self.server(run);
             run.tick(alloc, Actor::Server(server))
         } else {
